@@ -1,0 +1,97 @@
+-- How the order of the entries changes with each kind of step.
+use Rattle.std.proofs.Common.{◌≡◌, ℕ, Bool, true, false, not, cond, ◌&&◌, ◌==◌, eqb, List, [], ◌∷◌, filter, Option, Some, None, is_some, refl, sym, ap, ◌∙◌, arith, rules, eq-eqb}
+use Rattle.std.proofs.lemmas.List.Elements.{filter_agree}
+use Rattle.rows_model.specs.declared.keys.QKey.{QKey}
+use Rattle.rows_model.specs.declared.keys.Sid.{Sid}
+use Rattle.rows_model.specs.Key.{same_key, kind_number}
+use Rattle.key_shard.specs.declared.steps.Stands.{Stands}
+use Rattle.key_shard.specs.declared.steps.Step.{Step}
+use Rattle.key_shard.specs.declared.steps.Step.TheVariants.{Hit, Lease, Again, Stored, Void}
+use Rattle.key_shard.specs.Past.{entry, order, used, each_once, is_evicted}
+
+eqb_comm : (m n : ℕ) → eqb m n ≡ eqb n m
+eqb_comm m n = grind (arith, rules)
+
+pub same_key_comm : (a b : QKey) → same_key a b ≡ same_key b a
+same_key_comm a b = ap (λ t. t && (a.id == b.id)) (eqb_comm (kind_number a.kind) (kind_number b.kind)) ∙ ap (λ t. (kind_number b.kind == kind_number a.kind) && t) (eqb_comm a.id b.id)
+
+pub same_key_refl : (a : QKey) → same_key a a ≡ true
+same_key_refl a = ap (λ t. t && (a.id == a.id)) (eq-eqb (kind_number a.kind) (kind_number a.kind) refl) ∙ eq-eqb a.id a.id refl
+
+filter-cond : {X : Type 0} (p : X → Bool) (x : X) (b : Bool) (front rest : List X) → filter p front ≡ rest → filter p (cond b (x ∷ front) front) ≡ cond (b && p x) (x ∷ rest) rest
+filter-cond p x true front rest h = ap (λ r. cond (p x) (x ∷ r) r) h
+filter-cond p x false front rest h = h
+
+-- two filters are one
+pub filter-filter : {X : Type 0} (p q : X → Bool) (xs : List X) → filter p (filter q xs) ≡ filter (λ x. q x && p x) xs
+filter-filter p q [] = refl
+filter-filter p q (x ∷ xs) = filter-cond p x (q x) (filter q xs) (filter (λ y. q y && p y) xs) (filter-filter p q xs)
+
+and_comm : (a b : Bool) → (a && b) ≡ (b && a)
+and_comm true true = refl
+and_comm true false = refl
+and_comm false true = refl
+and_comm false false = refl
+
+-- filters may be swapped
+pub filter_swap : {X : Type 0} (p q : X → Bool) (xs : List X) → filter p (filter q xs) ≡ filter q (filter p xs)
+filter_swap p q xs = filter-filter p q xs ∙ filter_agree (λ x. q x && p x) (λ x. p x && q x) (λ x. and_comm (q x) (p x)) xs ∙ sym (filter-filter q p xs)
+
+has : List Step → QKey → Bool
+has past key = is_some (entry key past)
+
+-- a hit brings its key to the front
+pub order-hit : (past : List Step) (key : QKey) (sid : Sid) (floor : ℕ) (value : List ℕ) (stamp : ℕ) → is_some (entry key past) ≡ true →
+    order (Hit key sid floor value stamp ∷ past) ≡ key ∷ filter (λ other. not (same_key key other)) (order past)
+order-hit past key sid floor value stamp h =
+    let keys = each_once (used past) in
+    let p : QKey → Bool = λ k. is_some (entry k past) in
+    let q : QKey → Bool = λ other. not (same_key key other) in
+    ap (λ b. cond b (key ∷ filter p (filter q keys)) (filter p (filter q keys))) h
+    ∙ ap (λ ks. key ∷ ks) (filter_swap p q keys)
+
+missed : (b : Bool) (o : Option (List ℕ × ℕ)) → is_some (cond b None o) ≡ (is_some o && not b)
+missed true None = refl
+missed true (Some e) = refl
+missed false None = refl
+missed false (Some e) = refl
+
+-- a miss drops its key
+order_missed : (past : List Step) (key : QKey) → filter (λ k. is_some (cond (same_key k key) None (entry k past))) (each_once (used past)) ≡ filter (λ other. not (same_key key other)) (order past)
+order_missed past key =
+    let keys = each_once (used past) in
+    let p : QKey → Bool = λ k. is_some (entry k past) in
+    let q : QKey → Bool = λ other. not (same_key key other) in
+    filter_agree (λ k. is_some (cond (same_key k key) None (entry k past))) (λ k. p k && q k) (λ k. missed (same_key k key) (entry k past) ∙ ap (λ b. is_some (entry k past) && not b) (same_key_comm k key)) keys
+    ∙ sym (filter-filter q p keys)
+
+pub order-lease : (past : List Step) (key : QKey) (sid : Sid) (floor now token deadline : ℕ) →
+    order (Lease key sid floor now token deadline ∷ past) ≡ filter (λ other. not (same_key key other)) (order past)
+order-lease past key sid floor now token deadline = order_missed past key
+
+pub order-again : (past : List Step) (key : QKey) (sid : Sid) (floor now : ℕ) (standing : Stands) →
+    order (Again key sid floor now standing ∷ past) ≡ filter (λ other. not (same_key key other)) (order past)
+order-again past key sid floor now standing = order_missed past key
+
+stored : (b c : Bool) (new : List ℕ × ℕ) (o : Option (List ℕ × ℕ)) → (not b && is_some (cond b (Some new) (cond c None o))) ≡ ((is_some o && not b) && not c)
+stored true c new None = refl
+stored true true new (Some e) = refl
+stored true false new (Some e) = refl
+stored false true new None = refl
+stored false true new (Some e) = refl
+stored false false new None = refl
+stored false false new (Some e) = refl
+
+-- a stored value's key comes to the front, and the key that makes room goes
+pub order-stored : (past : List Step) (key : QKey) (token now : ℕ) (value : List ℕ) (stamp : ℕ) (evicted : Option QKey) →
+    order (Stored key token now value stamp evicted ∷ past) ≡ key ∷ filter (λ other. not (is_evicted other evicted)) (filter (λ other. not (same_key key other)) (order past))
+order-stored past key token now value stamp evicted =
+    let keys = each_once (used past) in
+    let p : QKey → Bool = λ k. is_some (entry k past) in
+    let q : QKey → Bool = λ other. not (same_key key other) in
+    let r : QKey → Bool = λ other. not (is_evicted other evicted) in
+    let p' : QKey → Bool = λ k. is_some (entry k (Stored key token now value stamp evicted ∷ past)) in
+    let here : p' key ≡ true = ap (λ b. is_some (cond b (Some (value, stamp)) (cond (is_evicted key evicted) None (entry key past)))) (same_key_refl key) in
+    let same : (k : QKey) → (q k && p' k) ≡ ((p k && q k) && r k) = λ k. ap (λ b. not b && p' k) (same_key_comm key k) ∙ stored (same_key k key) (is_evicted k evicted) (value, stamp) (entry k past) ∙ ap (λ b. (p k && not b) && r k) (same_key_comm k key) in
+    ap (λ b. cond b (key ∷ filter p' (filter q keys)) (filter p' (filter q keys))) here
+    ∙ ap (λ ks. key ∷ ks) (filter-filter p' q keys ∙ filter_agree (λ k. q k && p' k) (λ k. (p k && q k) && r k) same keys ∙ sym (filter-filter r (λ k. p k && q k) keys) ∙ ap (filter r) (sym (filter-filter q p keys)))

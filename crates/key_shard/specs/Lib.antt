@@ -1,0 +1,3 @@
+pub use Rattle.rows_model.specs.Key
+pub mod Past
+pub mod Answers
