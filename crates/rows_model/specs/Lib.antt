@@ -1,1 +1,5 @@
 pub mod Key
+pub mod Name
+pub mod Number
+pub mod Query
+pub mod Rows

@@ -1,3 +1,11 @@
+ghost use Rattle.std.specs.Prelude.{◌≡◌, ◌++◌, ◌∷◌, decimal, IfSome, IfNone, IfOk};
+ghost use Rattle.rows_model.specs.Key.{word_of, key_text, IsKeyText, IsNoWord, IsNoKeyText};
+
+use crate::numbers::{id_of, push_decimal};
+use crate::refusals::Memory;
+use crate::values::Value;
+use std::alloc::Global;
+
 /// The number of a session, given by the store: from 1, in the order in which sessions begin.
 #[derive(Clone, Copy, Debug, PartialEq, Eq, PartialOrd, Ord)]
 pub struct Sid {
@@ -25,4 +33,57 @@ pub struct QKey {
     pub kind: Kind,
     /// The member's id. No key text has the id 0.
     pub id: u32,
+}
+
+impl Kind {
+    /// The word that stands in front in the text of each key of this kind.
+    pub fn word(self) -> &'static [u8]
+        ensures { result.now ≡ word_of self }
+    {
+        match self {
+            Kind::Profile => b"profile",
+            Kind::Friends => b"friends",
+            Kind::Pending => b"pending",
+            Kind::NFriends => b"nfriends",
+            Kind::NPending => b"npending",
+        }
+    }
+
+    /// The kind of which this is the word.
+    pub fn of_word(word: &[u8]) -> Option<Kind>
+        ensures found { IfSome result (λ kind. word.now ≡ word_of kind) }
+        ensures none { IfNone result (IsNoWord word.now) }
+    {
+        match word {
+            b"profile" => Some(Kind::Profile),
+            b"friends" => Some(Kind::Friends),
+            b"pending" => Some(Kind::Pending),
+            b"nfriends" => Some(Kind::NFriends),
+            b"npending" => Some(Kind::NPending),
+            _ => None,
+        }
+    }
+}
+
+impl QKey {
+    /// The key of which this is the text, with an id from 1, or `None` exactly where there is none.
+    pub fn parse(text: &[u8]) -> Option<QKey>
+        ensures found { IfSome result (λ key. IsKeyText text.now key) }
+        ensures none { IfNone result (IsNoKeyText text.now) }
+    {
+        let colon = text.iter().position(|byte| *byte == b':')?;
+        let kind = Kind::of_word(&text[..colon])?;
+        let id = id_of(&text[colon + 1..])?;
+        Some(QKey { kind, id })
+    }
+
+    /// The key's text. That of a key with the id 0 is no text that `parse` takes.
+    pub fn text(&self, alloc: Global) -> Result<Value, Memory>
+        ensures { IfOk result (λ value. value ≡ key_text self.now) }
+    {
+        let mut text = Vec::from_slice(alloc, self.kind.word())?;
+        text.push(b':')?;
+        push_decimal(&mut text, u64::from(self.id))?;
+        Ok(Value::from(text))
+    }
 }

@@ -2,9 +2,16 @@
 #![tactic(auto)]
 
 pub use keys::{Kind, QKey, Sid};
+pub use names::Name;
+pub use queries::ask;
 pub use refusals::Memory;
+pub use rows::{Link, LinkState, Member, Rows};
 pub use values::Value;
 
 pub mod keys;
+pub mod names;
+mod numbers;
+pub mod queries;
 pub mod refusals;
+pub mod rows;
 pub mod values;

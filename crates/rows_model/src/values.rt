@@ -1,4 +1,6 @@
-ghost use Rattle.std.specs.Prelude.{◌≡◌, ℕ, List, IfOk, IsTrue, ◌↔◌};
+ghost use Rattle.std.specs.Prelude.{◌≡◌, IfOk, nat_eq};
+ghost use Rattle.std.specs.Cmp.{partial_equiv_from_equiv};
+ghost use Rattle.std.specs.Cmp.Lexicographic.{pointwise, nat_list_eq_equiv};
 
 use crate::refusals::Memory;
 use std::alloc::Global;
@@ -50,4 +52,18 @@ impl From<Vec<u8>> for Value {
     fn from(text: Vec<u8>) -> Value {
         Value { text }
     }
+}
+
+impl PartialEq for Value {
+    ghost eq = { pointwise nat_eq };
+
+    ghost laws = { partial_equiv_from_equiv nat_list_eq_equiv };
+
+    fn eq(&self, other: &Value) -> bool {
+        self.bytes() == other.bytes()
+    }
+}
+
+impl Eq for Value {
+    ghost laws = { nat_list_eq_equiv };
 }

@@ -1,0 +1,32 @@
+ghost use Rattle.std.specs.Prelude.{◌≡◌, IfOk};
+ghost use Rattle.rows_model.specs.declared.keys.Kind.TheVariants.{Profile};
+ghost use Rattle.rows_model.specs.Query.{answer, answer_of};
+
+use crate::keys::{Kind, QKey};
+use crate::numbers::push_decimal;
+use crate::refusals::Memory;
+use crate::rows::Rows;
+use crate::values::Value;
+use std::alloc::Global;
+
+/// What the rows answer to the key.
+pub fn ask(alloc: Global, rows: &Rows, key: &QKey) -> Result<Value, Memory>
+    requires { key.now.kind ≡ Kind.Profile }
+    ensures { IfOk result (λ value. value ≡ answer key.now rows.now) }
+{
+    profile(alloc, rows, key.id)
+}
+
+fn profile(alloc: Global, rows: &Rows, id: u32) -> Result<Value, Memory>
+    ensures { IfOk result (λ value. value ≡ answer_of Kind.Profile id rows.now) }
+{
+    let Some(member) = rows.member(id) else {
+        return Value::of(alloc, b"-");
+    };
+    let mut text = Vec::from_slice(alloc, member.name.bytes())?;
+    text.push(b' ')?;
+    push_decimal(&mut text, rows.friend_count(id))?;
+    text.push(b' ')?;
+    push_decimal(&mut text, rows.pending_count(id))?;
+    Ok(Value::from(text))
+}
