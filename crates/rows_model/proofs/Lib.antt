@@ -1,0 +1,4 @@
+pub mod KeyLemmas
+pub mod NameLemmas
+pub mod NumberLemmas
+pub mod RowsLemmas

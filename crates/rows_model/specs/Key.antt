@@ -40,3 +40,7 @@ IsNoWord word = (kind : Kind) → word ≡ word_of kind → ⊥
 -- no key has this text
 abbrev pub IsNoKeyText : List ℕ → Type 0
 IsNoKeyText text = (key : QKey) → IsKeyText text key → ⊥
+
+-- whether a byte is the colon that parts a key's word from its id
+abbrev pub is_colon : ℕ → Bool
+is_colon byte = byte == 58

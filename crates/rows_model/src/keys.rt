@@ -1,5 +1,5 @@
-ghost use Rattle.std.specs.Prelude.{◌≡◌, ◌++◌, ◌∷◌, decimal, IfSome, IfNone, IfOk};
-ghost use Rattle.rows_model.specs.Key.{word_of, key_text, IsKeyText, IsNoWord, IsNoKeyText};
+ghost use Rattle.std.specs.Prelude.{◌≡◌, position, IfSome, IfNone, IfOk};
+ghost use Rattle.rows_model.specs.Key.{word_of, key_text, IsKeyText, IsNoWord, IsNoKeyText, is_colon};
 
 use crate::numbers::{id_of, push_decimal};
 use crate::refusals::Memory;
@@ -71,7 +71,7 @@ impl QKey {
         ensures found { IfSome result (λ key. IsKeyText text.now key) }
         ensures none { IfNone result (IsNoKeyText text.now) }
     {
-        let colon = text.iter().position(|byte| *byte == b':')?;
+        let colon = colon_of(text)?;
         let kind = Kind::of_word(&text[..colon])?;
         let id = id_of(&text[colon + 1..])?;
         Some(QKey { kind, id })
@@ -86,4 +86,11 @@ impl QKey {
         push_decimal(&mut text, u64::from(self.id))?;
         Ok(Value::from(text))
     }
+}
+
+// Where the first colon stands.
+fn colon_of(text: &[u8]) -> Option<usize>
+    ensures { result ≡ position is_colon text.now }
+{
+    text.iter().position(|byte| *byte == b':')
 }

@@ -1,0 +1,88 @@
+use Rattle.std.proofs.Common.{ℕ, ◌+◌, ◌-◌, ◌<◌, ◌≤◌, ◌≡◌, ◌==◌, ◌&&◌, Bool, true, false, cond, ltb, eqb, List, [], ◌∷◌, ◌++◌, length, take, drop, get_or, decimal, Option, Some, None, position, arith, sym, refl, ap, ◌∙◌, rules, take-append-drop, take_at, drop_at}
+use Rattle.std.specs.List.{position_from}
+use Rattle.std.proofs.lemmas.Iterator.Adapters.{position_from-zero}
+use Rattle.std.proofs.lemmas.List.Quantifiers.{position-Some}
+use Rattle.std.proofs.lemmas.Bool.Decides.{nat_tests}
+use Rattle.std.proofs.lemmas.List.{drop_more, take_rest}
+use Rattle.rows_model.specs.declared.keys.Kind.{Kind}
+use Rattle.rows_model.specs.declared.keys.Kind.TheVariants.{Profile, Friends, Pending, NFriends, NPending}
+use Rattle.rows_model.specs.declared.keys.QKey.{QKey}
+use Rattle.rows_model.specs.Key.{word_of, key_text, IsKeyText, IsNoKeyText, IsNoWord, is_colon}
+use Rattle.rows_model.specs.Number.{IsIdText, IsNoIdText}
+
+-- the text of a key, spelled out
+pub key_text_is : (key : QKey) → key_text key ≡ word_of key.kind ++ 58 ∷ decimal key.id
+unfolding key_text
+key_text_is key = refl
+
+-- the first colon of a key's text stands behind the word
+colon_from : (kind : Kind) (rest : List ℕ) → position_from is_colon 0 (word_of kind ++ 58 ∷ rest) ≡ Some (length (word_of kind))
+colon_from Profile rest = refl
+colon_from Friends rest = refl
+colon_from Pending rest = refl
+colon_from NFriends rest = refl
+colon_from NPending rest = refl
+
+pub colon_at : (kind : Kind) (rest : List ℕ) → position is_colon (word_of kind ++ 58 ∷ rest) ≡ Some (length (word_of kind))
+colon_at kind rest = position_from-zero is_colon (word_of kind ++ 58 ∷ rest) ∙ colon_from kind rest
+
+-- what stands behind the colon
+behind : (kind : Kind) (rest : List ℕ) → drop (length (word_of kind) + 1) (word_of kind ++ 58 ∷ rest) ≡ rest
+behind Profile rest = refl
+behind Friends rest = refl
+behind Pending rest = refl
+behind NFriends rest = refl
+behind NPending rest = refl
+
+-- the parts of a key's text
+pub record IsSplit (text : List ℕ) (key : QKey) : Type 0 where
+  pub colon : position is_colon text ≡ Some (length (word_of key.kind))
+  pub word : take (length (word_of key.kind)) text ≡ word_of key.kind
+  pub digits : drop (length (word_of key.kind) + 1) text ≡ decimal key.id
+
+pub key_split : (text : List ℕ) (key : QKey) → IsKeyText text key → IsSplit text key
+key_split text key h =
+    let e : text ≡ word_of key.kind ++ 58 ∷ decimal key.id = h.written ∙ key_text_is key in
+    record {
+      colon = rw e (colon_at key.kind (decimal key.id));
+      word = rw e (take_at (word_of key.kind) (58 ∷ decimal key.id) (length (word_of key.kind)) refl);
+      digits = rw e (behind key.kind (decimal key.id));
+    }
+
+-- a text with no colon is that of no key
+pub none_without_colon : (text : List ℕ) → position is_colon text ≡ None → IsNoKeyText text
+none_without_colon text none key h =
+    let s = key_split text key h in
+    let clash : Some (length (word_of key.kind)) ≡ None = sym s.colon ∙ none in cc
+
+-- where the colon of a key's text stands
+colon_is : (text : List ℕ) (colon : ℕ) (key : QKey) → position is_colon text ≡ Some colon → IsKeyText text key → length (word_of key.kind) ≡ colon
+colon_is text colon key at h =
+    let s = key_split text key h in
+    let same : Some (length (word_of key.kind)) ≡ Some colon = sym s.colon ∙ at in cc
+
+-- nor is one whose front is no word
+pub none_without_word : (text : List ℕ) (colon : ℕ) → position is_colon text ≡ Some colon → IsNoWord (take colon text) → IsNoKeyText text
+none_without_word text colon at none key h =
+    let s = key_split text key h in
+    let e = colon_is text colon key at h in
+    none key.kind (rw e at s.word)
+
+-- nor is one whose back is no id
+pub none_without_id : (text : List ℕ) (colon : ℕ) → position is_colon text ≡ Some colon → IsNoIdText (take (length text - (colon + 1)) (drop (colon + 1) text)) → IsNoKeyText text
+none_without_id text colon at none key h =
+    let s = key_split text key h in
+    let e = colon_is text colon key at h in
+    let written : drop (colon + 1) text ≡ decimal key.id = rw e at s.digits in
+    none key.id (record { id_from = h.id_from; id_below = h.id_below; written = take_rest text (colon + 1) ∙ written })
+
+-- a word, a colon and an id make the text of a key
+pub key_joined : (text : List ℕ) (colon : ℕ) (kind : Kind) (id : ℕ) → position is_colon text ≡ Some colon → take colon text ≡ word_of kind → IsIdText (take (length text - (colon + 1)) (drop (colon + 1) text)) id → IsKeyText text (record { kind = kind; id = id })
+key_joined text colon kind id at word h =
+    let place = position-Some is_colon text colon 0 at in
+    let byte : get_or text colon 0 ≡ 58 = search (rules, nat_tests) in
+    let back : drop colon text ≡ 58 ∷ decimal id =
+    drop_more text colon 0 place.0 ∙ (ap (λ (b : ℕ). b ∷ drop (colon + 1) text) byte ∙ ap (λ (ds : List ℕ). 58 ∷ ds) (sym (take_rest text (colon + 1)) ∙ h.written)) in
+    let whole : text ≡ word_of kind ++ 58 ∷ decimal id =
+    sym (take-append-drop colon text) ∙ (ap (λ (front : List ℕ). front ++ drop colon text) word ∙ ap (λ (rest : List ℕ). word_of kind ++ rest) back) in
+    record { id_from = h.id_from; id_below = h.id_below; written = whole ∙ sym (key_text_is (record { kind = kind; id = id })) }
