@@ -3,20 +3,12 @@ use Rattle.std.proofs.Common.{◌≡◌, ℕ, Bool, true, false, not, cond, ◌&
 use Rattle.std.proofs.lemmas.List.Elements.{filter_agree}
 use Rattle.rows_model.specs.declared.keys.QKey.{QKey}
 use Rattle.rows_model.specs.declared.keys.Sid.{Sid}
-use Rattle.rows_model.specs.Key.{same_key, kind_number}
+use Rattle.rows_model.specs.Key.{same_key}
+use Rattle.rows_model.proofs.SameKey.{same_key-refl, same_key-swap}
 use Rattle.key_shard.specs.declared.steps.Stands.{Stands}
 use Rattle.key_shard.specs.declared.steps.Step.{Step}
 use Rattle.key_shard.specs.declared.steps.Step.TheVariants.{Hit, Lease, Again, Stored, Void}
 use Rattle.key_shard.specs.Past.{entry, order, used, each_once, is_evicted}
-
-eqb_comm : (m n : ℕ) → eqb m n ≡ eqb n m
-eqb_comm m n = grind (arith, rules)
-
-pub same_key_comm : (a b : QKey) → same_key a b ≡ same_key b a
-same_key_comm a b = ap (λ t. t && (a.id == b.id)) (eqb_comm (kind_number a.kind) (kind_number b.kind)) ∙ ap (λ t. (kind_number b.kind == kind_number a.kind) && t) (eqb_comm a.id b.id)
-
-pub same_key_refl : (a : QKey) → same_key a a ≡ true
-same_key_refl a = ap (λ t. t && (a.id == a.id)) (eq-eqb (kind_number a.kind) (kind_number a.kind) refl) ∙ eq-eqb a.id a.id refl
 
 filter-cond : {X : Type 0} (p : X → Bool) (x : X) (b : Bool) (front rest : List X) → filter p front ≡ rest → filter p (cond b (x ∷ front) front) ≡ cond (b && p x) (x ∷ rest) rest
 filter-cond p x true front rest h = ap (λ r. cond (p x) (x ∷ r) r) h
@@ -62,7 +54,7 @@ order_missed past key =
     let keys = each_once (used past) in
     let p : QKey → Bool = λ k. is_some (entry k past) in
     let q : QKey → Bool = λ other. not (same_key key other) in
-    filter_agree (λ k. is_some (cond (same_key k key) None (entry k past))) (λ k. p k && q k) (λ k. missed (same_key k key) (entry k past) ∙ ap (λ b. is_some (entry k past) && not b) (same_key_comm k key)) keys
+    filter_agree (λ k. is_some (cond (same_key k key) None (entry k past))) (λ k. p k && q k) (λ k. missed (same_key k key) (entry k past) ∙ ap (λ b. is_some (entry k past) && not b) (same_key-swap k key)) keys
     ∙ sym (filter-filter q p keys)
 
 pub order-lease : (past : List Step) (key : QKey) (sid : Sid) (floor now token deadline : ℕ) →
@@ -91,7 +83,7 @@ order-stored past key token now value stamp evicted =
     let q : QKey → Bool = λ other. not (same_key key other) in
     let r : QKey → Bool = λ other. not (is_evicted other evicted) in
     let p' : QKey → Bool = λ k. is_some (entry k (Stored key token now value stamp evicted ∷ past)) in
-    let here : p' key ≡ true = ap (λ b. is_some (cond b (Some (value, stamp)) (cond (is_evicted key evicted) None (entry key past)))) (same_key_refl key) in
-    let same : (k : QKey) → (q k && p' k) ≡ ((p k && q k) && r k) = λ k. ap (λ b. not b && p' k) (same_key_comm key k) ∙ stored (same_key k key) (is_evicted k evicted) (value, stamp) (entry k past) ∙ ap (λ b. (p k && not b) && r k) (same_key_comm k key) in
+    let here : p' key ≡ true = ap (λ b. is_some (cond b (Some (value, stamp)) (cond (is_evicted key evicted) None (entry key past)))) (same_key-refl key) in
+    let same : (k : QKey) → (q k && p' k) ≡ ((p k && q k) && r k) = λ k. ap (λ b. not b && p' k) (same_key-swap key k) ∙ stored (same_key k key) (is_evicted k evicted) (value, stamp) (entry k past) ∙ ap (λ b. (p k && not b) && r k) (same_key-swap k key) in
     ap (λ b. cond b (key ∷ filter p' (filter q keys)) (filter p' (filter q keys))) here
     ∙ ap (λ ks. key ∷ ks) (filter-filter p' q keys ∙ filter_agree (λ k. q k && p' k) (λ k. (p k && q k) && r k) same keys ∙ sym (filter-filter r (λ k. p k && q k) keys) ∙ ap (filter r) (sym (filter-filter q p keys)))
