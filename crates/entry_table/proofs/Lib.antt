@@ -1,0 +1,3 @@
+pub mod SameKey
+pub mod EntriesLemmas
+pub mod KeptLemmas
