@@ -1,17 +1,41 @@
 -- The one step that a request gives after a past, and which histories are legal.
-use Rattle.std.specs.Prelude.{ℕ, ◌≡◌, Bool, nat_le, if◌then◌else◌, List, [], ◌∷◌, reverse, Option, Some, None}
+use Rattle.std.specs.Prelude.{ℕ, ◌≡◌, ℤ, pos, IsTrue, Bool, nat_le, if◌then◌else◌, List, [], ◌∷◌, reverse, Option, Some, None}
+use Rattle.std.specs.List.{list_any}
 use Rattle.rows_model.specs.declared.keys.QKey.{QKey}
 use Rattle.rows_model.specs.declared.keys.Sid.{Sid}
-use Rattle.key_shard.specs.declared.steps.Stands.TheVariants.{I}
+use Rattle.rows_model.specs.Placement.{shard_of}
+use Rattle.case_tables.specs.Compatibility.{verdict, read, quarantine}
+use Rattle.case_tables.specs.declared.grids.Verdict.{Verdict}
+use Rattle.case_tables.specs.declared.grids.Verdict.TheVariants as verdicts
+use Rattle.lease_table.specs.declared.records.Mode.{Mode}
+use Rattle.lease_table.specs.declared.records.Mode.TheVariants as modes
+use Rattle.lease_table.specs.declared.records.Quar.{Quar}
+use Rattle.lease_table.specs.Leases.{way_of, is_current}
+use Rattle.key_shard.specs.declared.steps.Stands.{Stands}
+use Rattle.key_shard.specs.declared.steps.Stands.TheVariants.{I, Q}
+use Rattle.key_shard.specs.declared.steps.Ended.{Ended}
+use Rattle.key_shard.specs.declared.steps.Ended.TheVariants as ended
 use Rattle.key_shard.specs.declared.steps.Step.{Step}
-use Rattle.key_shard.specs.declared.steps.Step.TheVariants.{Hit, Lease, Again, Stored, Void}
-use Rattle.key_shard.specs.Past.{Terms, recorded, is_unexpired, has_token, entry, evicts, next_token, deadline_at}
+use Rattle.key_shard.specs.declared.steps.Step.TheVariants.{Hit, Lease, Again, Own, Stored, Void, Granted, Held, Refused, Released, Gone}
+use Rattle.key_shard.specs.declared.replies.How.{How}
+use Rattle.key_shard.specs.declared.replies.How.TheVariants as how
+use Rattle.key_shard.specs.Permit.{Permit}
+use Rattle.key_shard.specs.Past.{Terms, standing, recorded, own_of, seen_by, holder_of, quar_of, entry, evicts, next_token, deadline_at, grants}
 
--- A miss is answered Again exactly where an incompatible lease stands, and else with a lease.
+-- What is told of the lease in the way: a quarantine where one stands.
+abbrev pub stands_of : List Quar → Stands
+stands_of [] = I
+stands_of (quar ∷ quars) = Q
+
+-- A miss by the verdict on its request to read: Wait is answered Again, and else a lease is given.
+abbrev pub miss_by : Terms → List Step → QKey → Sid → ℕ → ℕ → Verdict → Step
+miss_by terms past key who floor now verdicts.Wait = Again key who floor now (stands_of (standing key past))
+miss_by terms past key who floor now verdict =
+    Lease key who floor now (next_token terms past) (deadline_at terms now)
+
 abbrev pub miss_step : Terms → List Step → QKey → Sid → ℕ → ℕ → Step
 miss_step terms past key who floor now =
-    if is_unexpired now (recorded key past) then Again key who floor now I
-    else Lease key who floor now (next_token terms past) (deadline_at terms now)
+    miss_by terms past key who floor now (verdict (seen_by key who now past) read)
 
 -- An entry whose stamp is at least the floor is a hit.
 abbrev pub found_step : Terms → List Step → QKey → Sid → ℕ → ℕ → Option (List ℕ × ℕ) → Step
@@ -19,32 +43,124 @@ found_step terms past key who floor now None = miss_step terms past key who floo
 found_step terms past key who floor now (Some found) =
     if nat_le floor found.1 then Hit key who floor found.0 found.1 else miss_step terms past key who floor now
 
--- The step of a get.
-abbrev pub get_step : Terms → List Step → QKey → Sid → ℕ → ℕ → Step
-get_step terms past key who floor now = found_step terms past key who floor now (entry key past)
+-- The step of a get: a session that has quarantined the key is told so, whatever the entry is.
+abbrev pub get_by : Terms → List Step → QKey → Sid → ℕ → ℕ → Option Quar → Step
+get_by terms past key who floor now (Some own) = Own key who
+get_by terms past key who floor now None = found_step terms past key who floor now (entry key past)
 
--- The step of a set: a value is stored exactly where its token stands.
+abbrev pub get_step : Terms → List Step → QKey → Sid → ℕ → ℕ → Step
+get_step terms past key who floor now = get_by terms past key who floor now (own_of key who past)
+
+-- The step of a set: a value is stored exactly where its token's lease is recorded and not past its deadline.
 abbrev pub set_step : Terms → List Step → QKey → ℕ → List ℕ → ℕ → ℕ → Step
 set_step terms past key token value stamp now =
-    if has_token token now (recorded key past) then Stored key token now value stamp (evicts terms key past)
+    if is_current token now (recorded key past) then Stored key token now value stamp (evicts terms key past)
     else Void key token now
+
+-- A refusal names who holds the key.
+abbrev pub refused_step : QKey → Sid → Mode → Option Quar → Step
+refused_step key who mode (Some holder) = Refused key who mode holder.sid holder.mode
+refused_step key who mode None = Held key who mode
+
+-- The step of a quarantine, by the verdict on it.
+abbrev pub quarantine_by : Terms → List Step → QKey → Sid → Mode → ℤ → ℕ → Verdict → Step
+quarantine_by terms past key who mode shift now verdicts.Same = Held key who mode
+quarantine_by terms past key who mode shift now verdicts.Refuse =
+    refused_step key who mode (holder_of key who past)
+quarantine_by terms past key who mode shift now verdict =
+    Granted key who mode shift now (next_token terms past) (deadline_at terms now)
+
+abbrev pub quarantine_step : Terms → List Step → QKey → Sid → Mode → ℤ → ℕ → Step
+quarantine_step terms past key who mode shift now =
+    quarantine_by terms past key who mode shift now (verdict (seen_by key who now past) (quarantine (way_of mode)))
+
+-- How a quarantine ends that is released this way: a shift is the quarantine's own.
+abbrev pub ended_as : Quar → How → Ended
+ended_as quar how.Keep = ended.Keep
+ended_as quar how.Drop = ended.Drop
+ended_as quar (how.Shift stamp) = ended.Shift quar.shift stamp
+
+-- The step of a release: the quarantine ends where it stands, and is gone where it was granted and stands no longer.
+abbrev pub release_by : Permit → How → Option Quar → Step
+release_by permit how (Some quar) = Released permit.key quar.sid permit.token (ended_as quar how)
+release_by permit how None = Gone permit.key permit.sid permit.token
+
+abbrev pub release_step : List Step → Permit → How → Step
+release_step past permit how = release_by permit how (quar_of permit.key permit.token past)
+
+-- The step of a replace.
+abbrev pub replace_by : Terms → List Step → Permit → List ℕ → ℕ → Option Quar → Step
+replace_by terms past permit value stamp (Some quar) =
+    Released permit.key quar.sid permit.token (ended.Put value stamp (evicts terms permit.key past))
+replace_by terms past permit value stamp None = Gone permit.key permit.sid permit.token
+
+abbrev pub replace_step : Terms → List Step → Permit → List ℕ → ℕ → Step
+replace_step terms past permit value stamp =
+    replace_by terms past permit value stamp (quar_of permit.key permit.token past)
 
 -- What is asked of a shard.
 pub data Request : Type 0 where
   Get : (key : QKey) (who : Sid) (floor now : ℕ) → Request
   Set : (key : QKey) (token : ℕ) (value : List ℕ) (stamp now : ℕ) → Request
+  Quarantine : (key : QKey) (who : Sid) (mode : Mode) (shift : ℤ) (now : ℕ) → Request
+  Release : (permit : Permit) (how : How) → Request
+  Replace : (permit : Permit) (value : List ℕ) (stamp : ℕ) → Request
+
+-- The key that a request is on.
+abbrev pub key_of : Request → QKey
+key_of (Get key who floor now) = key
+key_of (Set key token value stamp now) = key
+key_of (Quarantine key who mode shift now) = key
+key_of (Release permit how) = permit.key
+key_of (Replace permit value stamp) = permit.key
+
+-- The quarantine of which a permit speaks was granted.
+abbrev pub WasGranted : List Step → Permit → Type 0
+WasGranted past permit = IsTrue (list_any (grants permit) past)
+
+-- A shift is released of a delta alone.
+abbrev pub FitsMode : Mode → How → Type 0
+FitsMode mode how.Keep = Unit {0}
+FitsMode mode how.Drop = Unit {0}
+FitsMode mode (how.Shift stamp) = mode ≡ modes.Delta
+
+-- A shift other than 0 comes with a delta alone.
+abbrev pub FitsShift : Mode → ℤ → Type 0
+FitsShift modes.Delta shift = Unit {0}
+FitsShift mode shift = shift ≡ pos 0
+
+-- What a request owes: a shift is a delta's, and what is released or replaced was granted, a new value in mode Refresh.
+abbrev pub IsOwed : List Step → Request → Type 0
+IsOwed past (Get key who floor now) = Unit {0}
+IsOwed past (Set key token value stamp now) = Unit {0}
+IsOwed past (Quarantine key who mode shift now) = FitsShift mode shift
+IsOwed past (Release permit how) = WasGranted past permit × FitsMode permit.mode how
+IsOwed past (Replace permit value stamp) = WasGranted past permit × (permit.mode ≡ modes.Refresh)
+
+-- The key is this shard's.
+abbrev pub IsAtHome : Terms → QKey → Type 0
+IsAtHome terms key = shard_of key terms.count ≡ terms.no
 
 -- The one step that a request gives.
 abbrev pub step_of : Terms → List Step → Request → Step
 step_of terms past (Get key who floor now) = get_step terms past key who floor now
 step_of terms past (Set key token value stamp now) = set_step terms past key token value stamp now
+step_of terms past (Quarantine key who mode shift now) = quarantine_step terms past key who mode shift now
+step_of terms past (Release permit how) = release_step past permit how
+step_of terms past (Replace permit value stamp) = replace_step terms past permit value stamp
 
--- Each step of the past is the one that its own request gives after the steps before it.
+-- The step is the answer to a request that could be made.
+pub record Answers (terms : Terms) (past : List Step) (step : Step) : Type 0 where
+  pub request : Request
+  pub at_home : IsAtHome terms (key_of request)
+  pub owed : IsOwed past request
+  pub answer : step ≡ step_of terms past request
+
+-- Each step of the past answers its own request after the steps before it.
 abbrev pub IsLegalPast : Terms → List Step → Type 0
 IsLegalPast terms [] = Unit {0}
-IsLegalPast terms (step ∷ past) =
-    ((request : Request) × (step ≡ step_of terms past request)) × IsLegalPast terms past
+IsLegalPast terms (step ∷ past) = Answers terms past step × IsLegalPast terms past
 
--- A history, the earliest step first, in which each step is the answer to its own request.
+-- A history, the earliest step first, in which each step answers its own request.
 abbrev pub Legal : Terms → List Step → Type 0
 Legal terms history = IsLegalPast terms (reverse history)

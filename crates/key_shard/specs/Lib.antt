@@ -1,3 +1,10 @@
 pub use Rattle.rows_model.specs.Key
+pub use Rattle.rows_model.specs.Placement
+pub use Rattle.rows_model.specs.Shift
+pub use Rattle.case_tables.specs.Compatibility
+pub use Rattle.lease_table.specs.Leases
+pub mod Permit
 pub mod Past
 pub mod Answers
+pub mod Shards
+pub mod Replies

@@ -1,68 +1,134 @@
 -- What a shard holds, found by looking back over its steps. A past is a list of steps, the latest first.
-use Rattle.std.specs.Prelude.{ℕ, ◌+◌, ◌-◌, ◌^◌, Bool, true, false, not, ◌==◌, ◌&&◌, nat_lt, if◌then◌else◌, List, [], ◌∷◌, length, filter, count_by, Option, Some, None, is_some, min}
+use Rattle.std.specs.Prelude.{ℕ, ◌+◌, ◌-◌, ◌^◌, Bool, true, false, not, ◌==◌, ◌&&◌, nat_lt, if◌then◌else◌, List, [], ◌∷◌, ◌++◌, length, map, filter, find, count_by, Option, Some, None, is_some, option_map, option_and_then, min, ℤ, decimal}
 use Rattle.rows_model.specs.declared.keys.QKey.{QKey}
 use Rattle.rows_model.specs.declared.keys.Sid.{Sid}
 use Rattle.rows_model.specs.Key.{same_key}
+use Rattle.rows_model.specs.Shift.{shifted}
+use Rattle.case_tables.specs.Compatibility.{Holding, same_way}
+use Rattle.lease_table.specs.declared.records.Mode.{Mode}
+use Rattle.lease_table.specs.declared.records.Quar.{Quar}
+use Rattle.lease_table.specs.declared.records.ReadLease.{ReadLease}
+use Rattle.lease_table.specs.Leases.{way_of, is_of, has_token, is_unexpired, is_current}
+use Rattle.key_shard.specs.Permit.{Permit}
+use Rattle.key_shard.specs.declared.steps.Ended.{Ended}
+use Rattle.key_shard.specs.declared.steps.Ended.TheVariants.{Keep, Drop, Put, Shift}
 use Rattle.key_shard.specs.declared.steps.Step.{Step}
-use Rattle.key_shard.specs.declared.steps.Step.TheVariants.{Hit, Lease, Again, Stored, Void}
+use Rattle.key_shard.specs.declared.steps.Step.TheVariants.{Hit, Lease, Again, Own, Stored, Void, Granted, Held, Refused, Released, Gone}
 
--- What a shard is made with: how many entries it has room for, how long a lease lives, its first token.
+-- What a shard is made with: its number of so many, how many entries it has room for, how long a lease lives, its first token.
 pub record Terms : Type 0 where
+  pub no : ℕ
+  pub count : ℕ
   pub room : ℕ
   pub life : ℕ
   pub first : ℕ
 
--- An I lease as it was given.
-pub record ILease : Type 0 where
-  pub token : ℕ
-  pub deadline : ℕ
+-- The quarantines that stand on a key, in order of token: those granted, less those released since.
+abbrev pub standing : QKey → List Step → List Quar
+standing key [] = []
+standing key (Granted on sid mode shift now token deadline ∷ past) =
+    if same_key key on then standing key past ++ record { sid = sid; mode = mode; token = token; deadline = deadline; shift = shift } ∷ []
+    else standing key past
+standing key (Released on sid token how ∷ past) =
+    if same_key key on then filter (λ quar. not (has_token token quar)) (standing key past) else standing key past
+standing key (step ∷ past) = standing key past
 
--- The recorded I lease of a key: the last one given on it, unless a value was stored on the key since.
-abbrev pub recorded : QKey → List Step → Option ILease
+-- The recorded I lease of a key: the last one given on it, unless it was quarantined or a value was stored on it since.
+abbrev pub recorded : QKey → List Step → Option ReadLease
 recorded key [] = None
 recorded key (Lease on sid floor now token deadline ∷ past) =
-    if same_key key on then Some (record { token = token; deadline = deadline }) else recorded key past
+    if same_key key on then Some (record { sid = sid; token = token; deadline = deadline }) else recorded key past
+recorded key (Granted on sid mode shift now token deadline ∷ past) =
+    if same_key key on then None else recorded key past
 recorded key (Stored on token now value stamp evicted ∷ past) =
     if same_key key on then None else recorded key past
-recorded key (Hit on sid floor value stamp ∷ past) = recorded key past
-recorded key (Again on sid floor now standing ∷ past) = recorded key past
-recorded key (Void on token now ∷ past) = recorded key past
+recorded key (step ∷ past) = recorded key past
 
--- A lease stands before its deadline.
-abbrev pub is_unexpired : ℕ → Option ILease → Bool
-is_unexpired now None = false
-is_unexpired now (Some lease) = nat_lt now lease.deadline
+-- The session's own quarantine of a key.
+abbrev pub own_of : QKey → Sid → List Step → Option Quar
+own_of key who past = find (is_of who) (standing key past)
 
--- Whether the I lease of this token is recorded and stands.
-abbrev pub has_token : ℕ → ℕ → Option ILease → Bool
-has_token token now None = false
-has_token token now (Some lease) = (lease.token == token) && nat_lt now lease.deadline
+-- The other sessions' quarantines of a key.
+abbrev pub others_of : QKey → Sid → List Step → List Quar
+others_of key who past = filter (λ quar. not (is_of who quar)) (standing key past)
 
--- The key that had to make room.
+-- What stands on a key at this time, as a session sees it.
+abbrev pub seen_by : QKey → Sid → ℕ → List Step → Holding
+seen_by key who now past = record {
+  own = option_map (λ quar. way_of quar.mode) (own_of key who past);
+  others = map (λ quar. way_of quar.mode) (others_of key who past);
+  reading = is_unexpired now (recorded key past);
+}
+
+-- The first of the quarantines, which has the least token.
+abbrev pub first_of : List Quar → Option Quar
+first_of [] = None
+first_of (quar ∷ quars) = Some quar
+
+-- Who holds a key against a session: the session itself, or else the quarantine of least token.
+abbrev pub holder_of : QKey → Sid → List Step → Option Quar
+holder_of key who past = own_first (own_of key who past)
+ where
+  own_first : Option Quar → Option Quar
+  own_first (Some own) = Some own
+  own_first None = first_of (standing key past)
+
+-- The quarantine of this token on a key.
+abbrev pub quar_of : QKey → ℕ → List Step → Option Quar
+quar_of key token past = find (has_token token) (standing key past)
+
+-- Whether a key is the one that made room.
 abbrev pub is_evicted : QKey → Option QKey → Bool
 is_evicted key None = false
 is_evicted key (Some evicted) = same_key key evicted
 
--- The entry of a key, value and stamp: what was stored on it last, unless a miss on it or an eviction has dropped it since.
+-- The entry after its number was moved: none where there was none, or where its value is no number.
+abbrev pub entry_shifted : ℤ → ℕ → Option (List ℕ × ℕ) → Option (List ℕ × ℕ)
+entry_shifted by stamp found =
+    option_and_then (λ old. option_map (λ n. (decimal n, stamp)) (shifted old.0 by)) found
+
+-- The entry of the key whose quarantine ended.
+abbrev pub entry_ended : Ended → Option (List ℕ × ℕ) → Option (List ℕ × ℕ)
+entry_ended Keep found = found
+entry_ended Drop found = None
+entry_ended (Put value stamp evicted) found = Some (value, stamp)
+entry_ended (Shift by stamp) found = entry_shifted by stamp found
+
+-- The key that made room for a value that was put.
+abbrev pub evicted_by : Ended → Option QKey
+evicted_by Keep = None
+evicted_by Drop = None
+evicted_by (Put value stamp evicted) = evicted
+evicted_by (Shift by stamp) = None
+
+-- The entry of a key, value and stamp. A stored or put value is the entry; a shift moves it; a miss, a drop and an eviction leave none.
 abbrev pub entry : QKey → List Step → Option (List ℕ × ℕ)
 entry key [] = None
 entry key (Stored on token now value stamp evicted ∷ past) =
     if same_key key on then Some (value, stamp) else (if is_evicted key evicted then None else entry key past)
+entry key (Released on sid token how ∷ past) =
+    if same_key key on then entry_ended how (entry key past)
+    else (if is_evicted key (evicted_by how) then None else entry key past)
 entry key (Lease on sid floor now token deadline ∷ past) =
     if same_key key on then None else entry key past
 entry key (Again on sid floor now standing ∷ past) =
     if same_key key on then None else entry key past
-entry key (Hit on sid floor value stamp ∷ past) = entry key past
-entry key (Void on token now ∷ past) = entry key past
+entry key (step ∷ past) = entry key past
 
--- The keys that were hit or stored, the latest first.
+-- Whether a quarantine ended with a new value.
+abbrev pub is_put : Ended → Bool
+is_put Keep = false
+is_put Drop = false
+is_put (Put value stamp evicted) = true
+is_put (Shift by stamp) = false
+
+-- The keys that were hit, stored or put, the latest first.
 abbrev pub used : List Step → List QKey
 used [] = []
 used (Hit on sid floor value stamp ∷ past) = on ∷ used past
 used (Stored on token now value stamp evicted ∷ past) = on ∷ used past
-used (Lease on sid floor now token deadline ∷ past) = used past
-used (Again on sid floor now standing ∷ past) = used past
-used (Void on token now ∷ past) = used past
+used (Released on sid token how ∷ past) = if is_put how then on ∷ used past else used past
+used (step ∷ past) = used past
 
 -- Each key once, where it stands first.
 abbrev pub each_once : List QKey → List QKey
@@ -88,10 +154,8 @@ evicts terms key past =
 -- Whether a step draws a token.
 abbrev pub draws : Step → Bool
 draws (Lease on sid floor now token deadline) = true
-draws (Hit on sid floor value stamp) = false
-draws (Again on sid floor now standing) = false
-draws (Stored on token now value stamp evicted) = false
-draws (Void on token now) = false
+draws (Granted on sid mode shift now token deadline) = true
+draws step = false
 
 -- Tokens are drawn in turn, from the first on.
 abbrev pub next_token : Terms → List Step → ℕ
@@ -100,3 +164,9 @@ next_token terms past = terms.first + count_by draws past
 -- A lease given now lives this long, and no longer than the clock can tell.
 abbrev pub deadline_at : Terms → ℕ → ℕ
 deadline_at terms now = min (now + terms.life) (2 ^ 64 - 1)
+
+-- Whether a step is the grant of which this permit speaks.
+abbrev pub grants : Permit → Step → Bool
+grants permit (Granted on sid mode shift now token deadline) =
+    same_key permit.key on && (permit.sid.number == sid.number) && same_way (way_of permit.mode) (way_of mode) && (permit.token == token)
+grants permit step = false

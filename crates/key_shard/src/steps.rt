@@ -1,3 +1,4 @@
+use lease_table::Mode;
 use rows_model::{QKey, Sid, Value};
 
 /// What kind of lease stands in the way of a request.
@@ -7,6 +8,23 @@ pub enum Stands {
     I,
     /// A Q lease: a writer has quarantined the key.
     Q,
+}
+
+/// How a quarantine ended.
+#[derive(Debug, Drop)]
+pub enum Ended {
+    /// The entry stays as it is.
+    Keep,
+    /// The entry is dropped.
+    Drop,
+    /// A new value stands in front. The key that had to make room is named.
+    Put {
+        value: Value,
+        stamp: u64,
+        evicted: Option<QKey>,
+    },
+    /// The entry's number is moved by so much, in its place, and has a new stamp.
+    Shift { by: i32, stamp: u64 },
 }
 
 /// One step of a shard: a request on one key, and what came of it. A history is a list of these.
@@ -37,6 +55,8 @@ pub enum Step {
         now: u64,
         standing: Stands,
     },
+    /// A get of a key that its session has quarantined.
+    Own { key: QKey, sid: Sid },
     /// A set under a token that stood. The key that had to make room is named.
     Stored {
         key: QKey,
@@ -48,24 +68,33 @@ pub enum Step {
     },
     /// A set under a token that did not stand, or no longer. It changes nothing.
     Void { key: QKey, token: u64, now: u64 },
-}
-
-/// The answer to a get.
-#[derive(Debug, Drop)]
-pub enum Got {
-    /// The entry's value and stamp.
-    Hit { value: Value, stamp: u64 },
-    /// The token of an I lease: the asker may ask the store and set the key under it.
-    Lease { token: u64 },
-    /// A lease stands in the way: try again.
-    Again { standing: Stands },
-}
-
-/// The answer to a set.
-#[derive(Clone, Copy, Debug, PartialEq, Eq)]
-pub enum SetAnswer {
-    /// The value stands. The key that had to make room is named.
-    Stored { evicted: Option<QKey> },
-    /// The token did not stand, and nothing changed.
-    Void,
+    /// A quarantine was given, with this token and until this deadline. It ends the key's I lease.
+    Granted {
+        key: QKey,
+        sid: Sid,
+        mode: Mode,
+        shift: i32,
+        now: u64,
+        token: u64,
+        deadline: u64,
+    },
+    /// A session asked for a quarantine that it has already.
+    Held { key: QKey, sid: Sid, mode: Mode },
+    /// A quarantine was refused. One that stands in the way is named by its session and mode.
+    Refused {
+        key: QKey,
+        sid: Sid,
+        mode: Mode,
+        holder: Sid,
+        held: Mode,
+    },
+    /// The quarantine of this token ended.
+    Released {
+        key: QKey,
+        sid: Sid,
+        token: u64,
+        how: Ended,
+    },
+    /// A quarantine was to be ended that stood no longer.
+    Gone { key: QKey, sid: Sid, token: u64 },
 }

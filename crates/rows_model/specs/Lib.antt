@@ -3,3 +3,5 @@ pub mod Name
 pub mod Number
 pub mod Query
 pub mod Rows
+pub mod Placement
+pub mod Shift

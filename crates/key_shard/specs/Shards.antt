@@ -1,0 +1,68 @@
+-- What contracts see of a shard, what becomes of it, and when it refuses.
+use Rattle.std.specs.Prelude.{ℕ, ◌≡◌, ◌-◌, ◌^◌, Bool, not, ◌==◌, ◌&&◌, if◌then◌else◌, List, [], ◌∷◌, ◌++◌, filter, reverse, Option, Some, None, Result, Ok, Err}
+use Rattle.std.specs.List.{list_any}
+use Rattle.rows_model.specs.declared.keys.QKey.{QKey}
+use Rattle.rows_model.specs.Placement.{shard_of}
+use Rattle.key_shard.specs.Permit.{Permit, same_permit}
+use Rattle.key_shard.specs.declared.steps.Step.{Step}
+use Rattle.key_shard.specs.declared.steps.Step.TheVariants.{Granted, Hit, Lease, Again, Own, Stored, Void, Held, Refused, Released, Gone}
+use Rattle.key_shard.specs.declared.replies.ShardFault.{ShardFault}
+use Rattle.key_shard.specs.declared.replies.ShardFault.TheVariants as faults
+use Rattle.key_shard.specs.Past.{Terms, draws, next_token}
+
+-- a shard: what it is made with, its history, the earliest step first, and the grants that are out
+pub record ShardView : Type 0 where
+  pub terms : Terms
+  pub history : List Step
+  pub out : List Permit
+
+-- its past: its steps, the latest first
+abbrev pub past_of : ShardView → List Step
+past_of shard = reverse shard.history
+
+-- whether a grant is out
+abbrev pub is_out : ShardView → Permit → Bool
+is_out shard permit = list_any (same_permit permit) shard.out
+
+-- the grants that are out, less one
+abbrev pub without_permit : Permit → List Permit → List Permit
+without_permit permit out = filter (λ other. not (same_permit permit other)) out
+
+-- the grants that are out after a step: a granted quarantine's is
+abbrev pub out_after : Terms → Step → List Permit → List Permit
+out_after terms (Granted key sid mode shift now token deadline) out =
+    out ++ record { shard = terms.no; key = key; sid = sid; mode = mode; token = token } ∷ []
+out_after terms step out = out
+
+-- the shard after a step
+abbrev pub stepped : ShardView → Step → ShardView
+stepped shard step = record {
+  terms = shard.terms;
+  history = shard.history ++ step ∷ [];
+  out = out_after shard.terms step shard.out;
+}
+
+-- the shard after the step that ends a grant
+abbrev pub returned : ShardView → Permit → Step → ShardView
+returned shard permit step = record {
+  terms = shard.terms;
+  history = shard.history ++ step ∷ [];
+  out = without_permit permit shard.out;
+}
+
+-- why the shard refuses this step on this key, if it does: the key is another shard's, or the next token would be the last number
+abbrev pub spent_at : ℕ → Step → Option ShardFault
+spent_at next step = if draws step && (next == 2 ^ 64 - 1) then Some (faults.Spent next) else None
+
+abbrev pub refusal : ShardView → QKey → Step → Option ShardFault
+refusal shard key step =
+    if shard_of key shard.terms.count == shard.terms.no then spent_at (next_token shard.terms (past_of shard)) step
+    else Some (faults.Stranger (shard_of key shard.terms.count))
+
+-- the result is that refusal; without one it is an answer, unless memory ran out
+abbrev pub Refuses : {X : Type 0} → Option ShardFault → Result X ShardFault → Type 0
+Refuses (Some fault) result = result ≡ Err fault
+Refuses None (Ok answer) = Unit {0}
+Refuses None (Err faults.Memory) = Unit {0}
+Refuses None (Err (faults.Stranger shard)) = ⊥
+Refuses None (Err (faults.Spent next)) = ⊥

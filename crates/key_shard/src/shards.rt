@@ -1,0 +1,169 @@
+ghost use Rattle.std.specs.Prelude.{◌≡◌, ◌≤◌, ◌<◌, ◌∷◌, ◌++◌, [], reverse, IfOk, OnOk, OnErr, IfErr, IsTrue};
+ghost use Rattle.std.specs.Bool.{IsFalse};
+ghost use Rattle.key_shard.specs.Answers.{get_step, set_step, quarantine_step, release_step, replace_step, FitsMode, FitsShift, Legal};
+ghost use Rattle.key_shard.specs.Replies.{ShowsGot, ShowsSet, ShowsQuarantine, ShowsRelease};
+ghost use Rattle.key_shard.specs.Shards.{past_of, is_out, stepped, returned, refusal, Refuses};
+
+use crate::grants::Grant;
+use crate::replies::{Back, Got, How, QAnswer, Rel, SetAnswer, ShardFault};
+use crate::steps::Step;
+use entry_table::Entries;
+use lease_table::Mode;
+use rows_model::{Memory, QKey, Sid, Value};
+use std::alloc::Global;
+use std::marker::Model;
+
+/// One shard of the cache. Contracts see what it is made with, its history, and its grants that are
+/// out.
+#[derive(Debug, Drop)]
+pub struct Shard {
+    no: u32,
+    count: u32,
+    /// How long a lease lives, in ticks of the clock that is handed in.
+    life: u64,
+    first: u64,
+    /// The next token.
+    next: u64,
+    entries: Entries,
+    history: Vec<Step>,
+}
+
+impl Model for Shard {
+    ghost use Rattle.std.specs.Prelude.{[]};
+    ghost use Rattle.key_shard.specs.Shards.{ShardView};
+
+    ghost Value = { ShardView };
+
+    ghost view = { λ s. record { terms = record { no = s.no; count = s.count; room = s.entries.room; life = s.life; first = s.first }; history = s.history.items; out = [] } };
+}
+
+impl Shard {
+    /// Shard `no` of `count`, with room for so many entries, leases that live so long, and this first
+    /// token. Its history is empty.
+    pub fn new(
+        alloc: Global,
+        no: u32,
+        count: u32,
+        room: u32,
+        life: u64,
+        first: u64,
+    ) -> Result<Shard, Memory>
+        requires one_of { no < count }
+        requires roomy { 1 ≤ room }
+        requires lively { 1 ≤ life }
+        requires tokens { 1 ≤ first }
+        ensures { IfOk result (λ shard. shard ≡ record {
+            terms = record { no = no; count = count; room = room; life = life; first = first };
+            history = []; out = [] }) }
+    {
+        Err(Memory)
+    }
+
+    /// Gets a key for a session. The answer is Own exactly where the session has quarantined the key.
+    /// Else it is a hit exactly where an entry stands with a stamp of at least the floor, which comes
+    /// to the front. Else an entry with a smaller stamp is dropped, and the answer is Again exactly
+    /// where a lease stands that is not past its deadline, or a quarantine, and a lease where none
+    /// does.
+    ///
+    /// A key of another shard is a `Stranger`. Where a lease would take the last number there is as
+    /// its token, the shard is `Spent`. After a refusal everything is as before.
+    pub fn get(&mut self, key: QKey, who: Sid, floor: u64, now: u64) -> Result<Got, ShardFault>
+        ensures refusal { let step = get_step self.old.terms (past_of self.old) key who floor now in Refuses (refusal self.old key step) result }
+        ensures step { let step = get_step self.old.terms (past_of self.old) key who floor now in OnOk result (self.new ≡ stepped self.old step) }
+        ensures shows { let step = get_step self.old.terms (past_of self.old) key who floor now in IfOk result (ShowsGot step) }
+        ensures err { OnErr result (self.new ≡ self.old) }
+    {
+        Err(ShardFault::Memory)
+    }
+
+    /// Stores a value under an I lease, and ends the lease: the entry stands in front, and in a full
+    /// shard the last one makes room. Where the token's lease is not recorded, or is past its
+    /// deadline, the answer is Void, and no entry, order or lease changes.
+    pub fn set(
+        &mut self,
+        key: QKey,
+        token: u64,
+        value: Value,
+        stamp: u64,
+        now: u64,
+    ) -> Result<SetAnswer, ShardFault>
+        ensures refusal { let step = set_step self.old.terms (past_of self.old) key token value stamp now in Refuses (refusal self.old key step) result }
+        ensures step { let step = set_step self.old.terms (past_of self.old) key token value stamp now in OnOk result (self.new ≡ stepped self.old step) }
+        ensures shows { let step = set_step self.old.terms (past_of self.old) key token value stamp now in IfOk result (ShowsSet step) }
+        ensures err { OnErr result (self.new ≡ self.old) }
+    {
+        Err(ShardFault::Memory)
+    }
+
+    /// Asks for a quarantine of the key, by the rules of compatibility. One that is granted ends the
+    /// key's I lease, and reserves what its end and its release will take, so that these can't fail.
+    /// A session that has this quarantine already is answered Held, and gets no second grant.
+    pub fn quarantine(
+        &mut self,
+        key: QKey,
+        sid: Sid,
+        mode: Mode,
+        shift: i32,
+        now: u64,
+    ) -> Result<QAnswer, ShardFault>
+        requires { FitsShift mode shift }
+        ensures refusal { let step = quarantine_step self.old.terms (past_of self.old) key sid mode shift now in Refuses (refusal self.old key step) result }
+        ensures step { let step = quarantine_step self.old.terms (past_of self.old) key sid mode shift now in OnOk result (self.new ≡ stepped self.old step) }
+        ensures shows { let step = quarantine_step self.old.terms (past_of self.old) key sid mode shift now in IfOk result (ShowsQuarantine self.old.terms (past_of self.old) step) }
+        ensures err { OnErr result (self.new ≡ self.old) }
+    {
+        Err(ShardFault::Memory)
+    }
+
+    /// Releases a grant. Where its quarantine stands, it ends: with Keep the entry stays, with Drop it
+    /// is dropped, and with Shift its number is moved by the quarantine's shift, in its place; an entry
+    /// that is no number is dropped. Where it stands no longer the answer is Gone, and so it is for a
+    /// grant that isn't out at this shard, which leaves the history too. It takes no memory.
+    pub fn release(&mut self, grant: Grant, how: How) -> Rel
+        requires { FitsMode grant.mode how }
+        ensures out { IsTrue (is_out self.old grant) → self.new ≡ returned self.old grant (release_step (past_of self.old) grant how) }
+        ensures shows { IsTrue (is_out self.old grant) → ShowsRelease (release_step (past_of self.old) grant how) result }
+        ensures unknown { IsFalse (is_out self.old grant) → (self.new ≡ self.old) × (result ≡ Rel.Gone) }
+    {
+        Rel::Gone
+    }
+
+    /// Releases a grant of mode Refresh with a new value, which stands in front with this stamp; in a
+    /// full shard the last entry makes room. Gone as for `release`. For want of memory grant and value
+    /// come back, and everything is as before.
+    pub fn replace(&mut self, grant: Grant, value: Value, stamp: u64) -> Result<Rel, Back>
+        requires { grant.mode ≡ Mode.Refresh }
+        ensures out { IsTrue (is_out self.old grant) → OnOk result (self.new ≡ returned self.old grant (replace_step self.old.terms (past_of self.old) grant value stamp)) }
+        ensures shows { IsTrue (is_out self.old grant) → IfOk result (ShowsRelease (replace_step self.old.terms (past_of self.old) grant value stamp)) }
+        ensures unknown { IsFalse (is_out self.old grant) → (self.new ≡ self.old) × (result ≡ Ok Rel.Gone) }
+        ensures returned { IfErr result (λ back. (back.grant ≡ grant) × (back.value ≡ value)) }
+        ensures err { OnErr result (self.new ≡ self.old) }
+    {
+        Err(Back { grant, value })
+    }
+
+    /// The steps so far, the earliest first.
+    pub fn history(&self) -> &[Step]
+        ensures steps { result.now ≡ self.now.history }
+        ensures legal { Legal self.now.terms self.now.history }
+    {
+        self.history.as_slice()
+    }
+
+    /// The steps, the earliest first.
+    pub fn take_history(self) -> Vec<Step>
+        ensures steps { result.items ≡ self.history }
+        ensures legal { Legal self.terms self.history }
+    {
+        let Shard {
+            no: _,
+            count: _,
+            life: _,
+            first: _,
+            next: _,
+            entries: _,
+            history,
+        } = self;
+        history
+    }
+}

@@ -1,0 +1,6 @@
+//! The leases of each key: who may read it, who quarantines it, and until when.
+#![tactic(auto)]
+
+pub use records::{Due, Held, Lease, Mode, Quar, ReadLease};
+
+pub mod records;

@@ -1,0 +1,32 @@
+use Rattle.std.specs.Prelude.{ℕ, ℤ, pos, negsuc, suc, ◌+◌, ◌-◌, ◌*◌, ◌%◌, ◌^◌, Bool, true, false, ◌==◌, ◌&&◌, ◌||◌, not, nat_le, nat_lt, if◌then◌else◌, List, [], ◌∷◌, Option, Some, None, option_map, decimal}
+use Rattle.std.specs.List.{list_all}
+
+-- whether a byte is a decimal digit
+abbrev pub is_digit : ℕ → Bool
+is_digit byte = nat_le 48 byte && nat_le byte 57
+
+-- the number that digits stand for, after a number in front of them
+abbrev pub number_from : ℕ → List ℕ → ℕ
+number_from front [] = front
+number_from front (digit ∷ digits) = number_from (front * 10 + (digit - 48)) digits
+
+-- whether a text is digits, at least one, and no 0 in front of others
+abbrev pub is_number : List ℕ → Bool
+is_number [] = false
+is_number (digit ∷ []) = is_digit digit
+is_number (digit ∷ next ∷ digits) =
+    is_digit digit && not (digit == 48) && list_all is_digit (next ∷ digits)
+
+-- the number below 2^64 that a text is, written without leading zeros
+unfoldable pub number_in : List ℕ → Option ℕ
+number_in text =
+    if is_number text && nat_lt (number_from 0 text) (2 ^ 64) then Some (number_from 0 text) else None
+
+-- a number moved up, wrapping at 2^64, or down, stopping at 0
+abbrev pub moved_by : ℤ → ℕ → ℕ
+moved_by (pos by) n = (n + by) % 2 ^ 64
+moved_by (negsuc by) n = n - suc by
+
+-- the number in a text, moved; none where the text is no number
+unfoldable pub shifted : List ℕ → ℤ → Option ℕ
+shifted text by = option_map (moved_by by) (number_in text)
