@@ -14,4 +14,6 @@ mod numbers;
 pub mod queries;
 pub mod refusals;
 pub mod rows;
+#[cfg(test)]
+mod tests;
 pub mod values;
