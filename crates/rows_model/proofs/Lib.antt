@@ -2,3 +2,4 @@ pub mod KeyLemmas
 pub mod NameLemmas
 pub mod NumberLemmas
 pub mod RowsLemmas
+pub mod QueryLemmas

@@ -1,17 +1,14 @@
-use Rattle.std.proofs.Common.{zero, suc, Bool, true, false, eqb, ltb, Option, Some, None, Result, Ok, Err, MatchResult, find, rules, tests, ℕ, ◌+◌, ◌-◌, ◌<◌, ◌≤◌, ◌^◌, ◌≡◌, List, [], ◌∷◌, ◌++◌, length, get_or, map, decimal, All, AllPairs, arith, sym, refl, ap, subst, ◌∙◌}
+use Rattle.std.proofs.Common.{zero, suc, Bool, true, false, eqb, Some, None, Result, Ok, Err, MatchResult, find, rules, tests, ℕ, ◌+◌, ◌-◌, ◌<◌, ◌≤◌, ◌≡◌, List, [], ◌∷◌, ◌++◌, length, get_or, map, decimal, arith, sym, refl, ap, ◌∙◌}
 use Rattle.std.specs.List.{range_with_len}
 use Rattle.std.proofs.lemmas.List.FromFn.{length-map-range_with_len, get_or-map-range_with_len, map-range_with_len_more}
 use Rattle.std.specs.Ordering.{nat_cmp, is_lt}
 use Rattle.std.specs.declared.cmp.Ordering.TheVariants.{Less, Equal, Greater}
-use Rattle.std.specs.List.{AllWithin}
 use Rattle.std.specs.List.Sorted.{IsBinarySearchResult, IsSearchInRange}
 use Rattle.std.proofs.lemmas.Cmp.{nat_cmp_total, ranked}
 use Rattle.std.proofs.lemmas.List.Sorted.{searchable_from_sorted}
 use Rattle.std.proofs.lemmas.Bool.Decides.{nat_tests}
 use Rattle.rows_model.specs.declared.rows.Member.{Member}
-use Rattle.rows_model.specs.declared.rows.Link.{Link}
-use Rattle.rows_model.specs.Name.{IsName}
-use Rattle.rows_model.specs.Rows.{Tables, Fit, member_of, IsLink, IsBefore, joins, start_member, start_tables}
+use Rattle.rows_model.specs.Rows.{Tables, Fit, member_of, start_member, start_tables}
 use Rattle.rows_model.proofs.NameLemmas.{IsName-numbered}
 
 -- the member at a place of the start

@@ -1,7 +1,7 @@
-use Rattle.std.proofs.Common.{ℕ, Ok, Err, Some, ◌≡◌, sym, ap, ◌∙◌, rules}
+use Rattle.std.proofs.Common.{Ok, Err, Some, sym, ap, ◌∙◌, rules}
 use Rattle.std.proofs.lemmas.List.Sorted.{answers_always}
 use Rattle.rows_model.specs.declared.rows.Member.{Member}
-use Rattle.rows_model.specs.Rows.{Tables, member_of}
+use Rattle.rows_model.specs.Rows.{Tables}
 use Rattle.rows_model.proofs.RowsLemmas.{member_searched}
 use Rattle.rows_model.proofs.rows.Rows.member.Goals as goal
 
