@@ -1,4 +1,4 @@
-use Rattle.std.proofs.Common.{ℕ, ◌+◌, ◌-◌, ◌<◌, ◌≤◌, ◌≡◌, ◌==◌, ◌&&◌, Bool, true, false, cond, ltb, eqb, List, [], ◌∷◌, ◌++◌, length, take, drop, get_or, decimal, Option, Some, None, position, arith, sym, refl, ap, ◌∙◌, rules, take-append-drop, take_at, drop_at}
+use Rattle.std.proofs.Common.{tests, ◌^◌, ◌*◌, ℕ, ◌+◌, ◌-◌, ◌<◌, ◌≡◌, true, List, ◌∷◌, ◌++◌, length, take, drop, get_or, decimal, Some, None, position, arith, sym, refl, ap, ◌∙◌, rules, take-append-drop, take_at}
 use Rattle.std.specs.List.{position_from}
 use Rattle.std.proofs.lemmas.Iterator.Adapters.{position_from-zero}
 use Rattle.std.proofs.lemmas.List.Quantifiers.{position-Some}
@@ -7,7 +7,8 @@ use Rattle.std.proofs.lemmas.List.{drop_more, take_rest}
 use Rattle.rows_model.specs.declared.keys.Kind.{Kind}
 use Rattle.rows_model.specs.declared.keys.Kind.TheVariants.{Profile, Friends, Pending, NFriends, NPending}
 use Rattle.rows_model.specs.declared.keys.QKey.{QKey}
-use Rattle.rows_model.specs.Key.{word_of, key_text, IsKeyText, IsNoKeyText, IsNoWord, is_colon}
+use Rattle.std.proofs.lemmas.Fmt.{decimal_injective}
+use Rattle.rows_model.specs.Key.{kind_number, same_key, word_of, key_text, IsKeyText, IsNoKeyText, IsNoWord, is_colon}
 use Rattle.rows_model.specs.Number.{IsIdText, IsNoIdText}
 
 -- the text of a key, spelled out
@@ -86,3 +87,58 @@ key_joined text colon kind id at word h =
     let whole : text ≡ word_of kind ++ 58 ∷ decimal id =
     sym (take-append-drop colon text) ∙ (ap (λ (front : List ℕ). front ++ drop colon text) word ∙ ap (λ (rest : List ℕ). word_of kind ++ rest) back) in
     record { id_from = h.id_from; id_below = h.id_below; written = whole ∙ sym (key_text_is (record { kind = kind; id = id })) }
+
+-- the first two letters, as one number
+abbrev letters : List ℕ → ℕ
+letters word = 256 * get_or word 0 0 + get_or word 1 0
+
+-- a kind is told by its word
+pub word_injective : (a b : Kind) → word_of a ≡ word_of b → a ≡ b
+word_injective Profile Profile e = refl
+word_injective Friends Friends e = refl
+word_injective Pending Pending e = refl
+word_injective NFriends NFriends e = refl
+word_injective NPending NPending e = refl
+word_injective a b e = let two : letters (word_of a) ≡ letters (word_of b) = ap letters e in absurd (omega arith)
+
+-- a kind is told by its place in the order
+pub kind_injective : (a b : Kind) → kind_number a ≡ kind_number b → a ≡ b
+kind_injective Profile Profile e = refl
+kind_injective Friends Friends e = refl
+kind_injective Pending Pending e = refl
+kind_injective NFriends NFriends e = refl
+kind_injective NPending NPending e = refl
+kind_injective a b e = absurd (omega arith)
+
+-- a key is its kind and its id
+key_from_parts : (a b : QKey) → a.kind ≡ b.kind → a.id ≡ b.id → a ≡ b
+key_from_parts a b kind id = λ i. record { kind = kind i; id = id i }
+
+-- `same_key` holds of a key and itself alone
+pub same_from_same_key : (a b : QKey) → same_key a b ≡ true → a ≡ b
+same_from_same_key a b h =
+    let kinds : kind_number a.kind ≡ kind_number b.kind = search (rules, tests) in
+    let ids : a.id ≡ b.id = search (rules, tests) in
+    key_from_parts a b (kind_injective a.kind b.kind kinds) ids
+
+pub same_key-refl : (a : QKey) → same_key a a ≡ true
+same_key-refl a = search (rules, tests)
+
+pub same_key_from_same : (a b : QKey) → a ≡ b → same_key a b ≡ true
+same_key_from_same a b e = rw e (same_key-refl b)
+
+-- a text tells its key
+pub key_text_injective : (a b : QKey) → a.id < 2 ^ 64 → b.id < 2 ^ 64 → key_text a ≡ key_text b → a ≡ b
+key_text_injective a b below_a below_b e =
+    let t : word_of a.kind ++ 58 ∷ decimal a.id ≡ word_of b.kind ++ 58 ∷ decimal b.id = sym (key_text_is a) ∙ (e ∙ key_text_is b) in
+    let at : Some (length (word_of a.kind)) ≡ Some (length (word_of b.kind)) =
+    sym (colon_at a.kind (decimal a.id)) ∙ (ap (position is_colon) t ∙ colon_at b.kind (decimal b.id)) in
+    let lengths : length (word_of a.kind) ≡ length (word_of b.kind) = cc in
+    let words : word_of a.kind ≡ word_of b.kind =
+    sym (take_at (word_of a.kind) (58 ∷ decimal a.id) (length (word_of b.kind)) lengths)
+    ∙ (ap (λ (xs : List ℕ). take (length (word_of b.kind)) xs) t ∙ take_at (word_of b.kind) (58 ∷ decimal b.id) (length (word_of b.kind)) refl) in
+    let backs : decimal a.id ≡ decimal b.id =
+    sym (behind a.kind (decimal a.id))
+    ∙ (ap (λ (xs : List ℕ). drop (length (word_of a.kind) + 1) xs) t
+    ∙ (ap (λ (n : ℕ). drop (n + 1) (word_of b.kind ++ 58 ∷ decimal b.id)) lengths ∙ behind b.kind (decimal b.id))) in
+    key_from_parts a b (word_injective a.kind b.kind words) (decimal_injective a.id b.id below_a below_b backs)

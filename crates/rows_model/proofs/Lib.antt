@@ -1,4 +1,5 @@
 pub mod KeyLemmas
+pub mod LinkLemmas
 pub mod NameLemmas
 pub mod NumberLemmas
 pub mod RowsLemmas

@@ -1,10 +1,14 @@
-use Rattle.std.proofs.Common.{ℕ, ◌+◌, ◌-◌, ◌<◌, ◌≤◌, ◌^◌, ◌≡◌, List, [], ◌∷◌, ◌++◌, length, get_or, map, decimal, All, AllPairs, arith, sym, refl, ap, subst, ◌∙◌}
+use Rattle.std.proofs.Common.{zero, suc, Bool, true, false, eqb, Some, None, Result, Ok, Err, MatchResult, find, rules, tests, ℕ, ◌+◌, ◌-◌, ◌<◌, ◌≤◌, ◌≡◌, List, [], ◌∷◌, ◌++◌, length, get_or, map, decimal, arith, sym, refl, ap, ◌∙◌}
 use Rattle.std.specs.List.{range_with_len}
 use Rattle.std.proofs.lemmas.List.FromFn.{length-map-range_with_len, get_or-map-range_with_len, map-range_with_len_more}
+use Rattle.std.specs.Ordering.{nat_cmp, is_lt}
+use Rattle.std.specs.declared.cmp.Ordering.TheVariants.{Less, Equal, Greater}
+use Rattle.std.specs.List.Sorted.{IsBinarySearchResult, IsSearchInRange}
+use Rattle.std.proofs.lemmas.Cmp.{nat_cmp_total, ranked}
+use Rattle.std.proofs.lemmas.List.Sorted.{searchable_from_sorted}
+use Rattle.std.proofs.lemmas.Bool.Decides.{nat_tests}
 use Rattle.rows_model.specs.declared.rows.Member.{Member}
-use Rattle.rows_model.specs.declared.rows.Link.{Link}
-use Rattle.rows_model.specs.Name.{IsName}
-use Rattle.rows_model.specs.Rows.{Tables, Fit, IsLink, IsBefore, joins, start_member, start_tables}
+use Rattle.rows_model.specs.Rows.{Tables, Fit, member_of, start_member, start_tables}
 use Rattle.rows_model.proofs.NameLemmas.{IsName-numbered}
 
 -- the member at a place of the start
@@ -45,3 +49,51 @@ start_more items next name id low so_far named pushed =
     pushed ∙ (ap (λ (xs : List Member). xs ++ record { id = id; name = name } ∷ []) so_far
     ∙ ap (λ (n : List ℕ). map start_member (range_with_len 1 (id - 1)) ++ record { id = id; name = n } ∷ []) named) in
     end ∙ (sym more ∙ ap (λ (k : ℕ). map start_member (range_with_len 1 k)) last)
+
+-- `find` gives the first element that passes
+pub find_at : {X : Type 0} (p : X → Bool) (xs : List X) (i : ℕ) (d : X) → i < length xs → p (get_or xs i d) ≡ true → ((k : ℕ) → k < i → p (get_or xs k d) ≡ false) → find p xs ≡ Some (get_or xs i d)
+find_at p [] i d l here before = absurd (omega arith)
+find_at p (x ∷ xs) zero d l here before = rw here
+find_at p (x ∷ xs) (suc i) d l here before =
+    let first : p x ≡ false = before 0 (omega arith) in
+    rw first (find_at p xs i d (omega arith) here (λ k below. before (suc k) (omega arith)))
+
+-- and nothing where none passes
+pub find_none : {X : Type 0} (p : X → Bool) (xs : List X) → ((k : ℕ) (d : X) → k < length xs → p (get_or xs k d) ≡ false) → find p xs ≡ None
+find_none p [] all = refl
+find_none p (x ∷ xs) all =
+    let first : p x ≡ false = all 0 x (omega arith) in
+    rw first (find_none p xs (λ k d l. all (suc k) d (omega arith)))
+
+-- a member's place tells the member of its id
+pub member_at : (tables : Tables) (id i : ℕ) (d : Member) → Fit tables → i < length tables.members → (get_or tables.members i d).id ≡ id → member_of id tables ≡ Some (get_or tables.members i d)
+member_at tables id i d fit l here =
+    find_at (λ m. eqb m.id id) tables.members i d l (search (rules, tests)) (λ k below.
+    let earlier = fit.members_ascend k i d below l in
+    let other : (get_or tables.members k d).id ≡ id → ⊥ = λ e. omega arith in
+    search (rules, tests))
+
+-- no place has the id: no member has it
+pub member_absent : (tables : Tables) (id : ℕ) → ((k : ℕ) (d : Member) → k < length tables.members → (get_or tables.members k d).id ≡ id → ⊥) → member_of id tables ≡ None
+member_absent tables id absent =
+    find_none (λ m. eqb m.id id) tables.members (λ k d l. let other = absent k d l in search (rules, tests))
+
+-- members that ascend can be searched by halves
+members_sorted : (tables : Tables) → Fit tables → (k : ℕ) (d : Member) → 0 ≤ k → k + 1 < length tables.members → is_lt (nat_cmp (get_or tables.members (k + 1) d).id (get_or tables.members k d).id) ≡ false
+members_sorted tables fit k d low l =
+    let up = fit.members_ascend k (k + 1) d (omega arith) l in
+    grind (arith, nat_tests)
+
+-- what the search by halves finds
+pub member_searched : (tables : Tables) (id : ℕ) (r : Result ℕ ℕ) → Fit tables → IsSearchInRange r (length tables.members) → IsBinarySearchResult (λ m. nat_cmp m.id id) tables.members r → MatchResult r (λ i. (d : Member) → member_of id tables ≡ Some (get_or tables.members i d)) (λ _. member_of id tables ≡ None)
+member_searched tables id (Ok i) fit l h =
+    λ d. member_at tables id i d fit l (ranked _ _ Equal (sym (h d)))
+member_searched tables id (Err i) fit l h =
+    let up = searchable_from_sorted nat_cmp_total (λ m. m.id) tables.members id (members_sorted tables fit) in
+    let parts = h up in
+    member_absent tables id (λ k d in_range e.
+    let side : (k < i → ⊥) × (i ≤ k → ⊥) = (
+      λ below. let less = ranked _ id Less (sym (parts.0 k d (omega arith) below)) in omega arith,
+      λ above. let more = ranked _ id Greater (sym (parts.1 k d above in_range)) in omega arith,
+    ) in
+    omega arith)

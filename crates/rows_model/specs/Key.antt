@@ -44,3 +44,7 @@ IsNoKeyText text = (key : QKey) → IsKeyText text key → ⊥
 -- whether a byte is the colon that parts a key's word from its id
 abbrev pub is_colon : ℕ → Bool
 is_colon byte = byte == 58
+
+-- keys with one text are one key
+abbrev pub TextsTellKeys : Type 0
+TextsTellKeys = (a b : QKey) → a.id < 2 ^ 64 → b.id < 2 ^ 64 → key_text a ≡ key_text b → a ≡ b

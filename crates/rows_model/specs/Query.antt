@@ -1,11 +1,12 @@
 use Rattle.std.specs.Prelude.{ℕ, Bool, ◌==◌, ◌&&◌, ◌||◌, if◌then◌else◌, List, ◌∷◌, ◌++◌, Option, Some, None, map, filter, count_by, codes, decimal}
 use Rattle.std.specs.List.{join_with_byte}
+use Rattle.std.specs.List.Sorted.{IsStrictlyIncreasing}
 use Rattle.rows_model.specs.declared.keys.Kind.{Kind}
 use Rattle.rows_model.specs.declared.keys.Kind.TheVariants.{Profile, Friends, Pending, NFriends, NPending}
 use Rattle.rows_model.specs.declared.keys.QKey.{QKey}
 use Rattle.rows_model.specs.declared.rows.Link.{Link}
 use Rattle.rows_model.specs.declared.rows.Member.{Member}
-use Rattle.rows_model.specs.Rows.{Tables, member_of, is_pending, is_friend}
+use Rattle.rows_model.specs.Rows.{Tables, Fit, member_of, is_pending, is_friend}
 
 -- whether a link is a pending invitation to this member
 abbrev pub invites : ℕ → Link → Bool
@@ -56,3 +57,12 @@ answer_of NPending id tables = decimal (pending_count id tables)
 -- the answer to a key on these tables
 unfoldable pub answer : QKey → Tables → List ℕ
 answer key tables = answer_of key.kind key.id tables
+
+-- the ids of both lists ascend
+pub record IsAscendingFor (id : ℕ) (tables : Tables) : Type 0 where
+  pub friends : IsStrictlyIncreasing (friend_ids id tables)
+  pub inviters : IsStrictlyIncreasing (inviter_ids id tables)
+
+-- on fit rows the ids in the answers about each member ascend
+abbrev pub AnswersAscend : Type 0
+AnswersAscend = (tables : Tables) (id : ℕ) → Fit tables → IsAscendingFor id tables

@@ -1,5 +1,5 @@
 ghost use Rattle.std.specs.Prelude.{◌≡◌, position, IfSome, IfNone, IfOk};
-ghost use Rattle.rows_model.specs.Key.{word_of, key_text, IsKeyText, IsNoWord, IsNoKeyText, is_colon};
+ghost use Rattle.rows_model.specs.Key.{word_of, key_text, IsKeyText, IsNoWord, IsNoKeyText, is_colon, TextsTellKeys};
 
 use crate::numbers::{id_of, push_decimal};
 use crate::refusals::Memory;
@@ -94,3 +94,8 @@ fn colon_of(text: &[u8]) -> Option<usize>
 {
     text.iter().position(|byte| *byte == b':')
 }
+
+/// Keys with one text are one key.
+pub fn texts_tell_keys()
+    ensures { TextsTellKeys }
+{}

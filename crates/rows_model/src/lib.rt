@@ -1,9 +1,9 @@
 //! Keys, values and the rows of the social store: what a key asks, and the answer to it.
 #![tactic(auto)]
 
-pub use keys::{Kind, QKey, Sid};
+pub use keys::{Kind, QKey, Sid, texts_tell_keys};
 pub use names::Name;
-pub use queries::ask;
+pub use queries::{answers_ascend, ask};
 pub use refusals::Memory;
 pub use rows::{Link, LinkState, Member, Rows};
 pub use values::Value;
@@ -14,4 +14,6 @@ mod numbers;
 pub mod queries;
 pub mod refusals;
 pub mod rows;
+#[cfg(test)]
+mod tests;
 pub mod values;

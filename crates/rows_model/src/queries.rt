@@ -1,6 +1,6 @@
 ghost use Rattle.std.specs.Prelude.{◌≡◌, IfOk};
 ghost use Rattle.rows_model.specs.declared.keys.Kind.TheVariants.{Profile};
-ghost use Rattle.rows_model.specs.Query.{answer, answer_of};
+ghost use Rattle.rows_model.specs.Query.{answer, answer_of, AnswersAscend};
 
 use crate::keys::{Kind, QKey};
 use crate::numbers::push_decimal;
@@ -30,3 +30,8 @@ fn profile(alloc: Global, rows: &Rows, id: u32) -> Result<Value, Memory>
     push_decimal(&mut text, rows.pending_count(id))?;
     Ok(Value::from(text))
 }
+
+/// The ids in the answers about a member ascend, since the links are in order.
+pub fn answers_ascend()
+    ensures { AnswersAscend }
+{}

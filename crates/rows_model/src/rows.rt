@@ -117,7 +117,10 @@ impl Rows {
     pub fn member(&self, id: u32) -> Option<&Member>
         ensures { option_copied result ≡ member_of id self.now }
     {
-        self.members.iter().find(|member| member.id == id)
+        match self.members.binary_search_by_key(&id, |member| member.id) {
+            Ok(place) => Some(&self.members[place]),
+            Err(_) => None,
+        }
     }
 
     /// How many friends a member has.

@@ -1,6 +1,5 @@
-use Rattle.std.proofs.Common.{◌≤◌, get_or, MatchOption, arith, rules}
+use Rattle.std.proofs.Common.{arith}
 use Rattle.std.specs.Result.{result_ok}
-use Rattle.rows_model.specs.Number.{IsIdText, IsNoIdText}
 use Rattle.rows_model.proofs.NumberLemmas.{first_of_id, IsUtf8-from_id, id_parsed, found_part, none_part}
 use Rattle.rows_model.proofs.numbers.id_of.Goals as goal
 
