@@ -1,5 +1,6 @@
 use Rattle.std.proofs.Common.{◌≡◌, ◌≢◌, ℕ, suc, ◌+◌, ◌||◌, is_some, ◌≤◌, Bool, true, false, cond, not, Option, Some, None, option_map, List, [], ◌∷◌, ◌++◌, length, ◌<◌, map, filter, find, length-append, refl, sym, ap, subst, ◌∙◌, inl, inr, arith, rules}
-use Rattle.std.specs.Option.{option_or}
+use Rattle.std.specs.Option.{option_or, option_to_list}
+use Rattle.std.proofs.lemmas.List.{append-nil}
 use Rattle.std.specs.List.{list_any}
 use Rattle.std.proofs.lemmas.Bool.{cases_Bool, cond_both, false≢true}
 use Rattle.rows_model.specs.declared.keys.QKey.{QKey}
@@ -79,10 +80,10 @@ lookup-append q (e ∷ xs) ys = lookup-append-step q e xs ys (lookup-append q xs
 -- a key that isn't in the whole is in neither part
 pub absent-parts : (q : QKey) (xs ys : List Item) → lookup q (xs ++ ys) ≡ None → (lookup q xs ≡ None) × (lookup q ys ≡ None)
 absent-parts q xs ys h = split (lookup q xs) (lookup q ys) (sym (lookup-append q xs ys) ∙ h)
- where
-  split : (a b : Option (List ℕ × ℕ)) → option_or a b ≡ None → (a ≡ None) × (b ≡ None)
-  split None b e = (refl, e)
-  split (Some x) b e = absurd (cc)
+  where
+    split : (a b : Option (List ℕ × ℕ)) → option_or a b ≡ None → (a ≡ None) × (b ≡ None)
+    split None b e = (refl, e)
+    split (Some x) b e = absurd (cc)
 
 without-append-step : (k : QKey) (e : Item) (xs ys : List Item) → without k (xs ++ ys) ≡ without k xs ++ without k ys → without k (e ∷ (xs ++ ys)) ≡ without k (e ∷ xs) ++ without k ys
 without-append-step k e xs ys rest = grind (arith, without-cons)
@@ -92,7 +93,7 @@ without-append k [] ys = rw without-nil refl
 without-append k (e ∷ xs) ys = without-append-step k e xs ys (without-append k xs ys)
 
 replaced-append-step : (k : QKey) (v : List ℕ) (s : ℕ) (e : Item) (xs ys : List Item) → replaced k v s (xs ++ ys) ≡ replaced k v s xs ++ replaced k v s ys → replaced k v s (e ∷ (xs ++ ys)) ≡ replaced k v s (e ∷ xs) ++ replaced k v s ys
-replaced-append-step k v s e xs ys rest = rw (replaced-cons, replaced-cons) (ap (λ (l : List Item). cond (same_key e.0 k) (e.0, v, s) e ∷ l) rest)
+replaced-append-step k v s e xs ys rest = rw (replaced-cons k v s e (xs ++ ys), replaced-cons k v s e xs) (ap (λ (l : List Item). cond (same_key e.0 k) (e.0, v, s) e ∷ l) rest)
 
 pub replaced-append : (k : QKey) (v : List ℕ) (s : ℕ) (xs ys : List Item) → replaced k v s (xs ++ ys) ≡ replaced k v s xs ++ replaced k v s ys
 replaced-append k v s [] ys = rw replaced-nil refl
@@ -113,22 +114,23 @@ lookup-replaced-hit k q v s e list hit rest =
     let tests : same_key e.0 q ≡ same_key k q = ap (λ (x : QKey). same_key x q) same in
     let shape : replaced k v s (e ∷ list) ≡ (e.0, v, s) ∷ replaced k v s list = grind (arith, replaced-cons k v s e list) in
     rw (shape, lookup-cons q (e.0, v, s) (replaced k v s list), lookup-cons q e list, rest, tests) (by_test (same_key k q) (lookup q list))
- where
-  by_test : (b : Bool) (r : Option (List ℕ × ℕ)) → cond b (Some (v, s)) (cond b (option_map (λ _. (v, s)) r) r) ≡ cond b (option_map (λ _. (v, s)) (cond b (Some (e.1, e.2)) r)) (cond b (Some (e.1, e.2)) r)
-  by_test true r = refl
-  by_test false r = refl
+  where
+    by_test : (b : Bool) (r : Option (List ℕ × ℕ)) → cond b (Some (v, s)) (cond b (option_map (λ _. (v, s)) r) r) ≡ cond b (option_map (λ _. (v, s)) (cond b (Some (e.1, e.2)) r)) (cond b (Some (e.1, e.2)) r)
+    by_test true r = refl
+    by_test false r = refl
 
 lookup-replaced-miss : (k q : QKey) (v : List ℕ) (s : ℕ) (e : Item) (list : List Item) → same_key e.0 k ≡ false → lookup q (replaced k v s list) ≡ cond (same_key k q) (option_map (λ _. (v, s)) (lookup q list)) (lookup q list) → lookup q (replaced k v s (e ∷ list)) ≡ cond (same_key k q) (option_map (λ _. (v, s)) (lookup q (e ∷ list))) (lookup q (e ∷ list))
 lookup-replaced-miss k q v s e list miss rest =
     let shape : replaced k v s (e ∷ list) ≡ e ∷ replaced k v s list = grind (arith, replaced-cons k v s e list) in
     rw (shape, lookup-cons q e (replaced k v s list), lookup-cons q e list, rest) (by_test (same_key e.0 q) (same_key k q) (lookup q list) apart)
- where
-  apart : same_key e.0 q ≡ true → same_key k q ≡ false
-  apart h = ap (λ (x : QKey). same_key k x) (sym (same_key-true e.0 q h)) ∙ (same_key-swap k e.0 ∙ miss)
-  by_test : (a b : Bool) (r : Option (List ℕ × ℕ)) → (a ≡ true → b ≡ false) → cond a (Some (e.1, e.2)) (cond b (option_map (λ _. (v, s)) r) r) ≡ cond b (option_map (λ _. (v, s)) (cond a (Some (e.1, e.2)) r)) (cond a (Some (e.1, e.2)) r)
-  by_test true true r h = absurd (false≢true (sym (h refl)))
-  by_test true false r h = refl
-  by_test false b r h = refl
+  where
+    apart : same_key e.0 q ≡ true → same_key k q ≡ false
+    apart h = ap (λ (x : QKey). same_key k x) (sym (same_key-true e.0 q h)) ∙ (same_key-swap k e.0 ∙ miss)
+
+    by_test : (a b : Bool) (r : Option (List ℕ × ℕ)) → (a ≡ true → b ≡ false) → cond a (Some (e.1, e.2)) (cond b (option_map (λ _. (v, s)) r) r) ≡ cond b (option_map (λ _. (v, s)) (cond a (Some (e.1, e.2)) r)) (cond a (Some (e.1, e.2)) r)
+    by_test true true r h = absurd (false≢true (sym (h refl)))
+    by_test true false r h = refl
+    by_test false b r h = refl
 
 lookup-replaced-step : (k q : QKey) (v : List ℕ) (s : ℕ) (e : Item) (list : List Item) → lookup q (replaced k v s list) ≡ cond (same_key k q) (option_map (λ _. (v, s)) (lookup q list)) (lookup q list) → lookup q (replaced k v s (e ∷ list)) ≡ cond (same_key k q) (option_map (λ _. (v, s)) (lookup q (e ∷ list))) (lookup q (e ∷ list))
 lookup-replaced-step k q v s e list rest =
@@ -143,11 +145,11 @@ lookup-replaced k q v s (e ∷ list) = lookup-replaced-step k q v s e list (look
 apart_first : (a : Item) (front : List Item) (e : Item) (back : List Item) (q : QKey) → same_key e.0 q ≡ true → lookup a.0 (front ++ e ∷ back) ≡ None → lookup q front ≡ None → lookup q (a ∷ front) ≡ None
 apart_first a front e back q hit fresh absent =
     elim (cases_Bool (same_key a.0 q)) [ inl same ↦ absurd (cc (sym fresh ∙ found same)) | inr miss ↦ rw (lookup-cons, miss) absent ]
- where
-  found : same_key a.0 q ≡ true → lookup a.0 (front ++ e ∷ back) ≡ Some (e.1, e.2)
-  found same =
-      let at : a.0 ≡ q = same_key-true a.0 q same in
-      rw (at, lookup-append q front (e ∷ back), absent, lookup-cons q e back, hit) refl
+  where
+    found : same_key a.0 q ≡ true → lookup a.0 (front ++ e ∷ back) ≡ Some (e.1, e.2)
+    found same =
+        let at : a.0 ≡ q = same_key-true a.0 q same in
+        rw (at, lookup-append q front (e ∷ back), absent, lookup-cons q e back, hit) refl
 
 pub apart_from : (front : List Item) (e : Item) (back : List Item) (q : QKey) → same_key e.0 q ≡ true → DistinctKeys (front ++ e ∷ back) → (lookup q front ≡ None) × (lookup q back ≡ None)
 apart_from [] e back q hit distinct = (lookup-nil q, ap (λ (x : QKey). lookup x back) (sym (same_key-true e.0 q hit)) ∙ distinct.0)
@@ -201,10 +203,10 @@ replaced-split q v s front e back absent behind hit =
 pub lookup-init : (q : QKey) (init : List Item) (last : Item) → DistinctKeys (init ++ last ∷ []) → lookup q init ≡ cond (same_key last.0 q) None (lookup q (init ++ last ∷ []))
 lookup-init q init last distinct =
     elim (cases_Bool (same_key last.0 q)) [ inl hit ↦ rw hit ((apart_from init last [] q hit distinct).0) | inr miss ↦ rw (miss, lookup-append q init (last ∷ []), lookup-cons q last [], miss, lookup-nil) (or_none (lookup q init)) ]
- where
-  or_none : (o : Option (List ℕ × ℕ)) → o ≡ option_or o None
-  or_none None = refl
-  or_none (Some x) = refl
+  where
+    or_none : (o : Option (List ℕ × ℕ)) → o ≡ option_or o None
+    or_none None = refl
+    or_none (Some x) = refl
 
 -- lengths
 pub length-without : (k : QKey) (list : List Item) → length (without k list) ≤ length list
@@ -215,17 +217,18 @@ length-without k (e ∷ list) =
     (cond_both (same_key e.0 k) (without k list) (e ∷ without k list) (λ (l : List Item). length l ≤ length (e ∷ list)) (λ _. omega arith) (λ _. omega arith))
 
 length-found-step : (k : QKey) (e : Item) (list : List Item) → (lookup k list ≢ None → length (without k list) + 1 ≡ length list) → lookup e.0 list ≡ None → lookup k (e ∷ list) ≢ None → length (without k (e ∷ list)) + 1 ≡ length (e ∷ list)
-length-found-step k e list rest fresh there = 
+length-found-step k e list rest fresh there =
     elim (cases_Bool (same_key e.0 k)) [ inl hit ↦ at_hit hit | inr miss ↦ at_miss miss ]
- where
-  at_hit : same_key e.0 k ≡ true → length (without k (e ∷ list)) + 1 ≡ length (e ∷ list)
-  at_hit hit =
-      let gone : without k list ≡ list = without-absent k list (ap (λ (x : QKey). lookup x list) (sym (same_key-true e.0 k hit)) ∙ fresh) in
-      rw (without-cons, hit, gone) (omega arith)
-  at_miss : same_key e.0 k ≡ false → length (without k (e ∷ list)) + 1 ≡ length (e ∷ list)
-  at_miss miss =
-      let shorter : length (without k list) + 1 ≡ length list = rest (λ h. there (rw (lookup-cons, miss) h)) in
-      rw (without-cons, miss) (omega arith)
+  where
+    at_hit : same_key e.0 k ≡ true → length (without k (e ∷ list)) + 1 ≡ length (e ∷ list)
+    at_hit hit =
+        let gone : without k list ≡ list = without-absent k list (ap (λ (x : QKey). lookup x list) (sym (same_key-true e.0 k hit)) ∙ fresh) in
+        rw (without-cons, hit, gone) (omega arith)
+
+    at_miss : same_key e.0 k ≡ false → length (without k (e ∷ list)) + 1 ≡ length (e ∷ list)
+    at_miss miss =
+        let shorter : length (without k list) + 1 ≡ length list = rest (λ h. there (rw (lookup-cons, miss) h)) in
+        rw (without-cons, miss) (omega arith)
 
 pub length-without-found : (k : QKey) (list : List Item) → DistinctKeys list → lookup k list ≢ None → length (without k list) + 1 ≡ length list
 length-without-found k [] distinct there = absurd (there (lookup-nil k))
@@ -238,10 +241,10 @@ length-replaced k v s (e ∷ list) = rw replaced-cons (ap suc (length-replaced k
 -- keys
 keys-without-step : (k : QKey) (e : Item) (list : List Item) → keys (without k list) ≡ filter (λ q. not (same_key q k)) (keys list) → keys (without k (e ∷ list)) ≡ filter (λ q. not (same_key q k)) (keys (e ∷ list))
 keys-without-step k e list rest = rw (without-cons, keys-cons e list) (by_test (same_key e.0 k))
- where
-  by_test : (b : Bool) → keys (cond b (without k list) (e ∷ without k list)) ≡ cond (not b) (e.0 ∷ filter (λ q. not (same_key q k)) (keys list)) (filter (λ q. not (same_key q k)) (keys list))
-  by_test true = rest
-  by_test false = keys-cons e (without k list) ∙ ap (λ (l : List QKey). e.0 ∷ l) rest
+  where
+    by_test : (b : Bool) → keys (cond b (without k list) (e ∷ without k list)) ≡ cond (not b) (e.0 ∷ filter (λ q. not (same_key q k)) (keys list)) (filter (λ q. not (same_key q k)) (keys list))
+    by_test true = rest
+    by_test false = keys-cons e (without k list) ∙ ap (λ (l : List QKey). e.0 ∷ l) rest
 
 pub keys-without : (k : QKey) (list : List Item) → keys (without k list) ≡ filter (λ q. not (same_key q k)) (keys list)
 keys-without k [] = rw (without-nil, keys-nil) refl
@@ -250,19 +253,19 @@ keys-without k (e ∷ list) = keys-without-step k e list (keys-without k list)
 pub keys-replaced : (k : QKey) (v : List ℕ) (s : ℕ) (list : List Item) → keys (replaced k v s list) ≡ keys list
 keys-replaced k v s [] = rw replaced-nil refl
 keys-replaced k v s (e ∷ list) = rw (replaced-cons, keys-cons e list) (by_test (same_key e.0 k) (keys-replaced k v s list))
- where
-  by_test : (b : Bool) → keys (replaced k v s list) ≡ keys list → keys (cond b (e.0, v, s) e ∷ replaced k v s list) ≡ e.0 ∷ keys list
-  by_test true rest = keys-cons (e.0, v, s) (replaced k v s list) ∙ ap (λ (l : List QKey). e.0 ∷ l) rest
-  by_test false rest = keys-cons e (replaced k v s list) ∙ ap (λ (l : List QKey). e.0 ∷ l) rest
+  where
+    by_test : (b : Bool) → keys (replaced k v s list) ≡ keys list → keys (cond b (e.0, v, s) e ∷ replaced k v s list) ≡ e.0 ∷ keys list
+    by_test true rest = keys-cons (e.0, v, s) (replaced k v s list) ∙ ap (λ (l : List QKey). e.0 ∷ l) rest
+    by_test false rest = keys-cons e (replaced k v s list) ∙ ap (λ (l : List QKey). e.0 ∷ l) rest
 
 -- a key has an entry exactly where it is one of the keys
 pub is_some-lookup : (q : QKey) (list : List Item) → is_some (lookup q list) ≡ list_any (λ k. same_key k q) (keys list)
 is_some-lookup q [] = rw (lookup-nil, keys-nil) refl
 is_some-lookup q (e ∷ list) = rw (lookup-cons, keys-cons) (by_test (same_key e.0 q) (is_some-lookup q list))
- where
-  by_test : (b : Bool) → is_some (lookup q list) ≡ list_any (λ k. same_key k q) (keys list) → is_some (cond b (Some (e.1, e.2)) (lookup q list)) ≡ (b || list_any (λ k. same_key k q) (keys list))
-  by_test true h = refl
-  by_test false h = h
+  where
+    by_test : (b : Bool) → is_some (lookup q list) ≡ list_any (λ k. same_key k q) (keys list) → is_some (cond b (Some (e.1, e.2)) (lookup q list)) ≡ (b || list_any (λ k. same_key k q) (keys list))
+    by_test true h = refl
+    by_test false h = h
 
 -- what stays sound
 pub IsSound-without : (k : QKey) (room : ℕ) (list : List Item) → IsSound (record { room = room; list = list }) → IsSound (record { room = room; list = without k list })
@@ -304,22 +307,53 @@ promoted-found k t v s there = rw there refl
 -- no look-up is changed by bringing an entry to the front
 pub lookup-promoted : (k q : QKey) (t : Table) → lookup q (promoted k t).list ≡ lookup q t.list
 lookup-promoted k q t = by_entry (lookup k t.list) refl
- where
-  by_entry : (o : Option (List ℕ × ℕ)) → lookup k t.list ≡ o → lookup q (promoted k t).list ≡ lookup q t.list
-  by_entry None absent = ap (λ (u : Table). lookup q u.list) (promoted-absent k t absent)
-  by_entry (Some f) there = ap (λ (u : Table). lookup q u.list) (promoted-found k t f.0 f.1 there) ∙ (lookup-put k q f.0 f.1 t.list ∙ by_test (same_key k q) refl)
-   where
-    by_test : (b : Bool) → same_key k q ≡ b → cond b (Some (f.0, f.1)) (lookup q t.list) ≡ lookup q t.list
-    by_test true same = sym there ∙ ap (λ (x : QKey). lookup x t.list) (same_key-true k q same)
-    by_test false apart = refl
+  where
+    by_entry : (o : Option (List ℕ × ℕ)) → lookup k t.list ≡ o → lookup q (promoted k t).list ≡ lookup q t.list
+    by_entry None absent = ap (λ (u : Table). lookup q u.list) (promoted-absent k t absent)
+    by_entry (Some f) there = ap (λ (u : Table). lookup q u.list) (promoted-found k t f.0 f.1 there) ∙ (lookup-put k q f.0 f.1 t.list ∙ by_test (same_key k q) refl)
+      where
+        by_test : (b : Bool) → same_key k q ≡ b → cond b (Some (f.0, f.1)) (lookup q t.list) ≡ lookup q t.list
+        by_test true same = sym there ∙ ap (λ (x : QKey). lookup x t.list) (same_key-true k q same)
+        by_test false apart = refl
 
 -- bringing an entry to the front leaves the table sound
 pub IsSound-promoted : (k : QKey) (t : Table) → IsSound t → IsSound (promoted k t)
 IsSound-promoted k t h = by_entry (lookup k t.list) refl
- where
-  by_entry : (o : Option (List ℕ × ℕ)) → lookup k t.list ≡ o → IsSound (promoted k t)
-  by_entry None absent = subst IsSound (sym (promoted-absent k t absent)) h
-  by_entry (Some f) there = subst IsSound (sym (promoted-found k t f.0 f.1 there)) (IsSound-put k f.0 f.1 t.room t.list (λ e. none_is (sym there ∙ e)) h)
-   where
-    none_is : Some f ≡ None → ⊥
-    none_is e = cc
+  where
+    by_entry : (o : Option (List ℕ × ℕ)) → lookup k t.list ≡ o → IsSound (promoted k t)
+    by_entry None absent = subst IsSound (sym (promoted-absent k t absent)) h
+    by_entry (Some f) there = subst IsSound (sym (promoted-found k t f.0 f.1 there)) (IsSound-put k f.0 f.1 t.room t.list (λ e. none_is (sym there ∙ e)) h)
+      where
+        none_is : Some f ≡ None → ⊥
+        none_is e = cc
+
+pub keys-append : (xs ys : List Item) → keys (xs ++ ys) ≡ keys xs ++ keys ys
+keys-append [] ys = rw keys-nil refl
+keys-append (e ∷ xs) ys = rw (keys-cons e xs, keys-cons e (xs ++ ys)) (ap (λ (l : List QKey). e.0 ∷ l) (keys-append xs ys))
+
+pub length-keys : (list : List Item) → length (keys list) ≡ length list
+length-keys [] = rw keys-nil refl
+length-keys (e ∷ list) = rw keys-cons (ap suc (length-keys list))
+
+-- what `put` leaves, where it dropped nothing
+pub put-kept : (new list : List Item) → new ++ option_to_list None ≡ list → new ≡ list
+put-kept new list h = sym (append-nil new) ∙ h
+
+-- and where it dropped the last entry
+pub put-dropped : (new : List Item) (last e : Item) (old : List Item) → new ++ option_to_list (Some last) ≡ e ∷ old → 0 < length old → (init : List Item) × (new ≡ e ∷ init) × (old ≡ init ++ last ∷ [])
+put-dropped [] last e old h some = absurd (none_left (ap length h))
+  where
+    none_left : length (last ∷ []) ≡ length (e ∷ old) → ⊥
+    none_left h = omega (arith, h, some)
+put-dropped (f ∷ new) last e old h some = (new, first, sym rest)
+  where
+    first : f ∷ new ≡ e ∷ new
+    first = cc
+
+    rest : new ++ last ∷ [] ≡ old
+    rest = cc
+
+-- a look-up after a new key was put and the last entry dropped
+pub lookup-put_dropping : (k q : QKey) (v : List ℕ) (s : ℕ) (init : List Item) (last : Item) → DistinctKeys (init ++ last ∷ []) → lookup q ((k, v, s) ∷ init) ≡ cond (same_key k q) (Some (v, s)) (cond (same_key last.0 q) None (lookup q (init ++ last ∷ [])))
+lookup-put_dropping k q v s init last distinct =
+    lookup-cons q (k, v, s) init ∙ ap (λ (o : Option (List ℕ × ℕ)). cond (same_key k q) (Some (v, s)) o) (lookup-init q init last distinct)

@@ -99,9 +99,9 @@ missed k slice es at is_slice =
 
 pub FoundAt-there : {k : QKey} {es : List Entry} {i : ℕ} {x : Entry} → FoundAt k es i x → lookup k (shown_all es) ≢ None
 FoundAt-there h e = apart (sym h.looked_up ∙ e)
- where
-  apart : {v : List ℕ × ℕ} → Some v ≡ None → ⊥
-  apart e = cc
+  where
+    apart : {v : List ℕ × ℕ} → Some v ≡ None → ⊥
+    apart e = cc
 
 -- the entry taken out, and one of that key put in front
 pub shown_all-put : {k : QKey} {es : List Entry} {i : ℕ} {x : Entry} → FoundAt k es i x → (y : Entry) → y.key ≡ k → shown_all (remove es i ++ y ∷ []) ≡ (k, y.value, y.stamp) ∷ without k (shown_all es)

@@ -45,7 +45,7 @@ pub record IsSound (table : Table) : Type 0 where
 -- the table with its entry of a key brought to the front, or as it is where it has none
 unfoldable pub promoted : QKey → Table → Table
 promoted key table = in_front (lookup key table.list)
- where
-  in_front : Option (List ℕ × ℕ) → Table
-  in_front None = table
-  in_front (Some found) = record table { list = (key, found.0, found.1) ∷ without key table.list }
+  where
+    in_front : Option (List ℕ × ℕ) → Table
+    in_front None = table
+    in_front (Some found) = record table { list = (key, found.0, found.1) ∷ without key table.list }

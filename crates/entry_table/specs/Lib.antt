@@ -1,3 +1,3 @@
 pub mod Entries
 pub mod Kept
-pub mod Moves
+pub mod Lends

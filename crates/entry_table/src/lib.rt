@@ -4,3 +4,5 @@
 pub use table::Entries;
 
 pub mod table;
+#[cfg(test)]
+mod tests;

@@ -1,4 +1,4 @@
-ghost use Rattle.std.specs.Prelude.{◌≡◌, ℕ, ◌≤◌, ◌<◌, ◌↔◌, ◌∷◌, ◌++◌, [], length, position, reverse, map, IsTrue, IfOk, IfErr, OnOk, OnErr, IsSome, IfSome, IfNone, IsOk, option_map, vec_len, IsNone};
+ghost use Rattle.std.specs.Prelude.{◌≡◌, ◌≤◌, ◌↔◌, ◌∷◌, ◌++◌, [], length, position, IsTrue, IfOk, IfErr, OnErr, IsSome, IsNone, IsOk, option_map};
 ghost use Rattle.std.specs.Option.{option_to_list};
 ghost use Rattle.std.specs.Borrow.{sem};
 ghost use Rattle.rows_model.specs.Key.{same_key};
@@ -15,8 +15,9 @@ struct Entry {
     stamp: u64,
 }
 
-/// Values by key, each with its stamp, in order of recency. Contracts see how many there is room
-/// for, and the list of (key, bytes of the value, stamp), most recent first.
+/// Values by key, each with its stamp, in order of recency, and no more of them than there is room
+/// for. Contracts see that room, and the list of (key, bytes of the value, stamp), most recent
+/// first.
 #[derive(Debug, Drop)]
 pub struct Entries {
     room: u32,
@@ -44,9 +45,9 @@ fn place(entries: &[Entry], key: &QKey) -> Option<usize>
 
 impl Entries {
     ghost use Rattle.entry_table.specs.Entries.{Table, IsSound, lookup, without, replaced, promoted};
-    ghost use Rattle.entry_table.specs.Moves.{EndsAs};
+    ghost use Rattle.entry_table.specs.Lends.{EndsAs};
 
-    /// An empty table with room for that many entries. It takes memory for the first one.
+    /// An empty table with room for that many entries. It takes memory for the first one alone.
     pub fn new(alloc: Global, room: u32) -> Result<Entries, Memory>
         requires { 1 ≤ room }
         ensures { IfOk result (λ table. table ≡ record { room = room; list = [] }) }
@@ -55,14 +56,6 @@ impl Entries {
             room,
             entries: Vec::with_capacity(alloc, 1)?,
         })
-    }
-
-    /// How many entries there are.
-    pub fn len(&self) -> usize
-        ensures count { result ≡ length self.now.list }
-        ensures sound { IsSound self.now }
-    {
-        self.entries.len()
     }
 
     /// The value and the stamp of the key's entry, which keeps its place.
@@ -95,22 +88,27 @@ impl Entries {
         }
     }
 
-    /// Puts an entry in front: in the place of the key's own where it has one, and else as a new
-    /// one, for which a full table drops its last entry and returns it. Only a new key in a table
-    /// that isn't full may take memory. Where that is wanting, the value comes back and nothing
-    /// changes.
+    /// Puts an entry in front. It takes the place of the key's own; a new key in a full table drops
+    /// the last entry, which is returned. Only a new key in a table that isn't full may want memory.
+    /// Where that is refused, the value comes back and nothing changes.
     pub fn put(
         &mut self,
         key: QKey,
         value: Value,
         stamp: u64,
     ) -> Result<Option<(QKey, Value, u64)>, Value>
-        ensures list { IfOk result (λ dropped. self.new.list ++ option_to_list dropped ≡ (key, value, stamp) ∷ without key self.old.list) }
-        ensures drops { IfOk result (λ dropped. IsSome dropped ↔ (IsNone (lookup key self.old.list) × (length self.old.list ≡ self.old.room))) }
+        // What is dropped was the last, so that it stands behind what is kept.
+        ensures list { IfOk result (λ dropped. self.new.list ++ option_to_list dropped
+            ≡ (key, value, stamp) ∷ without key self.old.list) }
+        ensures drops { IfOk result (λ dropped. IsSome dropped
+            ↔ (IsNone (lookup key self.old.list) × (length self.old.list ≡ self.old.room))) }
+
+        // No memory is wanted for a key that is there, or in a full table.
         ensures there { IsSome (lookup key self.old.list) → IsOk result }
         ensures full { length self.old.list ≡ self.old.room → IsOk result }
         ensures returned { IfErr result (λ back. back ≡ value) }
         ensures err { OnErr result (self.new ≡ self.old) }
+
         ensures room { self.new.room ≡ self.old.room }
         ensures sound { IsSound self.new }
     {
