@@ -1,0 +1,112 @@
+ghost use Rattle.std.specs.Prelude.{◌≡◌, ◌<◌, Some};
+ghost use Rattle.case_tables.specs.Compatibility.{Holding, Request, verdict, row_of, column_of, cell};
+
+use std::marker::Model;
+
+/// The answer to a request for a lease.
+#[derive(Clone, Copy, Debug, PartialEq, Eq)]
+pub enum Verdict {
+    /// The lease is given, and nothing stood in its way.
+    Give,
+    /// A lease to read isn't given now: another lease stands on the key.
+    Wait,
+    /// The quarantine is given, and the unexpired lease to read ends.
+    Void,
+    /// The quarantine is given beside those of other sessions.
+    Join,
+    /// The asker holds this quarantine already.
+    Same,
+    /// The asker of a lease to read holds a quarantine on the key.
+    Own,
+    /// The quarantine isn't given.
+    Refuse,
+}
+
+/// A table of verdicts with `R` rows and `C` columns. Contracts see its rows, each the list of its
+/// cells.
+#[derive(Drop)]
+pub struct Grid<const R: usize, const C: usize> {
+    cells: [[Verdict; C]; R],
+}
+
+impl<const R: usize, const C: usize> Model for Grid<R, C> {
+    ghost use Rattle.std.specs.Prelude.{List, IsTrue, length, ◌==◌};
+    ghost use Rattle.std.specs.List.{list_all};
+    ghost use Rattle.case_tables.specs.declared.grids.Verdict.{Verdict};
+
+    ghost Value = { List (List Verdict) };
+
+    ghost view = { λ grid. grid.cells };
+
+    ghost invariant = { λ grid. IsTrue (list_all (λ row. length row == C) grid.cells) };
+}
+
+impl<const R: usize, const C: usize> Grid<R, C> {
+    /// The verdict in row `r` and column `c`, both counted from 0.
+    pub fn at(&self, r: usize, c: usize) -> Verdict
+        requires row { r < R }
+        requires column { c < C }
+        ensures { cell self.now r c ≡ Some result }
+    {
+        self.cells[r][c]
+    }
+}
+
+/// Writes out the cells, a row in each pair of brackets.
+macro_rules! cells {
+    ($([$($verdict:ident)*])*) => { [$([$(Verdict::$verdict),*]),*] };
+}
+
+/// The verdict on each request, whatever stands on the key. The columns are a lease to read, and a
+/// quarantine to invalidate, to refresh and to shift by a delta.
+pub fn lease_grid() -> Grid<8, 4>
+    ensures { (holding : Holding) (request : Request)
+        → cell result (row_of holding) (column_of request) ≡ Some (verdict holding request) }
+{
+    Grid {
+        cells: cells! {
+            [Give Give Give Give] // nothing
+            [Wait Void Void Void] // an unexpired lease to read
+            [Wait Join Refuse Refuse] // others' quarantines to invalidate, alone
+            [Wait Refuse Refuse Refuse] // another's quarantine to refresh
+            [Wait Refuse Refuse Refuse] // another's quarantine to shift
+            [Own Same Refuse Refuse] // an own quarantine to invalidate
+            [Own Refuse Same Refuse] // an own quarantine to refresh
+            [Own Refuse Refuse Same] // an own quarantine to shift
+        },
+    }
+}
+
+#[cfg(test)]
+mod tests {
+    use super::*;
+
+    #[test]
+    fn answers_each_column_of_some_rows(rt: HostRuntime) {
+        let grid = lease_grid();
+        let nothing = [Verdict::Give, Verdict::Give, Verdict::Give, Verdict::Give];
+        let a_lease = [Verdict::Wait, Verdict::Void, Verdict::Void, Verdict::Void];
+        let invalidates = [
+            Verdict::Wait,
+            Verdict::Join,
+            Verdict::Refuse,
+            Verdict::Refuse,
+        ];
+        let own_refresh = [
+            Verdict::Own,
+            Verdict::Refuse,
+            Verdict::Same,
+            Verdict::Refuse,
+        ];
+        for c in 0..4 {
+            assert_eq!(rt; grid.at(0, c), nothing[c], "nothing, column {c}");
+            assert_eq!(rt; grid.at(1, c), a_lease[c], "a lease, column {c}");
+            assert_eq!(rt;
+                grid.at(2, c),
+                invalidates[c],
+                "others' invalidates, column {c}"
+            );
+            assert_eq!(rt; grid.at(6, c), own_refresh[c], "an own refresh, column {c}");
+        }
+    }
+}
