@@ -77,6 +77,16 @@ abbrev pub verdict : Holding → Request → Verdict
 verdict h read = read_verdict h
 verdict h (quarantine w) = quarantine_verdict w h.own h.others h.reading
 
+-- whether a verdict gives the lease that was asked for
+abbrev pub is_given : Verdict → Bool
+is_given Give = true
+is_given Void = true
+is_given Join = true
+is_given Wait = false
+is_given Same = false
+is_given Own = false
+is_given Refuse = false
+
 -- the place of a way among the ways
 abbrev pub way_number : Way → ℕ
 way_number invalidate = 0

@@ -1,5 +1,5 @@
 ghost use Rattle.std.specs.Prelude.{◌≡◌, ◌<◌, Some};
-ghost use Rattle.case_tables.specs.Compatibility.{Holding, Request, verdict, row_of, column_of, cell};
+ghost use Rattle.case_tables.specs.Compatibility.{Holding, Request, verdict, is_given, row_of, column_of, cell};
 
 use std::marker::Model;
 
@@ -20,6 +20,15 @@ pub enum Verdict {
     Own,
     /// The quarantine isn't given.
     Refuse,
+}
+
+impl Verdict {
+    /// Whether the lease that was asked for is given.
+    pub fn is_given(self) -> bool
+        ensures { result ≡ is_given self }
+    {
+        matches!(self, Verdict::Give | Verdict::Void | Verdict::Join)
+    }
 }
 
 /// A table of verdicts with `R` rows and `C` columns. Contracts see its rows, each the list of its

@@ -1,0 +1,3 @@
+pub mod Leases
+pub use Rattle.rows_model.specs.Key
+pub use Rattle.case_tables.specs.Compatibility

@@ -1,0 +1,10 @@
+//! The leases of each key: who may read it, who quarantines it, and until when.
+#![tactic(auto)]
+
+pub use records::{Due, Held, Lease, Mode, Quar, ReadLease};
+pub use table::Leases;
+
+mod edits;
+mod lookups;
+pub mod records;
+pub mod table;

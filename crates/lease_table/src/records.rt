@@ -1,0 +1,73 @@
+ghost use Rattle.std.specs.Prelude.{◌≡◌};
+ghost use Rattle.case_tables.specs.Compatibility.{way_number};
+
+use rows_model::{QKey, Sid};
+
+/// What a session means to do with a key that it quarantines.
+#[derive(Clone, Copy, Debug, PartialEq, Eq)]
+pub enum Mode {
+    /// To drop the value.
+    Invalidate,
+    /// To put a new value in place of the old one.
+    Refresh,
+    /// To add a number to a count.
+    Delta,
+}
+
+impl Mode {
+    ghost use Rattle.lease_table.specs.Leases.{way_of};
+
+    /// The place of the mode among the modes.
+    pub fn place(self) -> usize
+        ensures { result ≡ way_number (way_of self) }
+    {
+        match self {
+            Mode::Invalidate => 0,
+            Mode::Refresh => 1,
+            Mode::Delta => 2,
+        }
+    }
+}
+
+/// A quarantine lease on a key: nobody else stores a value there while it stands.
+#[derive(Clone, Copy, Debug, PartialEq, Eq)]
+pub struct Quar {
+    pub sid: Sid,
+    pub mode: Mode,
+    pub token: u64,
+    /// From this time on the quarantine is due to be ended by others.
+    pub deadline: u64,
+    /// What is added to the count, in mode Delta.
+    pub shift: i32,
+}
+
+/// A lease to read a key: its session asks the store and may then store the answer by the token.
+#[derive(Clone, Copy, Debug, PartialEq, Eq)]
+pub struct ReadLease {
+    pub sid: Sid,
+    pub token: u64,
+    /// From this time on the lease counts as gone.
+    pub deadline: u64,
+}
+
+/// What a lease is.
+#[derive(Clone, Copy, Debug, PartialEq, Eq)]
+pub enum Held {
+    Read(ReadLease),
+    Quarantine(Quar),
+}
+
+/// A lease that is recorded on a key.
+#[derive(Clone, Copy, Debug, PartialEq, Eq)]
+pub struct Lease {
+    pub key: QKey,
+    pub held: Held,
+}
+
+/// A quarantine that is past its deadline.
+#[derive(Clone, Copy, Debug, PartialEq, Eq)]
+pub struct Due {
+    pub key: QKey,
+    pub sid: Sid,
+    pub token: u64,
+}
