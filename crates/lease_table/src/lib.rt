@@ -2,5 +2,9 @@
 #![tactic(auto)]
 
 pub use records::{Due, Held, Lease, Mode, Quar, ReadLease};
+pub use table::Leases;
 
+mod edits;
+mod lookups;
 pub mod records;
+pub mod table;

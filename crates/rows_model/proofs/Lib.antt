@@ -1,5 +1,5 @@
 pub mod KeyLemmas
-pub mod LinkLemmas
+pub mod QueryLemmas
 pub mod NameLemmas
 pub mod NumberLemmas
 pub mod RowsLemmas

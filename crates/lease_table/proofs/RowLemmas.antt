@@ -1,0 +1,64 @@
+-- The row of the grid for a key.
+use Rattle.std.proofs.Common.{◌≡◌, ℕ, ◌+◌, ◌<◌, Bool, true, false, not, Option, Some, None, List, [], ◌∷◌, map, sym, refl, ◌∙◌, ap, find, filter, IsTrue, length, get_or, arith}
+use Rattle.std.specs.List.{list_all, AllPairs}
+use Rattle.rows_model.specs.declared.keys.Sid.{Sid}
+use Rattle.rows_model.specs.declared.keys.QKey.{QKey}
+use Rattle.case_tables.specs.Compatibility.{row_of, Way, invalidate, refresh, delta, is_invalidate, others_row, way_number}
+use Rattle.lease_table.specs.declared.records.Quar.{Quar}
+use Rattle.lease_table.specs.declared.records.Lease.{Lease}
+use Rattle.std.specs.Prelude.{if◌then◌else◌}
+use Rattle.lease_table.specs.Leases.{first, is_of, way_of, StandBeside, IsTable, quars, own_quar, recorded, is_unexpired, holding}
+use Rattle.std.proofs.lemmas.List.Kept.{AllPairs-filter}
+use Rattle.std.proofs.lemmas.List.Elements.{All-weaker}
+use Rattle.lease_table.proofs.ListLemmas.{find-first, filter-not_found, AllPairs-head, list_all-map}
+
+-- a quarantine's way
+abbrev pub quar_way : Quar → Way
+quar_way quar = way_of quar.mode
+
+-- a way that invalidates is the first
+way_number-invalidate : (w : Way) → IsTrue (is_invalidate w) → way_number w ≡ 0
+way_number-invalidate invalidate h = refl
+way_number-invalidate refresh h = cc
+way_number-invalidate delta h = cc
+
+-- the row where one other quarantine stands alone
+others_row-one : (w : Way) (reading : Bool) → others_row (w ∷ []) reading ≡ 2 + way_number w
+others_row-one invalidate reading = refl
+others_row-one refresh reading = refl
+others_row-one delta reading = refl
+
+-- what stands behind the first one all invalidates
+list_all-behind : (q : Quar) (qs : List Quar) → AllPairs StandBeside (q ∷ qs) → list_all is_invalidate (map quar_way qs) ≡ true
+list_all-behind q qs beside =
+    list_all-map is_invalidate quar_way qs (All-weaker (StandBeside q) (λ r. is_invalidate (quar_way r) ≡ true) (λ r h. h.other_invalidates) qs (AllPairs-head StandBeside q qs beside))
+
+-- the row where other quarantines stand, by the way of the first: of more than one all invalidate
+others_row-first : (q : Quar) (qs : List Quar) (reading : Bool) → AllPairs StandBeside (q ∷ qs) → others_row (map quar_way (q ∷ qs)) reading ≡ 2 + way_number (quar_way q)
+others_row-first q [] reading beside = others_row-one (quar_way q) reading
+others_row-first q (r ∷ rs) reading beside =
+    let here = (AllPairs-head StandBeside q (r ∷ rs) beside 0 q (omega arith)).one_invalidates in
+    let behind = list_all-behind q (r ∷ rs) beside in
+    let at_first = way_number-invalidate (quar_way q) here in
+    rw (here, behind, at_first) refl
+
+-- the same where the first is found among all on the key
+pub others_row-found : (p : Quar → Bool) (qs : List Quar) (q : Quar) (reading : Bool) → AllPairs StandBeside qs → find p qs ≡ Some q → others_row (map quar_way (filter p qs)) reading ≡ 2 + way_number (quar_way q)
+others_row-found p qs q reading beside e =
+    from_first (filter p qs) (AllPairs-filter StandBeside p qs beside) (sym (find-first p qs) ∙ e)
+  where
+    from_first : (rs : List Quar) → AllPairs StandBeside rs → first rs ≡ Some q → others_row (map quar_way rs) reading ≡ 2 + way_number (quar_way q)
+    from_first [] pairs f = cc
+    from_first (r ∷ rs) pairs f =
+        let same : r ≡ q = cc in
+        others_row-first r rs reading pairs ∙ ap (λ x. 2 + way_number (quar_way x)) same
+
+-- the row of a key on which the asker holds none and others hold some
+pub row-others : (key : QKey) (who : Sid) (now : ℕ) (leases : List Lease) (q : Quar) → IsTable leases → own_quar key who leases ≡ None → find (λ quar. not (is_of who quar)) (quars key leases) ≡ Some q → row_of (holding key who now leases) ≡ 2 + way_number (quar_way q)
+row-others key who now leases q table none found =
+    rw none (others_row-found (λ quar. not (is_of who quar)) (quars key leases) q _ (table key).beside found)
+
+-- the row of a key on which nobody holds a quarantine
+pub row-free : (key : QKey) (who : Sid) (now : ℕ) (leases : List Lease) (reading : Bool) → own_quar key who leases ≡ None → find (λ quar. not (is_of who quar)) (quars key leases) ≡ None → is_unexpired now (recorded key leases) ≡ reading → row_of (holding key who now leases) ≡ (if reading then 1 else 0)
+row-free key who now leases reading none no_other e =
+    rw (none, filter-not_found (λ quar. not (is_of who quar)) (quars key leases) no_other, e) refl

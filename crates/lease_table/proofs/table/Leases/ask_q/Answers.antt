@@ -1,0 +1,19 @@
+use Rattle.std.proofs.Common.{◌≡◌, ◌<◌, List, sym, ◌∙◌, true, subst}
+use Rattle.std.specs.List.{All}
+use Rattle.case_tables.specs.Compatibility.{is_given}
+use Rattle.lease_table.specs.Leases.{quars}
+use Rattle.lease_table.proofs.ChangeLemmas.{IsTable-quar, Leaves-quar}
+use Rattle.lease_table.proofs.table.Leases.ask_q.Goals as goal
+
+pub invariant_of-self-2 : goal.invariant_of-self-2
+invariant_of-self-2 c =
+    let by_rules = rw c.as_slice.ensures.value at c.quar_verdict-verdict.ensures in
+    let given = sym c.is_given.ensures ∙ c.if-not-is_given.false in
+    let below = rw (← c.self.view_is) at c.requires in
+    IsTable-quar c.args.key c.args.q c.args.now _ _ c.quar_verdict-verdict.result c.self.invariant below by_rules given c.in_ok-record_lease.ensures.ok
+
+pub returns-clause-after : goal.returns-clause-after
+returns-clause-after c =
+    let given : is_given c.quar_verdict-verdict.result ≡ true =
+        sym c.is_given.ensures ∙ c.if-not-is_given.false in
+    rw (given, ← c.self.view_is) (Leaves-quar c.args.key c.args.q _ _ c.in_ok-record_lease.ensures.ok)

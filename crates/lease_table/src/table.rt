@@ -1,0 +1,139 @@
+ghost use Rattle.std.specs.Prelude.{◌≡◌, ◌<◌, ◌≤◌, ℕ, [], ◌∷◌, ◌++◌, Some, None, not, filter, find, IsTrue, MatchBool, IfOk, IfSome, IfNone, OnSome, OnErr};
+ghost use Rattle.std.specs.List.{All};
+ghost use Rattle.std.specs.Option.{option_or};
+ghost use Rattle.case_tables.specs.Compatibility.{verdict, is_given, row_of, read, quarantine};
+ghost use Rattle.lease_table.specs.Leases.{quars, recorded, own_quar, first, has_token, is_current, way_of, holding, IsTable, Leaves};
+
+use crate::edits::{drop_quar, drop_read, record_lease};
+use crate::lookups::{
+    holder_on, is_current_at, quar_verdict, quar_with, read_verdict, recorded_on,
+    row_on,
+};
+use crate::records::{Held, Lease, Mode, Quar, ReadLease};
+use case_tables::Verdict;
+use rows_model::{Memory, QKey, Sid};
+use std::alloc::Global;
+use std::marker::Model;
+
+/// The leases of each key: at most one lease to read, or quarantines in order of token. Contracts see
+/// the list of their records.
+#[derive(Debug, Drop)]
+pub struct Leases {
+    leases: Vec<Lease>,
+}
+
+impl Model for Leases {
+    ghost use Rattle.std.specs.Prelude.{List};
+    ghost use Rattle.lease_table.specs.declared.records.Lease.{Lease};
+    ghost use Rattle.lease_table.specs.Leases.{IsTable};
+
+    ghost Value = { List Lease };
+
+    ghost view = { λ table. table.leases.items };
+
+    ghost invariant = { λ table. IsTable table.leases.items };
+}
+
+impl Leases {
+    /// A table with no lease.
+    pub fn new(alloc: Global) -> Leases
+        ensures { result ≡ [] }
+    {
+        Leases {
+            leases: Vec::new(alloc),
+        }
+    }
+
+    /// The row of the grid for the key, as the session sees it. Its own quarantine comes before those of
+    /// others, and a lease to read that is past its deadline counts as none.
+    pub fn standing(&self, key: &QKey, who: Sid, now: u64) -> usize
+        ensures row { result ≡ row_of (holding key.now who now self.now) }
+        ensures within { result < 8 }
+        ensures table { IsTable self.now }
+    {
+        row_on(self.leases.as_slice(), key, who, now)
+    }
+
+    /// Asks for a lease to read the key, and answers the grid's verdict. `Give` puts it in the place of
+    /// any that is recorded; any other verdict and want of memory leave the table.
+    pub fn ask_i(
+        &mut self,
+        key: QKey,
+        sid: Sid,
+        token: u64,
+        deadline: u64,
+        now: u64,
+    ) -> Result<Verdict, Memory>
+        ensures verdict { IfOk result (λ v. v ≡ verdict (holding key sid now self.old) read) }
+        ensures after { IfOk result (λ v. MatchBool (is_given v)
+            (Leaves key (Some (record { sid = sid; token = token; deadline = deadline })) (quars key self.old) self.old self.new)
+            (self.new ≡ self.old)) }
+        ensures err { OnErr result (self.new ≡ self.old) }
+    {
+        let verdict = read_verdict(self.leases.as_slice(), &key, sid, now);
+        if !verdict.is_given() {
+            return Ok(verdict);
+        }
+        let held = Held::Read(ReadLease {
+            sid,
+            token,
+            deadline,
+        });
+        record_lease(&mut self.leases, Lease { key, held })?;
+        Ok(verdict)
+    }
+
+    /// Asks for a quarantine of the key, and answers the grid's verdict. `Give`, `Void` and `Join` add it
+    /// and end any lease to read that is recorded; any other verdict and want of memory leave the table.
+    pub fn ask_q(&mut self, key: QKey, q: Quar, now: u64) -> Result<Verdict, Memory>
+        requires { All (λ other. other.token < q.token) (quars key self.old) }
+        ensures verdict { IfOk result (λ v. v
+            ≡ verdict (holding key q.sid now self.old) (quarantine (way_of q.mode))) }
+        ensures after { IfOk result (λ v. MatchBool (is_given v)
+            (Leaves key None (quars key self.old ++ q ∷ []) self.old self.new)
+            (self.new ≡ self.old)) }
+        ensures err { OnErr result (self.new ≡ self.old) }
+    {
+        let verdict = quar_verdict(self.leases.as_slice(), &key, q.sid, q.mode, now);
+        if !verdict.is_given() {
+            return Ok(verdict);
+        }
+        let held = Held::Quarantine(q);
+        record_lease(&mut self.leases, Lease { key, held })?;
+        Ok(verdict)
+    }
+
+    /// The session's own quarantine on the key, else the one of least token, else none.
+    pub fn holder(&self, key: &QKey, who: Sid) -> Option<Quar>
+        ensures { result ≡ option_or (own_quar key.now who self.now) (first (quars key.now self.now)) }
+    {
+        holder_on(self.leases.as_slice(), key, who)
+    }
+
+    /// Uses up the lease to read the key that has this token, and says whether it did: exactly where that
+    /// lease is recorded and its deadline lies ahead. Else the table stays.
+    pub fn take_i(&mut self, key: &QKey, token: u64, now: u64) -> bool
+        ensures taken { result ≡ is_current token now (recorded key.now self.old) }
+        ensures after { MatchBool result
+            (Leaves key.now None (quars key.now self.old) self.old self.new)
+            (self.new ≡ self.old) }
+    {
+        if !is_current_at(recorded_on(self.leases.as_slice(), key), token, now) {
+            return false;
+        }
+        drop_read(&mut self.leases, key);
+        true
+    }
+
+    /// Ends the quarantine on the key that has this token, and answers it. Where none has, the table stays.
+    pub fn end_q(&mut self, key: &QKey, token: u64) -> Option<Quar>
+        ensures ended { result ≡ find (has_token token) (quars key.now self.old) }
+        ensures after { OnSome result (Leaves key.now (recorded key.now self.old)
+            (filter (λ q. not (has_token token q)) (quars key.now self.old)) self.old self.new) }
+        ensures none { IfNone result (self.new ≡ self.old) }
+    {
+        let quar = quar_with(self.leases.as_slice(), key, token)?;
+        drop_quar(&mut self.leases, key, token);
+        Some(quar)
+    }
+}
