@@ -1,0 +1,13 @@
+//! The outside of the program: where its bytes come from and where they go.
+//!
+//! A contract sees a source or a sink as the bytes that it tells, if it tells them, and as a count of
+//! faults that never falls. A call fails only where that count rose.
+#![tactic(auto)]
+
+pub use failures::Failed;
+pub use sinks::Sink;
+pub use sources::Source;
+
+pub mod failures;
+pub mod sinks;
+pub mod sources;
