@@ -1,1 +1,2 @@
+pub mod CopyingStates
 pub mod OutsideLemmas

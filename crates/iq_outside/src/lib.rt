@@ -4,10 +4,12 @@
 //! faults that never falls. A call fails only where that count rose.
 #![tactic(auto)]
 
-pub use failures::Failed;
+pub use copying::{TextRead, read_up_to, write_all};
+pub use failures::{Failed, ReadStop, Short};
 pub use sinks::Sink;
 pub use sources::Source;
 
+pub mod copying;
 pub mod failures;
 pub mod sinks;
 pub mod sources;
