@@ -6,10 +6,12 @@
 
 pub use copying::{TextRead, read_up_to, write_all};
 pub use failures::{Failed, ReadStop, Short};
+pub use memory_forms::{MemSink, MemSource};
 pub use sinks::Sink;
 pub use sources::Source;
 
 pub mod copying;
 pub mod failures;
+pub mod memory_forms;
 pub mod sinks;
 pub mod sources;
