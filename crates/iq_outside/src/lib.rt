@@ -4,12 +4,14 @@
 //! faults that never falls. A call fails only where that count rose.
 #![tactic(auto)]
 
+pub use adapters::{ReaderSource, WriterSink};
 pub use copying::{TextRead, read_up_to, write_all};
 pub use failures::{Failed, ReadStop, Short};
 pub use memory_forms::{MemSink, MemSource};
 pub use sinks::Sink;
 pub use sources::Source;
 
+pub mod adapters;
 pub mod copying;
 pub mod failures;
 pub mod memory_forms;
