@@ -17,3 +17,5 @@ pub mod failures;
 pub mod memory_forms;
 pub mod sinks;
 pub mod sources;
+#[cfg(test)]
+mod tests;
