@@ -1,0 +1,3 @@
+pub mod CopyingStates
+pub mod MemoryFormsLemmas
+pub mod OutsideLemmas

@@ -1,0 +1,30 @@
+use Rattle.std.specs.Prelude.{◌≡◌, ℕ, ◌+◌, ◌-◌, ◌^◌, ◌<◌, ◌⊎◌, ◌↔◌, min, List, [], ◌++◌, Option}
+use Rattle.std.specs.Option.{option_map, ForSome}
+
+-- a count of faults rose in a call: it is greater after it, or stands at the end of its type
+abbrev pub Rose : ℕ → ℕ → Type 0
+Rose before after = (before < after) ⊎ (after ≡ 2 ^ 64 - 1)
+
+-- the number after n, which stands still at the end of its type
+abbrev pub count_up : ℕ → ℕ
+count_up n = min (n + 1) (2 ^ 64 - 1)
+
+-- these bytes were the next of a source: with what is left now they are what was left, where it tells that
+abbrev pub Takes : Option (List ℕ) → Option (List ℕ) → List ℕ → Type 0
+Takes left_old left_new bytes = left_old ≡ option_map (λ rest. bytes ++ rest) left_new
+
+-- some bytes were the next of a source
+abbrev pub TakesSome : Option (List ℕ) → Option (List ℕ) → Type 0
+TakesSome left_old left_new = (bytes : List ℕ) × Takes left_old left_new bytes
+
+-- no byte is left, where a source tells its bytes
+abbrev pub AtEnd : Option (List ℕ) → Type 0
+AtEnd left = ForSome left (λ rest. rest ≡ [])
+
+-- a read gives 0 bytes exactly where none are left, where a source tells its bytes
+abbrev pub ZeroAtEnd : Option (List ℕ) → ℕ → Type 0
+ZeroAtEnd left n = ForSome left (λ rest. (n ≡ 0) ↔ (rest ≡ []))
+
+-- these bytes were appended to what a sink had taken, where it tells that
+abbrev pub Gains : Option (List ℕ) → Option (List ℕ) → List ℕ → Type 0
+Gains taken_old taken_new bytes = taken_new ≡ option_map (λ taken. taken ++ bytes) taken_old

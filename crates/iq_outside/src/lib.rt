@@ -1,0 +1,21 @@
+//! The outside of the program: where its bytes come from and where they go.
+//!
+//! A contract sees a source or a sink as the bytes that it tells, if it tells them, and as a count of
+//! faults that never falls. A call fails only where that count rose.
+#![tactic(auto)]
+
+pub use adapters::{ReaderSource, WriterSink};
+pub use copying::{TextRead, read_up_to, write_all};
+pub use failures::{Failed, ReadStop, Short};
+pub use memory_forms::{MemSink, MemSource};
+pub use sinks::Sink;
+pub use sources::Source;
+
+pub mod adapters;
+pub mod copying;
+pub mod failures;
+pub mod memory_forms;
+pub mod sinks;
+pub mod sources;
+#[cfg(test)]
+mod tests;

@@ -1,0 +1,26 @@
+ghost use Rattle.std.specs.Prelude.{◌≡◌, ℕ, ◌<◌, ◌≤◌, List, Option, length, take, IfOk, OnErr};
+ghost use Rattle.iq_outside.specs.Outside.{Rose, Takes, ZeroAtEnd};
+
+use crate::failures::Failed;
+
+/// Where bytes come from.
+///
+/// Contracts see two things of a source: `left`, the bytes that it will give from here on, or `None`
+/// where it doesn't tell them, and `faults`, how often it failed. No call changes whether the bytes
+/// are told, and the count of faults never falls.
+pub trait Source {
+    ghost left: { Self → Option (List ℕ) };
+
+    ghost faults: { Self → ℕ };
+
+    /// Puts the next bytes at the front of `room` and answers how many: 0 is the end of the bytes.
+    /// Nothing is said of `room` past them. After `Failed` the bytes left are as before.
+    fn read(&mut self, room: &mut [u8]) -> Result<usize, Failed>
+        requires { 0 < length room.old }
+        ensures within { IfOk result (λ n. n ≤ length room.new) }
+        ensures gives { IfOk result (λ n. Takes (left self.old) (left self.new) (take n room.new)) }
+        ensures ends { IfOk result (ZeroAtEnd (left self.old)) }
+        ensures keeps { OnErr result (left self.new ≡ left self.old) }
+        ensures failed_rose { OnErr result (Rose (faults self.old) (faults self.new)) }
+        ensures never_falls { faults self.old ≤ faults self.new };
+}
