@@ -10,7 +10,7 @@ use Rattle.rows_model.specs.Key.{same_key}
 use Rattle.entry_table.specs.declared.table.Entry.{Entry}
 use Rattle.entry_table.specs.Entries.{Item, lookup, without, replaced, DistinctKeys}
 use Rattle.entry_table.specs.Kept.{shown, shown_all}
-use Rattle.entry_table.proofs.SameKey.{same_key-true}
+use Rattle.rows_model.proofs.SameKey.{same_key-true}
 use Rattle.entry_table.proofs.EntriesLemmas.{lookup-nil, lookup-cons, lookup-append, apart_from, lookup-split, without-split, replaced-split}
 
 pub shown_all-nil : shown_all [] ≡ []

@@ -1,3 +1,2 @@
-pub mod SameKey
 pub mod EntriesLemmas
 pub mod KeptLemmas
