@@ -1,4 +1,4 @@
-use Rattle.std.proofs.Common.{tests, ◌^◌, ◌*◌, ℕ, ◌+◌, ◌-◌, ◌<◌, ◌≡◌, true, List, ◌∷◌, ◌++◌, length, take, drop, get_or, decimal, Some, None, position, arith, sym, refl, ap, ◌∙◌, rules, take-append-drop, take_at}
+use Rattle.std.proofs.Common.{◌^◌, ◌*◌, ℕ, ◌+◌, ◌-◌, ◌<◌, ◌≡◌, List, ◌∷◌, ◌++◌, length, take, drop, get_or, decimal, Some, None, position, arith, sym, refl, ap, ◌∙◌, rules, take-append-drop, take_at}
 use Rattle.std.specs.List.{position_from}
 use Rattle.std.proofs.lemmas.Iterator.Adapters.{position_from-zero}
 use Rattle.std.proofs.lemmas.List.Quantifiers.{position-Some}
@@ -8,7 +8,7 @@ use Rattle.rows_model.specs.declared.keys.Kind.{Kind}
 use Rattle.rows_model.specs.declared.keys.Kind.TheVariants.{Profile, Friends, Pending, NFriends, NPending}
 use Rattle.rows_model.specs.declared.keys.QKey.{QKey}
 use Rattle.std.proofs.lemmas.Fmt.{decimal_injective}
-use Rattle.rows_model.specs.Key.{kind_number, same_key, word_of, key_text, IsKeyText, IsNoKeyText, IsNoWord, is_colon}
+use Rattle.rows_model.specs.Key.{kind_number, word_of, key_text, IsKeyText, IsNoKeyText, IsNoWord, is_colon}
 use Rattle.rows_model.specs.Number.{IsIdText, IsNoIdText}
 
 -- the text of a key, spelled out
@@ -113,3 +113,19 @@ kind_injective a b e = absurd (omega arith)
 -- a key is its kind and its id
 key_from_parts : (a b : QKey) → a.kind ≡ b.kind → a.id ≡ b.id → a ≡ b
 key_from_parts a b kind id = λ i. record { kind = kind i; id = id i }
+
+-- a text tells its key
+pub key_text_injective : (a b : QKey) → a.id < 2 ^ 64 → b.id < 2 ^ 64 → key_text a ≡ key_text b → a ≡ b
+key_text_injective a b below_a below_b e =
+    let t : word_of a.kind ++ 58 ∷ decimal a.id ≡ word_of b.kind ++ 58 ∷ decimal b.id = sym (key_text_is a) ∙ (e ∙ key_text_is b) in
+    let at : Some (length (word_of a.kind)) ≡ Some (length (word_of b.kind)) =
+    sym (colon_at a.kind (decimal a.id)) ∙ (ap (position is_colon) t ∙ colon_at b.kind (decimal b.id)) in
+    let lengths : length (word_of a.kind) ≡ length (word_of b.kind) = cc in
+    let words : word_of a.kind ≡ word_of b.kind =
+    sym (take_at (word_of a.kind) (58 ∷ decimal a.id) (length (word_of b.kind)) lengths)
+    ∙ (ap (λ (xs : List ℕ). take (length (word_of b.kind)) xs) t ∙ take_at (word_of b.kind) (58 ∷ decimal b.id) (length (word_of b.kind)) refl) in
+    let backs : decimal a.id ≡ decimal b.id =
+    sym (behind a.kind (decimal a.id))
+    ∙ (ap (λ (xs : List ℕ). drop (length (word_of a.kind) + 1) xs) t
+    ∙ (ap (λ (n : ℕ). drop (n + 1) (word_of b.kind ++ 58 ∷ decimal b.id)) lengths ∙ behind b.kind (decimal b.id))) in
+    key_from_parts a b (word_injective a.kind b.kind words) (decimal_injective a.id b.id below_a below_b backs)
