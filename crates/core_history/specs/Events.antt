@@ -27,13 +27,13 @@ reply_of other = reply.Nothing
 
 -- The steps that an event made on the shard of this number: one or none.
 abbrev pub steps_in : ℕ → Event → List Step
-steps_in no (Stepped shard who step) = if shard == no then step ∷ [] else []
-steps_in no (Asked who answer) = []
-steps_in no (Idle who) = []
+steps_in place (Stepped shard who step) = if shard == place then step ∷ [] else []
+steps_in place (Asked who answer) = []
+steps_in place (Idle who) = []
 
 -- A shard's own past.
 abbrev pub steps_of : ℕ → List Event → List Step
-steps_of no past = flat_map (steps_in no) past
+steps_of place past = flat_map (steps_in place) past
 
 -- What an event told the session of this number, if it was a turn of that session.
 abbrev pub told_in : ℕ → Event → List Reply

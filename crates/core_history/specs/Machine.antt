@@ -24,8 +24,8 @@ opening_rows shape = start_tables shape.members
 
 -- What a shard of this shape is made with. Its tokens begin at 1.
 abbrev pub terms_of : Shape → ℕ → Terms
-terms_of shape no =
-    record { no = no; count = shape.shards; room = shape.room; life = shape.life; first = 1 }
+terms_of shape place =
+    record { no = place; count = shape.shards; room = shape.room; life = shape.life; first = 1 }
 
 -- The sessions begun, by their plans, and the events so far.
 pub record World : Type 0 where
@@ -48,7 +48,7 @@ wanted_by (Some plan) heard = wants plan heard
 -- A request on the shard of a key shows the step that follows that shard's own past.
 abbrev pub stepped_on : Shape → List Event → Sid → QKey → (Terms → List Step → Step) → Event
 stepped_on shape past who key step =
-    let no = shard_of key shape.shards in Stepped no who (step (terms_of shape no) (steps_of no past))
+    let place = shard_of key shape.shards in Stepped place who (step (terms_of shape place) (steps_of place past))
 
 -- The event that a request is: on a shard, at the store, or nothing. The clock stands at 0, and no transaction is committed.
 abbrev pub event_of : Shape → List Event → Sid → Wanted → Event
