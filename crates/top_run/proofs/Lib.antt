@@ -1,0 +1,4 @@
+pub mod CutLemmas
+pub mod ParseLemmas
+pub mod ActsLemmas
+pub mod ScriptLemmas

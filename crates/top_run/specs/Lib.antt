@@ -1,0 +1,5 @@
+pub use Rattle.rows_model.specs.Key
+pub mod Texts
+pub mod Script
+pub mod Cuts
+pub mod Parsing
