@@ -1,4 +1,3 @@
 pub mod CutLemmas
 pub mod ParseLemmas
 pub mod ActsLemmas
-pub mod ScriptLemmas

@@ -3,3 +3,5 @@ pub mod Texts
 pub mod Script
 pub mod Cuts
 pub mod Parsing
+pub mod Runs
+pub mod Plays
