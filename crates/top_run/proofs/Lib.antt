@@ -1,3 +1,6 @@
 pub mod CutLemmas
 pub mod ParseLemmas
 pub mod ActsLemmas
+pub mod PrintLemmas
+pub mod PlayLemmas
+pub mod PlayStates

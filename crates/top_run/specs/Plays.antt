@@ -39,18 +39,19 @@ pub record IsPlayable (members : ℕ) (acts : List Act) : Type 0 where
   pub fit : AreFit 0 acts
   pub short : sum_by turns_of acts ≤ 1000000
 
--- The core stands somewhere from where it can play these acts.
-pub record CanPlay (core : Core) (acts : List Act) : Type 0 where
-  pub shape : Shape
-  pub world : World
-  pub at : IsAt core shape world
-  pub fit : AreFit (length world.plans) acts
-  pub few : length world.past + sum_by turns_of acts < 2 ^ 32
-
 -- The core stands after this world, whose lines the sink has taken.
 pub record Stands (core : Core) (shape : Shape) (world : World) (taken_old taken_new : Option (List ℕ)) (written : ℕ) : Type 0 where
   pub at : IsAt core shape world
   pub prints : Prints taken_old taken_new (lines_of world.past) written
+
+-- The core stands somewhere from where it can play these acts.
+pub record CanPlay (core : Core) (acts : List Act) (taken_new : Option (List ℕ)) (written : ℕ) : Type 0 where
+  pub shape : Shape
+  pub world : World
+  pub taken_old : Option (List ℕ)
+  pub stands : Stands core shape world taken_old taken_new written
+  pub fit : AreFit (length world.plans) acts
+  pub few : length world.past + sum_by turns_of acts < 2 ^ 32
 
 -- The core stopped after some of these moves, and the sink took the first bytes of the lines.
 pub record Stops (core : Core) (shape : Shape) (world : World) (moves : List Move) (taken_old taken_new : Option (List ℕ)) (written : ℕ) : Type 0 where

@@ -4,7 +4,7 @@ ghost use Rattle.iq_outside.specs.Outside.{Rose};
 ghost use Rattle.core_history.specs.declared.plans.Shape.{Shape};
 ghost use Rattle.core_history.specs.Machine.{World, Move, Take, world_after};
 ghost use Rattle.core_history.specs.Cores.{IsRunning, HasBegun};
-ghost use Rattle.top_run.specs.Script.{moves_of};
+ghost use Rattle.top_run.specs.Script.{moves_in, moves_of};
 ghost use Rattle.top_run.specs.Plays.{CanPlay, Stands, Stops};
 ghost use Rattle.top_run.specs.declared.scripts.Act.TheVariants as act;
 
@@ -52,7 +52,7 @@ pub(crate) fn play<W: Sink>(
     sink: &mut W,
     written: &mut u64,
 ) -> Result<(), Stop>
-    requires { CanPlay core.old acts.items }
+    requires { CanPlay core.old acts.items (W.taken sink.old) written.old }
     ensures all { (shape : Shape) (world : World) (taken : Option (List ℕ)) → Stands core.old shape world taken (W.taken sink.old) written.old → OnOk result (Stands core.new shape (world_after shape world (moves_of acts.items)) taken (W.taken sink.new) written.new) }
     ensures some { (shape : Shape) (world : World) (taken : Option (List ℕ)) → Stands core.old shape world taken (W.taken sink.old) written.old → OnErr result (Stops core.new shape world (moves_of acts.items) taken (W.taken sink.new) written.new) }
     ensures failed_rose { result ≡ Err Stop.WriteFault → Rose (W.faults sink.old) (W.faults sink.new) }
@@ -71,9 +71,9 @@ fn play_act<W: Sink>(
     sink: &mut W,
     written: &mut u64,
 ) -> Result<(), Stop>
-    requires { CanPlay core.old (act ∷ []) }
-    ensures all { (shape : Shape) (world : World) (taken : Option (List ℕ)) → Stands core.old shape world taken (W.taken sink.old) written.old → OnOk result (Stands core.new shape (world_after shape world (moves_of (act ∷ []))) taken (W.taken sink.new) written.new) }
-    ensures some { (shape : Shape) (world : World) (taken : Option (List ℕ)) → Stands core.old shape world taken (W.taken sink.old) written.old → OnErr result (Stops core.new shape world (moves_of (act ∷ [])) taken (W.taken sink.new) written.new) }
+    requires { CanPlay core.old (act ∷ []) (W.taken sink.old) written.old }
+    ensures all { (shape : Shape) (world : World) (taken : Option (List ℕ)) → Stands core.old shape world taken (W.taken sink.old) written.old → OnOk result (Stands core.new shape (world_after shape world (moves_in act)) taken (W.taken sink.new) written.new) }
+    ensures some { (shape : Shape) (world : World) (taken : Option (List ℕ)) → Stands core.old shape world taken (W.taken sink.old) written.old → OnErr result (Stops core.new shape world (moves_in act) taken (W.taken sink.new) written.new) }
     ensures failed_rose { result ≡ Err Stop.WriteFault → Rose (W.faults sink.old) (W.faults sink.new) }
     ensures never_falls { W.faults sink.old ≤ W.faults sink.new }
 {
@@ -94,7 +94,7 @@ fn take_turns<W: Sink>(
     sink: &mut W,
     written: &mut u64,
 ) -> Result<(), Stop>
-    requires { CanPlay core.old (act.Turns turn count ∷ []) }
+    requires { CanPlay core.old (act.Turns turn count ∷ []) (W.taken sink.old) written.old }
     ensures all { (shape : Shape) (world : World) (taken : Option (List ℕ)) → Stands core.old shape world taken (W.taken sink.old) written.old → OnOk result (Stands core.new shape (world_after shape world (replicate count (Take turn))) taken (W.taken sink.new) written.new) }
     ensures some { (shape : Shape) (world : World) (taken : Option (List ℕ)) → Stands core.old shape world taken (W.taken sink.old) written.old → OnErr result (Stops core.new shape world (replicate count (Take turn)) taken (W.taken sink.new) written.new) }
     ensures failed_rose { result ≡ Err Stop.WriteFault → Rose (W.faults sink.old) (W.faults sink.new) }

@@ -54,26 +54,35 @@ fn push_number(text: &mut Vec<u8>, number: usize) -> Result<(), Memory>
 fn hits_in(history: &[Step]) -> usize
     ensures { result ≡ count_by is_hit history.now }
 {
-    history
-        .iter()
-        .filter(|step| matches!(step, Step::Hit { .. }))
-        .count()
+    history.iter().filter(|step| is_hit(step)).count()
 }
 
 fn stores_in(history: &[Step]) -> usize
     ensures { result ≡ count_by is_stored history.now }
 {
-    history
-        .iter()
-        .filter(|step| matches!(step, Step::Stored { .. }))
-        .count()
+    history.iter().filter(|step| is_stored(step)).count()
 }
 
 fn agains_in(history: &[Step]) -> usize
     ensures { result ≡ count_by is_again history.now }
 {
-    history
-        .iter()
-        .filter(|step| matches!(step, Step::Again { .. }))
-        .count()
+    history.iter().filter(|step| is_again(step)).count()
+}
+
+fn is_hit(step: &Step) -> bool
+    ensures { result ≡ is_hit step.now }
+{
+    matches!(step, Step::Hit { .. })
+}
+
+fn is_stored(step: &Step) -> bool
+    ensures { result ≡ is_stored step.now }
+{
+    matches!(step, Step::Stored { .. })
+}
+
+fn is_again(step: &Step) -> bool
+    ensures { result ≡ is_again step.now }
+{
+    matches!(step, Step::Again { .. })
 }
