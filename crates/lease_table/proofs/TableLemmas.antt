@@ -22,10 +22,10 @@ use Rattle.lease_table.proofs.ListLemmas.{filter_map-filter, filter-all, filter-
 
 -- what two keys that are one have in common
 pub record SameKey (a b : QKey) : Type 0 where
-  kinds : kind_number a.kind ≡ kind_number b.kind
-  ids : a.id ≡ b.id
+  pub kinds : kind_number a.kind ≡ kind_number b.kind
+  pub ids : a.id ≡ b.id
 
-SameKey-from_test : (a b : QKey) → same_key a b ≡ true → SameKey a b
+pub SameKey-from_test : (a b : QKey) → same_key a b ≡ true → SameKey a b
 SameKey-from_test a b e = record { kinds = grind (arith, nat_tests); ids = grind (arith, nat_tests) }
 
 pub same_key-self : (a : QKey) → same_key a a ≡ true
@@ -162,7 +162,7 @@ on-other : {Y : Type 0} (key other : QKey) (o : Option Y) → same_key key other
 on-other key other o apart = let off : same_key other key ≡ false = grind (arith, nat_tests) in rw off refl
 
 -- a lease on this key gives what it is
-on-itself : {Y : Type 0} (key : QKey) (o : Option Y) → (if same_key key key then o else None) ≡ o
+pub on-itself : {Y : Type 0} (key : QKey) (o : Option Y) → (if same_key key key then o else None) ≡ o
 on-itself key o = rw (same_key-self key) refl
 
 -- a record that gives nothing adds nothing, and one that gives something adds it

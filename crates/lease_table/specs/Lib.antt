@@ -1,3 +1,4 @@
+pub mod Expiry
 pub mod Leases
 pub use Rattle.rows_model.specs.Key
 pub use Rattle.case_tables.specs.Compatibility
