@@ -107,7 +107,10 @@ impl Leases {
 
     /// The session's own quarantine on the key, else the one of least token, else none.
     pub fn holder(&self, key: &QKey, who: Sid) -> Option<Quar>
-        ensures { result ≡ option_or (own_quar key.now who self.now) (first (quars key.now self.now)) }
+        ensures holder { result
+            ≡ option_or (own_quar key.now who self.now) (first (quars key.now self.now)) }
+        ensures least { own_quar key.now who self.now ≡ None
+            → IfSome result (λ q. All (λ other. q.token ≤ other.token) (quars key.now self.now)) }
     {
         holder_on(self.leases.as_slice(), key, who)
     }
@@ -149,3 +152,6 @@ impl Leases {
         least_due(self.leases.as_slice(), now)
     }
 }
+
+#[cfg(test)]
+mod tests;
