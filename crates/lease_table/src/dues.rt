@@ -29,13 +29,7 @@ pub fn earlier_of(least: Option<Due>, next: Option<Due>) -> Option<Due>
     ensures { result ≡ earlier least next }
 {
     match (least, next) {
-        (Some(a), Some(b)) => {
-            if is_before(&b, &a) {
-                Some(b)
-            } else {
-                Some(a)
-            }
-        }
+        (Some(a), Some(b)) => { if is_before(&b, &a) { Some(b) } else { Some(a) } }
         (None, next) => next,
         (least, None) => least,
     }

@@ -8,8 +8,7 @@ ghost use Rattle.lease_table.specs.Leases.{quars, recorded, own_quar, first, has
 use crate::dues::least_due;
 use crate::edits::{drop_quar, drop_read, record_lease};
 use crate::lookups::{
-    holder_on, is_current_at, quar_verdict, quar_with, read_verdict, recorded_on,
-    row_on,
+    holder_on, is_current_at, quar_verdict, quar_with, read_verdict, recorded_on, row_on,
 };
 use crate::records::{Due, Held, Lease, Quar, ReadLease};
 use case_tables::Verdict;

@@ -15,5 +15,5 @@ invariant_of-self-2 c =
 pub returns-clause-after : goal.returns-clause-after
 returns-clause-after c =
     let given : is_given c.quar_verdict-verdict.result ≡ true =
-        sym c.is_given.ensures ∙ c.if-not-is_given.false in
+    sym c.is_given.ensures ∙ c.if-not-is_given.false in
     rw (given, ← c.self.view_is) (Leaves-quar c.args.key c.args.q _ _ c.in_ok-record_lease.ensures.ok)
