@@ -1,21 +1,19 @@
 -- The quarantine that is due first, over a table that grows by one record at a time.
-use Rattle.std.proofs.Common.{◌≡◌, ℕ, ◌+◌, ◌<◌, ◌≤◌, Bool, true, false, cond, subst, take, Option, Some, None, List, [], ◌∷◌, ◌++◌, sym, refl, ◌∙◌, ap, length, get_or, arith, MatchOption, eqb, ltb}
-use Rattle.std.specs.Prelude.{if◌then◌else◌, nat_le, nat_lt, ◌==◌, ◌||◌, ◌&&◌, Any}
-use Rattle.std.specs.List.{filter_map, cons_option, All}
+use Rattle.std.proofs.Common.{◌≡◌, ℕ, ◌+◌, ◌<◌, ◌≤◌, Bool, true, false, subst, take, Option, Some, None, List, [], ◌∷◌, ◌++◌, sym, refl, ◌∙◌, length, get_or, arith, MatchOption}
+use Rattle.std.specs.Prelude.{if◌then◌else◌, nat_le, Any}
+use Rattle.std.specs.List.{cons_option, All}
 use Rattle.std.proofs.lemmas.List.{get_or_append_left, length-append, take_more}
 use Rattle.std.proofs.lemmas.List.Elements.{filter_map-append, All-nil, All-cons, All-append, All-weaker}
 use Rattle.std.proofs.lemmas.List.Quantifiers.{Any-push}
 use Rattle.std.proofs.lemmas.Bool.Decides.{nat_tests}
 use Rattle.rows_model.specs.declared.keys.QKey.{QKey}
-use Rattle.rows_model.specs.Key.{same_key, kind_number}
+use Rattle.rows_model.specs.Key.{same_key}
 use Rattle.lease_table.specs.declared.records.Quar.{Quar}
-use Rattle.lease_table.specs.declared.records.Held.{Held}
-use Rattle.lease_table.specs.declared.records.Held.TheVariants.{Read, Quarantine}
 use Rattle.lease_table.specs.declared.records.Lease.{Lease}
 use Rattle.lease_table.specs.declared.records.Due.{Due}
 use Rattle.lease_table.specs.Leases.{quars, quar_of, quar_on}
 use Rattle.lease_table.specs.Expiry.{due_as, comes_before, StandsDue, NoneDueBefore, NoneDue, due_from, due_of, earlier}
-use Rattle.lease_table.proofs.TableLemmas.{SameKey, SameKey-from_test, on-itself}
+use Rattle.lease_table.proofs.TableLemmas.{SameKey-from_test, on-itself}
 
 -- ---- the order
 

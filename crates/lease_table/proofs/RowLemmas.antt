@@ -1,5 +1,5 @@
 -- The row of the grid for a key.
-use Rattle.std.proofs.Common.{◌≡◌, ℕ, ◌+◌, ◌<◌, ◌≤◌, subst, IfSome, Bool, true, false, not, Option, Some, None, List, [], ◌∷◌, map, sym, refl, ◌∙◌, ap, find, filter, IsTrue, length, get_or, arith}
+use Rattle.std.proofs.Common.{◌≡◌, ℕ, ◌+◌, ◌≤◌, subst, IfSome, Bool, true, not, Option, Some, None, List, [], ◌∷◌, map, sym, refl, ◌∙◌, ap, find, filter, IsTrue, arith}
 use Rattle.std.specs.List.{list_all, AllPairs}
 use Rattle.rows_model.specs.declared.keys.Sid.{Sid}
 use Rattle.rows_model.specs.declared.keys.QKey.{QKey}

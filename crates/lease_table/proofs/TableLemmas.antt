@@ -1,8 +1,8 @@
 -- What recording or ending a lease leaves on each key.
-use Rattle.std.proofs.Common.{◌≡◌, ◌≢◌, ℕ, ◌+◌, ◌<◌, ◌≤◌, Bool, true, false, not, cond, Option, Some, None, List, [], ◌∷◌, ◌++◌, map, sym, refl, ◌∙◌, ap, find, filter, IsTrue, length, get_or, arith, MatchOption}
+use Rattle.std.proofs.Common.{◌≡◌, ℕ, Bool, true, false, not, Option, Some, None, List, [], ◌∷◌, ◌++◌, sym, refl, ◌∙◌, ap, filter, arith, MatchOption}
 use Rattle.std.specs.Prelude.{if◌then◌else◌, is_some}
 use Rattle.std.specs.Bool.{⊤}
-use Rattle.std.specs.List.{filter_map, cons_option, All, AllPairs}
+use Rattle.std.specs.List.{filter_map, All}
 use Rattle.std.proofs.lemmas.List.Elements.{filter_map-append}
 use Rattle.std.proofs.lemmas.Bool.Decides.{nat_tests}
 use Rattle.std.proofs.Common.{append-nil}
@@ -15,7 +15,7 @@ use Rattle.lease_table.specs.declared.records.ReadLease.{ReadLease}
 use Rattle.lease_table.specs.declared.records.Held.{Held}
 use Rattle.lease_table.specs.declared.records.Held.TheVariants.{Read, Quarantine}
 use Rattle.lease_table.specs.declared.records.Lease.{Lease}
-use Rattle.lease_table.specs.Leases.{quar_of, read_of, quar_on, read_on, quars, reads, recorded, first, has_token, some_has_token, without_read, without_quar, SameOn, Leaves, IsTable, MayStand, StandBeside}
+use Rattle.lease_table.specs.Leases.{quar_of, read_of, quar_on, read_on, quars, reads, first, has_token, some_has_token, without_read, without_quar, Leaves, IsTable, MayStand, StandBeside}
 use Rattle.lease_table.proofs.ListLemmas.{filter_map-filter, filter-all, filter-none, filter_map-same, length-filter-le}
 
 -- ---- keys

@@ -1,4 +1,4 @@
-use Rattle.std.specs.Prelude.{ℕ, ◌≡◌, ◌≢◌, ◌<◌, ◌≤◌, ◌==◌, Bool, true, false, not, nat_lt, if◌then◌else◌, Option, Some, None, option_map, is_some, ◌&&◌, List, [], ◌∷◌, map, filter, find, length, IsTrue}
+use Rattle.std.specs.Prelude.{ℕ, ◌≡◌, ◌≢◌, ◌<◌, ◌≤◌, ◌==◌, Bool, false, not, nat_lt, if◌then◌else◌, Option, Some, None, option_map, is_some, ◌&&◌, List, [], ◌∷◌, map, filter, find, length, IsTrue}
 use Rattle.std.specs.List.{filter_map, AllPairs}
 use Rattle.std.specs.Bool.{IsFalse}
 use Rattle.rows_model.specs.declared.keys.Sid.{Sid}

@@ -1,7 +1,5 @@
-use Rattle.std.proofs.Common.{◌≡◌, ◌<◌, List, sym, ◌∙◌, true, subst}
-use Rattle.std.specs.List.{All}
+use Rattle.std.proofs.Common.{◌≡◌, sym, ◌∙◌, true}
 use Rattle.case_tables.specs.Compatibility.{is_given}
-use Rattle.lease_table.specs.Leases.{quars}
 use Rattle.lease_table.proofs.ChangeLemmas.{IsTable-quar, Leaves-quar}
 use Rattle.lease_table.proofs.table.Leases.ask_q.Goals as goal
 
