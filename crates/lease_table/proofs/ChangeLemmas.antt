@@ -7,7 +7,8 @@ use Rattle.case_tables.specs.Compatibility.{read, quarantine, verdict, is_given}
 use Rattle.lease_table.specs.declared.records.Quar.{Quar}
 use Rattle.lease_table.specs.declared.records.ReadLease.{ReadLease}
 use Rattle.lease_table.specs.declared.records.Lease.{Lease}
-use Rattle.lease_table.specs.Leases.{quars, reads, recorded, way_of, holding, has_token, without_read, without_quar, IsTable, Leaves}
+use Rattle.lease_table.specs.Leases.{quars, reads, recorded, way_of, holding, has_token, IsTable, Leaves}
+use Rattle.lease_table.specs.Pieces.{without_read, without_quar}
 use Rattle.lease_table.proofs.VerdictLemmas.{read-given, quar-given}
 use Rattle.lease_table.proofs.TableLemmas.{read_lease, quar_lease, Leaves-from, IsTable-from, SetsKey-read, SetsKey-quar, SetsKey-drop_read, SetsKey-drop_quar, MayStand-read, MayStand-quar, MayStand-drop_read, MayStand-drop_quar}
 

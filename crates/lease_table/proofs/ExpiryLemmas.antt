@@ -12,7 +12,8 @@ use Rattle.lease_table.specs.declared.records.Quar.{Quar}
 use Rattle.lease_table.specs.declared.records.Lease.{Lease}
 use Rattle.lease_table.specs.declared.records.Due.{Due}
 use Rattle.lease_table.specs.Leases.{quars, quar_of, quar_on}
-use Rattle.lease_table.specs.Expiry.{due_as, comes_before, StandsDue, NoneDueBefore, NoneDue, due_from, due_of, earlier}
+use Rattle.lease_table.specs.Expiry.{due_as, comes_before, StandsDue, NoneDueBefore, NoneDue}
+use Rattle.lease_table.specs.Pieces.{due_from, due_of, earlier}
 use Rattle.lease_table.proofs.TableLemmas.{SameKey-from_test, on-itself}
 
 -- ---- the order

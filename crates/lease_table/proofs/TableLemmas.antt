@@ -15,7 +15,8 @@ use Rattle.lease_table.specs.declared.records.ReadLease.{ReadLease}
 use Rattle.lease_table.specs.declared.records.Held.{Held}
 use Rattle.lease_table.specs.declared.records.Held.TheVariants.{Read, Quarantine}
 use Rattle.lease_table.specs.declared.records.Lease.{Lease}
-use Rattle.lease_table.specs.Leases.{quar_of, read_of, quar_on, read_on, quars, reads, first, has_token, some_has_token, without_read, without_quar, Leaves, IsTable, MayStand, StandBeside}
+use Rattle.lease_table.specs.Leases.{quar_of, read_of, quar_on, read_on, quars, reads, first, has_token, Leaves, IsTable, MayStand, StandBeside}
+use Rattle.lease_table.specs.Pieces.{some_has_token, without_read, without_quar}
 use Rattle.lease_table.proofs.ListLemmas.{filter_map-filter, filter-all, filter-none, filter_map-same, length-filter-le}
 
 -- ---- keys

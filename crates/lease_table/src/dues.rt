@@ -1,5 +1,6 @@
 ghost use Rattle.std.specs.Prelude.{◌≡◌, MatchOption};
-ghost use Rattle.lease_table.specs.Expiry.{comes_before, due_of, earlier, NoneDue, NoneDueBefore, StandsDue};
+ghost use Rattle.lease_table.specs.Expiry.{comes_before, NoneDue, NoneDueBefore, StandsDue};
+ghost use Rattle.lease_table.specs.Pieces.{due_of, earlier};
 
 use crate::records::{Due, Held, Lease};
 

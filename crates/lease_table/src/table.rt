@@ -1,4 +1,4 @@
-ghost use Rattle.std.specs.Prelude.{◌≡◌, ◌<◌, ◌≤◌, ℕ, [], ◌∷◌, ◌++◌, Some, None, not, filter, find, IsTrue, MatchBool, IfOk, IfSome, IfNone, OnSome, OnErr};
+ghost use Rattle.std.specs.Prelude.{◌≡◌, ◌<◌, ◌≤◌, [], ◌∷◌, ◌++◌, Some, None, not, filter, find, MatchBool, IfOk, IfSome, IfNone, OnSome, OnErr};
 ghost use Rattle.std.specs.List.{All};
 ghost use Rattle.std.specs.Option.{option_or};
 ghost use Rattle.case_tables.specs.Compatibility.{verdict, is_given, row_of, read, quarantine};
