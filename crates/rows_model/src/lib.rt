@@ -3,17 +3,21 @@
 
 pub use keys::{Kind, QKey, Sid, texts_tell_keys};
 pub use names::Name;
+pub use placement::shard_number;
 pub use queries::{answers_ascend, ask};
 pub use refusals::Memory;
 pub use rows::{Link, LinkState, Member, Rows};
+pub use shifts::{numbers_are_decimal, shift};
 pub use values::Value;
 
 pub mod keys;
 pub mod names;
 mod numbers;
+pub mod placement;
 pub mod queries;
 pub mod refusals;
 pub mod rows;
+pub mod shifts;
 #[cfg(test)]
 mod tests;
 pub mod values;
