@@ -1,4 +1,4 @@
-use Rattle.std.proofs.Common.{ℕ, zero, suc, ◌≡◌, ◌+◌, ◌-◌, ◌^◌, ◌<◌, ◌≤◌, List, [], ◌∷◌, ◌++◌, length, arith, refl, sym, ap, ◌∙◌, subst, inl, inr, append_assoc, append-nil}
+use Rattle.std.proofs.Common.{take, drop, get_or, take-append-drop, ℕ, zero, suc, ◌≡◌, ◌+◌, ◌-◌, ◌^◌, ◌<◌, ◌≤◌, List, [], ◌∷◌, ◌++◌, length, arith, refl, sym, ap, ◌∙◌, subst, inl, inr, append_assoc, append-nil}
 use Rattle.std.specs.Prelude.{◌⊎◌, Option, Result, OnErr, Ok, Err, replicate, sum_by}
 use Rattle.core_history.specs.declared.cores.Core.{Core}
 use Rattle.core_history.specs.declared.plans.Shape.{Shape}
@@ -10,12 +10,15 @@ use Rattle.core_history.specs.Cores.{IsAt, HasHistories}
 use Rattle.core_history.specs.Machine.{World, Move, Begin, Take, turn_event, taken, begun, moved, world_after}
 use Rattle.top_run.specs.Runs.{Prints}
 use Rattle.core_history.specs.declared.plans.Turn.TheVariants.{Session}
+use Rattle.core_history.specs.Follows.{plan_of}
 use Rattle.core_history.specs.Cores.{IsRunning, HasBegun}
 use Rattle.top_run.specs.declared.scripts.Act.{Act}
 use Rattle.top_run.specs.declared.scripts.Act.TheVariants as act
 use Rattle.top_run.specs.Script.{moves_in, moves_of, sessions_of, turns_of}
 use Rattle.top_run.specs.Plays.{IsTurnOf, IsFit, AreFit, CanPlay, Stands, Stops}
-use Rattle.std.proofs.lemmas.List.{length-append, replicate-append-replicate}
+use Rattle.rows_model.specs.declared.keys.Kind.TheVariants.{Profile}
+use Rattle.core_history.specs.declared.plans.Plan.TheVariants.{Read}
+use Rattle.std.proofs.lemmas.List.{take_more, drop_more, length-append, length-map, replicate-append-replicate}
 use Rattle.std.proofs.lemmas.List.Concat.{flat_map-append}
 use Rattle.std.proofs.lemmas.List.Sums.{sum_by-cons}
 use Rattle.top_run.proofs.PrintLemmas.{lines_more}
@@ -27,7 +30,7 @@ on_err (Err e) p = p
 
 -- a core that stands somewhere has the histories of there
 pub histories_at : (core : Core) (shape : Shape) (world : World) → IsAt core shape world → HasHistories core shape world.past
-histories_at core shape world h = record { steps = h.steps; kept = h.kept; one = h.one }
+histories_at core shape world h = h.shards
 
 -- a turn that wasn't told
 pub stopped_at_turn : (old new : Core) (shape : Shape) (world : World) (turn : Turn) (taken_old taken_new : Option (List ℕ)) (written : ℕ)
@@ -124,7 +127,7 @@ stops_within core shape world before moves after taken_old taken_new written h =
 
 -- a core that stands somewhere has as many sessions as began there
 sessions_at : (core : Core) (shape : Shape) (world : World) → IsAt core shape world → length core.sessions.items ≡ length world.plans
-sessions_at core shape world h = h.shards
+sessions_at core shape world h = sym (length-map core.sessions.items plan_of) ∙ ap length h.plans
 
 -- the turn of a session that began there
 has_begun : (core : Core) (shape : Shape) (world : World) (turn : Turn) → IsAt core shape world → IsTurnOf (length world.plans) turn → HasBegun core turn
@@ -252,14 +255,40 @@ stands_begun core new shape world plan taken_old taken_new written h at = record
 
 -- a session that couldn't begin
 pub stops_begun : (core new : Core) (shape : Shape) (world : World) (plan : Plan) (taken_old taken_new : Option (List ℕ)) (written : ℕ)
-    → Stands core shape world taken_old taken_new written → new ≡ core → Stops new shape world (Begin plan ∷ []) taken_old taken_new written
-stops_begun core new shape world plan taken_old taken_new written h same = record {
+    → Stands core shape world taken_old taken_new written → IsAt new shape world → Stops new shape world (Begin plan ∷ []) taken_old taken_new written
+stops_begun core new shape world plan taken_old taken_new written h at = record {
   made = [];
   others = Begin plan ∷ [];
   moves_are = refl;
-  kept = subst (λ (c : Core). HasHistories c shape world.past) (sym same) (histories_at core shape world h.at);
+  kept = histories_at new shape world at;
   printed = lines_of world.past;
   more = [];
   parts = append-nil (lines_of world.past);
   prints = h.prints;
 }
+
+-- where no act is
+abbrev pub no_act : Act
+no_act = act.Begin (Read (record { kind = Profile; id = 0 }) 0)
+
+-- the act at a place, between those before and after it
+act_at : (acts : List Act) (i : ℕ) (a : Act) → i < length acts → acts ≡ take i acts ++ get_or acts i a ∷ drop (i + 1) acts
+act_at acts i a below = sym (take-append-drop i acts) ∙ ap (λ (xs : List Act). take i acts ++ xs) (drop_more acts i a below)
+
+pub can_act : (core : Core) (acts : List Act) (i : ℕ) (taken_new : Option (List ℕ)) (written : ℕ) → i < length acts → CanPlay core (drop i acts) taken_new written
+    → CanPlay core (get_or acts i no_act ∷ drop (i + 1) acts) taken_new written
+can_act core acts i taken_new written below h = subst (λ (xs : List Act). CanPlay core xs taken_new written) (drop_more acts i no_act below) h
+
+pub stands_at : (core new : Core) (acts : List Act) (i : ℕ) (shape : Shape) (world : World) (taken_old taken_new taken_new' : Option (List ℕ)) (written written' : ℕ) → i < length acts
+    → Stands core shape (world_after shape world (moves_of (take i acts))) taken_old taken_new written
+    → ((s : Shape) (w : World) (t : Option (List ℕ)) → Stands core s w t taken_new written → Stands new s (world_after s w (moves_in (get_or acts i no_act))) t taken_new' written')
+    → Stands new shape (world_after shape world (moves_of (take (i + 1) acts))) taken_old taken_new' written'
+stands_at core new acts i shape world taken_old taken_new taken_new' written written' below h on =
+    subst (λ (xs : List Act). Stands new shape (world_after shape world (moves_of xs)) taken_old taken_new' written') (sym (take_more acts i no_act below))
+    (stands_act core new (get_or acts i no_act) (take i acts) shape world taken_old taken_new taken_new' written written' h on)
+
+pub stops_at : (core : Core) (acts : List Act) (i : ℕ) (shape : Shape) (world : World) (taken_old taken_new : Option (List ℕ)) (written : ℕ) → i < length acts
+    → Stops core shape (world_after shape world (moves_of (take i acts))) (moves_in (get_or acts i no_act)) taken_old taken_new written
+    → Stops core shape world (moves_of acts) taken_old taken_new written
+stops_at core acts i shape world taken_old taken_new written below h =
+    stops_act core (get_or acts i no_act) (take i acts) (drop (i + 1) acts) acts shape world taken_old taken_new written (act_at acts i no_act below) h

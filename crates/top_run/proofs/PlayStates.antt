@@ -1,4 +1,4 @@
-use Rattle.std.proofs.Common.{ℕ, ◌≡◌, ◌-◌, ◌≤◌, List, [], ◌∷◌, ◌++◌}
+use Rattle.std.proofs.Common.{ℕ, ◌≡◌, ◌-◌, ◌≤◌, List, [], ◌∷◌, ◌++◌, take, drop}
 use Rattle.std.specs.Prelude.{Option, replicate}
 use Rattle.core_history.specs.declared.cores.Core.{Core}
 use Rattle.core_history.specs.declared.plans.Shape.{Shape}
@@ -15,10 +15,8 @@ pub record HasTaken (old now : Core) (turn : Turn) (count done : ℕ) (taken_was
   pub so_far : (shape : Shape) (world : World) (taken : Option (List ℕ)) → Stands old shape world taken taken_was written_was → Stands now shape (world_after shape world (replicate done (Take turn))) taken taken_is written_is
   pub up : faults_was ≤ faults_is
 
--- these acts were played, and the others are left
-pub record HasPlayed (old now : Core) (acts rest : List Act) (taken_was taken_is : Option (List ℕ)) (faults_was faults_is written_was written_is : ℕ) : Type 0 where
-  pub done : List Act
-  pub parts : acts ≡ done ++ rest
-  pub can : CanPlay now rest taken_is written_is
-  pub so_far : (shape : Shape) (world : World) (taken : Option (List ℕ)) → Stands old shape world taken taken_was written_was → Stands now shape (world_after shape world (moves_of done)) taken taken_is written_is
+-- so many of the acts were played, and the others are left
+pub record HasPlayed (old now : Core) (acts : List Act) (count : ℕ) (taken_was taken_is : Option (List ℕ)) (faults_was faults_is written_was written_is : ℕ) : Type 0 where
+  pub can : CanPlay now (drop count acts) taken_is written_is
+  pub so_far : (shape : Shape) (world : World) (taken : Option (List ℕ)) → Stands old shape world taken taken_was written_was → Stands now shape (world_after shape world (moves_of (take count acts))) taken taken_is written_is
   pub up : faults_was ≤ faults_is

@@ -1,12 +1,12 @@
 use Rattle.std.proofs.Common.{ℕ, ◌≡◌, ◌+◌, ◌-◌, ◌^◌, ◌<◌, ◌≤◌, min, List, [], ◌∷◌, ◌++◌, length, take, drop, decimal, arith, refl, sym, ap, ◌∙◌, append_assoc, append-nil, take-append-drop, reverse, flat_map}
-use Rattle.std.specs.Prelude.{Option, codes, count_by, Result, OnErr, Ok, Err}
+use Rattle.std.specs.Prelude.{Bool, Option, codes, count_by, Result, OnErr, Ok, Err}
 use Rattle.std.proofs.lemmas.List.{length-append, length-take-le, reverse-append}
 use Rattle.std.proofs.lemmas.List.Concat.{flat_map-append}
 use Rattle.iq_outside.specs.Outside.{Gains}
 use Rattle.iq_outside.proofs.OutsideLemmas.{Gains-append, Gains-none}
 use Rattle.key_shard.specs.declared.steps.Step.{Step}
 use Rattle.core_history.specs.Events.{Event}
-use Rattle.core_history.specs.Lines.{line_of, lines_of, end_line, is_hit, is_stored, is_again}
+use Rattle.core_history.specs.Lines.{line_of, lines_of, end_line, count_in, is_hit, is_stored, is_again}
 use Rattle.top_run.specs.Runs.{Prints}
 
 -- a count that stands still at its end stands there whatever is added in two steps
@@ -51,8 +51,17 @@ pub lines_none : lines_of [] ≡ []
 unfolding lines_of
 lines_none = refl
 
+-- what is counted in one history
+counted : (test : Step → Bool) (history : List Step) → count_in test (history ∷ []) ≡ count_by test history
+counted test history = ap (count_by test) (append-nil history)
+
+regroup : (a b c d e f : List ℕ) → ((((a ++ b) ++ c) ++ d) ++ e) ++ f ≡ a ++ (b ++ (c ++ (d ++ (e ++ f))))
+regroup a b c d e f = simp append_assoc
+
 -- the last line, word by word
 pub end_line_is : (history : List Step)
     → end_line (history ∷ []) ≡ ((((codes "end commits 0 hits " ++ decimal (count_by is_hit history)) ++ codes " stores ") ++ decimal (count_by is_stored history)) ++ codes " agains ") ++ decimal (count_by is_again history) ++ 10 ∷ []
 unfolding end_line
-end_line_is history = ?
+end_line_is history =
+    rw (counted is_hit history, counted is_stored history, counted is_again history)
+    (sym (ap (λ (text : List ℕ). text ++ 10 ∷ []) (regroup (codes "end commits 0 hits ") (decimal (count_by is_hit history)) (codes " stores ") (decimal (count_by is_stored history)) (codes " agains ") (decimal (count_by is_again history)))))

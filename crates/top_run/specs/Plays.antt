@@ -9,8 +9,8 @@ use Rattle.core_history.specs.Lines.{lines_of}
 use Rattle.core_history.specs.Machine.{World, Move, world_after}
 use Rattle.top_run.specs.declared.scripts.Act.{Act}
 use Rattle.top_run.specs.declared.scripts.Act.TheVariants as act
-use Rattle.top_run.specs.Script.{turns_of, sessions_of}
-use Rattle.top_run.specs.Runs.{Prints, PrintsAll, PrintsSome, IsNotStarted}
+use Rattle.top_run.specs.Script.{turns_of, sessions_of, moves_of}
+use Rattle.top_run.specs.Runs.{shape_of, past_of, out, Prints, PrintsAll, PrintsFront, KeepsFront, IsNotStarted}
 use Rattle.iq_outside.specs.Outside.{Rose}
 use Rattle.key_shard.specs.declared.steps.Step.{Step}
 use Rattle.top_run.specs.declared.plays.Stop.{Stop}
@@ -64,6 +64,19 @@ pub record Stops (core : Core) (shape : Shape) (world : World) (moves : List Mov
   pub parts : printed ++ more ≡ lines_of (world_after shape world moves).past
   pub prints : Prints taken_old taken_new printed written
 
+-- The core stopped after some of the script's moves, and the sink took the first bytes of what it prints.
+pub record IsStopped (members : ℕ) (acts : List Act) (core : Core) (taken_old taken_new : Option (List ℕ)) (written : ℕ) : Type 0 where
+  pub front : PrintsFront members acts taken_old taken_new written
+  pub made : List Move
+  pub others : List Move
+  pub moves_are : made ++ others ≡ moves_of acts
+  pub kept : HasHistories core (shape_of members) (past_of members made)
+
+-- The core made all moves of the script, and the sink took all that it prints.
+pub record IsFinished (members : ℕ) (acts : List Act) (core : Core) (taken_old taken_new : Option (List ℕ)) (written : ℕ) : Type 0 where
+  pub prints : Prints taken_old taken_new (out members acts) written
+  pub kept : HasHistories core (shape_of members) (past_of members (moves_of acts))
+
 -- How a replay ends, by what ended it.
 abbrev pub status_of : Result (Unit {0}) Stop → Status
 status_of (Ok done) = status.Done
@@ -75,7 +88,8 @@ abbrev pub Replayed : Status → ℕ → List Act → Option (List ℕ) → Opti
 Replayed status.Done members acts taken_old taken_new faults_old faults_new histories written =
     PrintsAll members acts taken_old taken_new histories written
 Replayed status.WriteFault members acts taken_old taken_new faults_old faults_new histories written =
-    Rose faults_old faults_new × PrintsSome members acts taken_old taken_new histories written
+    Rose faults_old faults_new × PrintsFront members acts taken_old taken_new written × KeepsFront members acts histories
 Replayed status.Memory members acts taken_old taken_new faults_old faults_new histories written =
-    IsNotStarted taken_old taken_new histories written ⊎ PrintsSome members acts taken_old taken_new histories written
+    IsNotStarted taken_old taken_new histories written
+    ⊎ (PrintsFront members acts taken_old taken_new written × (KeepsFront members acts histories ⊎ (histories ≡ [])))
 Replayed other members acts taken_old taken_new faults_old faults_new histories written = ⊥

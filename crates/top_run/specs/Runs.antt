@@ -71,12 +71,15 @@ pub record PrintsAll (members : ℕ) (acts : List Act) (taken_old taken_new : Op
   pub prints : Prints taken_old taken_new (out members acts) written
   pub kept : AreHistories members (moves_of acts) histories
 
--- The first bytes of what the script prints were printed, and the histories are those after some of its moves.
-pub record PrintsSome (members : ℕ) (acts : List Act) (taken_old taken_new : Option (List ℕ)) (histories : List (List Step)) (written : ℕ) : Type 0 where
+-- The first bytes of what the script prints were printed.
+pub record PrintsFront (members : ℕ) (acts : List Act) (taken_old taken_new : Option (List ℕ)) (written : ℕ) : Type 0 where
   pub printed : List ℕ
   pub more : List ℕ
   pub parts : printed ++ more ≡ out members acts
   pub prints : Prints taken_old taken_new printed written
+
+-- The histories are those after some of the script's moves, from the first on.
+pub record KeepsFront (members : ℕ) (acts : List Act) (histories : List (List Step)) : Type 0 where
   pub made : List Move
   pub others : List Move
   pub moves_are : made ++ others ≡ moves_of acts
@@ -89,12 +92,21 @@ pub record IsWhole (before after : Tells) (histories : List (List Step)) (writte
   pub read : IsRead before.left after.left members acts
   pub ran : PrintsAll members acts before.taken after.taken histories written
 
--- A script was read, and its run stopped.
+-- A script was read, and its run stopped at a write.
 pub record IsCutOff (before after : Tells) (histories : List (List Step)) (written : ℕ) : Type 0 where
   pub members : ℕ
   pub acts : List Act
   pub read : IsRead before.left after.left members acts
-  pub ran : PrintsSome members acts before.taken after.taken histories written
+  pub front : PrintsFront members acts before.taken after.taken written
+  pub kept : KeepsFront members acts histories
+
+-- A script was read, and its run stopped for want of memory. Then there may be no history to keep.
+pub record IsOutOfMemory (before after : Tells) (histories : List (List Step)) (written : ℕ) : Type 0 where
+  pub members : ℕ
+  pub acts : List Act
+  pub read : IsRead before.left after.left members acts
+  pub front : PrintsFront members acts before.taken after.taken written
+  pub kept : KeepsFront members acts histories ⊎ (histories ≡ [])
 
 -- Nothing was run: the sink took nothing, and no history is kept.
 pub record IsNotStarted (taken_old taken_new : Option (List ℕ)) (histories : List (List Step)) (written : ℕ) : Type 0 where
@@ -112,4 +124,4 @@ Ended status.ReadFault before after histories written =
 Ended status.WriteFault before after histories written =
     Rose before.writes_failed after.writes_failed × IsCutOff before after histories written
 Ended status.Memory before after histories written =
-    (TakesSome before.left after.left × IsNotStarted before.taken after.taken histories written) ⊎ IsCutOff before after histories written
+    (TakesSome before.left after.left × IsNotStarted before.taken after.taken histories written) ⊎ IsOutOfMemory before after histories written

@@ -10,7 +10,7 @@ ghost use Rattle.top_run.specs.declared.scripts.Act.TheVariants as act;
 
 use crate::printing::print;
 use crate::scripts::Act;
-use core_history::{Core, Turn};
+use core_history::{Core, Plan, Turn};
 use iq_outside::{Short, Sink};
 use rows_model::Memory;
 
@@ -48,13 +48,13 @@ impl From<Memory> for Stop {
 /// Plays the acts in order.
 pub(crate) fn play<W: Sink>(
     core: &mut Core,
-    acts: Vec<Act>,
+    acts: &[Act],
     sink: &mut W,
     written: &mut u64,
 ) -> Result<(), Stop>
-    requires { CanPlay core.old acts.items (W.taken sink.old) written.old }
-    ensures all { (shape : Shape) (world : World) (taken : Option (List ℕ)) → Stands core.old shape world taken (W.taken sink.old) written.old → OnOk result (Stands core.new shape (world_after shape world (moves_of acts.items)) taken (W.taken sink.new) written.new) }
-    ensures some { (shape : Shape) (world : World) (taken : Option (List ℕ)) → Stands core.old shape world taken (W.taken sink.old) written.old → OnErr result (Stops core.new shape world (moves_of acts.items) taken (W.taken sink.new) written.new) }
+    requires { CanPlay core.old acts.now (W.taken sink.old) written.old }
+    ensures all { (shape : Shape) (world : World) (taken : Option (List ℕ)) → Stands core.old shape world taken (W.taken sink.old) written.old → OnOk result (Stands core.new shape (world_after shape world (moves_of acts.now)) taken (W.taken sink.new) written.new) }
+    ensures some { (shape : Shape) (world : World) (taken : Option (List ℕ)) → Stands core.old shape world taken (W.taken sink.old) written.old → OnErr result (Stops core.new shape world (moves_of acts.now) taken (W.taken sink.new) written.new) }
     ensures failed_rose { result ≡ Err Stop.WriteFault → Rose (W.faults sink.old) (W.faults sink.new) }
     ensures never_falls { W.faults sink.old ≤ W.faults sink.new }
 {
@@ -67,22 +67,33 @@ pub(crate) fn play<W: Sink>(
 /// Begins a session, or takes turns.
 fn play_act<W: Sink>(
     core: &mut Core,
-    act: Act,
+    act: &Act,
     sink: &mut W,
     written: &mut u64,
 ) -> Result<(), Stop>
-    requires { CanPlay core.old (act ∷ []) (W.taken sink.old) written.old }
-    ensures all { (shape : Shape) (world : World) (taken : Option (List ℕ)) → Stands core.old shape world taken (W.taken sink.old) written.old → OnOk result (Stands core.new shape (world_after shape world (moves_in act)) taken (W.taken sink.new) written.new) }
-    ensures some { (shape : Shape) (world : World) (taken : Option (List ℕ)) → Stands core.old shape world taken (W.taken sink.old) written.old → OnErr result (Stops core.new shape world (moves_in act) taken (W.taken sink.new) written.new) }
+    requires { CanPlay core.old (act.now ∷ []) (W.taken sink.old) written.old }
+    ensures all { (shape : Shape) (world : World) (taken : Option (List ℕ)) → Stands core.old shape world taken (W.taken sink.old) written.old → OnOk result (Stands core.new shape (world_after shape world (moves_in act.now)) taken (W.taken sink.new) written.new) }
+    ensures some { (shape : Shape) (world : World) (taken : Option (List ℕ)) → Stands core.old shape world taken (W.taken sink.old) written.old → OnErr result (Stops core.new shape world (moves_in act.now) taken (W.taken sink.new) written.new) }
     ensures failed_rose { result ≡ Err Stop.WriteFault → Rose (W.faults sink.old) (W.faults sink.new) }
     ensures never_falls { W.faults sink.old ≤ W.faults sink.new }
 {
     match act {
         Act::Begin { plan } => {
-            core.add(plan)?;
+            core.add(copy_of(plan))?;
             Ok(())
         }
-        Act::Turns { turn, count } => take_turns(core, turn, count, sink, written),
+        Act::Turns { turn, count } => take_turns(core, *turn, *count, sink, written),
+    }
+}
+
+/// The same plan once more.
+fn copy_of(plan: &Plan) -> Plan
+    ensures { result ≡ plan.now }
+{
+    let Plan::Read { key, floor } = plan;
+    Plan::Read {
+        key: *key,
+        floor: *floor,
     }
 }
 

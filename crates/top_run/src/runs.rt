@@ -37,11 +37,11 @@ pub struct RunEnd {
     pub written: u64,
 }
 
-ghost use Rattle.core_history.specs.Lines.{end_line};
-ghost use Rattle.top_run.specs.Plays.{IsPlayable, Replayed, status_of};
+ghost use Rattle.top_run.specs.Plays.{IsPlayable, IsFinished, IsStopped, Replayed, status_of};
+ghost use Rattle.core_history.specs.Cores.{IsAt};
+ghost use Rattle.core_history.specs.Machine.{start};
 ghost use Rattle.top_run.specs.declared.runs.Status.{Status};
-ghost use Rattle.top_run.specs.declared.scripts.Act.{Act};
-ghost use Rattle.top_run.specs.Runs.{Prints, AreReplay, Ended, Tells, IsRead, IsReadInVain, IsNotStarted};
+ghost use Rattle.top_run.specs.Runs.{shape_of, AreReplay, Ended, Tells, IsRead, IsReadInVain};
 
 /// Runs a script: the words are the one word `replay`, the script comes from the source, and a line a
 /// turn and a last line go to the sink.
@@ -117,46 +117,55 @@ fn replay<W: Sink>(alloc: Global, script: Script, sink: &mut W) -> RunEnd
     ensures ended { Replayed result.status script.members script.acts.items (W.taken sink.old) (W.taken sink.new) (W.faults sink.old) (W.faults sink.new) (map (λ history. history.items) result.histories.items) result.written }
     ensures never_falls { W.faults sink.old ≤ W.faults sink.new }
 {
-    let shape = Shape {
-        members: script.members,
-        shards: 1,
-        room: 16,
-        life: 100,
-    };
-    let Ok(mut core) = Core::new(alloc, shape) else {
+    let Ok(mut core) = Core::new(alloc, shape_of(script.members)) else {
         return not_started(alloc, Status::Memory);
     };
     let mut written = 0;
-    let played = play(&mut core, script.acts, sink, &mut written);
-    let histories = core.into_histories();
-    if played.is_err() {
-        return RunEnd {
-            status: end_status(played),
+    let ended = play_whole(alloc, &mut core, &script, sink, &mut written);
+    match core.into_histories() {
+        Ok(histories) => RunEnd {
+            status: end_status(ended),
             histories,
             written,
-        };
-    }
-    let finished = print_last(alloc, histories[0].as_slice(), sink, &mut written);
-    RunEnd {
-        status: end_status(finished),
-        histories,
-        written,
+        },
+        Err(Memory) => RunEnd {
+            status: Status::Memory,
+            histories: Vec::new(alloc),
+            written,
+        },
     }
 }
 
-/// Prints the last line of a run with this history.
-fn print_last<W: Sink>(
+/// What a run of so many members is made with.
+fn shape_of(members: u32) -> Shape
+    ensures { result ≡ shape_of members }
+{
+    Shape {
+        members,
+        shards: 1,
+        room: 16,
+        life: 100,
+    }
+}
+
+/// Plays a script on a new core, and prints the last line.
+fn play_whole<W: Sink>(
     alloc: Global,
-    history: &[Step],
+    core: &mut Core,
+    script: &Script,
     sink: &mut W,
     written: &mut u64,
 ) -> Result<(), Stop>
-    ensures all { (taken : Option (List ℕ)) (printed : List ℕ) → Prints taken (W.taken sink.old) printed written.old → OnOk result (Prints taken (W.taken sink.new) (printed ++ end_line (history.now ∷ [])) written.new) }
-    ensures some { (taken : Option (List ℕ)) (printed : List ℕ) → Prints taken (W.taken sink.old) printed written.old → OnErr result ((front : List ℕ) × (rest : List ℕ) × (front ++ rest ≡ end_line (history.now ∷ [])) × Prints taken (W.taken sink.new) (printed ++ front) written.new) }
+    requires playable { IsPlayable script.now.members script.now.acts.items }
+    requires start { IsAt core.old (shape_of script.now.members) start }
+    requires nothing { written.old ≡ 0 }
+    ensures all { OnOk result (IsFinished script.now.members script.now.acts.items core.new (W.taken sink.old) (W.taken sink.new) written.new) }
+    ensures some { OnErr result (IsStopped script.now.members script.now.acts.items core.new (W.taken sink.old) (W.taken sink.new) written.new) }
     ensures failed_rose { result ≡ Err Stop.WriteFault → Rose (W.faults sink.old) (W.faults sink.new) }
     ensures never_falls { W.faults sink.old ≤ W.faults sink.new }
 {
-    let line = last_line(alloc, history)?;
+    play(core, script.acts.as_slice(), sink, written)?;
+    let line = last_line(alloc, core.history(0))?;
     print(sink, written, line.as_slice())?;
     Ok(())
 }

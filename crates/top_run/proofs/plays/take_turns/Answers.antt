@@ -1,4 +1,4 @@
-use Rattle.std.proofs.Common.{ℕ, ◌-◌, ◌+◌, arith}
+use Rattle.std.proofs.Common.{ℕ, ◌≡◌, ◌-◌, ◌+◌, arith}
 use Rattle.top_run.proofs.PlayLemmas.{can_take, can_turn, stands_turn, stops_turn, on_err}
 use Rattle.top_run.proofs.plays.take_turns.Goals as goal
 
@@ -25,4 +25,6 @@ loop-taken-preserved g c =
     }
 
 pub returns-clause-all : goal.returns-clause-all
-returns-clause-all g c = λ shape world taken h. ?
+returns-clause-all g c = λ shape world taken h.
+    let all : c.loop-taken._taken ≡ c.args.count = omega arith in
+    rw (← all) (c.loop-taken.invariant.so_far shape world taken h)
