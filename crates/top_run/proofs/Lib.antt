@@ -4,3 +4,4 @@ pub mod ActsLemmas
 pub mod PrintLemmas
 pub mod PlayLemmas
 pub mod PlayStates
+pub mod RunLemmas

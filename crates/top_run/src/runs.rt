@@ -1,4 +1,4 @@
-ghost use Rattle.std.specs.Prelude.{◌≡◌, ◌≤◌, ◌↔◌, ◌∷◌, [], ℕ, List, ◌++◌, Option, OnOk, Result, IsTrue, map, IfOk, IfSome, IfNone, OnErr, Err, min, vec_len};
+ghost use Rattle.std.specs.Prelude.{◌≡◌, ◌≤◌, ◌↔◌, ◌∷◌, [], ℕ, List, ◌++◌, Option, OnOk, Result, IsTrue, codes, map, IfOk, IfSome, IfNone, OnErr, Err, min, vec_len};
 ghost use Rattle.iq_outside.specs.Outside.{Rose, TakesSome};
 
 use crate::plays::{Stop, play};
@@ -62,11 +62,14 @@ pub fn run<S: Source, W: Sink>(
     if !are_replay(words) {
         return not_started(alloc, Status::Usage);
     }
-    match script_of(alloc, source) {
-        Ok(Some(script)) => replay(alloc, script, sink),
-        Ok(None) => not_started(alloc, Status::NotYet),
-        Err(ReadStop::Failed) => not_started(alloc, Status::ReadFault),
-        Err(ReadStop::Memory) => not_started(alloc, Status::Memory),
+    let read = match script_of(alloc, source) {
+        Ok(read) => read,
+        Err(ReadStop::Failed) => return not_started(alloc, Status::ReadFault),
+        Err(ReadStop::Memory) => return not_started(alloc, Status::Memory),
+    };
+    match read {
+        Some(script) => replay(alloc, script, sink),
+        None => not_started(alloc, Status::NotYet),
     }
 }
 
@@ -74,10 +77,13 @@ pub fn run<S: Source, W: Sink>(
 fn are_replay(words: &[Vec<u8>]) -> bool
     ensures { IsTrue result ↔ AreReplay (map (λ word. word.items) words.now) }
 {
-    match words {
-        [word] => word.as_slice() == b"replay".as_slice(),
-        _ => false,
-    }
+    words.len() == 1 && is_replay(words[0].as_slice())
+}
+
+fn is_replay(word: &[u8]) -> bool
+    ensures { IsTrue result ↔ (word.now ≡ codes "replay") }
+{
+    word == b"replay".as_slice()
 }
 
 /// The end of a run before it began.
