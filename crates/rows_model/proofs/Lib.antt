@@ -1,3 +1,6 @@
+pub mod ApplyLemmas
+pub mod FitLemmas
+pub mod FootLemmas
 pub mod KeyLemmas
 pub mod ListTextLemmas
 pub mod QueryLemmas
