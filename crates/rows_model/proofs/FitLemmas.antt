@@ -60,12 +60,12 @@ pairs_insert R p new (x ∷ xs) pairs stop before after =
     go_insert R p new x xs (p x) refl pairs stop before after (pairs_insert R p new xs (pairs_tail R x xs pairs) stop (All-tail (λ y. p y ≡ true → R y new) x xs before) (All-tail (λ y. p y ≡ false → R new y) x xs after))
 
 -- two links in their places, which don't join the same members
-record InPlace (link later : Link) : Type 0 where
-  low : link.a ≤ later.a
-  tied : link.a ≡ later.a → link.b < later.b
-  apart : joins later.a later.b link ≡ false
+pub record InPlace (link later : Link) : Type 0 where
+  pub low : link.a ≤ later.a
+  pub tied : link.a ≡ later.a → link.b < later.b
+  pub apart : joins later.a later.b link ≡ false
 
-in_place : (links : List Link) → AllPairs IsBefore links → AllPairs (λ link later. joins later.a later.b link ≡ false) links → AllPairs InPlace links
+pub in_place : (links : List Link) → AllPairs IsBefore links → AllPairs (λ link later. joins later.a later.b link ≡ false) links → AllPairs InPlace links
 in_place links before apart = λ i j d low l. record { low = (before i j d low l).0; tied = (before i j d low l).1; apart = apart i j d low l }
 
 stops : (new link later : Link) → InPlace link later → is_before new link ≡ false → is_before new later ≡ false
@@ -78,7 +78,7 @@ comes_after : (new link : Link) → joins new.a new.b link ≡ false → is_befo
 comes_after new link free e = record { low = grind (arith, nat_tests); tied = grind (arith, nat_tests); apart = grind (arith, nat_tests) }
 
 -- the links with one more are in their places
-with_in_place : (new : Link) (links : List Link) → AllPairs InPlace links → All (λ link. joins new.a new.b link ≡ false) links → AllPairs InPlace (with_link new links)
+pub with_in_place : (new : Link) (links : List Link) → AllPairs InPlace links → All (λ link. joins new.a new.b link ≡ false) links → AllPairs InPlace (with_link new links)
 with_in_place new links pairs free =
     pairs_insert InPlace (is_before new) new links pairs (stops new) (λ k d l e. goes_before new (get_or links k d) (free k d l) e) (λ k d l e. comes_after new (get_or links k d) (free k d l) e)
 
@@ -132,17 +132,17 @@ found_some p [] e = absurd (false≢true e)
 found_some p (x ∷ xs) e = found_go p x xs (p x) e (found_some p xs)
 
 -- no element passes
-none_go : (b c : Bool) → (b || c) ≡ false → (b ≡ false) × (c ≡ false)
+pub none_go : (b c : Bool) → (b || c) ≡ false → (b ≡ false) × (c ≡ false)
 none_go true c e = absurd (false≢true (sym e))
 none_go false c e = (refl, e)
 
-none_passes : {X : Type 0} (p : X → Bool) (xs : List X) → list_any p xs ≡ false → All (λ x. p x ≡ false) xs
+pub none_passes : {X : Type 0} (p : X → Bool) (xs : List X) → list_any p xs ≡ false → All (λ x. p x ≡ false) xs
 none_passes p [] e = All-nil (λ x. p x ≡ false)
 none_passes p (x ∷ xs) e =
     let parts = none_go (p x) (list_any p xs) e in
     All-cons (λ y. p y ≡ false) x xs parts.0 (none_passes p xs parts.1)
 
-not_true : (b : Bool) → not b ≡ true → b ≡ false
+pub not_true : (b : Bool) → not b ≡ true → b ≡ false
 not_true true e = absurd (false≢true e)
 not_true false e = refl
 
@@ -165,7 +165,7 @@ Fit-invited members links a b fit e =
     Fit-with_link members links (invitation a b) fit here free (ltb-true _ _ p4.1)
 
 -- a friendship of two members
-friend_link : (t : Tables) (a b : ℕ) (first : Bool) → nat_lt a b ≡ first → IsMember a t → IsMember b t → a ≢ b → IsLink t (if first then record { a = a; b = b; state = Friend } else record { a = b; b = a; state = Friend })
+pub friend_link : (t : Tables) (a b : ℕ) (first : Bool) → nat_lt a b ≡ first → IsMember a t → IsMember b t → a ≢ b → IsLink t (if first then record { a = a; b = b; state = Friend } else record { a = b; b = a; state = Friend })
 friend_link t a b true e from to differ = record { from = from; to = to; different = differ; smaller_first = λ _. ltb-true a b e }
 friend_link t a b false e from to differ =
     let less : b < a = grind (arith, nat_tests) in
@@ -174,7 +174,7 @@ friend_link t a b false e from to differ =
 joins_swap : (a b : ℕ) (link : Link) → joins a b link ≡ false → joins b a link ≡ false
 joins_swap a b link e = grind (arith, nat_tests)
 
-friend_free : (a b : ℕ) (first : Bool) (link : Link) → joins a b link ≡ false → (let new : Link = if first then record { a = a; b = b; state = Friend } else record { a = b; b = a; state = Friend } in joins new.a new.b link ≡ false)
+pub friend_free : (a b : ℕ) (first : Bool) (link : Link) → joins a b link ≡ false → (let new : Link = if first then record { a = a; b = b; state = Friend } else record { a = b; b = a; state = Friend } in joins new.a new.b link ≡ false)
 friend_free a b true link e = e
 friend_free a b false link e = joins_swap a b link e
 

@@ -9,3 +9,4 @@ pub mod NumberLemmas
 pub mod RowsLemmas
 pub mod SameKey
 pub mod ShiftLemmas
+pub mod UntouchedLemmas

@@ -8,3 +8,4 @@ pub mod Shift
 pub mod Changes
 pub mod TxnFaults
 pub mod ApplyFaults
+pub mod Untouched
