@@ -1,0 +1,5 @@
+pub mod KeptLemmas
+pub mod LookLemmas
+pub mod OrderLemmas
+pub mod PutLemmas
+pub mod TiesLemmas

@@ -56,3 +56,29 @@ impl Grant {
         self.token
     }
 }
+
+impl Grant {
+    /// The grant that says this.
+    pub(crate) fn of(shard: u32, key: QKey, sid: Sid, mode: Mode, token: u64) -> Grant
+        ensures { result ≡ record { shard = shard; key = key; sid = sid; mode = mode; token = token } }
+    {
+        Grant {
+            shard,
+            key,
+            sid,
+            mode,
+            token,
+        }
+    }
+
+    /// Spends a grant.
+    pub(crate) fn spend(self) {
+        let Grant {
+            shard: _,
+            key: _,
+            sid: _,
+            mode: _,
+            token: _,
+        } = self;
+    }
+}

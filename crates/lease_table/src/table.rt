@@ -110,6 +110,14 @@ impl Leases {
         holder_on(self.leases.as_slice(), key, who)
     }
 
+    /// Whether the lease to read the key that has this token is recorded and its deadline lies ahead, so
+    /// that `take_i` would use it up.
+    pub fn can_take_i(&self, key: &QKey, token: u64, now: u64) -> bool
+        ensures { result ≡ is_current token now (recorded key.now self.now) }
+    {
+        is_current_at(recorded_on(self.leases.as_slice(), key), token, now)
+    }
+
     /// Uses up the lease to read the key that has this token, and says whether it did: exactly where that
     /// lease is recorded and its deadline lies ahead. Else the table stays.
     pub fn take_i(&mut self, key: &QKey, token: u64, now: u64) -> bool
