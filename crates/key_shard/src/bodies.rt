@@ -5,12 +5,11 @@ ghost use Rattle.key_shard.specs.Kept.{IsKept, IsQuiet, shown, steps_of, terms_o
 ghost use Rattle.key_shard.specs.Past.{deadline_at};
 ghost use Rattle.key_shard.specs.Shards.{stepped};
 
-use crate::placement::shard_number;
 use crate::replies::ShardFault;
 use crate::steps::Step;
 use entry_table::Entries;
 use lease_table::{Leases, Mode};
-use rows_model::{Memory, QKey, Sid};
+use rows_model::{Memory, QKey, Sid, shard_number};
 
 /// A grant that is out.
 #[derive(Debug, Drop)]

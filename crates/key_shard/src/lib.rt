@@ -10,7 +10,6 @@ mod bodies;
 mod gets;
 pub mod grants;
 mod lookups;
-mod placement;
 pub mod replies;
 mod sets;
 pub mod shards;
