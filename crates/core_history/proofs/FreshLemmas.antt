@@ -9,13 +9,21 @@ use Rattle.rows_model.specs.Key.{same_key}
 use Rattle.rows_model.specs.Rows.{Tables}
 use Rattle.rows_model.specs.Query.{answer}
 use Rattle.rows_model.proofs.SameKey.{same_key-true}
-use Rattle.key_shard.specs.declared.steps.Got.TheVariants as got
+use Rattle.key_shard.specs.declared.replies.Got.TheVariants as got
+use Rattle.key_shard.specs.declared.steps.Stands.{Stands}
 use Rattle.key_shard.specs.declared.steps.Step.{Step}
 use Rattle.key_shard.specs.declared.steps.Step.TheVariants as step
-use Rattle.key_shard.specs.Past.{Terms, entry, recorded, has_token, is_evicted, is_unexpired}
-use Rattle.key_shard.specs.Answers.{get_step, found_step, miss_step, set_step}
+use Rattle.case_tables.specs.Compatibility.{verdict, read}
+use Rattle.case_tables.specs.declared.grids.Verdict.{Verdict}
+use Rattle.case_tables.specs.declared.grids.Verdict.TheVariants as verdicts
+use Rattle.lease_table.specs.declared.records.Quar.{Quar}
+use Rattle.lease_table.specs.Leases.{is_current}
+use Rattle.rows_model.specs.Placement.{shard_of}
+use Rattle.key_shard.specs.Past.{Terms, entry, recorded, is_evicted, seen_by, own_of}
+use Rattle.key_shard.specs.Answers.{get_step, get_by, found_step, miss_by, miss_step, set_step}
 use Rattle.core_history.specs.declared.plans.Plan.{Plan}
 use Rattle.core_history.specs.declared.plans.Plan.TheVariants.{Read}
+use Rattle.core_history.specs.declared.plans.Shape.{Shape}
 use Rattle.core_history.specs.declared.plans.Turn.{Turn}
 use Rattle.core_history.specs.declared.plans.Turn.TheVariants as turn
 use Rattle.core_history.specs.declared.replies.Answer.{Answer}
@@ -25,20 +33,22 @@ use Rattle.core_history.specs.declared.replies.Wanted.{Wanted}
 use Rattle.core_history.specs.declared.replies.Wanted.TheVariants as wanted
 use Rattle.core_history.specs.Wants.{wants, read_wants, set_after, agains}
 use Rattle.core_history.specs.Events.{Event, Stepped, Asked, Idle, steps_of, told_in, told_to, reply_of}
-use Rattle.core_history.specs.Machine.{Opening, World, Move, Begin, Take, start, event_of, moved, world_after, wanted_by, plan_at, turn_event}
+use Rattle.core_history.specs.Machine.{World, Move, Begin, Take, start, event_of, stepped_on, opening_rows, terms_of, moved, world_after, wanted_by, plan_at, turn_event}
 use Rattle.core_history.specs.Fresh.{IsFreshStep, Fresh}
 
 -- the value and stamp are the key's answer over the rows, after no commit
 abbrev IsAnswer : Tables → QKey → List ℕ → ℕ → Type 0
 IsAnswer rows key value stamp = (value ≡ answer key rows) × (stamp ≡ 0)
 
--- what is hit and what is stored is an answer
+-- what is hit and what is stored is an answer, and no session quarantines
 abbrev IsHonestStep : Tables → Step → Type 0
 IsHonestStep rows (step.Hit key sid floor value stamp) = IsAnswer rows key value stamp
 IsHonestStep rows (step.Stored key token now value stamp evicted) = IsAnswer rows key value stamp
 IsHonestStep rows (step.Lease key sid floor now token deadline) = Unit {0}
 IsHonestStep rows (step.Again key sid floor now standing) = Unit {0}
+IsHonestStep rows (step.Own key sid) = Unit {0}
 IsHonestStep rows (step.Void key token now) = Unit {0}
+IsHonestStep rows other = ⊥
 
 abbrev IsHonestPast : Tables → List Step → Type 0
 IsHonestPast rows past = AllByRecursion (IsHonestStep rows) past
@@ -64,15 +74,45 @@ entry_honest rows key (step.Lease on sid floor now token deadline ∷ past) h = 
 entry_honest rows key (step.Again on sid floor now standing ∷ past) h = kept_or_none rows key (same_key key on) (entry key past) (entry_honest rows key past h.1)
 entry_honest rows key (step.Stored on token now value stamp evicted ∷ past) h =
     stored_or_kept rows key on value stamp (same_key key on) _ (same_key-true key on) h.0 (kept_or_none rows key (is_evicted key evicted) (entry key past) (entry_honest rows key past h.1))
+entry_honest rows key (step.Own on sid ∷ past) h = entry_honest rows key past h.1
+entry_honest rows key (step.Granted on sid mode shift now token deadline ∷ past) h = absurd h.0
+entry_honest rows key (step.Held on sid mode ∷ past) h = absurd h.0
+entry_honest rows key (step.Refused on sid mode holder held ∷ past) h = absurd h.0
+entry_honest rows key (step.Released on sid token how ∷ past) h = absurd h.0
+entry_honest rows key (step.Gone on sid token ∷ past) h = absurd h.0
 
 chosen : (P : Step → Type 0) (b : Bool) (x y : Step) → P x → P y → P (cond b x y)
 chosen P true x y p q = p
 chosen P false x y p q = q
 
-found_honest : (rows : Tables) (terms : Terms) (past : List Step) (key : QKey) (who : Sid) (floor now : ℕ) (found : Option (List ℕ × ℕ)) → IsAnswerOf rows key found → IsHonestStep rows (found_step terms past key who floor now found)
-found_honest rows terms past key who floor now None h = chosen (IsHonestStep rows) (is_unexpired now (recorded key past)) _ _ tt tt
-found_honest rows terms past key who floor now (Some found) h =
-    chosen (IsHonestStep rows) (nat_le floor found.1) _ _ h (chosen (IsHonestStep rows) (is_unexpired now (recorded key past)) _ _ tt tt)
+-- what holds of an Again and of a lease holds of a miss
+missed : (P : Step → Type 0) (terms : Terms) (past : List Step) (key : QKey) (who : Sid) (floor now : ℕ) (v : Verdict) → ((standing : Stands) → P (step.Again key who floor now standing)) → ((token deadline : ℕ) → P (step.Lease key who floor now token deadline)) → P (miss_by terms past key who floor now v)
+missed P terms past key who floor now verdicts.Wait again lease = again _
+missed P terms past key who floor now verdicts.Give again lease = lease _ _
+missed P terms past key who floor now verdicts.Void again lease = lease _ _
+missed P terms past key who floor now verdicts.Join again lease = lease _ _
+missed P terms past key who floor now verdicts.Same again lease = lease _ _
+missed P terms past key who floor now verdicts.Own again lease = lease _ _
+missed P terms past key who floor now verdicts.Refuse again lease = lease _ _
+
+-- a get is one of four: a hit of the entry, an Own, an Again or a lease
+got_cases : (P : Step → Type 0) (terms : Terms) (past : List Step) (key : QKey) (who : Sid) (floor now : ℕ) → ((value : List ℕ) (stamp : ℕ) → entry key past ≡ Some (value, stamp) → P (step.Hit key who floor value stamp)) → P (step.Own key who) → ((standing : Stands) → P (step.Again key who floor now standing)) → ((token deadline : ℕ) → P (step.Lease key who floor now token deadline)) → P (get_step terms past key who floor now)
+got_cases P terms past key who floor now hit own again lease = by_own (own_of key who past)
+ where
+  miss : P (miss_step terms past key who floor now)
+  miss = missed P terms past key who floor now (verdict (seen_by key who now past) read) again lease
+  by_entry : (found : Option (List ℕ × ℕ)) → entry key past ≡ found → P (found_step terms past key who floor now found)
+  by_entry None is = miss
+  by_entry (Some found) is = chosen P (nat_le floor found.1) _ _ (hit found.0 found.1 is) miss
+  by_own : (o : Option Quar) → P (get_by terms past key who floor now o)
+  by_own (Some quar) = own
+  by_own None = by_entry (entry key past) refl
+
+get_honest : (rows : Tables) (terms : Terms) (past : List Step) (key : QKey) (who : Sid) (floor now : ℕ) → IsHonestPast rows past → IsHonestStep rows (get_step terms past key who floor now)
+get_honest rows terms past key who floor now h =
+    got_cases (IsHonestStep rows) terms past key who floor now
+    (λ value stamp is. let Q : Option (List ℕ × ℕ) → Type 0 = λ o. IsAnswerOf rows key o in subst Q is (entry_honest rows key past h))
+    tt (λ standing. tt) (λ token deadline. tt)
 
 -- what a session was told is an answer of its own key
 abbrev IsHonestReply : Tables → QKey → Reply → Type 0
@@ -113,6 +153,7 @@ set_honest rows key floor answer [] h = tt
 set_honest rows key floor answer (reply.Got (got.Lease token) ∷ heard) h = h
 set_honest rows key floor answer (reply.Got (got.Hit value stamp) ∷ heard) h = tt
 set_honest rows key floor answer (reply.Got (got.Again standing) ∷ heard) h = tt
+set_honest rows key floor answer (reply.Got got.Own ∷ heard) h = tt
 set_honest rows key floor answer (reply.Answer other ∷ heard) h = tt
 set_honest rows key floor answer (reply.Set told ∷ heard) h = tt
 set_honest rows key floor answer (reply.Nothing ∷ heard) h = tt
@@ -123,6 +164,7 @@ read_honest rows key floor (reply.Got (got.Lease token) ∷ heard) h = refl
 read_honest rows key floor (reply.Got (got.Hit value stamp) ∷ heard) h = tt
 read_honest rows key floor (reply.Got (got.Again standing) ∷ heard) h =
     chosen_wanted (MayWant rows (Some (Read key floor))) (nat_lt (agains heard + 1) 16) _ _ tt refl
+read_honest rows key floor (reply.Got got.Own ∷ heard) h = refl
 read_honest rows key floor (reply.Answer answer ∷ heard) h = set_honest rows key floor answer heard h.0
 read_honest rows key floor (reply.Set told ∷ heard) h = tt
 read_honest rows key floor (reply.Nothing ∷ heard) h = tt
@@ -133,70 +175,76 @@ wants_honest rows (Some (Read key floor)) heard h = read_honest rows key floor h
 
 -- what an event tells
 abbrev reply_in : Event → Reply
-reply_in (Stepped who step) = reply_of step
+reply_in (Stepped shard who step) = reply_of step
 reply_in (Asked who answer) = reply.Answer answer
 reply_in (Idle who) = reply.Nothing
 
-got_is_heard : (rows : Tables) (key on : QKey) (floor : ℕ) (terms : Terms) (past : List Step) (who : Sid) (least now : ℕ) (found : Option (List ℕ × ℕ)) → MayHear rows (Some (Read key floor)) (reply_of (found_step terms past on who least now found))
-got_is_heard rows key on floor terms past who least now None = chosen (λ s. MayHear rows (Some (Read key floor)) (reply_of s)) (is_unexpired now (recorded on past)) _ _ tt tt
-got_is_heard rows key on floor terms past who least now (Some found) =
-    chosen (λ s. MayHear rows (Some (Read key floor)) (reply_of s)) (nat_le least found.1) _ _ tt (chosen (λ s. MayHear rows (Some (Read key floor)) (reply_of s)) (is_unexpired now (recorded on past)) _ _ tt tt)
-
 -- what a turn tells its session is what may be heard under its plan
-event_heard : (opening : Opening) (past : List Event) (who : Sid) (plan : Option Plan) (request : Wanted) → MayWant opening.rows plan request → MayHear opening.rows plan (reply_in (event_of opening past who request))
-event_heard opening past who None wanted.Nothing h = tt
-event_heard opening past who None (wanted.Get key floor) h = absurd h
-event_heard opening past who None (wanted.Ask key) h = absurd h
-event_heard opening past who None (wanted.Set key token value stamp) h = absurd h
-event_heard opening past who (Some (Read key floor)) (wanted.Get on least) h = got_is_heard opening.rows key on floor opening.terms (steps_of past) who least 0 (entry on (steps_of past))
-event_heard opening past who (Some (Read key floor)) (wanted.Ask on) h = (ap (λ k. answer k opening.rows) h, refl)
-event_heard opening past who (Some (Read key floor)) (wanted.Set on token value stamp) h =
-    chosen (λ s. MayHear opening.rows (Some (Read key floor)) (reply_of s)) (has_token token 0 (recorded on (steps_of past))) _ _ tt tt
-event_heard opening past who (Some (Read key floor)) wanted.Nothing h = tt
+event_heard : (shape : Shape) (past : List Event) (who : Sid) (plan : Option Plan) (request : Wanted) → MayWant (opening_rows shape) plan request → MayHear (opening_rows shape) plan (reply_in (event_of shape past who request))
+event_heard shape past who None wanted.Nothing h = tt
+event_heard shape past who None (wanted.Get key floor) h = absurd h
+event_heard shape past who None (wanted.Ask key) h = absurd h
+event_heard shape past who None (wanted.Set key token value stamp) h = absurd h
+event_heard shape past who (Some (Read key floor)) (wanted.Get on least) h =
+    let place = shard_of on shape.shards in
+    got_cases (λ s. MayHear (opening_rows shape) (Some (Read key floor)) (reply_of s)) (terms_of shape place) (steps_of place past) on who least 0 (λ value stamp is. tt) tt (λ standing. tt) (λ token deadline. tt)
+event_heard shape past who (Some (Read key floor)) (wanted.Ask on) h = (ap (λ k. answer k (opening_rows shape)) h, refl)
+event_heard shape past who (Some (Read key floor)) (wanted.Set on token value stamp) h =
+    let place = shard_of on shape.shards in
+    chosen (λ s. MayHear (opening_rows shape) (Some (Read key floor)) (reply_of s)) (is_current token 0 (recorded on (steps_of place past))) _ _ tt tt
+event_heard shape past who (Some (Read key floor)) wanted.Nothing h = tt
 
--- a turn keeps the past honest
-event_honest : (opening : Opening) (past : List Event) (who : Sid) (plan : Option Plan) (request : Wanted) → MayWant opening.rows plan request → IsHonestPast opening.rows (steps_of past) → IsHonestPast opening.rows (steps_of (event_of opening past who request ∷ past))
-event_honest opening past who plan (wanted.Get key floor) h honest = (found_honest opening.rows opening.terms (steps_of past) key who floor 0 (entry key (steps_of past)) (entry_honest opening.rows key (steps_of past) honest), honest)
-event_honest opening past who plan (wanted.Ask key) h honest = honest
-event_honest opening past who None (wanted.Set key token value stamp) h honest = absurd h
-event_honest opening past who (Some (Read on least)) (wanted.Set key token value stamp) h honest = (chosen (IsHonestStep opening.rows) (has_token token 0 (recorded key (steps_of past))) _ _ h tt, honest)
-event_honest opening past who plan wanted.Nothing h honest = honest
+honest_maybe : (here : Bool) (rows : Tables) (steps : List Step) (s : Step) → IsHonestStep rows s → IsHonestPast rows steps → IsHonestPast rows (cond here (s ∷ []) [] ++ steps)
+honest_maybe true rows steps s h honest = (h, honest)
+honest_maybe false rows steps s h honest = honest
+
+-- a turn keeps the past of each shard honest
+event_honest : (shape : Shape) (past : List Event) (who : Sid) (plan : Option Plan) (request : Wanted) → MayWant (opening_rows shape) plan request → ((place : ℕ) → IsHonestPast (opening_rows shape) (steps_of place past)) → (place : ℕ) → IsHonestPast (opening_rows shape) (steps_of place (event_of shape past who request ∷ past))
+event_honest shape past who plan (wanted.Get key floor) h honest place =
+    let home = shard_of key shape.shards in
+    honest_maybe (home == place) (opening_rows shape) (steps_of place past) _ (get_honest (opening_rows shape) (terms_of shape home) (steps_of home past) key who floor 0 (honest home)) (honest place)
+event_honest shape past who plan (wanted.Ask key) h honest place = honest place
+event_honest shape past who None (wanted.Set key token value stamp) h honest place = absurd h
+event_honest shape past who (Some (Read on least)) (wanted.Set key token value stamp) h honest place =
+    let home = shard_of key shape.shards in
+    honest_maybe (home == place) (opening_rows shape) (steps_of place past) _ (chosen (IsHonestStep (opening_rows shape)) (is_current token 0 (recorded key (steps_of home past))) _ _ h tt) (honest place)
+event_honest shape past who plan wanted.Nothing h honest place = honest place
 
 -- the facts that hold before and after each move
-record Facts (opening : Opening) (world : World) : Type 0 where
-  honest : IsHonestPast opening.rows (steps_of world.past)
-  heard : (number : ℕ) → HasHeard opening.rows (plan_at number world.plans) (told_to number world.past)
+record Facts (shape : Shape) (world : World) : Type 0 where
+  honest : (place : ℕ) → IsHonestPast (opening_rows shape) (steps_of place world.past)
+  heard : (number : ℕ) → HasHeard (opening_rows shape) (plan_at number world.plans) (told_to number world.past)
 
 heard_more : (rows : Tables) (plan : Option Plan) (mine : Bool) (told : Reply) (heard : List Reply) → (mine ≡ true → MayHear rows plan told) → HasHeard rows plan heard → HasHeard rows plan (cond mine (told ∷ []) [] ++ heard)
 heard_more rows plan true told heard h all = (h refl, all)
 heard_more rows plan false told heard h all = all
 
-told_in-event : (number : ℕ) (opening : Opening) (past : List Event) (who : Sid) (request : Wanted) → told_in number (event_of opening past who request) ≡ cond (who.number == number) (reply_in (event_of opening past who request) ∷ []) []
-told_in-event number opening past who (wanted.Get key floor) = refl
-told_in-event number opening past who (wanted.Ask key) = refl
-told_in-event number opening past who (wanted.Set key token value stamp) = refl
-told_in-event number opening past who wanted.Nothing = refl
+told_in-event : (number : ℕ) (shape : Shape) (past : List Event) (who : Sid) (request : Wanted) → told_in number (event_of shape past who request) ≡ cond (who.number == number) (reply_in (event_of shape past who request) ∷ []) []
+told_in-event number shape past who (wanted.Get key floor) = refl
+told_in-event number shape past who (wanted.Ask key) = refl
+told_in-event number shape past who (wanted.Set key token value stamp) = refl
+told_in-event number shape past who wanted.Nothing = refl
 
-heard_by_all : (opening : Opening) (world : World) (who : Sid) → Facts opening world → (number : ℕ) → HasHeard opening.rows (plan_at number world.plans) (told_to number (turn_event opening world (turn.Session who) ∷ world.past))
-heard_by_all opening world who facts number =
-    let rows = opening.rows in
+heard_by_all : (shape : Shape) (world : World) (who : Sid) → Facts shape world → (number : ℕ) → HasHeard (opening_rows shape) (plan_at number world.plans) (told_to number (turn_event shape world (turn.Session who) ∷ world.past))
+heard_by_all shape world who facts number =
+    let rows = (opening_rows shape) in
     let plan = plan_at who.number world.plans in
     let request = wanted_by plan (told_to who.number world.past) in
-    let event = event_of opening world.past who request in
+    let event = event_of shape world.past who request in
     let may : MayWant rows plan request = wants_honest rows plan (told_to who.number world.past) (facts.heard who.number) in
-    let told : MayHear rows plan (reply_in event) = event_heard opening world.past who plan request may in
+    let told : MayHear rows plan (reply_in event) = event_heard shape world.past who plan request may in
     let P : List Reply → Type 0 = λ front. HasHeard rows (plan_at number world.plans) (front ++ told_to number world.past) in
     let Q : ℕ → Type 0 = λ n. MayHear rows (plan_at n world.plans) (reply_in event) in
-    subst P (sym (told_in-event number opening world.past who request))
+    subst P (sym (told_in-event number shape world.past who request))
     (heard_more rows (plan_at number world.plans) (who.number == number) (reply_in event) (told_to number world.past) (λ mine. subst Q (eqb-true who.number number mine) told) (facts.heard number))
 
-taken_facts : (opening : Opening) (world : World) (who : Sid) → Facts opening world → Facts opening (moved opening world (Take (turn.Session who)))
-taken_facts opening world who facts =
+taken_facts : (shape : Shape) (world : World) (who : Sid) → Facts shape world → Facts shape (moved shape world (Take (turn.Session who)))
+taken_facts shape world who facts =
     let plan = plan_at who.number world.plans in
     let request = wanted_by plan (told_to who.number world.past) in
     record {
-      honest = event_honest opening world.past who plan request (wants_honest opening.rows plan (told_to who.number world.past) (facts.heard who.number)) facts.honest;
-      heard = heard_by_all opening world who facts;
+      honest = event_honest shape world.past who plan request (wants_honest (opening_rows shape) plan (told_to who.number world.past) (facts.heard who.number)) facts.honest;
+      heard = heard_by_all shape world who facts;
     }
 
 -- one more plan leaves each plan that is there
@@ -216,31 +264,31 @@ only_nothing : (rows : Tables) (plan : Option Plan) (heard : List Reply) → Has
 only_nothing rows plan [] h = tt
 only_nothing rows plan (told ∷ heard) h = (nothing_is_heard rows plan told h.0, only_nothing rows plan heard h.1)
 
-begun_facts : (opening : Opening) (world : World) (plan : Plan) → Facts opening world → Facts opening (moved opening world (Begin plan))
-begun_facts opening world plan facts =
+begun_facts : (shape : Shape) (world : World) (plan : Plan) → Facts shape world → Facts shape (moved shape world (Begin plan))
+begun_facts shape world plan facts =
     record {
       honest = facts.honest;
       heard = λ number.
         let heard = told_to number world.past in
-        let P : Option Plan → Type 0 = λ p. HasHeard opening.rows p heard in
+        let P : Option Plan → Type 0 = λ p. HasHeard (opening_rows shape) p heard in
         ⊎_elim (λ same. subst P (sym same) (facts.heard number))
-          (λ none. only_nothing opening.rows (slice_get (world.plans ++ plan ∷ []) (number - 1)) heard (subst P none (facts.heard number)))
+          (λ none. only_nothing (opening_rows shape) (slice_get (world.plans ++ plan ∷ []) (number - 1)) heard (subst P none (facts.heard number)))
           (plan_stays world.plans plan (number - 1));
     }
 
-moved_facts : (opening : Opening) (world : World) (move : Move) → Facts opening world → Facts opening (moved opening world move)
-moved_facts opening world (Begin plan) facts = begun_facts opening world plan facts
-moved_facts opening world (Take (turn.Session who)) facts = taken_facts opening world who facts
+moved_facts : (shape : Shape) (world : World) (move : Move) → Facts shape world → Facts shape (moved shape world move)
+moved_facts shape world (Begin plan) facts = begun_facts shape world plan facts
+moved_facts shape world (Take (turn.Session who)) facts = taken_facts shape world who facts
 
-facts_after : (opening : Opening) (world : World) (moves : List Move) → Facts opening world → Facts opening (world_after opening world moves)
-facts_after opening world [] facts = facts
-facts_after opening world (move ∷ moves) facts = facts_after opening (moved opening world move) moves (moved_facts opening world move facts)
+facts_after : (shape : Shape) (world : World) (moves : List Move) → Facts shape world → Facts shape (world_after shape world moves)
+facts_after shape world [] facts = facts
+facts_after shape world (move ∷ moves) facts = facts_after shape (moved shape world move) moves (moved_facts shape world move facts)
 
-start_facts : (opening : Opening) → Facts opening start
-start_facts opening = record { honest = tt; heard = λ number. none_heard opening.rows (plan_at number []) }
- where
-  none_heard : (rows : Tables) (plan : Option Plan) → HasHeard rows plan []
-  none_heard rows plan = tt
+none_heard : (rows : Tables) (plan : Option Plan) → HasHeard rows plan []
+none_heard rows plan = tt
+
+start_facts : (shape : Shape) → Facts shape start
+start_facts shape = record { honest = λ place. tt; heard = λ number. none_heard (opening_rows shape) (plan_at number []) }
 
 fresh_step : (rows : Tables) (s : Step) → IsHonestStep rows s → IsFreshStep rows s
 fresh_step rows (step.Hit key sid floor value stamp) h = h
@@ -248,11 +296,17 @@ fresh_step rows (step.Stored key token now value stamp evicted) h = tt
 fresh_step rows (step.Lease key sid floor now token deadline) h = tt
 fresh_step rows (step.Again key sid floor now standing) h = tt
 fresh_step rows (step.Void key token now) h = tt
+fresh_step rows (step.Own key sid) h = tt
+fresh_step rows (step.Granted key sid mode shift now token deadline) h = tt
+fresh_step rows (step.Held key sid mode) h = tt
+fresh_step rows (step.Refused key sid mode holder held) h = tt
+fresh_step rows (step.Released key sid token how) h = tt
+fresh_step rows (step.Gone key sid token) h = tt
 
 fresh_steps : (rows : Tables) (past : List Step) → IsHonestPast rows past → AllByRecursion (IsFreshStep rows) past
 fresh_steps rows [] h = tt
 fresh_steps rows (s ∷ past) h = (fresh_step rows s h.0, fresh_steps rows past h.1)
 
--- every hit of a run is fresh
-pub fresh_after : (opening : Opening) (moves : List Move) → Fresh opening.rows (steps_of (world_after opening start moves).past)
-fresh_after opening moves = All-from_recursion (IsFreshStep opening.rows) _ (fresh_steps opening.rows _ (facts_after opening start moves (start_facts opening)).honest)
+-- every hit of a run is fresh, on each shard
+pub fresh_after : (shape : Shape) (moves : List Move) (place : ℕ) → Fresh (opening_rows shape) (steps_of place (world_after shape start moves).past)
+fresh_after shape moves place = All-from_recursion (IsFreshStep (opening_rows shape)) _ (fresh_steps (opening_rows shape) _ ((facts_after shape start moves (start_facts shape)).honest place))

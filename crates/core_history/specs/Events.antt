@@ -1,41 +1,43 @@
 -- What happened, one event a turn. A past is a list of events, the latest first.
 use Rattle.std.specs.Prelude.{ℕ, ◌==◌, if◌then◌else◌, List, [], ◌∷◌, flat_map}
 use Rattle.rows_model.specs.declared.keys.Sid.{Sid}
-use Rattle.key_shard.specs.declared.steps.Got.TheVariants as got
-use Rattle.key_shard.specs.declared.steps.SetAnswer.TheVariants as set
+use Rattle.key_shard.specs.declared.replies.Got.TheVariants as got
+use Rattle.key_shard.specs.declared.replies.SetAnswer.TheVariants as set
 use Rattle.key_shard.specs.declared.steps.Step.{Step}
 use Rattle.key_shard.specs.declared.steps.Step.TheVariants as step
 use Rattle.core_history.specs.declared.replies.Answer.{Answer}
 use Rattle.core_history.specs.declared.replies.Reply.{Reply}
 use Rattle.core_history.specs.declared.replies.Reply.TheVariants as reply
 
--- One event: a request on the shard and the step that came of it, the store's answer, or the turn of a session that is done.
+-- One event: a request on a shard and the step that came of it, the store's answer, or the turn of a session that is done.
 pub data Event : Type 0 where
-  Stepped : (who : Sid) (step : Step) → Event
+  Stepped : (shard : ℕ) (who : Sid) (step : Step) → Event
   Asked : (who : Sid) (answer : Answer) → Event
   Idle : (who : Sid) → Event
 
--- The reply that shows a step.
+-- The reply that shows a step. No session asks for the other steps yet.
 abbrev pub reply_of : Step → Reply
 reply_of (step.Hit key sid floor value stamp) = reply.Got (got.Hit value stamp)
 reply_of (step.Lease key sid floor now token deadline) = reply.Got (got.Lease token)
 reply_of (step.Again key sid floor now standing) = reply.Got (got.Again standing)
+reply_of (step.Own key sid) = reply.Got got.Own
 reply_of (step.Stored key token now value stamp evicted) = reply.Set (set.Stored evicted)
 reply_of (step.Void key token now) = reply.Set set.Void
+reply_of other = reply.Nothing
 
--- The steps that an event made on the shard: one or none.
-abbrev pub steps_in : Event → List Step
-steps_in (Stepped who step) = step ∷ []
-steps_in (Asked who answer) = []
-steps_in (Idle who) = []
+-- The steps that an event made on the shard of this number: one or none.
+abbrev pub steps_in : ℕ → Event → List Step
+steps_in place (Stepped shard who step) = if shard == place then step ∷ [] else []
+steps_in place (Asked who answer) = []
+steps_in place (Idle who) = []
 
--- The shard's own past.
-abbrev pub steps_of : List Event → List Step
-steps_of past = flat_map steps_in past
+-- A shard's own past.
+abbrev pub steps_of : ℕ → List Event → List Step
+steps_of place past = flat_map (steps_in place) past
 
 -- What an event told the session of this number, if it was a turn of that session.
 abbrev pub told_in : ℕ → Event → List Reply
-told_in number (Stepped who step) = if who.number == number then reply_of step ∷ [] else []
+told_in number (Stepped shard who step) = if who.number == number then reply_of step ∷ [] else []
 told_in number (Asked who answer) = if who.number == number then reply.Answer answer ∷ [] else []
 told_in number (Idle who) = if who.number == number then reply.Nothing ∷ [] else []
 

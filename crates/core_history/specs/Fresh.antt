@@ -1,5 +1,5 @@
 -- No hit is stale.
-use Rattle.std.specs.Prelude.{ℕ, ◌≡◌, List, All, reverse}
+use Rattle.std.specs.Prelude.{ℕ, ◌≡◌, List, All}
 use Rattle.rows_model.specs.Rows.{Tables}
 use Rattle.rows_model.specs.Query.{answer}
 use Rattle.key_shard.specs.declared.steps.Step.{Step}
@@ -8,10 +8,7 @@ use Rattle.key_shard.specs.declared.steps.Step.TheVariants as step
 -- A hit is its key's answer over the opening rows, after no commit; of other steps nothing is said.
 abbrev pub IsFreshStep : Tables → Step → Type 0
 IsFreshStep rows (step.Hit key sid floor value stamp) = (value ≡ answer key rows) × (stamp ≡ 0)
-IsFreshStep rows (step.Lease key sid floor now token deadline) = Unit {0}
-IsFreshStep rows (step.Again key sid floor now standing) = Unit {0}
-IsFreshStep rows (step.Stored key token now value stamp evicted) = Unit {0}
-IsFreshStep rows (step.Void key token now) = Unit {0}
+IsFreshStep rows other = Unit {0}
 
 -- Each hit of the history is fresh.
 abbrev pub Fresh : Tables → List Step → Type 0

@@ -7,7 +7,7 @@ use Rattle.key_shard.specs.declared.steps.Stands.{Stands}
 use Rattle.key_shard.specs.declared.steps.Stands.TheVariants as stands
 use Rattle.key_shard.specs.declared.steps.Step.{Step}
 use Rattle.key_shard.specs.declared.steps.Step.TheVariants as step
-use Rattle.core_history.specs.Events.{Event, Stepped, Asked, Idle, steps_of}
+use Rattle.core_history.specs.Events.{Event, Stepped, Asked, Idle}
 
 -- Words with a space between, and the line's end.
 abbrev pub line : List (List ℕ) → List ℕ
@@ -29,7 +29,7 @@ abbrev pub evicts_words : Option QKey → List (List ℕ)
 evicts_words None = []
 evicts_words (Some key) = codes "EVICTS" ∷ key_text key ∷ []
 
--- The words that print a step.
+-- The words that print a step. No session asks for the other steps yet.
 abbrev pub step_words : Step → List (List ℕ)
 step_words (step.Hit key sid floor value stamp) =
     codes "get" ∷ key_text key ∷ codes "HIT" ∷ decimal stamp ∷ shown value ∷ []
@@ -37,13 +37,15 @@ step_words (step.Lease key sid floor now token deadline) =
     codes "get" ∷ key_text key ∷ codes "LEASE" ∷ decimal token ∷ []
 step_words (step.Again key sid floor now standing) =
     codes "get" ∷ key_text key ∷ codes "AGAIN" ∷ stands_word standing ∷ []
+step_words (step.Own key sid) = codes "get" ∷ key_text key ∷ codes "OWN" ∷ []
 step_words (step.Stored key token now value stamp evicted) =
     codes "set" ∷ key_text key ∷ codes "STORED" ∷ evicts_words evicted
 step_words (step.Void key token now) = codes "set" ∷ key_text key ∷ codes "VOID" ∷ []
+step_words other = []
 
 -- The line of an event.
 unfoldable pub line_of : Event → List ℕ
-line_of (Stepped who step) = line (decimal who.number ∷ step_words step)
+line_of (Stepped shard who step) = line (decimal who.number ∷ step_words step)
 line_of (Asked who answer) =
     line (decimal who.number ∷ codes "ask" ∷ key_text answer.key ∷ decimal answer.stamp ∷ shown answer.value ∷ [])
 line_of (Idle who) = line (decimal who.number ∷ codes "done" ∷ [])
@@ -54,27 +56,22 @@ lines_of past = flat_map line_of (reverse past)
 
 abbrev pub is_hit : Step → Bool
 is_hit (step.Hit key sid floor value stamp) = true
-is_hit (step.Lease key sid floor now token deadline) = false
-is_hit (step.Again key sid floor now standing) = false
-is_hit (step.Stored key token now value stamp evicted) = false
-is_hit (step.Void key token now) = false
+is_hit other = false
 
 abbrev pub is_stored : Step → Bool
-is_stored (step.Hit key sid floor value stamp) = false
-is_stored (step.Lease key sid floor now token deadline) = false
-is_stored (step.Again key sid floor now standing) = false
 is_stored (step.Stored key token now value stamp evicted) = true
-is_stored (step.Void key token now) = false
+is_stored other = false
 
 abbrev pub is_again : Step → Bool
-is_again (step.Hit key sid floor value stamp) = false
-is_again (step.Lease key sid floor now token deadline) = false
 is_again (step.Again key sid floor now standing) = true
-is_again (step.Stored key token now value stamp evicted) = false
-is_again (step.Void key token now) = false
+is_again other = false
 
--- The last line: how many transactions were committed, none so far, and how many hits, stored values and Agains the history has.
-unfoldable pub end_line : List Step → List ℕ
-end_line history =
-    line (codes "end" ∷ codes "commits" ∷ codes "0" ∷ codes "hits" ∷ decimal (count_by is_hit history)
-        ∷ codes "stores" ∷ decimal (count_by is_stored history) ∷ codes "agains" ∷ decimal (count_by is_again history) ∷ [])
+-- How many steps of all histories pass a test.
+abbrev pub count_in : (Step → Bool) → List (List Step) → ℕ
+count_in test histories = count_by test (flat_map (λ history. history) histories)
+
+-- The last line: how many transactions were committed, none so far, and how many hits, stored values and Agains the histories have.
+unfoldable pub end_line : List (List Step) → List ℕ
+end_line histories =
+    line (codes "end" ∷ codes "commits" ∷ codes "0" ∷ codes "hits" ∷ decimal (count_in is_hit histories)
+        ∷ codes "stores" ∷ decimal (count_in is_stored histories) ∷ codes "agains" ∷ decimal (count_in is_again histories) ∷ [])

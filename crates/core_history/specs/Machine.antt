@@ -1,12 +1,15 @@
 -- The machine: what each turn does, read off the events before it.
 use Rattle.std.specs.Prelude.{ℕ, ◌-◌, List, [], ◌∷◌, ◌++◌, Option, Some, None, slice_get}
+use Rattle.rows_model.specs.declared.keys.QKey.{QKey}
 use Rattle.rows_model.specs.declared.keys.Sid.{Sid}
 use Rattle.rows_model.specs.Rows.{Tables, start_tables}
+use Rattle.rows_model.specs.Placement.{shard_of}
 use Rattle.rows_model.specs.Query.{answer}
 use Rattle.key_shard.specs.declared.steps.Step.{Step}
 use Rattle.key_shard.specs.Past.{Terms}
 use Rattle.key_shard.specs.Answers.{get_step, set_step}
 use Rattle.core_history.specs.declared.plans.Plan.{Plan}
+use Rattle.core_history.specs.declared.plans.Shape.{Shape}
 use Rattle.core_history.specs.declared.plans.Turn.{Turn}
 use Rattle.core_history.specs.declared.plans.Turn.TheVariants as turn
 use Rattle.core_history.specs.declared.replies.Reply.{Reply}
@@ -15,15 +18,14 @@ use Rattle.core_history.specs.declared.replies.Wanted.TheVariants as wanted
 use Rattle.core_history.specs.Wants.{wants}
 use Rattle.core_history.specs.Events.{Event, Stepped, Asked, Idle, steps_of, told_to}
 
--- What a run begins with: the rows, and what the shard is made with.
-pub record Opening : Type 0 where
-  pub rows : Tables
-  pub terms : Terms
+-- The rows that a run of this shape begins with.
+abbrev pub opening_rows : Shape → Tables
+opening_rows shape = start_tables shape.members
 
--- The opening over so many members, with room for 16 entries and leases of 100 ticks.
-abbrev pub opening_of : ℕ → Opening
-opening_of members =
-    record { rows = start_tables members; terms = record { room = 16; life = 100; first = 1 } }
+-- What a shard of this shape is made with. Its tokens begin at 1.
+abbrev pub terms_of : Shape → ℕ → Terms
+terms_of shape place =
+    record { no = place; count = shape.shards; room = shape.room; life = shape.life; first = 1 }
 
 -- The sessions begun, by their plans, and the events so far.
 pub record World : Type 0 where
@@ -43,20 +45,25 @@ abbrev pub wanted_by : Option Plan → List Reply → Wanted
 wanted_by None heard = wanted.Nothing
 wanted_by (Some plan) heard = wants plan heard
 
--- The event that a request is: on the shard, at the store, or nothing. The clock stands at 0, and no transaction is committed.
-abbrev pub event_of : Opening → List Event → Sid → Wanted → Event
-event_of opening past who (wanted.Get key floor) =
-    Stepped who (get_step opening.terms (steps_of past) key who floor 0)
-event_of opening past who (wanted.Ask key) =
-    Asked who (record { key = key; value = answer key opening.rows; stamp = 0 })
-event_of opening past who (wanted.Set key token value stamp) =
-    Stepped who (set_step opening.terms (steps_of past) key token value stamp 0)
-event_of opening past who wanted.Nothing = Idle who
+-- A request on the shard of a key shows the step that follows that shard's own past.
+abbrev pub stepped_on : Shape → List Event → Sid → QKey → (Terms → List Step → Step) → Event
+stepped_on shape past who key step =
+    let place = shard_of key shape.shards in Stepped place who (step (terms_of shape place) (steps_of place past))
+
+-- The event that a request is: on a shard, at the store, or nothing. The clock stands at 0, and no transaction is committed.
+abbrev pub event_of : Shape → List Event → Sid → Wanted → Event
+event_of shape past who (wanted.Get key floor) =
+    stepped_on shape past who key (λ terms steps. get_step terms steps key who floor 0)
+event_of shape past who (wanted.Ask key) =
+    Asked who (record { key = key; value = answer key (opening_rows shape); stamp = 0 })
+event_of shape past who (wanted.Set key token value stamp) =
+    stepped_on shape past who key (λ terms steps. set_step terms steps key token value stamp 0)
+event_of shape past who wanted.Nothing = Idle who
 
 -- The event of a turn.
-abbrev pub turn_event : Opening → World → Turn → Event
-turn_event opening world (turn.Session who) =
-    event_of opening world.past who (wanted_by (plan_at who.number world.plans) (told_to who.number world.past))
+abbrev pub turn_event : Shape → World → Turn → Event
+turn_event shape world (turn.Session who) =
+    event_of shape world.past who (wanted_by (plan_at who.number world.plans) (told_to who.number world.past))
 
 -- A move of the world: a session begins, or a turn is taken.
 pub data Move : Type 0 where
@@ -68,15 +75,15 @@ abbrev pub begun : World → Plan → World
 begun world plan = record { plans = world.plans ++ plan ∷ []; past = world.past }
 
 -- The world after a turn.
-abbrev pub taken : Opening → World → Turn → World
-taken opening world turn =
-    record { plans = world.plans; past = turn_event opening world turn ∷ world.past }
+abbrev pub taken : Shape → World → Turn → World
+taken shape world turn =
+    record { plans = world.plans; past = turn_event shape world turn ∷ world.past }
 
-abbrev pub moved : Opening → World → Move → World
-moved opening world (Begin plan) = begun world plan
-moved opening world (Take turn) = taken opening world turn
+abbrev pub moved : Shape → World → Move → World
+moved shape world (Begin plan) = begun world plan
+moved shape world (Take turn) = taken shape world turn
 
 -- The world after these moves, in order.
-abbrev pub world_after : Opening → World → List Move → World
-world_after opening world [] = world
-world_after opening world (move ∷ moves) = world_after opening (moved opening world move) moves
+abbrev pub world_after : Shape → World → List Move → World
+world_after shape world [] = world
+world_after shape world (move ∷ moves) = world_after shape (moved shape world move) moves

@@ -3,7 +3,7 @@ use Rattle.std.specs.Prelude.{ℕ, ◌+◌, Bool, true, false, nat_lt, if◌then
 use Rattle.rows_model.specs.declared.keys.QKey.{QKey}
 use Rattle.core_history.specs.declared.plans.Plan.{Plan}
 use Rattle.core_history.specs.declared.plans.Plan.TheVariants.{Read}
-use Rattle.key_shard.specs.declared.steps.Got.TheVariants as got
+use Rattle.key_shard.specs.declared.replies.Got.TheVariants as got
 use Rattle.core_history.specs.declared.replies.Answer.{Answer}
 use Rattle.core_history.specs.declared.replies.Reply.{Reply}
 use Rattle.core_history.specs.declared.replies.Reply.TheVariants as reply
@@ -15,6 +15,7 @@ abbrev pub is_again : Reply → Bool
 is_again (reply.Got (got.Again standing)) = true
 is_again (reply.Got (got.Hit value stamp)) = false
 is_again (reply.Got (got.Lease token)) = false
+is_again (reply.Got got.Own) = false
 is_again (reply.Answer answer) = false
 is_again (reply.Set told) = false
 is_again reply.Nothing = false
@@ -28,13 +29,14 @@ abbrev pub set_after : QKey → Answer → List Reply → Wanted
 set_after key answer (reply.Got (got.Lease token) ∷ told) = wanted.Set key token answer.value answer.stamp
 set_after key answer told = wanted.Nothing
 
--- A reader gets the key until it has it or a lease, asks the store after a lease or after 16 Agains, and stores the answer under its lease.
+-- A reader gets the key until it has it or a lease, asks the store after a lease, after 16 Agains or where it has quarantined the key itself, and stores the answer under its lease.
 abbrev pub read_wants : QKey → ℕ → List Reply → Wanted
 read_wants key floor [] = wanted.Get key floor
 read_wants key floor (reply.Got (got.Hit value stamp) ∷ told) = wanted.Nothing
 read_wants key floor (reply.Got (got.Lease token) ∷ told) = wanted.Ask key
 read_wants key floor (reply.Got (got.Again standing) ∷ told) =
     if nat_lt (agains told + 1) 16 then wanted.Get key floor else wanted.Ask key
+read_wants key floor (reply.Got got.Own ∷ told) = wanted.Ask key
 read_wants key floor (reply.Answer answer ∷ told) = set_after key answer told
 read_wants key floor (reply.Set outcome ∷ told) = wanted.Nothing
 read_wants key floor (reply.Nothing ∷ told) = wanted.Nothing

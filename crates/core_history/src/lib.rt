@@ -1,7 +1,7 @@
 //! The core: sessions, one shard and the rows, moved on one turn at a time. Each turn is one event.
 #![tactic(auto)]
 
-pub use plans::{Plan, Turn};
+pub use plans::{Plan, Shape, Turn};
 pub use replies::{Answer, Reply, Wanted};
 
 pub mod plans;

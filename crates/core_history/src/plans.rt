@@ -13,3 +13,16 @@ pub enum Turn {
     /// The session makes the next request that its plan wants.
     Session { sid: Sid },
 }
+
+/// What a run is made with.
+#[derive(Clone, Copy, Debug, PartialEq, Eq)]
+pub struct Shape {
+    /// How many members there are at the start, from 1 to 100,000.
+    pub members: u32,
+    /// How many shards, from 1 to 64.
+    pub shards: u32,
+    /// How many entries a shard has room for, from 1 to 65,536.
+    pub room: u32,
+    /// How long a lease lives, in ticks, at least 1.
+    pub life: u64,
+}

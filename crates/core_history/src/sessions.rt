@@ -118,6 +118,6 @@ fn stage_after_get(agains: u32, got: Got) -> Stage
         Got::Hit { .. } => Stage::Done,
         Got::Lease { token } => Stage::Asking { lease: Some(token) },
         Got::Again { .. } if agains < PATIENCE - 1 => Stage::Getting { agains: agains + 1 },
-        Got::Again { .. } => Stage::Asking { lease: None },
+        Got::Again { .. } | Got::Own => Stage::Asking { lease: None },
     }
 }

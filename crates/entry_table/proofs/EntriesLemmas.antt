@@ -1,4 +1,4 @@
-use Rattle.std.proofs.Common.{◌≡◌, ◌≢◌, ℕ, suc, ◌+◌, ◌||◌, is_some, ◌≤◌, Bool, true, false, cond, not, Option, Some, None, option_map, List, [], ◌∷◌, ◌++◌, length, ◌<◌, map, filter, find, length-append, refl, sym, ap, subst, ◌∙◌, inl, inr, arith, rules}
+use Rattle.std.proofs.Common.{◌≡◌, ◌≢◌, ℕ, suc, ◌+◌, ◌||◌, is_some, ◌≤◌, Bool, true, false, cond, not, Option, Some, None, option_map, List, [], ◌∷◌, ◌++◌, length, ◌<◌, filter, find, length-append, refl, sym, ap, subst, ◌∙◌, inl, inr, arith}
 use Rattle.std.specs.Option.{option_or, option_to_list}
 use Rattle.std.proofs.lemmas.List.{append-nil}
 use Rattle.std.specs.List.{list_any}
@@ -6,7 +6,7 @@ use Rattle.std.proofs.lemmas.Bool.{cases_Bool, cond_both, false≢true}
 use Rattle.rows_model.specs.declared.keys.QKey.{QKey}
 use Rattle.rows_model.specs.Key.{same_key}
 use Rattle.entry_table.specs.Entries.{Item, lookup, without, replaced, keys, DistinctKeys, Table, IsSound, promoted}
-use Rattle.rows_model.proofs.SameKey.{same_key-true, same_key-refl, same_key-swap, Decides-same_key}
+use Rattle.rows_model.proofs.SameKey.{same_key-true, same_key-refl, same_key-swap}
 
 -- what a look-up finds: at a list of an entry and more
 picked : (b : Bool) (e : Item) (rest : Option Item) → option_map {U = List ℕ × ℕ} (λ (x : Item). (x.1, x.2)) (cond b (Some e) rest) ≡ cond b (Some (e.1, e.2)) (option_map {U = List ℕ × ℕ} (λ (x : Item). (x.1, x.2)) rest)

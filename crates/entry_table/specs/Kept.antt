@@ -1,4 +1,4 @@
-use Rattle.std.specs.Prelude.{ℕ, List, map, reverse}
+use Rattle.std.specs.Prelude.{List, map, reverse}
 use Rattle.entry_table.specs.declared.table.Entry.{Entry}
 use Rattle.entry_table.specs.Entries.{Item}
 

@@ -1,4 +1,4 @@
-use Rattle.std.proofs.Common.{◌^◌, ◌*◌, ℕ, ◌+◌, ◌-◌, ◌<◌, ◌≡◌, List, ◌∷◌, ◌++◌, length, take, drop, get_or, decimal, Some, None, position, arith, sym, refl, ap, ◌∙◌, rules, take-append-drop, take_at}
+use Rattle.std.proofs.Common.{Option, IfSome, IfNone, ◌^◌, ◌*◌, ℕ, ◌+◌, ◌-◌, ◌<◌, ◌≡◌, List, ◌∷◌, ◌++◌, length, take, drop, get_or, decimal, Some, None, position, arith, sym, refl, ap, ◌∙◌, rules, take-append-drop, take_at}
 use Rattle.std.specs.List.{position_from}
 use Rattle.std.proofs.lemmas.Iterator.Adapters.{position_from-zero}
 use Rattle.std.proofs.lemmas.List.Quantifiers.{position-Some}
@@ -129,3 +129,16 @@ key_text_injective a b below_a below_b e =
     ∙ (ap (λ (xs : List ℕ). drop (length (word_of a.kind) + 1) xs) t
     ∙ (ap (λ (n : ℕ). drop (n + 1) (word_of b.kind ++ 58 ∷ decimal b.id)) lengths ∙ behind b.kind (decimal b.id))) in
     key_from_parts a b (word_injective a.kind b.kind words) (decimal_injective a.id b.id below_a below_b backs)
+
+-- what `parse` answers to the text of a key
+pub parse_gives : (text : List ℕ) (key : QKey) (r : Option QKey) → IfSome r (λ found. IsKeyText text found) → IfNone r (IsNoKeyText text) → IsKeyText text key → r ≡ Some key
+parse_gives text key (Some other) found none h =
+    ap (λ (k : QKey). Some k) (key_text_injective other key (omega (arith, found.id_below)) (omega (arith, h.id_below)) (sym found.written ∙ h.written))
+parse_gives text key None found none h = absurd (none key h)
+
+-- `parse` takes no text of a key with the id 0
+pub zero_has_no_text : (zero : QKey) → zero.id ≡ 0 → IsNoKeyText (key_text zero)
+zero_has_no_text zero none key h =
+    let same : zero ≡ key = key_text_injective zero key (omega arith) (omega (arith, h.id_below)) h.written in
+    let ids : zero.id ≡ key.id = ap (λ (k : QKey). k.id) same in
+    omega (arith, h.id_from)

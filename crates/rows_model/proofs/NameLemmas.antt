@@ -4,25 +4,23 @@ use Rattle.std.proofs.lemmas.List.Elements.{All-cons, All-from_get_or}
 use Rattle.std.specs.Str.Parse.{AllDigits}
 use Rattle.std.proofs.lemmas.Str.Parse.{digit_at, numerals_by_value, tells_digits}
 use Rattle.std.proofs.lemmas.Fmt.{digits_decimal, length-decimal-le}
-use Rattle.rows_model.specs.Name.{IsName, IsNameByte}
-
--- what a buffer of 40 bytes holds for a name
-pub IsPadded : ℕ → List ℕ → Type 0
-IsPadded len bytes = (length bytes ≡ 40) × (len ≤ 40) × (drop len bytes ≡ replicate (40 - len) 0) × IsName (take len bytes)
+use Rattle.rows_model.specs.Name.{IsName, IsNameByte, IsPaddedName}
 
 -- a name that is written over the front of 40 zeros
-pub filled_is : (text front zeros : List ℕ) → IsName text → front ≡ text → zeros ≡ replicate 40 0 → (length (front ++ drop (length text) zeros) ≡ 40) × (length text ≤ 40) × (drop (length text) (front ++ drop (length text) zeros) ≡ replicate (40 - length text) 0) × IsName (take (length text) (front ++ drop (length text) zeros))
+pub filled_is : (text front zeros : List ℕ) → IsName text → front ≡ text → zeros ≡ replicate 40 0 → IsPaddedName (length text) (front ++ drop (length text) zeros)
 filled_is text front zeros name e z =
     let n : length front ≡ length text = ap length e in
     let rest : drop (length text) zeros ≡ replicate (40 - length text) 0 =
     ap (λ (xs : List ℕ). drop (length text) xs) z ∙ drop-replicate (length text) 40 0 in
     let short : length text ≤ 40 = name.short in
-    let r : length (drop (length text) zeros) ≡ 40 - length text = ap length rest ∙ length-replicate (40 - length text) 0 in (
-      omega (arith, length-append front (drop (length text) zeros)),
-      short,
-      drop_at front (drop (length text) zeros) (length text) n ∙ rest,
-      rw (take_at front (drop (length text) zeros) (length text) n, e) name,
-    )
+    let r : length (drop (length text) zeros) ≡ 40 - length text =
+    ap length rest ∙ length-replicate (40 - length text) 0 in
+    record {
+      full = omega (arith, length-append front (drop (length text) zeros));
+      fits = short;
+      zeros = drop_at front (drop (length text) zeros) (length text) n ∙ rest;
+      name = rw (take_at front (drop (length text) zeros) (length text) n, e) name;
+    }
 
 -- a letter `m` and a number are a name
 pub IsName-numbered : (n : ℕ) → n < 2 ^ 64 → IsName (109 ∷ decimal n)

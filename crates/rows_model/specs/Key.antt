@@ -48,3 +48,7 @@ is_colon byte = byte == 58
 -- keys with one text are one key
 abbrev pub TextsTellKeys : Type 0
 TextsTellKeys = (a b : QKey) → a.id < 2 ^ 64 → b.id < 2 ^ 64 → key_text a ≡ key_text b → a ≡ b
+
+-- no text that a key may have is that of a key with the id 0
+abbrev pub ZeroHasNoText : Type 0
+ZeroHasNoText = (key : QKey) → key.id ≡ 0 → IsNoKeyText (key_text key)

@@ -11,13 +11,20 @@ pub record IsName (text : List ℕ) : Type 0 where
   pub short : length text ≤ 40
   pub printable : All IsNameByte text
 
--- how long the front of a buffer of 40 bytes is
-pub front_len : (len : ℕ) (bytes : List ℕ) → length bytes ≡ 40 → len ≤ 40 → length (take len bytes) ≡ len
-front_len len bytes full short =
-    let P : ℕ → Type 0 = λ n. len ≤ n in length-take-le len bytes (subst P (sym full) short)
+-- a buffer of 40 bytes holds a name of this length, and zeros behind it
+pub record IsPaddedName (len : ℕ) (bytes : List ℕ) : Type 0 where
+  pub full : length bytes ≡ 40
+  pub fits : len ≤ 40
+  pub zeros : drop len bytes ≡ replicate (40 - len) 0
+  pub name : IsName (take len bytes)
 
--- a name with zeros behind it, taken out of its buffer and put back
-pub padded_back : (len : ℕ) (bytes : List ℕ) → length bytes ≡ 40 → len ≤ 40 → drop len bytes ≡ replicate (40 - len) 0 → take len bytes ++ replicate (40 - length (take len bytes)) 0 ≡ bytes
-padded_back len bytes full short zeros =
-    ap (λ (n : ℕ). take len bytes ++ replicate (40 - n) 0) (front_len len bytes full short)
-    ∙ (ap (λ (rest : List ℕ). take len bytes ++ rest) (sym zeros) ∙ take-append-drop len bytes)
+-- how long the name in front of such a buffer is
+pub front_len : (len : ℕ) (bytes : List ℕ) → IsPaddedName len bytes → length (take len bytes) ≡ len
+front_len len bytes h =
+    let P : ℕ → Type 0 = λ n. len ≤ n in length-take-le len bytes (subst P (sym h.full) h.fits)
+
+-- the name taken out of such a buffer, with zeros put behind it, is the buffer
+pub padded_back : (len : ℕ) (bytes : List ℕ) → IsPaddedName len bytes → take len bytes ++ replicate (40 - length (take len bytes)) 0 ≡ bytes
+padded_back len bytes h =
+    ap (λ (n : ℕ). take len bytes ++ replicate (40 - n) 0) (front_len len bytes h)
+    ∙ (ap (λ (rest : List ℕ). take len bytes ++ rest) (sym h.zeros) ∙ take-append-drop len bytes)

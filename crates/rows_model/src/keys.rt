@@ -1,5 +1,5 @@
 ghost use Rattle.std.specs.Prelude.{◌≡◌, position, IfSome, IfNone, IfOk};
-ghost use Rattle.rows_model.specs.Key.{word_of, key_text, IsKeyText, IsNoWord, IsNoKeyText, is_colon, TextsTellKeys};
+ghost use Rattle.rows_model.specs.Key.{word_of, key_text, IsKeyText, IsNoWord, IsNoKeyText, is_colon, TextsTellKeys, ZeroHasNoText};
 
 use crate::numbers::{id_of, push_decimal};
 use crate::refusals::Memory;
@@ -88,14 +88,15 @@ impl QKey {
     }
 }
 
+/// Keys with one text are one key, and no key with the id 0 has a text that `QKey::parse` takes.
+pub fn texts_tell_keys()
+    ensures keys { TextsTellKeys }
+    ensures zero { ZeroHasNoText }
+{}
+
 // Where the first colon stands.
 fn colon_of(text: &[u8]) -> Option<usize>
     ensures { result ≡ position is_colon text.now }
 {
     text.iter().position(|byte| *byte == b':')
 }
-
-/// Keys with one text are one key.
-pub fn texts_tell_keys()
-    ensures { TextsTellKeys }
-{}

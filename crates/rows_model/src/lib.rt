@@ -3,6 +3,7 @@
 
 pub use keys::{Kind, QKey, Sid, texts_tell_keys};
 pub use names::Name;
+pub use placement::shard_number;
 pub use queries::{answers_ascend, ask};
 pub use refusals::Memory;
 pub use rows::{Link, LinkState, Member, Rows};
@@ -11,6 +12,7 @@ pub use values::Value;
 pub mod keys;
 pub mod names;
 mod numbers;
+pub mod placement;
 pub mod queries;
 pub mod refusals;
 pub mod rows;

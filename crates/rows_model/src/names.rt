@@ -15,21 +15,20 @@ pub struct Name {
 }
 
 impl Model for Name {
-    ghost use Rattle.std.specs.Prelude.{List, ℕ, ◌≡◌, ◌-◌, ◌≤◌, ◌++◌, length, take, drop, replicate};
-    ghost use Rattle.rows_model.specs.Name.{IsName};
-    ghost use Rattle.rows_model.specs.Name.{padded_back, front_len};
+    ghost use Rattle.std.specs.Prelude.{List, ℕ, ◌-◌, ◌++◌, length, take, replicate};
+    ghost use Rattle.rows_model.specs.Name.{IsPaddedName, padded_back, front_len};
 
     ghost Value = { List ℕ };
 
     ghost view = { λ n. take n.len n.bytes };
 
-    ghost invariant = { λ n. (length n.bytes ≡ 40) × (n.len ≤ 40) × (drop n.len n.bytes ≡ replicate (40 - n.len) 0) × IsName (take n.len n.bytes) };
+    ghost invariant = { λ n. IsPaddedName n.len n.bytes };
 
     ghost inverse = { λ text. record { bytes = text ++ replicate (40 - length text) 0; len = length text } };
 
     ghost inverse_ok = { λ n h i. record {
-      bytes = padded_back n.len n.bytes h.0 h.1 h.2 i;
-      len = front_len n.len n.bytes h.0 h.1 i;
+      bytes = padded_back n.len n.bytes h i;
+      len = front_len n.len n.bytes h i;
     } };
 }
 
@@ -60,7 +59,7 @@ impl Name {
         }
     }
 
-    /// `m` and the number.
+    /// The name of `m` and the number in decimal.
     pub(crate) fn numbered(number: u32) -> Name
         ensures { result ≡ 109 ∷ decimal number }
     {
@@ -71,6 +70,7 @@ impl Name {
         Name::filled(&text[..digits.len() + 1])
     }
 
+    /// The bytes of the name.
     pub fn bytes(&self) -> &[u8]
         ensures value { result.now ≡ self.now }
         ensures valid { IsName self.now }

@@ -9,7 +9,7 @@ use crate::rows::Rows;
 use crate::values::Value;
 use std::alloc::Global;
 
-/// What the rows answer to the key.
+/// What the rows answer to the key, which for now asks for a profile.
 pub fn ask(alloc: Global, rows: &Rows, key: &QKey) -> Result<Value, Memory>
     requires { key.now.kind ≡ Kind.Profile }
     ensures { IfOk result (λ value. value ≡ answer key.now rows.now) }
@@ -17,6 +17,7 @@ pub fn ask(alloc: Global, rows: &Rows, key: &QKey) -> Result<Value, Memory>
     profile(alloc, rows, key.id)
 }
 
+// The member's name, and the counts of its friends and of those who wait for its answer.
 fn profile(alloc: Global, rows: &Rows, id: u32) -> Result<Value, Memory>
     ensures { IfOk result (λ value. value ≡ answer_of Kind.Profile id rows.now) }
 {

@@ -9,7 +9,7 @@ use std::alloc::Global;
 use std::marker::Model;
 
 /// A member of the store.
-#[derive(Clone, Copy, Debug)]
+#[derive(Clone, Copy, Debug, PartialEq, Eq)]
 pub struct Member {
     /// From 1 to 100,000.
     pub id: u32,
@@ -25,7 +25,7 @@ pub enum LinkState {
     Friend,
 }
 
-/// A link between two members.
+/// A link between two different members.
 #[derive(Clone, Copy, Debug, PartialEq, Eq)]
 pub struct Link {
     pub a: u32,

@@ -39,6 +39,7 @@ impl Value {
         })
     }
 
+    /// The bytes of the value.
     pub fn bytes(&self) -> &[u8]
         ensures { result.now ≡ self.now }
     {

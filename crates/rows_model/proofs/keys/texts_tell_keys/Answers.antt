@@ -1,5 +1,5 @@
-use Rattle.rows_model.proofs.KeyLemmas.{key_text_injective}
+use Rattle.rows_model.proofs.KeyLemmas.{key_text_injective, zero_has_no_text}
 use Rattle.rows_model.proofs.keys.texts_tell_keys.Goals as goal
 
 pub returns : goal.returns
-returns c = key_text_injective
+returns c = record { keys = key_text_injective; zero = zero_has_no_text }

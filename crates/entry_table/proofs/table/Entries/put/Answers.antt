@@ -1,8 +1,8 @@
-use Rattle.std.proofs.Common.{◌≡◌, ◌<◌, ◌++◌, ◌∷◌, [], List, length, refl, sym, ap, subst, ◌∙◌, arith}
+use Rattle.std.proofs.Common.{◌<◌, ◌++◌, ◌∷◌, [], List, length, refl, sym, ap, subst, ◌∙◌, arith}
 use Rattle.std.proofs.lemmas.List.{append-nil}
 use Rattle.std.proofs.lemmas.Bool.{false≢true}
 use Rattle.entry_table.specs.declared.table.Entry.{Entry}
-use Rattle.entry_table.specs.Entries.{Item, Table, IsSound, lookup, without}
+use Rattle.entry_table.specs.Entries.{Item, IsSound, lookup}
 use Rattle.entry_table.proofs.KeptLemmas.{found, missed, FoundAt-there, shown_all-put, shown_all-push, shown_all-first, length-shown_all}
 use Rattle.entry_table.proofs.EntriesLemmas.{without-absent, IsSound-put, IsSound-added, IsSound-pushed}
 use Rattle.entry_table.proofs.table.Entries.put.Goals as goal

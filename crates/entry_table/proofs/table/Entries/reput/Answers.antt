@@ -1,4 +1,4 @@
-use Rattle.std.proofs.Common.{refl, sym, ap, ◌∙◌, Some}
+use Rattle.std.proofs.Common.{refl, sym}
 use Rattle.entry_table.proofs.KeptLemmas.{found, missed}
 use Rattle.entry_table.proofs.EntriesLemmas.{replaced-absent, IsSound-replaced}
 use Rattle.entry_table.proofs.table.Entries.reput.Goals as goal
