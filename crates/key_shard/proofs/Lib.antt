@@ -2,4 +2,5 @@ pub mod KeptLemmas
 pub mod LookLemmas
 pub mod OrderLemmas
 pub mod PutLemmas
+pub mod QuarantineLemmas
 pub mod TiesLemmas

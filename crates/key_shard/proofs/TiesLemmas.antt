@@ -1,9 +1,9 @@
 -- Each kind of step keeps what a shard holds tied to its past.
 use Rattle.std.proofs.Common.{◌≡◌, ◌<◌, ◌+◌, ◌^◌, ◌-◌, ℕ, Bool, true, false, not, cond, List, [], ◌∷◌, ◌++◌, filter, Option, Some, None, is_some, option_map, refl, sym, ap, subst, ◌∙◌, inl, inr, arith, ltb, length}
 use Rattle.std.specs.List.{All, count_by}
-use Rattle.std.specs.Bool.{IsFalse}
-use Rattle.std.proofs.lemmas.Bool.{cases_Bool, false≢true}
-use Rattle.std.proofs.lemmas.List.Elements.{All-weaker}
+use Rattle.std.specs.Prelude.{ℤ}
+use Rattle.std.proofs.lemmas.Bool.{cases_Bool, cond_both}
+use Rattle.std.proofs.lemmas.List.Elements.{All-append, All-cons, All-filter, All-nil, All-weaker}
 use Rattle.std.proofs.lemmas.List.Sums.{sum_by-cons}
 use Rattle.rows_model.specs.declared.keys.QKey.{QKey}
 use Rattle.rows_model.specs.declared.keys.Sid.{Sid}
@@ -13,16 +13,19 @@ use Rattle.lease_table.specs.declared.records.Lease.{Lease}
 use Rattle.lease_table.specs.declared.records.Quar.{Quar}
 use Rattle.lease_table.specs.declared.records.ReadLease.{ReadLease}
 use Rattle.lease_table.specs.Leases as leases
-use Rattle.lease_table.specs.Leases.{Leaves}
+use Rattle.lease_table.specs.Leases.{Leaves, has_token}
+use Rattle.lease_table.specs.declared.records.Mode.{Mode}
 use Rattle.entry_table.specs.Entries.{Item, Table, IsSound, lookup, without, keys, promoted}
 use Rattle.entry_table.proofs.EntriesLemmas.{keys-cons, lookup-without, lookup-promoted, promoted-absent, promoted-found, IsSound-without, IsSound-promoted}
 use Rattle.key_shard.specs.declared.steps.Stands.{Stands}
+use Rattle.key_shard.specs.declared.steps.Ended.{Ended}
+use Rattle.key_shard.specs.declared.steps.Ended.TheVariants as ended
 use Rattle.key_shard.specs.declared.steps.Step.{Step}
 use Rattle.key_shard.specs.declared.steps.Step.TheVariants.{Hit, Lease as StepLease, Again, Own, Stored, Void, Granted, Held, Refused, Released, Gone}
-use Rattle.key_shard.specs.Past.{Terms, standing, recorded, entry, order, evicts, is_evicted, last_key, next_token, draws}
+use Rattle.key_shard.specs.Past.{Terms, standing, recorded, entry, entry_ended, order, evicts, is_evicted, last_key, next_token, draws}
 use Rattle.key_shard.specs.Answers.{Answers}
-use Rattle.key_shard.specs.Kept.{Ties, Puts, IsQuiet, makes_room}
-use Rattle.key_shard.proofs.OrderLemmas.{order-hit, order-missed, order-put}
+use Rattle.key_shard.specs.Kept.{Ties, Puts, Ends, PutsNone, IsQuiet, makes_room}
+use Rattle.key_shard.proofs.OrderLemmas.{order-hit, order-missed, order-put, entry-ended, order-ended}
 use Rattle.key_shard.proofs.PutLemmas.{keys-without_key}
 
 -- the tokens are below a later number too
@@ -168,3 +171,65 @@ room-by (Some f) key t e = ap (λ (u : Table). u.room) (promoted-found key t f.0
 -- bringing an entry to the front leaves the room
 pub room-promoted : (key : QKey) (t : Table) → (promoted key t).room ≡ t.room
 room-promoted key t = room-by (lookup key t.list) key t refl
+
+-- a change of the quarantines of one key, as the past tells it
+quars-by : {terms : Terms} {past : List Step} {list : List Item} {table : List Lease} {next : ℕ} → Ties terms past list table next → (key : QKey) (reader : Option ReadLease) (change : List Quar → List Quar) (new : List Lease) → Leaves key reader (change (leases.quars key table)) table new → (k : QKey) → leases.quars k new ≡ cond (same_key k key) (change (standing k past)) (standing k past)
+quars-by {past = past} {table = table} h key reader change new leaves k =
+    quars-after key reader (change (leases.quars key table)) table new leaves k ∙ here ∙ ap (λ qs. cond (same_key k key) (change qs) qs) (h.quars k)
+ where
+  here : cond (same_key k key) (change (leases.quars key table)) (leases.quars k table) ≡ cond (same_key k key) (change (leases.quars k table)) (leases.quars k table)
+  here =
+      elim (cases_Bool (same_key k key)) [
+        | inl same ↦ ap (λ x. cond (same_key k key) (change (leases.quars x table)) (leases.quars k table)) (sym (same_key-true k key same))
+        | inr apart ↦ ap (λ b. cond b (change (leases.quars key table)) (leases.quars k table)) apart ∙ sym (ap (λ b. cond b (change (leases.quars k table)) (leases.quars k table)) apart)
+      ]
+
+below-one : (next : ℕ) (quars : List Quar) (quar : Quar) → quar.token ≡ next → All (λ q. q.token < next) quars → All (λ q. q.token < next + 1) (quars ++ quar ∷ [])
+below-one next quars quar e h =
+    let here : quar.token < next + 1 = omega arith in
+    All-append (λ q. q.token < next + 1) quars (quar ∷ []) (below-later next quars h) (All-cons (λ q. q.token < next + 1) quar [] here (All-nil (λ q. q.token < next + 1)))
+
+pub Ties-granted : (terms : Terms) (past : List Step) (list : List Item) (table new : List Lease) (next : ℕ) (key : QKey) (sid : Sid) (mode : Mode) (shift : ℤ) (now token deadline : ℕ) → token ≡ next → Leaves key None (leases.quars key table ++ record { sid = sid; mode = mode; token = token; deadline = deadline; shift = shift } ∷ []) table new → Answers terms past (Granted key sid mode shift now token deadline) → Ties terms past list table next → Ties terms (Granted key sid mode shift now token deadline ∷ past) list new (next + 1)
+Ties-granted terms past list table new next key sid mode shift now token deadline drawn leaves a h =
+    let quar : Quar = record { sid = sid; mode = mode; token = token; deadline = deadline; shift = shift } in
+    let one_more : count_by draws (Granted key sid mode shift now token deadline ∷ past) ≡ 1 + count_by draws past = sum_by-cons (λ step. cond (draws step) 1 0) (Granted key sid mode shift now token deadline) past in
+    record {
+      entries = h.entries;
+      in_order = h.in_order;
+      sound = h.sound;
+      quars = quars-by h key None (λ quars. quars ++ quar ∷ []) new leaves;
+      reads = reads-set h key None (leases.quars key table ++ quar ∷ []) new leaves;
+      counted = omega (arith, h.counted, one_more);
+      below = λ k. cond_both (same_key k key) (standing k past ++ quar ∷ []) (standing k past) (All (λ q. q.token < next + 1)) (λ _. below-one next (standing k past) quar drawn (h.below k)) (λ _. below-later next (standing k past) (h.below k));
+      legal = (a, h.legal);
+    }
+
+-- a change of one key's quarantines that leaves its lease to read
+reads-stay : {terms : Terms} {past : List Step} {list : List Item} {table : List Lease} {next : ℕ} → Ties terms past list table next → (key : QKey) (quars : List Quar) (new : List Lease) → Leaves key (leases.recorded key table) quars table new → (k : QKey) → leases.recorded k new ≡ recorded k past
+reads-stay {table = table} h key quars new leaves k =
+    reads-after key (leases.recorded key table) quars table new leaves k ∙ one_choice (λ x. leases.recorded x table) key k ∙ h.reads k
+
+-- what the quarantine of a token leaves
+pub Ties-released : (terms : Terms) (past : List Step) (list : List Item) (table new : List Lease) (next : ℕ) (key : QKey) (sid : Sid) (token : ℕ) (how : Ended) (put : List Item) → ((k : QKey) → lookup k put ≡ entry k (Released key sid token how ∷ past)) → keys put ≡ order (Released key sid token how ∷ past) → IsSound (record { room = terms.room; list = put }) → Leaves key (leases.recorded key table) (filter (λ quar. not (has_token token quar)) (leases.quars key table)) table new → Answers terms past (Released key sid token how) → Ties terms past list table next → Ties terms (Released key sid token how ∷ past) put new next
+Ties-released terms past list table new next key sid token how put entries in_order sound leaves a h = record {
+  entries = entries;
+  in_order = in_order;
+  sound = sound;
+  quars = quars-by h key (leases.recorded key table) (filter (λ quar. not (has_token token quar))) new leaves;
+  reads = reads-stay h key (filter (λ quar. not (has_token token quar)) (leases.quars key table)) new leaves;
+  counted = omega (arith, h.counted);
+  below = λ k. cond_both (same_key k key) (filter (λ quar. not (has_token token quar)) (standing k past)) (standing k past) (All (λ q. q.token < next)) (λ _. All-filter (λ quar. not (has_token token quar)) (λ q. q.token < next) (standing k past) (h.below k)) (λ _. h.below k);
+  legal = (a, h.legal);
+}
+
+pub Ties-put : (terms : Terms) (past : List Step) (list : List Item) (table new : List Lease) (next : ℕ) (key : QKey) (sid : Sid) (token : ℕ) (value : List ℕ) (stamp : ℕ) (evicted : Option QKey) (put : Table) → Puts key value stamp evicted (record { room = terms.room; list = list }) put → Leaves key (leases.recorded key table) (filter (λ quar. not (has_token token quar)) (leases.quars key table)) table new → Answers terms past (Released key sid token (ended.Put value stamp evicted)) → Ties terms past list table next → Ties terms (Released key sid token (ended.Put value stamp evicted) ∷ past) put.list new next
+Ties-put terms past list table new next key sid token value stamp evicted put puts leaves a h =
+    Ties-released terms past list table new next key sid token (ended.Put value stamp evicted) put.list (entries-put h key value stamp evicted put puts) (orders-put h key value stamp evicted put puts ∙ sym (order-put past key value stamp evicted)) (sound-put terms.room put puts.same_room puts.sound) leaves a h
+
+pub Ties-ended : (terms : Terms) (past : List Step) (list : List Item) (table new : List Lease) (next : ℕ) (key : QKey) (sid : Sid) (token : ℕ) (how : Ended) (put : Table) → PutsNone how → Ends key how (record { room = terms.room; list = list }) put → Leaves key (leases.recorded key table) (filter (λ quar. not (has_token token quar)) (leases.quars key table)) table new → Answers terms past (Released key sid token how) → Ties terms past list table next → Ties terms (Released key sid token how ∷ past) put.list new next
+Ties-ended terms past list table new next key sid token how put none ends leaves a h =
+    let entries : (k : QKey) → lookup k put.list ≡ cond (same_key k key) (entry_ended how (entry k past)) (entry k past) =
+        λ k. ends.entries k ∙ ap (λ o. cond (same_key k key) (entry_ended how o) o) (h.entries k) in
+    let in_order : keys put.list ≡ cond (is_some (entry_ended how (entry key past))) (order past) (filter (λ other. not (same_key key other)) (order past)) =
+        ends.in_order ∙ ap (λ o. cond (is_some (entry_ended how o)) (keys list) (filter (λ other. not (same_key key other)) (keys list))) (h.entries key) ∙ ap (λ ks. cond (is_some (entry_ended how (entry key past))) ks (filter (λ other. not (same_key key other)) ks)) h.in_order in
+    Ties-released terms past list table new next key sid token how put.list (λ k. entries k ∙ sym (entry-ended past key k sid token how none)) (in_order ∙ sym (order-ended past key sid token how none)) (sound-put terms.room put ends.same_room ends.sound) leaves a h

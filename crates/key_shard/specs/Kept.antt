@@ -7,18 +7,18 @@ use Rattle.rows_model.specs.Key.{same_key}
 use Rattle.case_tables.specs.Compatibility.{verdict, read}
 use Rattle.case_tables.specs.declared.grids.Verdict.TheVariants as verdicts
 use Rattle.lease_table.specs.declared.records.Lease.{Lease}
-use Rattle.lease_table.specs.declared.records.Mode.TheVariants.{Delta}
 use Rattle.lease_table.specs.Leases as leases
 use Rattle.entry_table.specs.Entries.{Item, Table, IsSound, lookup, keys}
 use Rattle.key_shard.specs.Permit.{Permit}
+use Rattle.key_shard.specs.declared.steps.Ended.{Ended}
 use Rattle.key_shard.specs.declared.steps.Step.{Step}
 use Rattle.key_shard.specs.declared.steps.Step.TheVariants.{Hit, Lease as StepLease, Again, Own, Stored, Void, Granted, Held, Refused, Released, Gone}
 use Rattle.key_shard.specs.declared.bodies.Body.{Body}
 use Rattle.key_shard.specs.declared.bodies.Out.{Out}
 use Rattle.key_shard.specs.declared.lookups.Look.{Look}
 use Rattle.key_shard.specs.declared.lookups.Look.TheVariants as looks
-use Rattle.key_shard.specs.Past.{Terms, standing, recorded, seen_by, entry, order, is_evicted, last_key, next_token, deadline_at}
-use Rattle.key_shard.specs.Answers.{IsLegalPast, WasGranted, get_step}
+use Rattle.key_shard.specs.Past.{Terms, standing, recorded, seen_by, entry, order, is_evicted, entry_ended, is_put, last_key, next_token, deadline_at}
+use Rattle.key_shard.specs.Answers.{IsAtHome, IsLegalPast, WasGranted, get_step}
 use Rattle.key_shard.specs.Shards.{ShardView}
 
 -- what a shard is made with
@@ -48,16 +48,16 @@ pub record Ties (terms : Terms) (past : List Step) (list : List Item) (table : L
   pub below : (key : QKey) → All (λ quar. quar.token < next) (standing key past)
   pub legal : IsLegalPast terms past
 
--- of a grant that is out its quarantine was granted, and in mode Delta there is room for a number's digits
-pub record IsOut (number : ℕ) (past : List Step) (out : Out) : Type 0 where
-  pub granted : WasGranted past (permit_of number out)
-  pub digits : out.mode ≡ Delta → (vec_len out.digits ≡ 0) × (20 ≤ vec_capacity out.digits)
+-- of a grant that is out the key is the shard's, and its quarantine was granted
+pub record IsOut (terms : Terms) (past : List Step) (out : Out) : Type 0 where
+  pub at_home : IsAtHome terms out.key
+  pub granted : WasGranted past (permit_of terms.no out)
 
 -- what a shard keeps: that, and two places of the history for each grant that is out
 pub record IsKept (body : Body) : Type 0 where
   pub one_of : body.no < body.count
   pub ties : Ties (terms_of body) (steps_of body) body.entries.list body.leases body.next
-  pub outs : All (IsOut body.no (steps_of body)) body.out.items
+  pub outs : All (IsOut (terms_of body) (steps_of body)) body.out.items
   pub promises : 2 * length body.out.items ≤ body.promised
   pub reserved : vec_len body.history + body.promised ≤ vec_capacity body.history
 
@@ -98,3 +98,14 @@ pub record Puts (key : QKey) (value : List ℕ) (stamp : ℕ) (evicted : Option 
   pub room_by : evicted ≡ makes_room old.room key old.list
   pub same_room : new.room ≡ old.room
   pub sound : IsSound new
+
+-- the entry of a key ended this way, and no other changed: with no entry the key has no place
+pub record Ends (key : QKey) (how : Ended) (old new : Table) : Type 0 where
+  pub entries : (other : QKey) → lookup other new.list ≡ (if same_key other key then entry_ended how (lookup other old.list) else lookup other old.list)
+  pub in_order : keys new.list ≡ (if is_some (entry_ended how (lookup key old.list)) then keys old.list else filter (λ other. not (same_key key other)) (keys old.list))
+  pub same_room : new.room ≡ old.room
+  pub sound : IsSound new
+
+-- no value is put
+abbrev pub PutsNone : Ended → Type 0
+PutsNone how = is_put how ≡ false

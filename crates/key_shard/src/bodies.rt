@@ -12,14 +12,12 @@ use lease_table::{Leases, Mode};
 use rows_model::{Memory, QKey, Sid, shard_number};
 
 /// A grant that is out.
-#[derive(Debug, Drop)]
+#[derive(Clone, Copy, Debug)]
 pub struct Out {
     pub key: QKey,
     pub sid: Sid,
     pub mode: Mode,
     pub token: u64,
-    /// In mode Delta it is empty, and has room for the digits of a number.
-    pub digits: Vec<u8>,
 }
 
 /// What a shard is made of.
@@ -40,14 +38,19 @@ pub struct Body {
     pub history: Vec<Step>,
 }
 
-/// Keeps a place of the history free, beside those that are promised.
-pub fn make_room(history: &mut Vec<Step>, promised: usize) -> Result<(), Memory>
-    requires { vec_len history.old + promised ≤ vec_capacity history.old }
+/// Keeps so many places of the history free, beside those that are promised.
+pub fn make_room(
+    history: &mut Vec<Step>,
+    promised: usize,
+    places: usize,
+) -> Result<(), Memory>
+    requires few { places ≤ 3 }
+    requires kept { vec_len history.old + promised ≤ vec_capacity history.old }
     ensures items { history.new.items ≡ history.old.items }
     ensures kept { vec_len history.new + promised ≤ vec_capacity history.new }
-    ensures ok { OnOk result (vec_len history.new + promised < vec_capacity history.new) }
+    ensures ok { OnOk result (vec_len history.new + promised + places ≤ vec_capacity history.new) }
 {
-    history.reserve(promised + 1)?;
+    history.reserve(promised + places)?;
     Ok(())
 }
 
@@ -83,7 +86,7 @@ impl Body {
         ensures ok { OnOk result (shown self.new ≡ stepped (shown self.old) step) }
         ensures err { OnErr result (shown self.new ≡ shown self.old) }
     {
-        make_room(&mut self.history, self.promised)?;
+        make_room(&mut self.history, self.promised, 1)?;
         self.history.push_reserved(step);
         Ok(())
     }

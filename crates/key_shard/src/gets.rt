@@ -58,7 +58,7 @@ impl Body {
         let (value, stamp) = self.entries.peek(&key).unwrap();
         let told = value.copy()?;
         let value = value.copy()?;
-        make_room(&mut self.history, self.promised)?;
+        make_room(&mut self.history, self.promised, 1)?;
         let _ = self.entries.find(&key);
         self.history.push_reserved(Step::Hit {
             key,
@@ -86,7 +86,7 @@ impl Body {
         ensures shows { IfOk result (λ got. got ≡ Got.Again standing) }
         ensures err { OnErr result (shown self.new ≡ shown self.old) }
     {
-        make_room(&mut self.history, self.promised)?;
+        make_room(&mut self.history, self.promised, 1)?;
         let _ = self.entries.drop_key(&key);
         self.history.push_reserved(Step::Again {
             key,
@@ -114,7 +114,7 @@ impl Body {
             return Err(ShardFault::Spent { next: token });
         }
         let deadline = self.deadline(now);
-        make_room(&mut self.history, self.promised)?;
+        make_room(&mut self.history, self.promised, 1)?;
         let _ = self.leases.ask_i(key, who, token, deadline, now)?;
         let _ = self.entries.drop_key(&key);
         self.next = token + 1;

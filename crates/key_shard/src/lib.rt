@@ -10,6 +10,7 @@ mod bodies;
 mod gets;
 pub mod grants;
 mod lookups;
+mod quarantines;
 pub mod replies;
 mod sets;
 pub mod shards;

@@ -76,7 +76,7 @@ impl Body {
         ensures err { OnErr result (shown self.new ≡ shown self.old) }
     {
         let copy = value.copy()?;
-        make_room(&mut self.history, self.promised)?;
+        make_room(&mut self.history, self.promised, 1)?;
         let Ok(evicted) = put_in_front(&mut self.entries, key, copy, stamp) else {
             return Err(Memory);
         };

@@ -121,7 +121,7 @@ impl Shard {
         ensures shows { let step = quarantine_step self.old.terms (past_of self.old) key sid mode shift now in IfOk result (ShowsQuarantine self.old.terms (past_of self.old) step) }
         ensures err { OnErr result (self.new ≡ self.old) }
     {
-        Err(ShardFault::Memory)
+        self.body.quarantine(key, sid, mode, shift, now)
     }
 
     /// Releases a grant. Where its quarantine stands, it ends: with Keep the entry stays, with Drop it
@@ -134,7 +134,7 @@ impl Shard {
         ensures shows { IsTrue (is_out self.old grant) → ShowsRelease (release_step (past_of self.old) grant how) result }
         ensures unknown { IsFalse (is_out self.old grant) → (self.new ≡ self.old) × (result ≡ Rel.Gone) }
     {
-        grant.spend();
+        let _ = grant.spend();
         Rel::Gone
     }
 

@@ -103,6 +103,20 @@ impl Leases {
         Ok(verdict)
     }
 
+    /// The grid's verdict on a request for a quarantine of the key, as `ask_q` would answer it.
+    pub fn judge_q(&self, key: &QKey, who: Sid, mode: Mode, now: u64) -> Verdict
+        ensures { result ≡ verdict (holding key.now who now self.now) (quarantine (way_of mode)) }
+    {
+        quar_verdict(self.leases.as_slice(), key, who, mode, now)
+    }
+
+    /// The quarantine on the key that has this token.
+    pub fn quar(&self, key: &QKey, token: u64) -> Option<Quar>
+        ensures { result ≡ find (has_token token) (quars key.now self.now) }
+    {
+        quar_with(self.leases.as_slice(), key, token)
+    }
+
     /// The session's own quarantine on the key, else the one of least token, else none.
     pub fn holder(&self, key: &QKey, who: Sid) -> Option<Quar>
         ensures { result ≡ option_or (own_quar key.now who self.now) (first (quars key.now self.now)) }

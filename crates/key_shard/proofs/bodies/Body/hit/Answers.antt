@@ -3,7 +3,7 @@ use Rattle.entry_table.specs.Entries.{Item, Table}
 use Rattle.key_shard.specs.declared.steps.Step.{Step}
 use Rattle.key_shard.specs.declared.steps.Step.TheVariants.{Hit}
 use Rattle.key_shard.specs.Kept.{Ties, shown, terms_of, steps_of}
-use Rattle.key_shard.proofs.KeptLemmas.{IsKept-step, terms-kept, hit-pushed, view-after}
+use Rattle.key_shard.proofs.KeptLemmas.{IsKept-still, IsKept-step, terms-kept, hit-pushed, view-after}
 use Rattle.key_shard.proofs.TiesLemmas.{Ties-hit, room-promoted}
 use Rattle.key_shard.proofs.bodies.Body.hit.Goals as goal
 
@@ -27,3 +27,7 @@ returns-clause-step c found there =
     let pushed = hit-pushed old.history.items c.make_room.new.history.items c.push_reserved.new.self.items c.args.key c.args.who c.args.floor c.unwrap-stamp.result.0.now c.in_ok-value.value c.unwrap-stamp.result.1 found c.push_reserved.ensures.items c.make_room.ensures.items c.in_ok-value.ensures here in
     let room = ap (λ (t : Table). t.room) c.find.follows.holds-at-none ∙ room-promoted c.args.key old.entries in
     view-after (shown old) _ (Hit c.args.key c.args.who c.args.floor found.0 found.1) (terms-kept old c.find.follows.lender-at-none.room room) pushed refl refl
+
+pub returns-in_err-make_room-clause-kept : goal.returns-in_err-make_room-clause-kept
+returns-in_err-make_room-clause-kept c =
+    IsKept-still c.args.self.now _ c.requires.kept refl c.make_room.ensures.items refl refl refl refl c.requires.kept.one_of c.requires.kept.promises c.make_room.ensures.kept

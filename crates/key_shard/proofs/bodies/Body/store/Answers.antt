@@ -1,12 +1,13 @@
 use Rattle.std.proofs.Common.{◌≡◌, true, refl, ap, subst, sym, ◌∙◌, arith, List, ℕ, Option, None, ◌++◌, ◌∷◌, []}
 use Rattle.std.proofs.lemmas.Bool.{MatchBool-at_true}
 use Rattle.rows_model.specs.declared.keys.QKey.{QKey}
+use Rattle.entry_table.specs.Entries.{Table}
 use Rattle.lease_table.specs.Leases.{Leaves, quars, is_current}
 use Rattle.key_shard.specs.declared.steps.Step.{Step}
 use Rattle.key_shard.specs.declared.steps.Step.TheVariants.{Stored}
 use Rattle.key_shard.specs.Past.{evicts}
 use Rattle.key_shard.specs.Kept.{Puts, terms_of, steps_of}
-use Rattle.key_shard.proofs.KeptLemmas.{IsKept-step, terms-kept}
+use Rattle.key_shard.proofs.KeptLemmas.{IsKept-still, IsKept-step, terms-kept}
 use Rattle.key_shard.proofs.TiesLemmas.{Ties-stored, evicts-room}
 use Rattle.key_shard.proofs.bodies.Body.store.Goals as goal
 
@@ -24,3 +25,12 @@ returns-clause-kept c =
     let pushed = c.push_reserved.ensures.items ∙ ap (λ (h : List Step). h ++ Stored c.args.key c.args.token c.args.now c.args.value c.args.stamp c.in-Ok.evicted ∷ []) c.make_room.ensures.items ∙ ap (λ e. old.history.items ++ Stored c.args.key c.args.token c.args.now c.args.value c.args.stamp e ∷ []) told in
     let ties = Ties-stored (terms_of old) (steps_of old) old.entries.list old.leases c.take_i.new.self old.next c.args.key c.args.token c.args.now c.args.value c.args.stamp evicted put puts leaves c.requires.answers c.requires.kept.ties in
     IsKept-step old _ step c.requires.kept pushed (terms-kept old put.room puts.same_room) ties c.requires.kept.one_of c.requires.kept.outs c.requires.kept.promises (omega (arith, c.in_ok-make_room.ensures.ok))
+
+pub returns-in_err-make_room-clause-kept : goal.returns-in_err-make_room-clause-kept
+returns-in_err-make_room-clause-kept c =
+    IsKept-still c.args.self.now _ c.requires.kept refl c.make_room.ensures.items refl refl refl refl c.requires.kept.one_of c.requires.kept.promises c.make_room.ensures.kept
+
+pub returns-in_default-clause-kept : goal.returns-in_default-clause-kept
+returns-in_default-clause-kept c =
+    let same = c.in_default.ensures.err in
+    IsKept-still c.args.self.now _ c.requires.kept (terms-kept c.args.self.now c.put_in_front.new.entries.room (ap (λ (t : Table). t.room) same)) c.make_room.ensures.items (ap (λ (t : Table). t.list) same) refl refl refl c.requires.kept.one_of c.requires.kept.promises c.make_room.ensures.kept
