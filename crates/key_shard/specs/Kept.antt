@@ -1,5 +1,5 @@
 -- What a shard keeps: entries, leases and the next token are those that its past tells.
-use Rattle.std.specs.Prelude.{ℕ, ◌≡◌, ◌<◌, ◌≤◌, ◌+◌, ◌*◌, ◌∷◌, Bool, false, not, nat_lt, nat_le, if◌then◌else◌, List, map, filter, length, reverse, Option, Some, None, is_some, vec_len, vec_capacity}
+use Rattle.std.specs.Prelude.{ℕ, ◌≡◌, ◌<◌, ◌≤◌, ◌+◌, ◌*◌, [], ◌∷◌, Bool, false, not, nat_lt, nat_le, if◌then◌else◌, List, map, filter, length, reverse, Option, Some, None, is_some, vec_len, vec_capacity}
 use Rattle.std.specs.List.{All}
 use Rattle.rows_model.specs.declared.keys.QKey.{QKey}
 use Rattle.rows_model.specs.declared.keys.Sid.{Sid}
@@ -13,6 +13,8 @@ use Rattle.key_shard.specs.Permit.{Permit}
 use Rattle.key_shard.specs.declared.steps.Ended.{Ended}
 use Rattle.key_shard.specs.declared.steps.Step.{Step}
 use Rattle.key_shard.specs.declared.steps.Step.TheVariants.{Hit, Lease as StepLease, Again, Own, Stored, Void, Granted, Held, Refused, Released, Gone}
+use Rattle.key_shard.specs.declared.replies.How.{How}
+use Rattle.key_shard.specs.declared.replies.How.TheVariants as hows
 use Rattle.key_shard.specs.declared.bodies.Body.{Body}
 use Rattle.key_shard.specs.declared.bodies.Out.{Out}
 use Rattle.key_shard.specs.declared.lookups.Look.{Look}
@@ -105,6 +107,12 @@ pub record Ends (key : QKey) (how : Ended) (old new : Table) : Type 0 where
   pub in_order : keys new.list ≡ (if is_some (entry_ended how (lookup key old.list)) then keys old.list else filter (λ other. not (same_key key other)) (keys old.list))
   pub same_room : new.room ≡ old.room
   pub sound : IsSound new
+
+-- for a shift there is room for a number's digits
+abbrev pub HasRoom : How → List ℕ → ℕ → Type 0
+HasRoom hows.Keep items capacity = Unit {0}
+HasRoom hows.Drop items capacity = Unit {0}
+HasRoom (hows.Shift stamp) items capacity = (items ≡ []) × (20 ≤ capacity)
 
 -- no value is put
 abbrev pub PutsNone : Ended → Type 0

@@ -1,5 +1,6 @@
 ghost use Rattle.std.specs.Prelude.{◌≡◌, ◌<◌, IsTrue, IsSome, OnOk, OnErr, IfOk, vec_len, vec_capacity};
 ghost use Rattle.case_tables.specs.Compatibility.{is_given, verdict, quarantine};
+ghost use Rattle.rows_model.specs.Placement.{shard_of};
 ghost use Rattle.lease_table.specs.Leases.{way_of};
 ghost use Rattle.key_shard.specs.Answers.{Answers, FitsShift, quarantine_step, refused_step};
 ghost use Rattle.key_shard.specs.Kept.{IsKept, shown, steps_of, terms_of};
@@ -101,6 +102,7 @@ impl Body {
         now: u64,
     ) -> Result<QAnswer, ShardFault>
         requires kept { IsKept self.old }
+        requires home { shard_of key self.old.count ≡ self.old.no }
         requires given { IsTrue (is_given (verdict (seen_by key sid now (steps_of self.old)) (quarantine (way_of mode)))) }
         requires answers { Answers (terms_of self.old) (steps_of self.old) (Step.Granted key sid mode shift now (next_token (terms_of self.old) (steps_of self.old)) (deadline_at (terms_of self.old) now)) }
         ensures kept { IsKept self.new }

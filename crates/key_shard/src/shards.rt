@@ -134,8 +134,7 @@ impl Shard {
         ensures shows { IsTrue (is_out self.old grant) → ShowsRelease (release_step (past_of self.old) grant how) result }
         ensures unknown { IsFalse (is_out self.old grant) → (self.new ≡ self.old) × (result ≡ Rel.Gone) }
     {
-        let _ = grant.spend();
-        Rel::Gone
+        self.body.release(grant, how)
     }
 
     /// Releases a grant of mode Refresh with a new value, which stands in front with this stamp; in a
@@ -149,7 +148,7 @@ impl Shard {
         ensures returned { IfErr result (λ back. (back.grant ≡ grant) × (back.value ≡ value)) }
         ensures err { OnErr result (self.new ≡ self.old) }
     {
-        Err(Back { grant, value })
+        self.body.replace(grant, value, stamp)
     }
 
     /// The steps so far, the earliest first.
