@@ -32,7 +32,7 @@ use Rattle.core_history.specs.declared.replies.Reply.TheVariants as reply
 use Rattle.core_history.specs.declared.replies.Wanted.{Wanted}
 use Rattle.core_history.specs.declared.replies.Wanted.TheVariants as wanted
 use Rattle.core_history.specs.Wants.{wants, read_wants, set_after, agains}
-use Rattle.core_history.specs.Events.{Event, Stepped, Asked, Idle, steps_of, told_in, told_to, reply_of}
+use Rattle.core_history.specs.Events.{Event, Stepped, Asked, Idle, steps_of, told_in, told_to, reply_of, reply_in}
 use Rattle.core_history.specs.Machine.{World, Move, Begin, Take, start, event_of, stepped_on, opening_rows, terms_of, moved, world_after, wanted_by, plan_at, turn_event}
 use Rattle.core_history.specs.Fresh.{IsFreshStep, Fresh}
 
@@ -81,7 +81,7 @@ entry_honest rows key (step.Refused on sid mode holder held ∷ past) h = absurd
 entry_honest rows key (step.Released on sid token how ∷ past) h = absurd h.0
 entry_honest rows key (step.Gone on sid token ∷ past) h = absurd h.0
 
-chosen : (P : Step → Type 0) (b : Bool) (x y : Step) → P x → P y → P (cond b x y)
+pub chosen : (P : Step → Type 0) (b : Bool) (x y : Step) → P x → P y → P (cond b x y)
 chosen P true x y p q = p
 chosen P false x y p q = q
 
@@ -96,7 +96,7 @@ missed P terms past key who floor now verdicts.Own again lease = lease _ _
 missed P terms past key who floor now verdicts.Refuse again lease = lease _ _
 
 -- a get is one of four: a hit of the entry, an Own, an Again or a lease
-got_cases : (P : Step → Type 0) (terms : Terms) (past : List Step) (key : QKey) (who : Sid) (floor now : ℕ) → ((value : List ℕ) (stamp : ℕ) → entry key past ≡ Some (value, stamp) → P (step.Hit key who floor value stamp)) → P (step.Own key who) → ((standing : Stands) → P (step.Again key who floor now standing)) → ((token deadline : ℕ) → P (step.Lease key who floor now token deadline)) → P (get_step terms past key who floor now)
+pub got_cases : (P : Step → Type 0) (terms : Terms) (past : List Step) (key : QKey) (who : Sid) (floor now : ℕ) → ((value : List ℕ) (stamp : ℕ) → entry key past ≡ Some (value, stamp) → P (step.Hit key who floor value stamp)) → P (step.Own key who) → ((standing : Stands) → P (step.Again key who floor now standing)) → ((token deadline : ℕ) → P (step.Lease key who floor now token deadline)) → P (get_step terms past key who floor now)
 got_cases P terms past key who floor now hit own again lease = by_own (own_of key who past)
  where
   miss : P (miss_step terms past key who floor now)
@@ -172,12 +172,6 @@ read_honest rows key floor (reply.Nothing ∷ heard) h = tt
 wants_honest : (rows : Tables) (plan : Option Plan) (heard : List Reply) → HasHeard rows plan heard → MayWant rows plan (wanted_by plan heard)
 wants_honest rows None heard h = tt
 wants_honest rows (Some (Read key floor)) heard h = read_honest rows key floor heard h
-
--- what an event tells
-abbrev reply_in : Event → Reply
-reply_in (Stepped shard who step) = reply_of step
-reply_in (Asked who answer) = reply.Answer answer
-reply_in (Idle who) = reply.Nothing
 
 -- what a turn tells its session is what may be heard under its plan
 event_heard : (shape : Shape) (past : List Event) (who : Sid) (plan : Option Plan) (request : Wanted) → MayWant (opening_rows shape) plan request → MayHear (opening_rows shape) plan (reply_in (event_of shape past who request))

@@ -1,2 +1,4 @@
 pub mod LegalLemmas
 pub mod FreshLemmas
+pub mod ShardsLemmas
+pub mod TurnsLemmas

@@ -25,6 +25,12 @@ reply_of (step.Stored key token now value stamp evicted) = reply.Set (set.Stored
 reply_of (step.Void key token now) = reply.Set set.Void
 reply_of other = reply.Nothing
 
+-- What an event tells its session.
+abbrev pub reply_in : Event → Reply
+reply_in (Stepped shard who step) = reply_of step
+reply_in (Asked who answer) = reply.Answer answer
+reply_in (Idle who) = reply.Nothing
+
 -- The steps that an event made on the shard of this number: one or none.
 abbrev pub steps_in : ℕ → Event → List Step
 steps_in place (Stepped shard who step) = if shard == place then step ∷ [] else []

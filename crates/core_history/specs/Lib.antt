@@ -9,3 +9,5 @@ pub mod Events
 pub mod Machine
 pub mod Lines
 pub mod Fresh
+pub mod Cores
+pub mod Told

@@ -1,5 +1,5 @@
 -- What a table is after each answer that changes it.
-use Rattle.std.proofs.Common.{◌≡◌, ℕ, ◌<◌, Bool, true, false, not, Option, Some, None, List, [], ◌∷◌, ◌++◌, subst, sym, filter, MatchBool}
+use Rattle.std.proofs.Common.{◌≡◌, ℕ, ◌<◌, true, not, Some, None, List, [], ◌∷◌, ◌++◌, filter}
 use Rattle.std.specs.List.{All}
 use Rattle.rows_model.specs.declared.keys.QKey.{QKey}
 use Rattle.case_tables.specs.declared.grids.Verdict.{Verdict}
@@ -7,7 +7,8 @@ use Rattle.case_tables.specs.Compatibility.{read, quarantine, verdict, is_given}
 use Rattle.lease_table.specs.declared.records.Quar.{Quar}
 use Rattle.lease_table.specs.declared.records.ReadLease.{ReadLease}
 use Rattle.lease_table.specs.declared.records.Lease.{Lease}
-use Rattle.lease_table.specs.Leases.{quars, reads, recorded, first, way_of, holding, has_token, without_read, without_quar, StandBeside, IsTable, Leaves}
+use Rattle.lease_table.specs.Leases.{quars, reads, recorded, way_of, holding, has_token, IsTable, Leaves}
+use Rattle.lease_table.specs.Pieces.{without_read, without_quar}
 use Rattle.lease_table.proofs.VerdictLemmas.{read-given, quar-given}
 use Rattle.lease_table.proofs.TableLemmas.{read_lease, quar_lease, Leaves-from, IsTable-from, SetsKey-read, SetsKey-quar, SetsKey-drop_read, SetsKey-drop_quar, MayStand-read, MayStand-quar, MayStand-drop_read, MayStand-drop_quar}
 

@@ -1,4 +1,5 @@
 pub mod ChangeLemmas
+pub mod ExpiryLemmas
 pub mod ListLemmas
 pub mod RowLemmas
 pub mod TableLemmas

@@ -1,5 +1,5 @@
 -- On lists: what a map that leaves elements out gives of a filtered list, and the first that passes.
-use Rattle.std.proofs.Common.{◌≡◌, ℕ, suc, length, ◌+◌, ◌<◌, ◌≤◌, map, arith, Bool, true, false, not, cond, Option, Some, None, List, [], ◌∷◌, ap, sym, refl, ◌∙◌, find, filter, MatchOption}
+use Rattle.std.proofs.Common.{◌≡◌, suc, length, ◌≤◌, map, arith, Bool, true, false, not, Option, Some, None, List, [], ◌∷◌, ap, sym, refl, ◌∙◌, find, filter, MatchOption}
 use Rattle.std.specs.Bool.{⊤}
 use Rattle.std.specs.Prelude.{◌&&◌}
 use Rattle.std.proofs.lemmas.List.Filters.{length-filter_both}

@@ -1,5 +1,5 @@
 -- The row of the grid for a key.
-use Rattle.std.proofs.Common.{◌≡◌, ℕ, ◌+◌, ◌<◌, Bool, true, false, not, Option, Some, None, List, [], ◌∷◌, map, sym, refl, ◌∙◌, ap, find, filter, IsTrue, length, get_or, arith}
+use Rattle.std.proofs.Common.{◌≡◌, ℕ, ◌+◌, ◌≤◌, subst, IfSome, Bool, true, not, Option, Some, None, List, [], ◌∷◌, map, sym, refl, ◌∙◌, ap, find, filter, IsTrue, arith}
 use Rattle.std.specs.List.{list_all, AllPairs}
 use Rattle.rows_model.specs.declared.keys.Sid.{Sid}
 use Rattle.rows_model.specs.declared.keys.QKey.{QKey}
@@ -9,7 +9,9 @@ use Rattle.lease_table.specs.declared.records.Lease.{Lease}
 use Rattle.std.specs.Prelude.{if◌then◌else◌}
 use Rattle.lease_table.specs.Leases.{first, is_of, way_of, StandBeside, IsTable, quars, own_quar, recorded, is_unexpired, holding}
 use Rattle.std.proofs.lemmas.List.Kept.{AllPairs-filter}
-use Rattle.std.proofs.lemmas.List.Elements.{All-weaker}
+use Rattle.std.proofs.lemmas.List.Elements.{All-weaker, All-cons}
+use Rattle.std.specs.Option.{option_or}
+use Rattle.std.specs.List.{All}
 use Rattle.lease_table.proofs.ListLemmas.{find-first, filter-not_found, AllPairs-head, list_all-map}
 
 -- a quarantine's way
@@ -62,3 +64,16 @@ row-others key who now leases q table none found =
 pub row-free : (key : QKey) (who : Sid) (now : ℕ) (leases : List Lease) (reading : Bool) → own_quar key who leases ≡ None → find (λ quar. not (is_of who quar)) (quars key leases) ≡ None → is_unexpired now (recorded key leases) ≡ reading → row_of (holding key who now leases) ≡ (if reading then 1 else 0)
 row-free key who now leases reading none no_other e =
     rw (none, filter-not_found (λ quar. not (is_of who quar)) (quars key leases) no_other, e) refl
+
+-- the first of those that stand has the least token
+pub first-least : (qs : List Quar) (q : Quar) → AllPairs StandBeside qs → first qs ≡ Some q → All (λ other. q.token ≤ other.token) qs
+first-least [] q beside e = cc
+first-least (r ∷ rs) q beside e =
+    let same : r ≡ q = cc in
+    subst (λ x. All (λ other. x.token ≤ other.token) (r ∷ rs)) same (All-cons (λ other. r.token ≤ other.token) r rs (omega arith) (All-weaker (StandBeside r) (λ other. r.token ≤ other.token) (λ other h. let below = h.in_order in omega arith) rs (AllPairs-head StandBeside r rs beside)))
+
+-- who holds a key on which the asker holds nothing has the least token
+pub holder-least : (key : QKey) (who : Sid) (leases : List Lease) (o : Option Quar) → IsTable leases → own_quar key who leases ≡ None → o ≡ option_or (own_quar key who leases) (first (quars key leases)) → IfSome o (λ q. All (λ other. q.token ≤ other.token) (quars key leases))
+holder-least key who leases None table none e = tt
+holder-least key who leases (Some q) table none e =
+    first-least (quars key leases) q (table key).beside (sym (e ∙ rw none refl))

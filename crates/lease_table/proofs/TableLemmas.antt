@@ -1,8 +1,8 @@
 -- What recording or ending a lease leaves on each key.
-use Rattle.std.proofs.Common.{◌≡◌, ◌≢◌, ℕ, ◌+◌, ◌<◌, ◌≤◌, Bool, true, false, not, cond, Option, Some, None, List, [], ◌∷◌, ◌++◌, map, sym, refl, ◌∙◌, ap, find, filter, IsTrue, length, get_or, arith, MatchOption}
+use Rattle.std.proofs.Common.{◌≡◌, ℕ, Bool, true, false, not, Option, Some, None, List, [], ◌∷◌, ◌++◌, sym, refl, ◌∙◌, ap, filter, arith, MatchOption}
 use Rattle.std.specs.Prelude.{if◌then◌else◌, is_some}
 use Rattle.std.specs.Bool.{⊤}
-use Rattle.std.specs.List.{filter_map, cons_option, All, AllPairs}
+use Rattle.std.specs.List.{filter_map, All}
 use Rattle.std.proofs.lemmas.List.Elements.{filter_map-append}
 use Rattle.std.proofs.lemmas.Bool.Decides.{nat_tests}
 use Rattle.std.proofs.Common.{append-nil}
@@ -15,17 +15,18 @@ use Rattle.lease_table.specs.declared.records.ReadLease.{ReadLease}
 use Rattle.lease_table.specs.declared.records.Held.{Held}
 use Rattle.lease_table.specs.declared.records.Held.TheVariants.{Read, Quarantine}
 use Rattle.lease_table.specs.declared.records.Lease.{Lease}
-use Rattle.lease_table.specs.Leases.{quar_of, read_of, quar_on, read_on, quars, reads, recorded, first, has_token, some_has_token, without_read, without_quar, SameOn, Leaves, IsTable, MayStand, StandBeside}
+use Rattle.lease_table.specs.Leases.{quar_of, read_of, quar_on, read_on, quars, reads, first, has_token, Leaves, IsTable, MayStand, StandBeside}
+use Rattle.lease_table.specs.Pieces.{some_has_token, without_read, without_quar}
 use Rattle.lease_table.proofs.ListLemmas.{filter_map-filter, filter-all, filter-none, filter_map-same, length-filter-le}
 
 -- ---- keys
 
 -- what two keys that are one have in common
 pub record SameKey (a b : QKey) : Type 0 where
-  kinds : kind_number a.kind ≡ kind_number b.kind
-  ids : a.id ≡ b.id
+  pub kinds : kind_number a.kind ≡ kind_number b.kind
+  pub ids : a.id ≡ b.id
 
-SameKey-from_test : (a b : QKey) → same_key a b ≡ true → SameKey a b
+pub SameKey-from_test : (a b : QKey) → same_key a b ≡ true → SameKey a b
 SameKey-from_test a b e = record { kinds = grind (arith, nat_tests); ids = grind (arith, nat_tests) }
 
 pub same_key-self : (a : QKey) → same_key a a ≡ true
@@ -162,7 +163,7 @@ on-other : {Y : Type 0} (key other : QKey) (o : Option Y) → same_key key other
 on-other key other o apart = let off : same_key other key ≡ false = grind (arith, nat_tests) in rw off refl
 
 -- a lease on this key gives what it is
-on-itself : {Y : Type 0} (key : QKey) (o : Option Y) → (if same_key key key then o else None) ≡ o
+pub on-itself : {Y : Type 0} (key : QKey) (o : Option Y) → (if same_key key key then o else None) ≡ o
 on-itself key o = rw (same_key-self key) refl
 
 -- a record that gives nothing adds nothing, and one that gives something adds it

@@ -1,5 +1,5 @@
 -- What a verdict tells: of the grid it is the rules', and where it gives a lease the key is free for it.
-use Rattle.std.proofs.Common.{◌≡◌, ◌≢◌, ℕ, ◌+◌, ◌<◌, ◌≤◌, Bool, true, false, not, cond, Option, Some, None, List, [], ◌∷◌, ◌++◌, map, sym, refl, ◌∙◌, ap, find, filter, IsTrue, length, get_or, arith}
+use Rattle.std.proofs.Common.{◌≡◌, ℕ, ◌<◌, Bool, true, false, Option, Some, None, List, [], ◌∷◌, map, sym, refl, ◌∙◌, length, arith}
 use Rattle.case_tables.specs.declared.grids.Verdict.TheVariants.{Same, Join, Refuse}
 use Rattle.rows_model.specs.declared.keys.Sid.{Sid}
 use Rattle.rows_model.specs.declared.keys.QKey.{QKey}
@@ -9,8 +9,8 @@ use Rattle.lease_table.specs.Leases.{StandBeside, quars, own_quar, other_quars, 
 use Rattle.lease_table.proofs.ListLemmas.{find-none, filter-not-all, All-from_list_all}
 use Rattle.std.proofs.lemmas.Bool.Decides.{nat_tests}
 use Rattle.std.proofs.lemmas.List.{length-map}
-use Rattle.std.specs.Prelude.{if◌then◌else◌, is_some, option_map, ◌&&◌}
-use Rattle.std.specs.List.{All, AllPairs, list_all}
+use Rattle.std.specs.Prelude.{if◌then◌else◌, option_map, ◌&&◌}
+use Rattle.std.specs.List.{All, list_all}
 use Rattle.case_tables.specs.declared.grids.Verdict.{Verdict}
 use Rattle.case_tables.specs.Compatibility.{Way, Request, read, quarantine, Holding, is_invalidate, same_way, verdict, is_given, row_of, column_of, cell}
 

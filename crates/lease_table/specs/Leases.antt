@@ -1,4 +1,4 @@
-use Rattle.std.specs.Prelude.{ℕ, ◌≡◌, ◌≢◌, ◌<◌, ◌≤◌, ◌==◌, Bool, true, false, not, nat_lt, if◌then◌else◌, Option, Some, None, option_map, is_some, ◌&&◌, List, [], ◌∷◌, map, filter, find, length, IsTrue}
+use Rattle.std.specs.Prelude.{ℕ, ◌≡◌, ◌≢◌, ◌<◌, ◌≤◌, ◌==◌, Bool, false, not, nat_lt, if◌then◌else◌, Option, Some, None, option_map, ◌&&◌, List, [], ◌∷◌, map, filter, find, length, IsTrue}
 use Rattle.std.specs.List.{filter_map, AllPairs}
 use Rattle.std.specs.Bool.{IsFalse}
 use Rattle.rows_model.specs.declared.keys.Sid.{Sid}
@@ -116,16 +116,3 @@ has_token token quar = quar.token == token
 abbrev pub is_current : ℕ → ℕ → Option ReadLease → Bool
 is_current token now None = false
 is_current token now (Some lease) = (lease.token == token) && nat_lt now lease.deadline
-
--- the table without the lease to read that is recorded on a key
-abbrev pub without_read : QKey → List Lease → List Lease
-without_read key leases = filter (λ lease. not (is_some (read_on key lease))) leases
-
--- whether there is a quarantine, and it has this token
-abbrev pub some_has_token : ℕ → Option Quar → Bool
-some_has_token token None = false
-some_has_token token (Some quar) = has_token token quar
-
--- the table without the quarantine on a key that has this token
-abbrev pub without_quar : QKey → ℕ → List Lease → List Lease
-without_quar key token leases = filter (λ lease. not (some_has_token token (quar_on key lease))) leases

@@ -1,5 +1,5 @@
 ghost use Rattle.std.specs.Prelude.{◌≡◌, [], ◌∷◌, ◌++◌, OnOk, OnErr, vec_len, vec_capacity, ◌≤◌};
-ghost use Rattle.lease_table.specs.Leases.{without_read, without_quar};
+ghost use Rattle.lease_table.specs.Pieces.{without_read, without_quar};
 
 use crate::lookups::{quar_at, read_at};
 use crate::records::Lease;

@@ -4,6 +4,7 @@
 pub use records::{Due, Held, Lease, Mode, Quar, ReadLease};
 pub use table::Leases;
 
+mod dues;
 mod edits;
 mod lookups;
 pub mod records;

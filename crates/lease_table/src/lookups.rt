@@ -11,12 +11,15 @@ use rows_model::{QKey, Sid};
 /// The rows of the grid where the asker holds no quarantine: nothing stands, an unexpired lease to read
 /// does, and from here on other sessions' quarantines, by their mode.
 const NOTHING_ROW: usize = 0;
+
 const READ_ROW: usize = 1;
+
 const OTHERS_ROWS: usize = 2;
 /// The first of the rows where the asker holds a quarantine, by its mode.
 const OWN_ROWS: usize = 5;
 /// The columns of the grid: a lease to read, and from here on a quarantine, by its mode.
 const READ_COLUMN: usize = 0;
+
 const QUAR_COLUMNS: usize = 1;
 
 /// Whether two keys are one.
@@ -141,8 +144,5 @@ pub fn quar_verdict(leases: &[Lease], key: &QKey, who: Sid, mode: Mode, now: u64
     requires { IsTable leases.now }
     ensures { result ≡ verdict (holding key.now who now leases.now) (quarantine (way_of mode)) }
 {
-    lease_grid().at(
-        row_on(leases, key, who, now),
-        QUAR_COLUMNS + mode.place(),
-    )
+    lease_grid().at(row_on(leases, key, who, now), QUAR_COLUMNS + mode.place())
 }

@@ -1,15 +1,16 @@
-ghost use Rattle.std.specs.Prelude.{◌≡◌, ◌<◌, ◌≤◌, ℕ, [], ◌∷◌, ◌++◌, Some, None, not, filter, find, IsTrue, MatchBool, IfOk, IfSome, IfNone, OnSome, OnErr};
+ghost use Rattle.std.specs.Prelude.{◌≡◌, ◌<◌, ◌≤◌, [], ◌∷◌, ◌++◌, Some, None, not, filter, find, MatchBool, IfOk, IfSome, IfNone, OnSome, OnErr};
 ghost use Rattle.std.specs.List.{All};
 ghost use Rattle.std.specs.Option.{option_or};
 ghost use Rattle.case_tables.specs.Compatibility.{verdict, is_given, row_of, read, quarantine};
+ghost use Rattle.lease_table.specs.Expiry.{NoneDue, NoneDueBefore, StandsDue};
 ghost use Rattle.lease_table.specs.Leases.{quars, recorded, own_quar, first, has_token, is_current, way_of, holding, IsTable, Leaves};
 
+use crate::dues::least_due;
 use crate::edits::{drop_quar, drop_read, record_lease};
 use crate::lookups::{
-    holder_on, is_current_at, quar_verdict, quar_with, read_verdict, recorded_on,
-    row_on,
+    holder_on, is_current_at, quar_verdict, quar_with, read_verdict, recorded_on, row_on,
 };
-use crate::records::{Held, Lease, Mode, Quar, ReadLease};
+use crate::records::{Due, Held, Lease, Quar, ReadLease};
 use case_tables::Verdict;
 use rows_model::{Memory, QKey, Sid};
 use std::alloc::Global;
@@ -119,7 +120,10 @@ impl Leases {
 
     /// The session's own quarantine on the key, else the one of least token, else none.
     pub fn holder(&self, key: &QKey, who: Sid) -> Option<Quar>
-        ensures { result ≡ option_or (own_quar key.now who self.now) (first (quars key.now self.now)) }
+        ensures holder { result
+            ≡ option_or (own_quar key.now who self.now) (first (quars key.now self.now)) }
+        ensures least { own_quar key.now who self.now ≡ None
+            → IfSome result (λ q. All (λ other. q.token ≤ other.token) (quars key.now self.now)) }
     {
         holder_on(self.leases.as_slice(), key, who)
     }
@@ -158,4 +162,17 @@ impl Leases {
         drop_quar(&mut self.leases, key, token);
         Some(quar)
     }
+
+    /// The quarantine whose deadline has come that is first by key, and then by token; none exactly where
+    /// no deadline has come.
+    pub fn expired(&self, now: u64) -> Option<Due>
+        ensures due { IfSome result (StandsDue now self.now) }
+        ensures least { IfSome result (NoneDueBefore now self.now) }
+        ensures none { IfNone result (NoneDue now self.now) }
+    {
+        least_due(self.leases.as_slice(), now)
+    }
 }
+
+#[cfg(test)]
+mod tests;

@@ -1,4 +1,4 @@
-use Rattle.std.specs.Prelude.{ℕ, ℤ, pos, negsuc, suc, ◌+◌, ◌-◌, ◌*◌, ◌%◌, ◌^◌, Bool, false, ◌==◌, ◌&&◌, not, nat_le, nat_lt, if◌then◌else◌, List, [], ◌∷◌, Option, Some, None, option_map}
+use Rattle.std.specs.Prelude.{ℕ, ℤ, pos, negsuc, suc, ◌+◌, ◌-◌, ◌*◌, ◌%◌, ◌^◌, Bool, false, ◌==◌, ◌≡◌, ◌<◌, decimal, ◌&&◌, not, nat_le, nat_lt, if◌then◌else◌, List, [], ◌∷◌, Option, Some, None, option_map}
 use Rattle.std.specs.List.{list_all}
 
 -- whether a byte is a decimal digit
@@ -30,3 +30,9 @@ moved_by (negsuc by) n = n - suc by
 -- the number in a text, moved; none where the text is no number
 unfoldable pub shifted : List ℕ → ℤ → Option ℕ
 shifted text by = option_map (moved_by by) (number_in text)
+
+-- a text of a number is its decimal, and the decimal of each number below 2^64 is such a text
+pub record NumbersAreDecimal : Type 0 where
+  pub read : (n : ℕ) → n < 2 ^ 64 → number_in (decimal n) ≡ Some n
+  pub written : (text : List ℕ) (n : ℕ) → number_in text ≡ Some n → text ≡ decimal n
+  pub small : (text : List ℕ) (n : ℕ) → number_in text ≡ Some n → n < 2 ^ 64

@@ -7,6 +7,7 @@ pub use placement::shard_number;
 pub use queries::{answers_ascend, ask};
 pub use refusals::Memory;
 pub use rows::{Link, LinkState, Member, Rows};
+pub use shifts::{numbers_are_decimal, shift};
 pub use values::Value;
 
 pub mod keys;
@@ -16,6 +17,7 @@ pub mod placement;
 pub mod queries;
 pub mod refusals;
 pub mod rows;
+pub mod shifts;
 #[cfg(test)]
 mod tests;
 pub mod values;

@@ -1,6 +1,7 @@
 // Numbers in decimal, as keys and answers write them.
 ghost use Rattle.std.specs.Prelude.{◌≡◌, ◌≤◌, ◌++◌, decimal, OnOk, IfSome, IfNone};
 ghost use Rattle.rows_model.specs.Number.{IsIdText, IsNoIdText};
+ghost use Rattle.rows_model.specs.Shift.{number_in};
 
 use itoa::Buffer;
 use std::alloc::AllocError;
@@ -26,4 +27,23 @@ pub(crate) fn id_of(digits: &[u8]) -> Option<u32>
         return None;
     };
     text.parse().ok()
+}
+
+/// The number below 2^64 that the text is, with no sign and no leading zero.
+pub(crate) fn number_of(text: &[u8]) -> Option<u64>
+    ensures { result ≡ number_in text.now }
+{
+    let [first, ..] = text else {
+        return None;
+    };
+    if *first == b'0' {
+        return if text.len() == 1 { Some(0) } else { None };
+    }
+    if !(b'1'..=b'9').contains(first) {
+        return None;
+    }
+    let Ok(digits) = str::from_utf8(text) else {
+        return None;
+    };
+    digits.parse().ok()
 }

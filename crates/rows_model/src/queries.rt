@@ -1,20 +1,26 @@
-ghost use Rattle.std.specs.Prelude.{◌≡◌, IfOk};
+ghost use Rattle.std.specs.Prelude.{◌≡◌, IfOk, decimal};
 ghost use Rattle.rows_model.specs.declared.keys.Kind.TheVariants.{Profile};
-ghost use Rattle.rows_model.specs.Query.{answer, answer_of, AnswersAscend};
+ghost use Rattle.rows_model.specs.Query.{answer, answer_of, friend_ids, inviter_ids, id_list, AnswersAscend};
 
 use crate::keys::{Kind, QKey};
 use crate::numbers::push_decimal;
 use crate::refusals::Memory;
 use crate::rows::Rows;
 use crate::values::Value;
-use std::alloc::Global;
+use std::alloc::{AllocError, Global};
 
-/// What the rows answer to the key, which for now asks for a profile.
+/// What the rows answer to the key.
+#[tactic(auto, unfolding(crate::specs::Query::answer))]
 pub fn ask(alloc: Global, rows: &Rows, key: &QKey) -> Result<Value, Memory>
-    requires { key.now.kind ≡ Kind.Profile }
     ensures { IfOk result (λ value. value ≡ answer key.now rows.now) }
 {
-    profile(alloc, rows, key.id)
+    match key.kind {
+        Kind::Profile => profile(alloc, rows, key.id),
+        Kind::Friends => id_list(alloc, friend_ids(alloc, rows, key.id)?.as_slice()),
+        Kind::Pending => id_list(alloc, inviter_ids(alloc, rows, key.id)?.as_slice()),
+        Kind::NFriends => number(alloc, rows.friend_count(key.id)),
+        Kind::NPending => number(alloc, rows.pending_count(key.id)),
+    }
 }
 
 // The member's name, and the counts of its friends and of those who wait for its answer.
@@ -32,7 +38,75 @@ fn profile(alloc: Global, rows: &Rows, id: u32) -> Result<Value, Memory>
     Ok(Value::from(text))
 }
 
+// The ids of the member's friends, in the order of the links.
+fn friend_ids(alloc: Global, rows: &Rows, id: u32) -> Result<Vec<u32>, AllocError>
+    ensures { IfOk result (λ ids. ids.items ≡ friend_ids id rows.now) }
+{
+    rows.links()
+        .iter()
+        .filter(|link| link.befriends(id))
+        .map(|link| link.other_end(id))
+        .collect(alloc)
+}
+
+// The ids of those who invited the member, in the order of the links.
+fn inviter_ids(alloc: Global, rows: &Rows, id: u32) -> Result<Vec<u32>, AllocError>
+    ensures { IfOk result (λ ids. ids.items ≡ inviter_ids id rows.now) }
+{
+    rows.links()
+        .iter()
+        .filter(|link| link.invites(id))
+        .map(|link| link.a)
+        .collect(alloc)
+}
+
+// The ids in decimal, with commas between.
+fn id_list(alloc: Global, ids: &[u32]) -> Result<Value, Memory>
+    ensures { IfOk result (λ value. value ≡ id_list ids.now) }
+{
+    let mut text = Vec::new(alloc);
+    for id in ids {
+        if !text.is_empty() {
+            text.push(b',')?;
+        }
+        push_decimal(&mut text, u64::from(*id))?;
+    }
+    Ok(Value::from(text))
+}
+
+// The number in decimal.
+fn number(alloc: Global, number: u64) -> Result<Value, Memory>
+    ensures { IfOk result (λ value. value ≡ decimal number) }
+{
+    let mut text = Vec::new(alloc);
+    push_decimal(&mut text, number)?;
+    Ok(Value::from(text))
+}
+
 /// The ids in the answers about a member ascend, since the links are in order.
 pub fn answers_ascend()
     ensures { AnswersAscend }
 {}
+
+#[cfg(test)]
+mod tests {
+    use super::*;
+    use std::test::Fail;
+
+    #[test]
+    fn lists_ids_with_commas(rt: HostRuntime) -> Result<(), Fail> {
+        for (ids, want) in [
+            ([].as_slice(), ""),
+            ([7].as_slice(), "7"),
+            ([0, 9].as_slice(), "0,9"),
+            (
+                [1, 20, 100_000, u32::MAX].as_slice(),
+                "1,20,100000,4294967295",
+            ),
+        ] {
+            let value = id_list(rt.alloc(), ids)?;
+            assert_eq!(rt; value.bytes(), want.as_bytes());
+        }
+        Ok(())
+    }
+}

@@ -1,7 +1,7 @@
 ghost use Rattle.std.specs.Prelude.{◌≡◌, ◌≤◌, IfOk};
 ghost use Rattle.std.specs.Option.{option_copied};
 ghost use Rattle.rows_model.specs.Rows.{Fit, start_tables, member_of};
-ghost use Rattle.rows_model.specs.Query.{invites, befriends, friend_count, pending_count};
+ghost use Rattle.rows_model.specs.Query.{invites, befriends, other_end, friend_count, pending_count};
 
 use crate::names::Name;
 use crate::refusals::Memory;
@@ -46,6 +46,13 @@ impl Link {
         ensures { result ≡ befriends id self.now }
     {
         self.state == LinkState::Friend && (self.a == id || self.b == id)
+    }
+
+    /// The other end of a link of this member.
+    pub fn other_end(&self, id: u32) -> u32
+        ensures { result ≡ other_end id self.now }
+    {
+        if self.a == id { self.b } else { self.a }
     }
 }
 

@@ -102,6 +102,22 @@ fn answers_profiles_of_the_start(rt: HostRuntime) -> Result<(), Fail> {
 }
 
 #[test]
+fn answers_each_kind_at_the_start(rt: HostRuntime) -> Result<(), Fail> {
+    let rows = Rows::start(rt.alloc(), 3)?;
+    for (kind, want) in [
+        (Kind::Profile, "m2 0 0"),
+        (Kind::Friends, ""),
+        (Kind::Pending, ""),
+        (Kind::NFriends, "0"),
+        (Kind::NPending, "0"),
+    ] {
+        let value = ask(rt.alloc(), &rows, &QKey { kind, id: 2 })?;
+        assert_eq!(rt; value.bytes(), want.as_bytes(), "at {kind:?}");
+    }
+    Ok(())
+}
+
+#[test]
 fn copies_values(rt: HostRuntime) -> Result<(), Fail> {
     let value = Value::of(rt.alloc(), b"m2 0 0")?;
     assert_eq!(rt; value.copy()?, value);

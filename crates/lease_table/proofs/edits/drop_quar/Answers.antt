@@ -1,6 +1,7 @@
 use Rattle.std.proofs.Common.{rules, not}
 use Rattle.std.proofs.lemmas.Fn.{filter_same}
-use Rattle.lease_table.specs.Leases.{quar_on, some_has_token}
+use Rattle.lease_table.specs.Leases.{quar_on}
+use Rattle.lease_table.specs.Pieces.{some_has_token}
 use Rattle.lease_table.proofs.edits.drop_quar.Goals as goal
 
 pub returns : goal.returns

@@ -1,4 +1,4 @@
-use Rattle.std.proofs.Common.{arith, sym, ap, ◌∙◌, true, false}
+use Rattle.std.proofs.Common.{arith, sym, ap, ◌∙◌, false}
 use Rattle.lease_table.specs.Leases.{is_unexpired}
 use Rattle.lease_table.proofs.RowLemmas.{row-others, row-free}
 use Rattle.lease_table.proofs.lookups.row_on.Goals as goal

@@ -12,5 +12,5 @@ invariant_of-self-2 c =
 pub returns-clause-after : goal.returns-clause-after
 returns-clause-after c =
     let given : is_given c.read_verdict-verdict.result ≡ true =
-        sym c.is_given.ensures ∙ c.if-not-is_given.false in
+    sym c.is_given.ensures ∙ c.if-not-is_given.false in
     rw (given, ← c.self.view_is) (Leaves-read c.args.key (record { sid = c.args.sid; token = c.args.token; deadline = c.args.deadline }) _ _ c.in_ok-record_lease.ensures.ok)

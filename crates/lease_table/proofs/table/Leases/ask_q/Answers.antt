@@ -1,7 +1,5 @@
-use Rattle.std.proofs.Common.{◌≡◌, ◌<◌, List, sym, ◌∙◌, true, subst}
-use Rattle.std.specs.List.{All}
+use Rattle.std.proofs.Common.{◌≡◌, sym, ◌∙◌, true}
 use Rattle.case_tables.specs.Compatibility.{is_given}
-use Rattle.lease_table.specs.Leases.{quars}
 use Rattle.lease_table.proofs.ChangeLemmas.{IsTable-quar, Leaves-quar}
 use Rattle.lease_table.proofs.table.Leases.ask_q.Goals as goal
 
@@ -15,5 +13,5 @@ invariant_of-self-2 c =
 pub returns-clause-after : goal.returns-clause-after
 returns-clause-after c =
     let given : is_given c.quar_verdict-verdict.result ≡ true =
-        sym c.is_given.ensures ∙ c.if-not-is_given.false in
+    sym c.is_given.ensures ∙ c.if-not-is_given.false in
     rw (given, ← c.self.view_is) (Leaves-quar c.args.key c.args.q _ _ c.in_ok-record_lease.ensures.ok)

@@ -1,0 +1,129 @@
+ghost use Rattle.std.specs.Prelude.{◌≡◌, ℕ, ◌+◌, ◌<◌, ◌≤◌, ◌^◌, ◌∷◌, ◌⊎◌, List, [], length, reverse, slice_get, Some, IfOk, OnErr, map};
+
+use crate::plans::{Plan, Shape, Turn};
+use crate::sessions::Session;
+use crate::turns::make;
+use key_shard::{Shard, Step};
+use rows_model::{Memory, Rows, Sid};
+use std::alloc::Global;
+
+/// The core of a run: the rows, the shards, and the sessions on their way.
+#[derive(Debug, Drop)]
+pub struct Core {
+    alloc: Global,
+    rows: Rows,
+    shards: Vec<Shard>,
+    sessions: Vec<Session>,
+}
+
+/// What a turn prints.
+#[derive(Debug, Drop)]
+pub struct Told {
+    line: Vec<u8>,
+}
+
+impl Told {
+    ghost use Rattle.core_history.specs.Told.{line_in};
+
+    /// The turn's line, with its line end.
+    pub fn line(&self) -> &[u8]
+        ensures { result.now ≡ line_in self.now }
+    {
+        self.line.as_slice()
+    }
+}
+
+impl Core {
+    ghost use Rattle.core_history.specs.declared.plans.Shape.{Shape};
+    ghost use Rattle.core_history.specs.Machine.{World, start, begun, taken, turn_event};
+    ghost use Rattle.core_history.specs.Lines.{line_of};
+    ghost use Rattle.core_history.specs.Cores.{IsShape, IsAt, IsRunning, HasBegun, HasHistories, shards_in, histories_in};
+    ghost use Rattle.core_history.specs.Told.{line_in};
+
+    /// A core of this shape, over the rows at the start, with no session.
+    pub fn new(alloc: Global, shape: Shape) -> Result<Core, Memory>
+        requires { IsShape shape }
+        ensures { IfOk result (λ core. IsAt core shape start) }
+    {
+        let rows = Rows::start(alloc, shape.members)?;
+        Ok(Core {
+            alloc,
+            rows,
+            shards: shards_of(alloc, shape)?,
+            sessions: Vec::new(alloc),
+        })
+    }
+
+    /// Begins a session with this plan. Sessions are numbered from 1, in the order in which they
+    /// begin. For want of memory nothing changes.
+    pub fn add(&mut self, plan: Plan) -> Result<Sid, Memory>
+        ensures begins { (shape : Shape) (world : World) → IsAt self.old shape world → IfOk result (λ sid. (sid.number ≡ length world.plans + 1) × IsAt self.new shape (begun world plan)) }
+        ensures err { (shape : Shape) (world : World) → IsAt self.old shape world → OnErr result (IsAt self.new shape world) }
+    {
+        let number = self.sessions.len() as u64 + 1;
+        self.sessions.push(Session::new(plan))?;
+        Ok(Sid { number })
+    }
+
+    /// Takes a turn: one event, and its line. After want of memory the event may have been made or
+    /// not, and the core is only to be read and taken apart.
+    pub fn step(&mut self, turn: Turn) -> Result<Told, Memory>
+        requires running { IsRunning self.old }
+        requires begun { HasBegun self.old turn }
+        ensures takes { (shape : Shape) (world : World) → IsAt self.old shape world → IfOk result (λ told. IsAt self.new shape (taken shape world turn) × (line_in told ≡ line_of (turn_event shape world turn))) }
+        ensures err { (shape : Shape) (world : World) → IsAt self.old shape world → OnErr result (HasHistories self.new shape world.past ⊎ HasHistories self.new shape (turn_event shape world turn ∷ world.past)) }
+    {
+        let Turn::Session { sid } = turn;
+        let place = (sid.number - 1) as usize;
+        let wanted = self.sessions[place].wants();
+        let made = make(self.alloc, &self.rows, &mut self.shards, sid, wanted)?;
+        self.sessions[place].told(made.reply);
+        Ok(Told { line: made.line })
+    }
+
+    /// The history of the shard of this number, from 0.
+    pub fn history(&self, shard: u32) -> &[Step]
+        requires { shard < shards_in self.now }
+        ensures { slice_get (histories_in self.now) shard ≡ Some result.now }
+    {
+        self.shards[shard as usize].history()
+    }
+
+    /// Takes the core apart into the histories of its shards, in their order.
+    pub fn into_histories(self) -> Result<Vec<Vec<Step>>, Memory>
+        ensures { IfOk result (λ histories. map (λ history. history.items) histories.items ≡ histories_in self) }
+    {
+        let Core {
+            alloc,
+            rows: _,
+            shards,
+            sessions: _,
+        } = self;
+        let mut histories = Vec::new(alloc);
+        for shard in shards {
+            histories.push(shard.take_history())?;
+        }
+        Ok(histories)
+    }
+}
+
+/// The shards of a shape.
+fn shards_of(alloc: Global, shape: Shape) -> Result<Vec<Shard>, Memory>
+    requires { IsShape shape }
+    ensures { IfOk result (λ shards. HasShards shards.items shape []) }
+{
+    let mut shards = Vec::new(alloc);
+    for no in 0..shape.shards {
+        shards.push(Shard::new(
+            alloc,
+            no,
+            shape.shards,
+            shape.room,
+            shape.life,
+            1,
+        )?)?;
+    }
+    Ok(shards)
+}
+
+ghost use Rattle.core_history.specs.Cores.{IsShape, HasShards};

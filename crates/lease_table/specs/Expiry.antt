@@ -1,0 +1,35 @@
+use Rattle.std.specs.Prelude.{ℕ, ◌≡◌, ◌<◌, ◌≤◌, ◌==◌, Bool, ◌&&◌, ◌||◌, nat_lt, List, Any}
+use Rattle.std.specs.List.{All}
+use Rattle.std.specs.Bool.{IsFalse}
+use Rattle.rows_model.specs.declared.keys.QKey.{QKey}
+use Rattle.rows_model.specs.Key.{kind_number, same_key}
+use Rattle.lease_table.specs.declared.records.Quar.{Quar}
+use Rattle.lease_table.specs.declared.records.Lease.{Lease}
+use Rattle.lease_table.specs.declared.records.Due.{Due}
+use Rattle.lease_table.specs.Leases.{quars}
+
+-- how a due quarantine on a key is told
+abbrev pub due_as : QKey → Quar → Due
+due_as key quar = record { key = key; sid = quar.sid; token = quar.token }
+
+-- whether a key comes before another: by kind, then by id
+abbrev pub key_before : QKey → QKey → Bool
+key_before a b =
+    nat_lt (kind_number a.kind) (kind_number b.kind) || ((kind_number a.kind == kind_number b.kind) && nat_lt a.id b.id)
+
+-- whether the first comes before the second: by key, then by token
+abbrev pub comes_before : Due → Due → Bool
+comes_before a b =
+    key_before a.key b.key || (same_key a.key b.key && nat_lt a.token b.token)
+
+-- a quarantine whose deadline has come stands in the table and is told so
+abbrev pub StandsDue : ℕ → List Lease → Due → Type 0
+StandsDue now leases due = Any (λ quar. (quar.deadline ≤ now) × (due ≡ due_as due.key quar)) (quars due.key leases)
+
+-- no quarantine whose deadline has come, on any key, comes before this one
+abbrev pub NoneDueBefore : ℕ → List Lease → Due → Type 0
+NoneDueBefore now leases due = (key : QKey) → All (λ quar. quar.deadline ≤ now → IsFalse (comes_before (due_as key quar) due)) (quars key leases)
+
+-- on every key the deadline of each quarantine lies ahead
+abbrev pub NoneDue : ℕ → List Lease → Type 0
+NoneDue now leases = (key : QKey) → All (λ quar. now < quar.deadline) (quars key leases)
