@@ -10,7 +10,7 @@ use crate::edits::{drop_quar, drop_read, record_lease};
 use crate::lookups::{
     holder_on, is_current_at, quar_verdict, quar_with, read_verdict, recorded_on, row_on,
 };
-use crate::records::{Due, Held, Lease, Quar, ReadLease};
+use crate::records::{Due, Held, Lease, Mode, Quar, ReadLease};
 use case_tables::Verdict;
 use rows_model::{Memory, QKey, Sid};
 use std::alloc::Global;

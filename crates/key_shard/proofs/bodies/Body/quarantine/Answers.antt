@@ -66,7 +66,7 @@ returns-in_default c =
     let by_shows = subst (λ s. IfOk c.grant.result (ShowsQuarantine (terms_of old) (steps_of old) (made s))) same c.grant.ensures.shows in
     record {
       kept = c.grant.ensures.kept;
-      refusal = subst (λ s. Refuses (refusal (shown old) c.args.key s) c.grant.result) step (refuses-home (shown old) c.args.key _ c.grant.result c.in_ok-check_home.ensures.home by_refusal);
+      refusal = subst (λ s. Refuses (refusal (shown old) c.args.key s) c.grant.result) step (refuses-home (shown old) c.args.key (made c.args.shift) c.grant.result c.in_ok-check_home.ensures.home by_refusal);
       step = subst (λ s. OnOk c.grant.result (shown c.grant.new.self ≡ stepped (shown old) s)) step by_step;
       shows = subst (λ s. IfOk c.grant.result (ShowsQuarantine (terms_of old) (steps_of old) s)) step by_shows;
       err = c.grant.ensures.err;
