@@ -1,5 +1,5 @@
 -- The grants that are out, less one, and what of it follows.
-use Rattle.std.proofs.Common.{◌≡◌, ◌<◌, ◌≤◌, ◌+◌, ◌*◌, ◌&&◌, ◌||◌, ◌==◌, ℕ, Bool, true, false, not, cond, List, [], ◌∷◌, ◌++◌, length, map, filter, refl, sym, ap, subst, ◌∙◌, inl, inr, arith, vec_len}
+use Rattle.std.proofs.Common.{◌≡◌, ◌<◌, ◌≤◌, ◌+◌, ◌*◌, ◌&&◌, ◌||◌, ◌==◌, ℕ, Bool, true, false, not, cond, List, [], ◌∷◌, ◌++◌, Option, Some, None, find, length, map, filter, refl, sym, ap, subst, ◌∙◌, inl, inr, arith, vec_len}
 use Rattle.std.specs.Prelude.{vec_capacity}
 use Rattle.std.specs.List.{All, list_any}
 use Rattle.std.proofs.lemmas.Bool.{cases_Bool, and_parts, or_cases, eqb-true, false≢true}
@@ -11,15 +11,22 @@ use Rattle.rows_model.proofs.SameKey.{same_key-true}
 use Rattle.case_tables.specs.Compatibility.{same_way}
 use Rattle.lease_table.specs.declared.records.Mode.{Mode}
 use Rattle.lease_table.specs.declared.records.Mode.TheVariants.{Invalidate, Refresh, Delta}
-use Rattle.lease_table.specs.Leases.{way_of}
+use Rattle.lease_table.specs.Leases.{way_of, has_token, Leaves}
 use Rattle.key_shard.specs.declared.bodies.Body.{Body}
 use Rattle.key_shard.specs.declared.bodies.Out.{Out}
 use Rattle.key_shard.specs.declared.steps.Step.{Step}
-use Rattle.key_shard.specs.Past.{Terms}
+use Rattle.key_shard.specs.Past.{Terms, quar_of}
 use Rattle.key_shard.specs.Permit.{Permit, same_permit}
-use Rattle.key_shard.specs.Answers.{WasGranted, IsAtHome}
+use Rattle.std.specs.Prelude.{OnSome}
+use Rattle.lease_table.specs.declared.records.Lease.{Lease}
+use Rattle.lease_table.specs.declared.records.Quar.{Quar}
+use Rattle.lease_table.specs.Leases as leases
+use Rattle.entry_table.specs.Entries.{Item}
+use Rattle.key_shard.specs.declared.replies.How.{How}
+use Rattle.key_shard.specs.declared.replies.How.TheVariants as hows
+use Rattle.key_shard.specs.Answers.{WasGranted, IsAtHome, ended_as}
 use Rattle.key_shard.specs.Shards.{ShardView, is_out, without_permit, returned}
-use Rattle.key_shard.specs.Kept.{Ties, IsKept, IsOut, terms_of, steps_of, permit_of, shown}
+use Rattle.key_shard.specs.Kept.{Ties, PutsNone, IsKept, IsOut, terms_of, steps_of, permit_of, shown}
 use Rattle.key_shard.proofs.KeptLemmas.{IsKept-step}
 
 -- a test of what a map gives, and a test behind the map
@@ -127,3 +134,22 @@ view-returned old new step grant same pushed number less =
     let out : map (permit_of new.no) new.out.items ≡ without_permit grant (map (permit_of old.no) old.out.items) =
         ap (λ n. map (permit_of n) new.out.items) number ∙ ap (map (permit_of old.no)) less ∙ map-filter (λ g. not (same_permit grant g)) (permit_of old.no) old.out.items in
     ap (λ t. made t new.history.items (map (permit_of new.no) new.out.items)) same ∙ ap (λ h. made (terms_of old) h (map (permit_of new.no) new.out.items)) pushed ∙ ap (made (terms_of old) (old.history.items ++ step ∷ [])) out
+
+-- the quarantine of a token, as the table of leases tells it
+pub stands-told : {terms : Terms} {past : List Step} {list : List Item} {table : List Lease} {next : ℕ} → Ties terms past list table next → (key : QKey) (token : ℕ) (key' : QKey) (token' : ℕ) (told : Option Quar) → key' ≡ key → token' ≡ token → told ≡ find (has_token token') (leases.quars key' table) → quar_of key token past ≡ told
+stands-told {table = table} h key token key' token' told keys tokens e =
+    sym (e ∙ ap (λ t. find (has_token t) (leases.quars key' table)) tokens ∙ ap (λ k. find (has_token token) (leases.quars k table)) keys ∙ ap (find (has_token token)) (h.quars key))
+
+-- what the end of a quarantine that stands leaves
+pub ended-leaves : {terms : Terms} {past : List Step} {list : List Item} {table : List Lease} {next : ℕ} → Ties terms past list table next → (key : QKey) (token : ℕ) (key' : QKey) (token' : ℕ) (told : Option Quar) (quar : Quar) (new : List Lease) → key' ≡ key → token' ≡ token → told ≡ find (has_token token') (leases.quars key' table) → OnSome told (Leaves key' (leases.recorded key' table) (filter (λ q. not (has_token token' q)) (leases.quars key' table)) table new) → quar_of key token past ≡ Some quar → Leaves key (leases.recorded key table) (filter (λ q. not (has_token token q)) (leases.quars key table)) table new
+ended-leaves {table = table} h key token key' token' told quar new keys tokens e after stands =
+    let some : told ≡ Some quar = sym (stands-told h key token key' token' told keys tokens e) ∙ stands in
+    let leaves : Leaves key' (leases.recorded key' table) (filter (λ q. not (has_token token' q)) (leases.quars key' table)) table new =
+        subst (λ o. OnSome o (Leaves key' (leases.recorded key' table) (filter (λ q. not (has_token token' q)) (leases.quars key' table)) table new)) some after in
+    subst (λ t. Leaves key (leases.recorded key table) (filter (λ q. not (has_token t q)) (leases.quars key table)) table new) tokens (subst (λ k. Leaves k (leases.recorded k table) (filter (λ q. not (has_token token' q)) (leases.quars k table)) table new) keys leaves)
+
+-- a release puts no value
+pub puts-none : (quar : Quar) (how : How) → PutsNone (ended_as quar how)
+puts-none quar hows.Keep = refl
+puts-none quar hows.Drop = refl
+puts-none quar (hows.Shift stamp) = refl

@@ -1,5 +1,6 @@
 ghost use Rattle.std.specs.Prelude.{◌≡◌, ◌≤◌, [], filter, find, map, not, IsTrue, OnOk, OnErr, IfOk, IfErr, Some, Ok, decimal, vec_capacity};
 ghost use Rattle.std.specs.Bool.{IsFalse};
+ghost use Rattle.std.specs.List.{list_any};
 ghost use Rattle.entry_table.specs.Entries.{IsSound};
 ghost use Rattle.lease_table.specs.Leases.{has_token};
 ghost use Rattle.key_shard.specs.Answers.{Answers, FitsMode, ended_as, release_step, replace_step};
@@ -29,6 +30,13 @@ fn is_grant(out: &Out, no: u32, grant: &Grant) -> bool
         && grant.sid().number == out.sid.number
         && grant.mode().place() == out.mode.place()
         && grant.token() == out.token
+}
+
+/// Whether this grant of a shard is among those that are out.
+fn has_grant(outs: &[Out], no: u32, grant: &Grant) -> bool
+    ensures { result ≡ list_any (λ out. same_permit grant.now (permit_of no out)) outs.now }
+{
+    outs.iter().any(|out| is_grant(out, no, grant))
 }
 
 /// Takes a grant from those that are out.
@@ -104,7 +112,7 @@ impl Body {
     fn is_out(&self, grant: &Grant) -> bool
         ensures { result ≡ is_out (shown self.now) grant.now }
     {
-        self.out.iter().any(|out| is_grant(out, self.no, grant))
+        has_grant(self.out.as_slice(), self.no, grant)
     }
 
     /// Writes down that the quarantine of a grant stood no longer.
