@@ -128,12 +128,12 @@ IsKept-returned old new step grant kept out less pushed same ties one promised r
     IsKept-step old new step kept pushed same ties one outs (omega (arith, shorter, len, kept.promises)) reserved
 
 -- what callers see behind it
-pub view-returned : (old new : Body) (step : Step) (grant : Permit) → terms_of new ≡ terms_of old → new.history.items ≡ old.history.items ++ step ∷ [] → new.no ≡ old.no → new.out.items ≡ filter (λ out. not (same_permit grant (permit_of old.no out))) old.out.items → shown new ≡ returned (shown old) grant step
-view-returned old new step grant same pushed number less =
+pub view-returned : (old : Body) (terms : Terms) (history : List Step) (outs : List Out) (step : Step) (grant : Permit) → terms ≡ terms_of old → history ≡ old.history.items ++ step ∷ [] → outs ≡ filter (λ out. not (same_permit grant (permit_of old.no out))) old.out.items → record { terms = terms; history = history; out = map (permit_of old.no) outs } ≡ returned (shown old) grant step
+view-returned old terms history outs step grant same pushed less =
     let made : Terms → List Step → List Permit → ShardView = λ t h o. record { terms = t; history = h; out = o } in
-    let out : map (permit_of new.no) new.out.items ≡ without_permit grant (map (permit_of old.no) old.out.items) =
-        ap (λ n. map (permit_of n) new.out.items) number ∙ ap (map (permit_of old.no)) less ∙ map-filter (λ g. not (same_permit grant g)) (permit_of old.no) old.out.items in
-    ap (λ t. made t new.history.items (map (permit_of new.no) new.out.items)) same ∙ ap (λ h. made (terms_of old) h (map (permit_of new.no) new.out.items)) pushed ∙ ap (made (terms_of old) (old.history.items ++ step ∷ [])) out
+    let out : map (permit_of old.no) outs ≡ without_permit grant (map (permit_of old.no) old.out.items) =
+        ap (map (permit_of old.no)) less ∙ map-filter (λ g. not (same_permit grant g)) (permit_of old.no) old.out.items in
+    ap (λ t. made t history (map (permit_of old.no) outs)) same ∙ ap (λ h. made (terms_of old) h (map (permit_of old.no) outs)) pushed ∙ ap (made (terms_of old) (old.history.items ++ step ∷ [])) out
 
 -- the quarantine of a token, as the table of leases tells it
 pub stands-told : {terms : Terms} {past : List Step} {list : List Item} {table : List Lease} {next : ℕ} → Ties terms past list table next → (key : QKey) (token : ℕ) (key' : QKey) (token' : ℕ) (told : Option Quar) → key' ≡ key → token' ≡ token → told ≡ find (has_token token') (leases.quars key' table) → quar_of key token past ≡ told

@@ -31,4 +31,4 @@ returns-clause-step c =
     let how : Ended = ended_as c.args.quar c.args.how in
     let same = ap (λ k. Released k c.args.quar.sid c.token-token.result c.end_entry-how.result) c.key-key.ensures ∙ ap (λ t. Released grant.key c.args.quar.sid t c.end_entry-how.result) c.token-token.ensures ∙ ap (Released grant.key c.args.quar.sid grant.token) c.end_entry-how.ensures.how in
     let pushed = c.push_reserved.ensures.items ∙ ap (λ (s : Step). old.history.items ++ s ∷ []) same in
-    view-returned old _ (Released grant.key c.args.quar.sid grant.token how) grant (terms-kept old c.end_entry-how.new.entries.room c.end_entry-how.ensures.ends.same_room) pushed refl c.drop_out.ensures.items
+    view-returned old _ c.push_reserved.new.self.items c.drop_out.new.outs.items (Released grant.key c.args.quar.sid grant.token how) grant (terms-kept old c.end_entry-how.new.entries.room c.end_entry-how.ensures.ends.same_room) pushed c.drop_out.ensures.items

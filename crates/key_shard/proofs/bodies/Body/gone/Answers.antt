@@ -23,4 +23,4 @@ returns-clause-step c =
     let grant = c.args.grant in
     let same = ap (λ k. Gone k c.sid.result c.token.result) c.key.ensures ∙ ap (λ s. Gone grant.key s c.token.result) c.sid.ensures ∙ ap (Gone grant.key grant.sid) c.token.ensures in
     let pushed = c.push_reserved.ensures.items ∙ ap (λ (s : Step). old.history.items ++ s ∷ []) same in
-    view-returned old _ (Gone grant.key grant.sid grant.token) grant refl pushed refl c.drop_out.ensures.items
+    view-returned old (terms_of old) c.push_reserved.new.self.items c.drop_out.new.outs.items (Gone grant.key grant.sid grant.token) grant refl pushed c.drop_out.ensures.items
