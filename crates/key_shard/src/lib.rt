@@ -15,5 +15,4 @@ mod releases;
 pub mod replies;
 mod sets;
 pub mod shards;
-mod shifts;
 pub mod steps;

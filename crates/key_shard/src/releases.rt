@@ -14,12 +14,11 @@ use crate::bodies::{Body, Out};
 use crate::grants::Grant;
 use crate::replies::{Back, How, Rel};
 use crate::sets::put_in_front;
-use crate::shifts::shift;
 use crate::steps::{Ended, Step};
 use entry_table::Entries;
 use itoa::Buffer;
 use lease_table::{Mode, Quar};
-use rows_model::{QKey, Value};
+use rows_model::{QKey, Value, shift};
 
 /// Whether this grant of a shard is out at it.
 fn is_grant(out: &Out, no: u32, grant: &Grant) -> bool
