@@ -213,7 +213,7 @@ heard_more : (rows : Tables) (plan : Option Plan) (mine : Bool) (told : Reply) (
 heard_more rows plan true told heard h all = (h refl, all)
 heard_more rows plan false told heard h all = all
 
-told_in-event : (number : ℕ) (shape : Shape) (past : List Event) (who : Sid) (request : Wanted) → told_in number (event_of shape past who request) ≡ cond (who.number == number) (reply_in (event_of shape past who request) ∷ []) []
+pub told_in-event : (number : ℕ) (shape : Shape) (past : List Event) (who : Sid) (request : Wanted) → told_in number (event_of shape past who request) ≡ cond (who.number == number) (reply_in (event_of shape past who request) ∷ []) []
 told_in-event number shape past who (wanted.Get key floor) = refl
 told_in-event number shape past who (wanted.Ask key) = refl
 told_in-event number shape past who (wanted.Set key token value stamp) = refl

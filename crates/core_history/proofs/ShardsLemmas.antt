@@ -40,12 +40,12 @@ only_memory X (faults.Stranger shard) h = absurd h
 only_memory X (faults.Spent next) h = absurd h
 
 -- the place that is written, and another one
-slice_get-set_same : {X : Type 0} (xs : List X) (place : ℕ) (x : X) → place < length xs → slice_get (set xs place x) place ≡ Some x
+pub slice_get-set_same : {X : Type 0} (xs : List X) (place : ℕ) (x : X) → place < length xs → slice_get (set xs place x) place ≡ Some x
 slice_get-set_same [] place x h = absurd (omega arith)
 slice_get-set_same (y ∷ xs) zero x h = refl
 slice_get-set_same (y ∷ xs) (suc place) x h = slice_get-set_same xs place x (omega arith)
 
-slice_get-set_other : {X : Type 0} (xs : List X) (place other : ℕ) (x : X) → place ≢ other → slice_get (set xs place x) other ≡ slice_get xs other
+pub slice_get-set_other : {X : Type 0} (xs : List X) (place other : ℕ) (x : X) → place ≢ other → slice_get (set xs place x) other ≡ slice_get xs other
 slice_get-set_other [] place other x h = refl
 slice_get-set_other (y ∷ xs) zero zero x h = absurd (h refl)
 slice_get-set_other (y ∷ xs) zero (suc other) x h = refl

@@ -1,5 +1,7 @@
 -- Which events a core stands after.
-use Rattle.std.specs.Prelude.{ℕ, ◌≡◌, ◌+◌, ◌-◌, ◌^◌, ◌≤◌, ◌<◌, List, [], ◌∷◌, length, map, reverse, Option, Some, slice_get, Result, MatchResult, ◌⊎◌}
+use Rattle.std.specs.Prelude.{ℕ, ◌≡◌, ◌+◌, ◌-◌, ◌^◌, ◌≤◌, ◌<◌, List, [], ◌∷◌, length, map, reverse, Option, Some, slice_get, Result, MatchResult, ◌⊎◌, Vec}
+use Rattle.std.specs.Global.{Global}
+use Rattle.core_history.specs.declared.replies.Reply.{Reply}
 use Rattle.rows_model.specs.declared.keys.QKey.{QKey}
 use Rattle.rows_model.specs.declared.refusals.Memory.{Memory}
 use Rattle.rows_model.specs.Placement.{shard_of}
@@ -83,4 +85,10 @@ HasHomes shards = (key : QKey) → HasHome shards key
 abbrev pub Makes : Shape → List Event → Event → List ShardView → Result Made Memory → Type 0
 Makes shape past event shards result =
     MatchResult result (λ made. HasShards shards shape (event ∷ past) × (made.reply ≡ reply_in event) × (made.line.items ≡ line_of event))
+    (λ _. HasShards shards shape past ⊎ HasShards shards shape (event ∷ past))
+
+-- a turn was taken whose event this is: the shards and its session stand after it, and its line is printed. For want of memory it may have been made or not.
+abbrev pub TakesTurn : Shape → List Event → List Reply → Event → List ShardView → Session → Result (Vec ℕ Global) Memory → Type 0
+TakesTurn shape past heard event shards session result =
+    MatchResult result (λ line. HasShards shards shape (event ∷ past) × Follows session (reply_in event ∷ heard) × (line.items ≡ line_of event))
     (λ _. HasShards shards shape past ⊎ HasShards shards shape (event ∷ past))

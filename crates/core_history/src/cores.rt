@@ -2,7 +2,7 @@ ghost use Rattle.std.specs.Prelude.{◌≡◌, ℕ, ◌+◌, ◌<◌, ◌≤◌,
 
 use crate::plans::{Plan, Shape, Turn};
 use crate::sessions::Session;
-use crate::turns::make;
+use crate::turns::session_turn;
 use key_shard::{Shard, Step};
 use rows_model::{Memory, Rows, Sid};
 use std::alloc::Global;
@@ -73,12 +73,27 @@ impl Core {
         ensures takes { (shape : Shape) (world : World) → IsAt self.old shape world → IfOk result (λ told. IsAt self.new shape (taken shape world turn) × (line_in told ≡ line_of (turn_event shape world turn))) }
         ensures err { (shape : Shape) (world : World) → IsAt self.old shape world → OnErr result (HasHistories self.new shape world.past ⊎ HasHistories self.new shape (turn_event shape world turn ∷ world.past)) }
     {
-        let Turn::Session { sid } = turn;
-        let place = (sid.number - 1) as usize;
-        let wanted = self.sessions[place].wants();
-        let made = make(self.alloc, &self.rows, &mut self.shards, sid, wanted)?;
-        self.sessions[place].told(made.reply);
-        Ok(Told { line: made.line })
+        self.step_of(turn.sid())
+    }
+
+    /// Takes a session's turn.
+    fn step_of(&mut self, sid: Sid) -> Result<Told, Memory>
+        requires running { IsRunning self.old }
+        requires begun { HasBegun self.old (Turn.Session sid) }
+        ensures takes { (shape : Shape) (world : World) → IsAt self.old shape world → IfOk result (λ told. IsAt self.new shape (taken shape world (Turn.Session sid)) × (line_in told ≡ line_of (turn_event shape world (Turn.Session sid)))) }
+        ensures err { (shape : Shape) (world : World) → IsAt self.old shape world → OnErr result (HasHistories self.new shape world.past ⊎ HasHistories self.new shape (turn_event shape world (Turn.Session sid) ∷ world.past)) }
+    {
+        let taken = session_turn(
+            self.alloc,
+            &self.rows,
+            &mut self.shards,
+            &mut self.sessions,
+            sid,
+        );
+        match taken {
+            Ok(line) => Ok(Told { line }),
+            Err(memory) => Err(memory),
+        }
     }
 
     /// The history of the shard of this number, from 0.
@@ -96,11 +111,12 @@ impl Core {
         let Core {
             alloc,
             rows: _,
-            shards,
+            mut shards,
             sessions: _,
         } = self;
         let mut histories = Vec::new(alloc);
-        for shard in shards {
+        while !shards.is_empty() {
+            let shard = shards.remove(0);
             histories.push(shard.take_history())?;
         }
         Ok(histories)

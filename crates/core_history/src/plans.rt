@@ -14,6 +14,18 @@ pub enum Turn {
     Session { sid: Sid },
 }
 
+impl Turn {
+    ghost use Rattle.std.specs.Prelude.{◌≡◌};
+
+    /// The session whose turn it is.
+    pub fn sid(self) -> Sid
+        ensures { self ≡ Turn.Session result }
+    {
+        let Turn::Session { sid } = self;
+        sid
+    }
+}
+
 /// What a run is made with.
 #[derive(Clone, Copy, Debug, PartialEq, Eq)]
 pub struct Shape {

@@ -1,5 +1,5 @@
 // One request of a session, made on a shard or at the store.
-ghost use Rattle.std.specs.Prelude.{◌≡◌, ◌<◌, ◌-◌, ◌^◌, List, [], ◌∷◌, IfOk, OnOk, OnErr, codes, decimal};
+ghost use Rattle.std.specs.Prelude.{◌≡◌, ◌≤◌, length, slice_get, slice_set, Some, ◌<◌, ◌-◌, ◌^◌, List, [], ◌∷◌, IfOk, OnOk, OnErr, codes, decimal};
 ghost use Rattle.core_history.specs.Lines.{line, got_words, set_words, answer_words};
 ghost use Rattle.key_shard.specs.Past.{next_token};
 ghost use Rattle.key_shard.specs.Answers.{IsAtHome, get_step, set_step};
@@ -8,12 +8,16 @@ ghost use Rattle.key_shard.specs.Shards.{ShardView, past_of, stepped};
 ghost use Rattle.core_history.specs.declared.plans.Shape.{Shape};
 ghost use Rattle.core_history.specs.declared.replies.Wanted.TheVariants as wanted;
 ghost use Rattle.core_history.specs.Events.{Event};
-ghost use Rattle.core_history.specs.Follows.{Answers};
+ghost use Rattle.core_history.specs.Follows.{Answers, plan_of, IsReady, Follows};
+ghost use Rattle.core_history.specs.Wants.{wants};
+ghost use Rattle.core_history.specs.declared.replies.Reply.{Reply};
+ghost use Rattle.core_history.specs.declared.sessions.Session.{Session};
 ghost use Rattle.core_history.specs.Machine.{event_of, opening_rows};
-ghost use Rattle.core_history.specs.Cores.{HasHome, HasHomes, HasShards, Makes};
+ghost use Rattle.core_history.specs.Cores.{HasHome, HasHomes, HasShards, Makes, TakesTurn};
 
 use crate::lines::{answer_line, get_line, idle_line, set_line};
 use crate::replies::{Answer, Reply, Wanted};
+use crate::sessions::Session;
 use key_shard::{Got, SetAnswer, Shard, ShardFault};
 use rows_model::{Memory, QKey, Rows, Sid, Value, ask, shard_number};
 use std::alloc::Global;
@@ -23,6 +27,52 @@ use std::alloc::Global;
 pub struct Made {
     pub reply: Reply,
     pub line: Vec<u8>,
+}
+
+/// Takes a turn of the session of this number, and returns its line.
+pub(crate) fn session_turn(
+    alloc: Global,
+    rows: &Rows,
+    shards: &mut Vec<Shard>,
+    sessions: &mut Vec<Session>,
+    who: Sid,
+) -> Result<Vec<u8>, Memory>
+    requires homes { HasHomes shards.old.items }
+    requires some { 1 ≤ who.number }
+    requires begun { who.number ≤ length sessions.old.items }
+    requires ready { (session : Session) → slice_get sessions.old.items (who.number - 1) ≡ Some session → IsReady session }
+    ensures one { (session : Session) → slice_get sessions.old.items (who.number - 1) ≡ Some session →
+        (after : Session) × (sessions.new.items ≡ slice_set sessions.old.items (who.number - 1) after) × (plan_of after ≡ plan_of session) × OnOk result (IsReady after)
+        × ((shape : Shape) (past : List Event) (heard : List Reply) → HasShards shards.old.items shape past → rows.now ≡ opening_rows shape → Follows session heard →
+            TakesTurn shape past heard (event_of shape past who (wants (plan_of session) heard)) shards.new.items after result) }
+{
+    let place = (who.number - 1) as usize;
+    let session = &mut sessions[place];
+    take_turn(alloc, rows, shards, session, who)
+}
+
+fn take_turn(
+    alloc: Global,
+    rows: &Rows,
+    shards: &mut Vec<Shard>,
+    session: &mut Session,
+    who: Sid,
+) -> Result<Vec<u8>, Memory>
+    requires homes { HasHomes shards.old.items }
+    requires ready { IsReady session.old }
+    ensures plan { plan_of session.new ≡ plan_of session.old }
+    ensures ready { OnOk result (IsReady session.new) }
+    ensures takes { (shape : Shape) (past : List Event) (heard : List Reply) → HasShards shards.old.items shape past → rows.now ≡ opening_rows shape → Follows session.old heard →
+        TakesTurn shape past heard (event_of shape past who (wants (plan_of session.old) heard)) shards.new.items session.new result }
+{
+    let request = session.wants();
+    match make(alloc, rows, shards, who, request) {
+        Ok(made) => {
+            session.told(made.reply);
+            Ok(made.line)
+        }
+        Err(memory) => Err(memory),
+    }
 }
 
 /// Makes a session's request, on the shard of its key or at the store.

@@ -8,3 +8,4 @@ pub mod Past
 pub mod Answers
 pub mod Shards
 pub mod Replies
+pub mod Kept

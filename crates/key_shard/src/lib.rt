@@ -6,7 +6,13 @@ pub use replies::{Back, Got, How, QAnswer, Rel, SetAnswer, ShardFault};
 pub use shards::Shard;
 pub use steps::{Ended, Stands, Step};
 
+mod bodies;
+mod gets;
 pub mod grants;
+mod lookups;
+mod quarantines;
+mod releases;
 pub mod replies;
+mod sets;
 pub mod shards;
 pub mod steps;

@@ -4,11 +4,12 @@ ghost use Rattle.key_shard.specs.Answers.{get_step, set_step, quarantine_step, r
 ghost use Rattle.key_shard.specs.Replies.{ShowsGot, ShowsSet, ShowsQuarantine, ShowsRelease};
 ghost use Rattle.key_shard.specs.Shards.{past_of, is_out, stepped, returned, refusal, Refuses};
 
+use crate::bodies::Body;
 use crate::grants::Grant;
 use crate::replies::{Back, Got, How, QAnswer, Rel, SetAnswer, ShardFault};
 use crate::steps::Step;
 use entry_table::Entries;
-use lease_table::Mode;
+use lease_table::{Leases, Mode};
 use rows_model::{Memory, QKey, Sid, Value};
 use std::alloc::Global;
 use std::marker::Model;
@@ -17,24 +18,19 @@ use std::marker::Model;
 /// out.
 #[derive(Debug, Drop)]
 pub struct Shard {
-    no: u32,
-    count: u32,
-    /// How long a lease lives, in ticks of the clock that is handed in.
-    life: u64,
-    first: u64,
-    /// The next token.
-    next: u64,
-    entries: Entries,
-    history: Vec<Step>,
+    body: Body,
 }
 
 impl Model for Shard {
-    ghost use Rattle.std.specs.Prelude.{[]};
     ghost use Rattle.key_shard.specs.Shards.{ShardView};
 
     ghost Value = { ShardView };
 
-    ghost view = { λ s. record { terms = record { no = s.no; count = s.count; room = s.entries.room; life = s.life; first = s.first }; history = s.history.items; out = [] } };
+    ghost use Rattle.key_shard.specs.Kept.{IsKept, shown};
+
+    ghost view = { λ shard. shown shard.body };
+
+    ghost invariant = { λ shard. IsKept shard.body };
 }
 
 impl Shard {
@@ -56,7 +52,20 @@ impl Shard {
             terms = record { no = no; count = count; room = room; life = life; first = first };
             history = []; out = [] }) }
     {
-        Err(Memory)
+        Ok(Shard {
+            body: Body {
+                no,
+                count,
+                life,
+                first,
+                next: first,
+                entries: Entries::new(alloc, room)?,
+                leases: Leases::new(alloc),
+                out: Vec::new(alloc),
+                promised: 0,
+                history: Vec::new(alloc),
+            },
+        })
     }
 
     /// Gets a key for a session. The answer is Own exactly where the session has quarantined the key.
@@ -73,7 +82,7 @@ impl Shard {
         ensures shows { let step = get_step self.old.terms (past_of self.old) key who floor now in IfOk result (ShowsGot step) }
         ensures err { OnErr result (self.new ≡ self.old) }
     {
-        Err(ShardFault::Memory)
+        self.body.get(key, who, floor, now)
     }
 
     /// Stores a value under an I lease, and ends the lease: the entry stands in front, and in a full
@@ -92,7 +101,7 @@ impl Shard {
         ensures shows { let step = set_step self.old.terms (past_of self.old) key token value stamp now in IfOk result (ShowsSet step) }
         ensures err { OnErr result (self.new ≡ self.old) }
     {
-        Err(ShardFault::Memory)
+        self.body.set(key, token, value, stamp, now)
     }
 
     /// Asks for a quarantine of the key, by the rules of compatibility. One that is granted ends the
@@ -112,7 +121,7 @@ impl Shard {
         ensures shows { let step = quarantine_step self.old.terms (past_of self.old) key sid mode shift now in IfOk result (ShowsQuarantine self.old.terms (past_of self.old) step) }
         ensures err { OnErr result (self.new ≡ self.old) }
     {
-        Err(ShardFault::Memory)
+        self.body.quarantine(key, sid, mode, shift, now)
     }
 
     /// Releases a grant. Where its quarantine stands, it ends: with Keep the entry stays, with Drop it
@@ -125,7 +134,7 @@ impl Shard {
         ensures shows { IsTrue (is_out self.old grant) → ShowsRelease (release_step (past_of self.old) grant how) result }
         ensures unknown { IsFalse (is_out self.old grant) → (self.new ≡ self.old) × (result ≡ Rel.Gone) }
     {
-        Rel::Gone
+        self.body.release(grant, how)
     }
 
     /// Releases a grant of mode Refresh with a new value, which stands in front with this stamp; in a
@@ -139,7 +148,7 @@ impl Shard {
         ensures returned { IfErr result (λ back. (back.grant ≡ grant) × (back.value ≡ value)) }
         ensures err { OnErr result (self.new ≡ self.old) }
     {
-        Err(Back { grant, value })
+        self.body.replace(grant, value, stamp)
     }
 
     /// The steps so far, the earliest first.
@@ -147,7 +156,7 @@ impl Shard {
         ensures steps { result.now ≡ self.now.history }
         ensures legal { Legal self.now.terms self.now.history }
     {
-        self.history.as_slice()
+        self.body.history.as_slice()
     }
 
     /// The steps, the earliest first.
@@ -155,15 +164,6 @@ impl Shard {
         ensures steps { result.items ≡ self.history }
         ensures legal { Legal self.terms self.history }
     {
-        let Shard {
-            no: _,
-            count: _,
-            life: _,
-            first: _,
-            next: _,
-            entries: _,
-            history,
-        } = self;
-        history
+        self.body.history
     }
 }

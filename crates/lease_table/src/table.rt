@@ -10,7 +10,7 @@ use crate::edits::{drop_quar, drop_read, record_lease};
 use crate::lookups::{
     holder_on, is_current_at, quar_verdict, quar_with, read_verdict, recorded_on, row_on,
 };
-use crate::records::{Due, Held, Lease, Quar, ReadLease};
+use crate::records::{Due, Held, Lease, Mode, Quar, ReadLease};
 use case_tables::Verdict;
 use rows_model::{Memory, QKey, Sid};
 use std::alloc::Global;
@@ -104,6 +104,20 @@ impl Leases {
         Ok(verdict)
     }
 
+    /// The grid's verdict on a request for a quarantine of the key, as `ask_q` would answer it.
+    pub fn judge_q(&self, key: &QKey, who: Sid, mode: Mode, now: u64) -> Verdict
+        ensures { result ≡ verdict (holding key.now who now self.now) (quarantine (way_of mode)) }
+    {
+        quar_verdict(self.leases.as_slice(), key, who, mode, now)
+    }
+
+    /// The quarantine on the key that has this token.
+    pub fn quar(&self, key: &QKey, token: u64) -> Option<Quar>
+        ensures { result ≡ find (has_token token) (quars key.now self.now) }
+    {
+        quar_with(self.leases.as_slice(), key, token)
+    }
+
     /// The session's own quarantine on the key, else the one of least token, else none.
     pub fn holder(&self, key: &QKey, who: Sid) -> Option<Quar>
         ensures holder { result
@@ -112,6 +126,14 @@ impl Leases {
             → IfSome result (λ q. All (λ other. q.token ≤ other.token) (quars key.now self.now)) }
     {
         holder_on(self.leases.as_slice(), key, who)
+    }
+
+    /// Whether the lease to read the key that has this token is recorded and its deadline lies ahead, so
+    /// that `take_i` would use it up.
+    pub fn can_take_i(&self, key: &QKey, token: u64, now: u64) -> bool
+        ensures { result ≡ is_current token now (recorded key.now self.now) }
+    {
+        is_current_at(recorded_on(self.leases.as_slice(), key), token, now)
     }
 
     /// Uses up the lease to read the key that has this token, and says whether it did: exactly where that

@@ -1,0 +1,155 @@
+-- The grants that are out, less one, and what of it follows.
+use Rattle.std.proofs.Common.{◌≡◌, ◌<◌, ◌≤◌, ◌+◌, ◌*◌, ◌&&◌, ◌||◌, ◌==◌, ℕ, Bool, true, false, not, cond, List, [], ◌∷◌, ◌++◌, Option, Some, None, find, length, map, filter, refl, sym, ap, subst, ◌∙◌, inl, inr, arith, vec_len}
+use Rattle.std.specs.Prelude.{vec_capacity}
+use Rattle.std.specs.List.{All, list_any}
+use Rattle.std.proofs.lemmas.Bool.{cases_Bool, and_parts, or_cases, eqb-true, false≢true}
+use Rattle.std.proofs.lemmas.List.Elements.{All-head, All-tail, All-filter, All-weaker}
+use Rattle.rows_model.specs.declared.keys.QKey.{QKey}
+use Rattle.rows_model.specs.declared.keys.Sid.{Sid}
+use Rattle.rows_model.specs.Key.{same_key}
+use Rattle.rows_model.proofs.SameKey.{same_key-true}
+use Rattle.case_tables.specs.Compatibility.{same_way}
+use Rattle.lease_table.specs.declared.records.Mode.{Mode}
+use Rattle.lease_table.specs.declared.records.Mode.TheVariants.{Invalidate, Refresh, Delta}
+use Rattle.lease_table.specs.Leases.{way_of, has_token, Leaves}
+use Rattle.key_shard.specs.declared.bodies.Body.{Body}
+use Rattle.key_shard.specs.declared.bodies.Out.{Out}
+use Rattle.key_shard.specs.declared.steps.Step.{Step}
+use Rattle.key_shard.specs.Past.{Terms, quar_of}
+use Rattle.key_shard.specs.Permit.{Permit, same_permit}
+use Rattle.std.specs.Prelude.{OnSome}
+use Rattle.lease_table.specs.declared.records.Lease.{Lease}
+use Rattle.lease_table.specs.declared.records.Quar.{Quar}
+use Rattle.lease_table.specs.Leases as leases
+use Rattle.entry_table.specs.Entries.{Item}
+use Rattle.key_shard.specs.declared.replies.How.{How}
+use Rattle.key_shard.specs.declared.replies.How.TheVariants as hows
+use Rattle.key_shard.specs.Answers.{WasGranted, IsAtHome, ended_as}
+use Rattle.key_shard.specs.Shards.{ShardView, is_out, without_permit, returned}
+use Rattle.key_shard.specs.Kept.{Ties, PutsNone, IsKept, IsOut, terms_of, steps_of, permit_of, shown}
+use Rattle.key_shard.proofs.KeptLemmas.{IsKept-step}
+
+-- a test of what a map gives, and a test behind the map
+pub any-map : {X Y : Type 0} (p : Y → Bool) (f : X → Y) (xs : List X) → list_any p (map f xs) ≡ list_any (λ x. p (f x)) xs
+any-map p f [] = refl
+any-map p f (x ∷ xs) = ap (λ b. p (f x) || b) (any-map p f xs)
+
+filter-map-step : {X Y : Type 0} (f : X → Y) (b : Bool) (x : X) (xs : List X) (ys : List Y) → map f xs ≡ ys → map f (cond b (x ∷ xs) xs) ≡ cond b (f x ∷ ys) ys
+filter-map-step f true x xs ys e = ap (λ l. f x ∷ l) e
+filter-map-step f false x xs ys e = e
+
+-- a filter before or behind a map
+pub map-filter : {X Y : Type 0} (p : Y → Bool) (f : X → Y) (xs : List X) → map f (filter (λ x. p (f x)) xs) ≡ filter p (map f xs)
+map-filter p f [] = refl
+map-filter p f (x ∷ xs) =
+    filter-map-step f (p (f x)) x (filter (λ y. p (f y)) xs) (filter p (map f xs)) (map-filter p f xs)
+
+less-or-same : {X : Type 0} (b : Bool) (x : X) (xs : List X) (n : ℕ) → length xs ≤ n → length (cond b (x ∷ xs) xs) ≤ n + 1
+less-or-same true x xs n h = omega arith
+less-or-same false x xs n h = omega arith
+
+filter-le : {X : Type 0} (p : X → Bool) (xs : List X) → length (filter p xs) ≤ length xs
+filter-le p [] = omega arith
+filter-le p (x ∷ xs) =
+    let here = less-or-same (p x) x (filter p xs) (length xs) (filter-le p xs) in omega (arith, here)
+
+shorter-step : {X : Type 0} (b : Bool) (x : X) (rest : List X) (n : ℕ) → length rest ≤ n → (b ≡ false → length rest + 1 ≤ n) → length (cond (not b) (x ∷ rest) rest) + 1 ≤ n + 1
+shorter-step true x rest n le less = omega arith
+shorter-step false x rest n le less = let h = less refl in omega (arith, h)
+
+any-rest : (a b : Bool) → (a || b) ≡ true → a ≡ false → b ≡ true
+any-rest true b h e = cc
+any-rest false b h e = h
+
+-- a list less what passes a test is shorter where something passes
+pub filter-shorter : {X : Type 0} (p : X → Bool) (xs : List X) → list_any p xs ≡ true → length (filter (λ x. not (p x)) xs) + 1 ≤ length xs
+filter-shorter p [] h = absurd (false≢true h)
+filter-shorter p (x ∷ xs) h =
+    let here = shorter-step (p x) x (filter (λ y. not (p y)) xs) (length xs) (filter-le (λ y. not (p y)) xs) (λ e. filter-shorter p xs (any-rest (p x) (list_any p xs) h e)) in omega (arith, here)
+
+-- grants that say the same are one
+same_mode : (a b : Mode) → same_way (way_of a) (way_of b) ≡ true → a ≡ b
+same_mode Invalidate Invalidate h = refl
+same_mode Invalidate Refresh h = cc
+same_mode Invalidate Delta h = cc
+same_mode Refresh Invalidate h = cc
+same_mode Refresh Refresh h = refl
+same_mode Refresh Delta h = cc
+same_mode Delta Invalidate h = cc
+same_mode Delta Refresh h = cc
+same_mode Delta Delta h = refl
+
+same_sid : (a b : Sid) → a.number ≡ b.number → a ≡ b
+same_sid a b e = λ i. record { number = e i }
+
+pub same_permit-true : (a b : Permit) → same_permit a b ≡ true → b ≡ a
+same_permit-true a b h =
+    let last = and_parts ((a.shard == b.shard) && same_key a.key b.key && (a.sid.number == b.sid.number) && same_way (way_of a.mode) (way_of b.mode)) (a.token == b.token) h in
+    let modes = and_parts ((a.shard == b.shard) && same_key a.key b.key && (a.sid.number == b.sid.number)) (same_way (way_of a.mode) (way_of b.mode)) last.0 in
+    let sids = and_parts ((a.shard == b.shard) && same_key a.key b.key) (a.sid.number == b.sid.number) modes.0 in
+    let keys = and_parts (a.shard == b.shard) (same_key a.key b.key) sids.0 in
+    let shard : a.shard ≡ b.shard = eqb-true _ _ keys.0 in
+    let key : a.key ≡ b.key = same_key-true a.key b.key keys.1 in
+    let sid : a.sid ≡ b.sid = same_sid a.sid b.sid (eqb-true _ _ sids.1) in
+    let mode : a.mode ≡ b.mode = same_mode a.mode b.mode modes.1 in
+    let token : a.token ≡ b.token = eqb-true _ _ last.1 in
+    sym (λ i. record { shard = shard i; key = key i; sid = sid i; mode = mode i; token = token i })
+
+-- what holds of each grant that is out holds of one that says the same
+pub out-holds : (P : Permit → Type 0) (number : ℕ) (grant : Permit) (outs : List Out) → All (λ out. P (permit_of number out)) outs → list_any (λ out. same_permit grant (permit_of number out)) outs ≡ true → P grant
+out-holds P number grant [] each h = absurd (false≢true h)
+out-holds P number grant (out ∷ outs) each h =
+    elim (cases_Bool (same_permit grant (permit_of number out))) [
+      | inl same ↦ subst P (same_permit-true grant (permit_of number out) same) (All-head (λ o. P (permit_of number o)) out outs each)
+      | inr apart ↦ out-holds P number grant outs (All-tail (λ o. P (permit_of number o)) out outs each) (any-rest (same_permit grant (permit_of number out)) (list_any (λ o. same_permit grant (permit_of number o)) outs) h apart)
+    ]
+
+-- a grant that is out was granted, on a key that is the shard's
+pub out-granted : (body : Body) (grant : Permit) → IsKept body → is_out (shown body) grant ≡ true → WasGranted (steps_of body) grant × IsAtHome (terms_of body) grant.key
+out-granted body grant kept out =
+    let each = All-weaker (IsOut (terms_of body) (steps_of body)) (λ o. WasGranted (steps_of body) (permit_of body.no o) × IsAtHome (terms_of body) o.key) (λ o was. (was.granted, was.at_home)) body.out.items kept.outs in
+    out-holds (λ g. WasGranted (steps_of body) g × IsAtHome (terms_of body) g.key) body.no grant body.out.items each (sym (any-map (same_permit grant) (permit_of body.no) body.out.items) ∙ out)
+
+shorter-out : (body : Body) (grant : Permit) → is_out (shown body) grant ≡ true → length (filter (λ out. not (same_permit grant (permit_of body.no out))) body.out.items) + 1 ≤ length body.out.items
+shorter-out body grant out =
+    filter-shorter (λ o. same_permit grant (permit_of body.no o)) body.out.items (sym (any-map (same_permit grant) (permit_of body.no) body.out.items) ∙ out)
+
+-- two places are kept for a grant that is out
+pub promised-two : (body : Body) (grant : Permit) → IsKept body → is_out (shown body) grant ≡ true → 2 ≤ body.promised
+promised-two body grant kept out =
+    let shorter = shorter-out body grant out in omega (arith, shorter, kept.promises)
+
+-- a step that takes a grant from those that are out
+pub IsKept-returned : (old new : Body) (step : Step) (grant : Permit) → IsKept old → is_out (shown old) grant ≡ true → new.out.items ≡ filter (λ out. not (same_permit grant (permit_of old.no out))) old.out.items → new.history.items ≡ old.history.items ++ step ∷ [] → terms_of new ≡ terms_of old → Ties (terms_of old) (step ∷ steps_of old) new.entries.list new.leases new.next → new.no < new.count → new.promised + 2 ≡ old.promised → vec_len new.history + new.promised ≤ vec_capacity new.history → IsKept new
+IsKept-returned old new step grant kept out less pushed same ties one promised reserved =
+    let shorter = shorter-out old grant out in
+    let len : length new.out.items ≡ length (filter (λ o. not (same_permit grant (permit_of old.no o))) old.out.items) = ap length less in
+    let outs = subst (All (IsOut (terms_of old) (steps_of old))) (sym less) (All-filter (λ o. not (same_permit grant (permit_of old.no o))) (IsOut (terms_of old) (steps_of old)) old.out.items kept.outs) in
+    IsKept-step old new step kept pushed same ties one outs (omega (arith, shorter, len, kept.promises)) reserved
+
+-- what callers see behind it
+pub view-returned : (old : Body) (terms : Terms) (history : List Step) (outs : List Out) (step : Step) (grant : Permit) → terms ≡ terms_of old → history ≡ old.history.items ++ step ∷ [] → outs ≡ filter (λ out. not (same_permit grant (permit_of old.no out))) old.out.items → record { terms = terms; history = history; out = map (permit_of old.no) outs } ≡ returned (shown old) grant step
+view-returned old terms history outs step grant same pushed less =
+    let made : Terms → List Step → List Permit → ShardView = λ t h o. record { terms = t; history = h; out = o } in
+    let out : map (permit_of old.no) outs ≡ without_permit grant (map (permit_of old.no) old.out.items) =
+        ap (map (permit_of old.no)) less ∙ map-filter (λ g. not (same_permit grant g)) (permit_of old.no) old.out.items in
+    ap (λ t. made t history (map (permit_of old.no) outs)) same ∙ ap (λ h. made (terms_of old) h (map (permit_of old.no) outs)) pushed ∙ ap (made (terms_of old) (old.history.items ++ step ∷ [])) out
+
+-- the quarantine of a token, as the table of leases tells it
+pub stands-told : {terms : Terms} {past : List Step} {list : List Item} {table : List Lease} {next : ℕ} → Ties terms past list table next → (key : QKey) (token : ℕ) (key' : QKey) (token' : ℕ) (told : Option Quar) → key' ≡ key → token' ≡ token → told ≡ find (has_token token') (leases.quars key' table) → quar_of key token past ≡ told
+stands-told {table = table} h key token key' token' told keys tokens e =
+    sym (e ∙ ap (λ t. find (has_token t) (leases.quars key' table)) tokens ∙ ap (λ k. find (has_token token) (leases.quars k table)) keys ∙ ap (find (has_token token)) (h.quars key))
+
+-- what the end of a quarantine that stands leaves
+pub ended-leaves : {terms : Terms} {past : List Step} {list : List Item} {table : List Lease} {next : ℕ} → Ties terms past list table next → (key : QKey) (token : ℕ) (key' : QKey) (token' : ℕ) (told : Option Quar) (quar : Quar) (new : List Lease) → key' ≡ key → token' ≡ token → told ≡ find (has_token token') (leases.quars key' table) → OnSome told (Leaves key' (leases.recorded key' table) (filter (λ q. not (has_token token' q)) (leases.quars key' table)) table new) → quar_of key token past ≡ Some quar → Leaves key (leases.recorded key table) (filter (λ q. not (has_token token q)) (leases.quars key table)) table new
+ended-leaves {table = table} h key token key' token' told quar new keys tokens e after stands =
+    let some : told ≡ Some quar = sym (stands-told h key token key' token' told keys tokens e) ∙ stands in
+    let leaves : Leaves key' (leases.recorded key' table) (filter (λ q. not (has_token token' q)) (leases.quars key' table)) table new =
+        subst (λ o. OnSome o (Leaves key' (leases.recorded key' table) (filter (λ q. not (has_token token' q)) (leases.quars key' table)) table new)) some after in
+    subst (λ t. Leaves key (leases.recorded key table) (filter (λ q. not (has_token t q)) (leases.quars key table)) table new) tokens (subst (λ k. Leaves k (leases.recorded k table) (filter (λ q. not (has_token token' q)) (leases.quars k table)) table new) keys leaves)
+
+-- a release puts no value
+pub puts-none : (quar : Quar) (how : How) → PutsNone (ended_as quar how)
+puts-none quar hows.Keep = refl
+puts-none quar hows.Drop = refl
+puts-none quar (hows.Shift stamp) = refl
