@@ -31,9 +31,9 @@ use Rattle.top_run.proofs.PrintLemmas.{print_none, lines_none}
 use Rattle.top_run.proofs.PlayLemmas.{histories_at}
 
 -- a text that is no script was read in vain
-pub in_vain : (script : Option Script) (left_old left_new : Option (List ℕ)) (text : List ℕ) → IfNone script (IsNoScript text) → Takes left_old left_new text → AtEnd left_new → IfNone script (IsReadInVain left_old left_new)
-in_vain None left_old left_new text none takes end = record { text = text; takes = takes; far = inl end; is_none = none }
-in_vain (Some script) left_old left_new text none takes end = tt
+pub in_vain : (script : Option Script) (left_old left_new : Option (List ℕ)) (text : List ℕ) → length text ≤ 16777217 → IfNone script (IsNoScript text) → Takes left_old left_new text → AtEnd left_new → IfNone script (IsReadInVain left_old left_new)
+in_vain None left_old left_new text within none takes end = record { text = text; takes = takes; far = inl end; within = within; is_none = none }
+in_vain (Some script) left_old left_new text within none takes end = tt
 
 -- each turn of a script is of a session that began
 fit_of : (begun : ℕ) (acts : List Act) (lines : List (List ℕ)) → AreLines begun acts lines → AreFit begun acts

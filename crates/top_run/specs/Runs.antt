@@ -59,6 +59,7 @@ pub record IsReadInVain (left_old left_new : Option (List ℕ)) : Type 0 where
   pub text : List ℕ
   pub takes : Takes left_old left_new text
   pub far : AtEnd left_new ⊎ (length text ≡ 16777217)
+  pub within : length text ≤ 16777217
   pub is_none : IsNoScript text
 
 -- The sink took these bytes, and they were counted, as far as a count goes.
