@@ -54,7 +54,7 @@ go_insert R p new x xs false e pairs stop before after rest =
     let first : All (R new) (x ∷ xs) = λ k d l. after k d l (none k d l) in
     subst P (sym n) (AllPairs-cons R new (x ∷ xs) first pairs)
 
-pairs_insert : {X : Type 0} (R : X → X → Type 0) (p : X → Bool) (new : X) (xs : List X) → AllPairs R xs → ((x y : X) → R x y → p x ≡ false → p y ≡ false) → All (λ x. p x ≡ true → R x new) xs → All (λ x. p x ≡ false → R new x) xs → AllPairs R (insert xs (count_by p xs) new)
+pub pairs_insert : {X : Type 0} (R : X → X → Type 0) (p : X → Bool) (new : X) (xs : List X) → AllPairs R xs → ((x y : X) → R x y → p x ≡ false → p y ≡ false) → All (λ x. p x ≡ true → R x new) xs → All (λ x. p x ≡ false → R new x) xs → AllPairs R (insert xs (count_by p xs) new)
 pairs_insert R p new [] pairs stop before after = AllPairs-cons R new [] (All-nil (R new)) pairs
 pairs_insert R p new (x ∷ xs) pairs stop before after =
     go_insert R p new x xs (p x) refl pairs stop before after (pairs_insert R p new xs (pairs_tail R x xs pairs) stop (All-tail (λ y. p y ≡ true → R y new) x xs before) (All-tail (λ y. p y ≡ false → R new y) x xs after))

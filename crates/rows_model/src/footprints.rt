@@ -2,6 +2,7 @@ ghost use Rattle.std.specs.Prelude.{◌≡◌, ◌++◌, ◌≤◌, length, fold
 ghost use Rattle.std.specs.List.{list_any};
 ghost use Rattle.rows_model.specs.Key.{same_key};
 ghost use Rattle.rows_model.specs.Changes.{keys_of, foot_of, has_key, touches, is_key_before, with_key, footprint};
+ghost use Rattle.rows_model.specs.Footprint.{FootprintsAreExact};
 ghost use Rattle.rows_model.specs.Untouched.{UntouchedKeepsItsAnswer};
 
 use crate::changes::{Change, Txn};
@@ -29,6 +30,11 @@ pub fn touches(txn: &Txn, key: &QKey) -> bool
 {
     txn.changes().iter().any(|change| Foot::of(change).has(key))
 }
+
+/// A footprint ascends, and has just the keys that are touched.
+pub fn footprints_are_exact()
+    ensures { FootprintsAreExact }
+{}
 
 /// A key that a transaction doesn't touch has one answer before and after it, on all rows on which
 /// it applies.
