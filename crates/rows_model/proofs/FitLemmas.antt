@@ -1,4 +1,4 @@
-use Rattle.std.proofs.Common.{ℕ, zero, suc, ◌+◌, ◌<◌, ◌≤◌, ◌≡◌, ◌≢◌, Bool, true, false, not, List, [], ◌∷◌, ◌++◌, length, get_or, take, drop, map, filter, find, All, AllPairs, IsSome, Some, refl, sym, ap, subst, zero-add, ◌∙◌, arith, rules, tests}
+use Rattle.std.proofs.Common.{ℕ, zero, suc, ◌+◌, ◌<◌, ◌≤◌, ◌≡◌, ◌≢◌, Bool, true, false, not, List, [], ◌∷◌, length, get_or, take, drop, map, filter, find, All, AllPairs, IsSome, Some, refl, sym, ap, subst, zero-add, ◌∙◌, arith}
 use Rattle.std.specs.Prelude.{count_by, ◌==◌, ◌&&◌, ◌||◌, nat_lt, cond, if◌then◌else◌}
 use Rattle.std.specs.List.{list_any, insert}
 use Rattle.std.proofs.lemmas.Bool.{false≢true, and_parts, eqb-true, eq-eqb}
@@ -8,13 +8,13 @@ use Rattle.std.proofs.lemmas.Bool.Decides.{nat_tests}
 use Rattle.std.proofs.lemmas.List.{get_or-map, length-map}
 use Rattle.std.proofs.lemmas.List.Edits.{length-insert}
 use Rattle.std.proofs.lemmas.List.Sums.{count_by-le-length, length-filter, sum_by-cons}
-use Rattle.std.proofs.lemmas.List.Elements.{All-nil, All-cons, All-head, All-tail, All-append, All-take, All-drop, All-filter, All-weaker, filter_passes}
+use Rattle.std.proofs.lemmas.List.Elements.{All-nil, All-cons, All-head, All-tail, All-append, All-take, All-drop, All-filter, filter_passes}
 use Rattle.std.proofs.lemmas.List.Kept.{AllPairs-cons, AllPairs-filter}
-use Rattle.rows_model.specs.declared.rows.LinkState.TheVariants.{Pending, Friend}
+use Rattle.rows_model.specs.declared.rows.LinkState.TheVariants.{Friend}
 use Rattle.rows_model.specs.declared.rows.Link.{Link}
 use Rattle.rows_model.specs.declared.rows.Member.{Member}
 use Rattle.rows_model.specs.Name.{IsName}
-use Rattle.rows_model.specs.Rows.{Tables, Fit, IsLink, IsBefore, IsMember, member_of, joins, is_pending, is_friend}
+use Rattle.rows_model.specs.Rows.{Tables, Fit, IsLink, IsBefore, IsMember, joins, is_pending}
 use Rattle.rows_model.specs.Changes.{is_before, with_link, without_link, invitation, friendship, renamed, is_member, is_linked, is_invited, applies}
 use Rattle.rows_model.specs.declared.changes.Change.TheVariants.{Invite, Accept}
 

@@ -1,4 +1,4 @@
-use Rattle.std.proofs.Common.{ℕ, ◌+◌, ◌<◌, ◌≤◌, ◌≡◌, Bool, true, false, List, [], ◌∷◌, ◌++◌, length, get_or, take, drop, fold, All, AllPairs, refl, sym, ap, ◌∙◌, arith, take-append-drop}
+use Rattle.std.proofs.Common.{◌≡◌, Bool, true, false, List, [], ◌∷◌, get_or, take, drop, fold, AllPairs, refl, sym, ap, ◌∙◌, arith, take-append-drop}
 use Rattle.std.specs.Prelude.{count_by, ◌||◌, if◌then◌else◌}
 use Rattle.std.specs.List.{list_any, flat_map, insert}
 use Rattle.std.proofs.lemmas.Bool.{false≢true}
@@ -6,9 +6,9 @@ use Rattle.std.proofs.lemmas.Bool.Decides.{nat_tests}
 use Rattle.std.proofs.lemmas.List.Folds.{list_any-append}
 use Rattle.rows_model.specs.declared.keys.QKey.{QKey}
 use Rattle.rows_model.specs.declared.changes.Change.{Change}
-use Rattle.rows_model.specs.Key.{kind_number, same_key}
-use Rattle.rows_model.specs.Changes.{foot_of, has_key, touches, is_key_before, with_key, footprint}
-use Rattle.rows_model.specs.Footprint.{IsFootprint, FootprintsAreExact}
+use Rattle.rows_model.specs.Key.{same_key}
+use Rattle.rows_model.specs.Changes.{foot_of, has_key, touches, is_key_before, with_key}
+use Rattle.rows_model.specs.Footprint.{FootprintsAreExact}
 use Rattle.rows_model.proofs.SameKey.{same_key-true}
 use Rattle.rows_model.proofs.FitLemmas.{pairs_insert, none_passes}
 
