@@ -1,3 +1,6 @@
+pub mod ApplyLemmas
+pub mod FitLemmas
+pub mod FootLemmas
 pub mod KeyLemmas
 pub mod ListTextLemmas
 pub mod QueryLemmas
@@ -6,3 +9,4 @@ pub mod NumberLemmas
 pub mod RowsLemmas
 pub mod SameKey
 pub mod ShiftLemmas
+pub mod UntouchedLemmas

@@ -5,3 +5,7 @@ pub mod Query
 pub mod Rows
 pub mod Placement
 pub mod Shift
+pub mod Changes
+pub mod TxnFaults
+pub mod ApplyFaults
+pub mod Untouched

@@ -1,15 +1,19 @@
 //! Keys, values and the rows of the social store: what a key asks, and the answer to it.
 #![tactic(auto)]
 
+pub use changes::{Change, Txn};
+pub use footprints::{footprint, touches, untouched_keeps_its_answer};
 pub use keys::{Kind, QKey, Sid, texts_tell_keys};
 pub use names::Name;
 pub use placement::shard_number;
 pub use queries::{answers_ascend, ask};
-pub use refusals::Memory;
+pub use refusals::{ApplyFault, Memory, TxnFault};
 pub use rows::{Link, LinkState, Member, Rows};
 pub use shifts::{numbers_are_decimal, shift};
 pub use values::Value;
 
+pub mod changes;
+pub mod footprints;
 pub mod keys;
 pub mod names;
 mod numbers;

@@ -124,3 +124,155 @@ fn copies_values(rt: HostRuntime) -> Result<(), Fail> {
     assert_ne!(rt; Value::of(rt.alloc(), b"m2 0 1")?, value);
     Ok(())
 }
+
+fn kinds_of(id: u32) -> [QKey; 5] {
+    [
+        QKey {
+            kind: Kind::Profile,
+            id,
+        },
+        QKey {
+            kind: Kind::Friends,
+            id,
+        },
+        QKey {
+            kind: Kind::Pending,
+            id,
+        },
+        QKey {
+            kind: Kind::NFriends,
+            id,
+        },
+        QKey {
+            kind: Kind::NPending,
+            id,
+        },
+    ]
+}
+
+#[test]
+fn makes_changes_and_answers(rt: HostRuntime) -> Result<(), Fail> {
+    let mut rows = Rows::start(rt.alloc(), 4)?;
+    let name = Name::of(b"ann").ok_or("a name")?;
+    for (changes, want) in [
+        (
+            [Change::Invite { a: 3, b: 1 }].as_slice(),
+            ["m1 0 1", "", "3", "0", "1"],
+        ),
+        (
+            [Change::Invite { a: 2, b: 1 }].as_slice(),
+            ["m1 0 2", "", "2,3", "0", "2"],
+        ),
+        (
+            [Change::Accept { a: 3, b: 1 }].as_slice(),
+            ["m1 1 1", "3", "2", "1", "1"],
+        ),
+        (
+            [Change::Accept { a: 2, b: 1 }, Change::Rename { a: 1, name }].as_slice(),
+            ["ann 2 0", "2,3", "", "2", "0"],
+        ),
+        (
+            [
+                Change::Thaw { a: 1, b: 2 },
+                Change::Invite { a: 4, b: 1 },
+                Change::Reject { a: 4, b: 1 },
+            ]
+            .as_slice(),
+            ["ann 1 0", "3", "", "1", "0"],
+        ),
+    ] {
+        let txn = Txn::of(rt.alloc(), changes)?;
+        assert_eq!(rt; rows.apply(&txn), Ok(()));
+        for (key, text) in kinds_of(1).iter().zip(want.iter()) {
+            let value = ask(rt.alloc(), &rows, key)?;
+            assert_eq!(rt; value.bytes(), text.as_bytes(), "at {key:?}");
+        }
+    }
+    Ok(())
+}
+
+#[test]
+fn rejects_a_transaction_whole(rt: HostRuntime) -> Result<(), Fail> {
+    let mut rows = Rows::start(rt.alloc(), 3)?;
+    let invite = Change::Invite { a: 1, b: 2 };
+    for (changes, index) in [
+        ([Change::Accept { a: 1, b: 2 }].as_slice(), 0),
+        ([invite, Change::Invite { a: 2, b: 1 }].as_slice(), 1),
+        ([invite, Change::Accept { a: 2, b: 1 }].as_slice(), 1),
+        (
+            [
+                invite,
+                Change::Reject { a: 1, b: 2 },
+                Change::Thaw { a: 1, b: 2 },
+            ]
+            .as_slice(),
+            2,
+        ),
+        ([Change::Invite { a: 3, b: 3 }].as_slice(), 0),
+        ([Change::Invite { a: 3, b: 4 }].as_slice(), 0),
+    ] {
+        let txn = Txn::of(rt.alloc(), changes)?.copy()?;
+        assert_eq!(rt; rows.apply(&txn), Err(ApplyFault::Rejected { index }));
+        let value = ask(
+            rt.alloc(),
+            &rows,
+            &QKey {
+                kind: Kind::NPending,
+                id: 2,
+            },
+        )?;
+        assert_eq!(rt; value.bytes(), "0".as_bytes());
+    }
+    Ok(())
+}
+
+#[test]
+fn takes_one_to_eight_changes(rt: HostRuntime) -> Result<(), Fail> {
+    let many = [Change::Thaw { a: 1, b: 2 }; 9];
+    assert_eq!(rt; Txn::of(rt.alloc(), &many[..8])?.changes().len(), 8);
+    for count in [0, 9] {
+        match Txn::of(rt.alloc(), &many[..count]) {
+            Ok(_) => assert!(rt; false),
+            Err(fault) => assert_eq!(rt; fault, TxnFault::Length { count }),
+        }
+    }
+    Ok(())
+}
+
+#[test]
+fn touches_each_key_once(rt: HostRuntime) -> Result<(), Fail> {
+    let changes = [Change::Accept { a: 3, b: 2 }, Change::Invite { a: 1, b: 2 }];
+    let txn = Txn::of(rt.alloc(), &changes)?;
+    let keys = footprint(rt.alloc(), &txn)?;
+    let want = [
+        (Kind::Profile, 2),
+        (Kind::Profile, 3),
+        (Kind::Friends, 2),
+        (Kind::Friends, 3),
+        (Kind::Pending, 2),
+        (Kind::NFriends, 2),
+        (Kind::NFriends, 3),
+        (Kind::NPending, 2),
+    ];
+    assert_eq!(rt; keys.len(), want.len());
+    for (key, (kind, id)) in keys.iter().zip(want.iter()) {
+        assert_eq!(rt;
+            *key,
+            QKey {
+                kind: *kind,
+                id: *id
+            }
+        );
+        assert!(rt; touches(&txn, key));
+    }
+    assert!(rt;
+        !touches(
+            &txn,
+            &QKey {
+                kind: Kind::Pending,
+                id: 3
+            }
+        )
+    );
+    Ok(())
+}
