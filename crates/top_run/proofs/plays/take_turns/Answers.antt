@@ -1,0 +1,30 @@
+use Rattle.std.proofs.Common.{ℕ, ◌≡◌, ◌-◌, ◌+◌, arith}
+use Rattle.top_run.proofs.PlayLemmas.{can_take, can_turn, stands_turn, stops_turn, on_err}
+use Rattle.top_run.proofs.plays.take_turns.Goals as goal
+
+pub take_turn-requires-clause-running : goal.take_turn-requires-clause-running
+take_turn-requires-clause-running g c = (can_take c.loop-taken.core c.args.turn (c.args.count - c.loop-taken._taken) _ _ c.loop-taken.invariant.can).0
+
+pub take_turn-requires-clause-begun : goal.take_turn-requires-clause-begun
+take_turn-requires-clause-begun g c = (can_take c.loop-taken.core c.args.turn (c.args.count - c.loop-taken._taken) _ _ c.loop-taken.invariant.can).1
+
+pub returns-in_err-take_turn-clause-some : goal.returns-in_err-take_turn-clause-some
+returns-in_err-take_turn-clause-some g c = λ shape world taken h.
+    on_err _ (stops_turn c.take_turn.new.core c.args.turn c.args.count c.loop-taken._taken shape world taken (g.W.Sink.taken c.take_turn.new.sink) c.take_turn.new.written (omega arith)
+    (c.in_err-take_turn.ensures.some shape _ taken (c.loop-taken.invariant.so_far shape world taken h)))
+
+pub loop-taken-preserved : goal.loop-taken-preserved
+loop-taken-preserved g c =
+    let up = c.loop-taken.invariant.up in
+    let up' = c.take_turn.ensures.never_falls in
+    record {
+      can = can_turn c.loop-taken.core c.take_turn.new.core c.args.turn (c.args.count - c.loop-taken._taken) (c.args.count - (c.loop-taken._taken + 1)) _ _ _ _ (omega arith) c.loop-taken.invariant.can c.in_ok-take_turn.ensures.all;
+      so_far = λ shape world taken h.
+        stands_turn c.args.core.now c.loop-taken.core c.take_turn.new.core c.args.turn c.loop-taken._taken shape world taken _ _ _ _ (c.loop-taken.invariant.so_far shape world taken h) c.in_ok-take_turn.ensures.all;
+      up = omega arith;
+    }
+
+pub returns-clause-all : goal.returns-clause-all
+returns-clause-all g c = λ shape world taken h.
+    let all : c.loop-taken._taken ≡ c.args.count = omega arith in
+    rw (← all) (c.loop-taken.invariant.so_far shape world taken h)

@@ -1,0 +1,10 @@
+//! The top call: a script from a source, run on the core, and its lines to a sink.
+#![tactic(auto)]
+
+pub use runs::{RunEnd, Status, run};
+
+mod cuts;
+mod plays;
+mod printing;
+pub mod runs;
+mod scripts;
