@@ -2,9 +2,8 @@
 #![tactic(auto)]
 
 use iq_outside::{ReaderSource, WriterSink};
-use std::env;
-use std::io;
 use std::process::ExitCode;
+use std::{env, io};
 use top_run::{Status, run};
 
 fn main(rt: HostRuntime) -> ExitCode {

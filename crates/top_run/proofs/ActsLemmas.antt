@@ -76,10 +76,10 @@ no_end : (begun : ℕ) (a : Act) (line : List ℕ) → line ≡ codes "end" → 
 no_end begun (act.Begin (Read key floor)) line e h =
     let lengths = ap (λ (ws : List (List ℕ)). length ws) (sym (ap words_in e) ∙ h.1.2) in absurd (omega arith)
 no_end begun (act.Turns (Session who) count) line e h = in_turns h.1.4
- where
-  in_turns : ((words_in line ≡ codes "turn" ∷ decimal who.number ∷ []) × (count ≡ 1)) ⊎ (words_in line ≡ codes "turn" ∷ decimal who.number ∷ decimal count ∷ []) → ⊥
-  in_turns (inl k) = let lengths = ap (λ (ws : List (List ℕ)). length ws) (sym (ap words_in e) ∙ k.0) in absurd (omega arith)
-  in_turns (inr k) = let lengths = ap (λ (ws : List (List ℕ)). length ws) (sym (ap words_in e) ∙ k) in absurd (omega arith)
+  where
+    in_turns : ((words_in line ≡ codes "turn" ∷ decimal who.number ∷ []) × (count ≡ 1)) ⊎ (words_in line ≡ codes "turn" ∷ decimal who.number ∷ decimal count ∷ []) → ⊥
+    in_turns (inl k) = let lengths = ap (λ (ws : List (List ℕ)). length ws) (sym (ap words_in e) ∙ k.0) in absurd (omega arith)
+    in_turns (inr k) = let lengths = ap (λ (ws : List (List ℕ)). length ws) (sym (ap words_in e) ∙ k) in absurd (omega arith)
 
 -- a text that isn't empty has a line
 first_part : (byte : ℕ) (parts : List (List ℕ)) → 0 < length (without_empty_last (onto_first byte parts))
@@ -90,13 +90,14 @@ first_part byte (part ∷ next ∷ parts) = omega arith
 some_line : (text : List ℕ) → 0 < length text → 0 < length (lines_in text)
 some_line [] h = absurd (omega arith)
 some_line (byte ∷ text) h = split (byte == 10) refl
- where
-  is : ℕ → Bool
-  is b = b == 10
-  split : (b : Bool) → (byte == 10) ≡ b → 0 < length (lines_in (byte ∷ text))
-  split true e =
-    rw (slice_split-cons_yes (λ (b : ℕ). b == 10) byte text e, in_front [] (parts_at 10 text) (omega (arith, length-slice_split (λ (b : ℕ). b == 10) text))) (omega arith)
-  split false e = rw (slice_split-cons_no (λ (b : ℕ). b == 10) byte text e) (first_part byte (parts_at 10 text))
+  where
+    is : ℕ → Bool
+    is b = b == 10
+
+    split : (b : Bool) → (byte == 10) ≡ b → 0 < length (lines_in (byte ∷ text))
+    split true e =
+        rw (slice_split-cons_yes (λ (b : ℕ). b == 10) byte text e, in_front [] (parts_at 10 text) (omega (arith, length-slice_split (λ (b : ℕ). b == 10) text))) (omega arith)
+    split false e = rw (slice_split-cons_no (λ (b : ℕ). b == 10) byte text e) (first_part byte (parts_at 10 text))
 
 -- so many acts were read of the text, and the rest of it is left
 pub record HasRead (text : List ℕ) (acts : List Act) (sessions turns : ℕ) (rest : List ℕ) : Type 0 where
@@ -134,17 +135,17 @@ read_more text acts sessions turns rest line behind a sessions' turns' h cut oth
       turns_are = sum_by-append turns_of acts (a ∷ []) ∙ omega arith;
       within = fits.within;
       on = λ more k.
-        let here : AreLines sessions (a ∷ more) (lines_in rest) = rw cut (is, rw sessions_are at k) in
-        rw append_assoc (h.on (a ∷ more) here);
+          let here : AreLines sessions (a ∷ more) (lines_in rest) = rw cut (is, rw sessions_are at k) in
+          rw append_assoc (h.on (a ∷ more) here);
       back = λ all k.
-        let was = h.back all k in
-        let lines : AreLines sessions was.0 (line ∷ lines_in behind) = rw cut at was.2 in
-        let next = next_is sessions was.0 line (lines_in behind) other lines in
-        let same : next.0 ≡ a = words_once sessions next.0 a (words_in line) h.within.0 next.3.1 is.1 in
-        let whole : all ≡ (acts ++ a ∷ []) ++ next.1 =
+          let was = h.back all k in
+          let lines : AreLines sessions was.0 (line ∷ lines_in behind) = rw cut at was.2 in
+          let next = next_is sessions was.0 line (lines_in behind) other lines in
+          let same : next.0 ≡ a = words_once sessions next.0 a (words_in line) h.within.0 next.3.1 is.1 in
+          let whole : all ≡ (acts ++ a ∷ []) ++ next.1 =
           was.1 ∙ ap (λ (xs : List Act). acts ++ xs) (next.2 ∙ ap (λ (x : Act). x ∷ next.1) same) ∙ sym (append_assoc acts (a ∷ []) next.1) in
-        let after : AreLines (sessions + sessions_of a) next.1 (lines_in behind) = rw same at next.4 in
-        (next.1, whole, rw sessions_are after);
+          let after : AreLines (sessions + sessions_of a) next.1 (lines_in behind) = rw same at next.4 in
+          (next.1, whole, rw sessions_are after);
     }
 
 -- a list of no length is empty
@@ -157,7 +158,7 @@ pub read_whole : (text : List ℕ) (acts : List Act) (sessions turns : ℕ) (res
     → HasRead text acts sessions turns rest → lines_in rest ≡ line ∷ lines_in behind → line ≡ codes "end" → length behind ≡ 0 → AreActsOf text acts
 read_whole text acts sessions turns rest line behind h cut is none =
     let last : lines_in rest ≡ codes "end" ∷ [] =
-      cut ∙ ap (λ (l : List ℕ). l ∷ lines_in behind) is ∙ ap (λ (b : List ℕ). codes "end" ∷ lines_in b) (empty behind none) in
+    cut ∙ ap (λ (l : List ℕ). l ∷ lines_in behind) is ∙ ap (λ (b : List ℕ). codes "end" ∷ lines_in b) (empty behind none) in
     let sessions_were = h.sessions_are in
     let turns_were = h.turns_are in
     let within = h.within in
@@ -174,12 +175,12 @@ none_after_end text acts sessions turns rest line behind h cut is some all k =
     let was = h.back all k.lines in
     let lines : AreLines sessions was.0 (line ∷ lines_in behind) = rw cut at was.2 in
     ends was.0 lines
- where
-  ends : (more : List Act) → AreLines sessions more (line ∷ lines_in behind) → ⊥
-  ends [] e =
-    let lengths = ap (λ (ls : List (List ℕ)). length ls) e in
-    let line_left = some_line behind some in omega arith
-  ends (a ∷ more) e = no_end sessions a line is e.0
+  where
+    ends : (more : List Act) → AreLines sessions more (line ∷ lines_in behind) → ⊥
+    ends [] e =
+        let lengths = ap (λ (ls : List (List ℕ)). length ls) e in
+        let line_left = some_line behind some in omega arith
+    ends (a ∷ more) e = no_end sessions a line is e.0
 
 -- a line that is that of no act
 pub none_at_line : (text : List ℕ) (acts : List Act) (sessions turns : ℕ) (rest line behind : List ℕ)
@@ -204,20 +205,20 @@ none_past_limits text acts sessions turns rest line behind a h cut other is over
     let next = next_is sessions was.0 line (lines_in behind) other lines in
     let same : next.0 ≡ a = words_once sessions next.0 a (words_in line) h.within.0 next.3.1 is.1 in
     let whole : all ≡ acts ++ a ∷ next.1 =
-      was.1 ∙ ap (λ (xs : List Act). acts ++ xs) (next.2 ∙ ap (λ (x : Act). x ∷ next.1) same) in
+    was.1 ∙ ap (λ (xs : List Act). acts ++ xs) (next.2 ∙ ap (λ (x : Act). x ∷ next.1) same) in
     let all_sessions : sum_by sessions_of all ≡ sum_by sessions_of acts + (sessions_of a + sum_by sessions_of next.1) =
-      ap (sum_by sessions_of) whole ∙ sum_more sessions_of acts a next.1 in
+    ap (sum_by sessions_of) whole ∙ sum_more sessions_of acts a next.1 in
     let all_turns : sum_by turns_of all ≡ sum_by turns_of acts + (turns_of a + sum_by turns_of next.1) =
-      ap (sum_by turns_of) whole ∙ sum_more turns_of acts a next.1 in
+    ap (sum_by turns_of) whole ∙ sum_more turns_of acts a next.1 in
     let sessions_were = h.sessions_are in
     let turns_were = h.turns_are in
     let few = k.sessions in
     let few' = k.turns in
     beyond over (omega arith) (omega arith)
- where
-  beyond : (16 < sessions + sessions_of a) ⊎ (1000000 < turns + turns_of a) → sessions + sessions_of a ≤ 16 → turns + turns_of a ≤ 1000000 → ⊥
-  beyond (inl h) a b = omega arith
-  beyond (inr h) a b = omega arith
+  where
+    beyond : (16 < sessions + sessions_of a) ⊎ (1000000 < turns + turns_of a) → sessions + sessions_of a ≤ 16 → turns + turns_of a ≤ 1000000 → ⊥
+    beyond (inl h) a b = omega arith
+    beyond (inr h) a b = omega arith
 
 -- a text that ends without the last line
 pub none_without_end : (text : List ℕ) (acts : List Act) (sessions turns : ℕ) (rest : List ℕ)
@@ -226,7 +227,7 @@ none_without_end text acts sessions turns rest h none all k =
     let was = h.back all k.lines in
     let nothing : AreLines sessions was.0 [] = subst (λ (r : List ℕ). AreLines sessions was.0 (lines_in r)) (empty rest none) was.2 in
     ends was.0 nothing
- where
-  ends : (more : List Act) → AreLines sessions more [] → ⊥
-  ends [] e = let lengths = ap (λ (ls : List (List ℕ)). length ls) e in omega arith
-  ends (a ∷ more) e = e
+  where
+    ends : (more : List Act) → AreLines sessions more [] → ⊥
+    ends [] e = let lengths = ap (λ (ls : List (List ℕ)). length ls) e in omega arith
+    ends (a ∷ more) e = e

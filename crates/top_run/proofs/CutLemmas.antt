@@ -34,7 +34,7 @@ pub cut_none : (byte : ℕ) (text : List ℕ) → position (is byte) text ≡ No
 cut_none byte text e =
     let over : length text ≤ position_or_len (is byte) text = past _ _ e in
     let none : All (λ x. is byte x ≡ false) text =
-      All-from_get_or (λ (x : ℕ). is byte x ≡ false) text 0 (λ i h. fails_before_first (is byte) text i 0 (omega arith)) in
+    All-from_get_or (λ (x : ℕ). is byte x ≡ false) text 0 (λ i h. fails_before_first (is byte) text i 0 (omega arith)) in
     slice_split_none (is byte) text none
 
 -- a part in front of others stays
@@ -103,7 +103,7 @@ pub many_words : (line verb first rest second more last : List ℕ) → parts_at
     → (v f : List ℕ) (s : Option (List ℕ)) → AreShortWords line v f s → ⊥
 many_words line verb first rest second more last e f g v w s h =
     let whole : parts_at 32 line ≡ verb ∷ first ∷ second ∷ parts_at 32 last =
-      e ∙ ap (λ (parts : List (List ℕ)). verb ∷ parts) (f ∙ ap (λ (parts : List (List ℕ)). first ∷ parts) g) in
+    e ∙ ap (λ (parts : List (List ℕ)). verb ∷ parts) (f ∙ ap (λ (parts : List (List ℕ)). first ∷ parts) g) in
     let lengths = ap (λ (parts : List (List ℕ)). length parts) (sym whole ∙ h.words) in
     let some = length-slice_split (is 32) last in
     too_long s (length (parts_at 32 last)) (omega arith) lengths

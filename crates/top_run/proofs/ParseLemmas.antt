@@ -44,17 +44,19 @@ read_said begun (act.Begin (Read key floor)) number word h =
     }
 read_said begun (act.Turns (Session who) count) number word h =
     absurd (no_turn h.4)
- where
-  no_turn : (((codes "read" ∷ number ∷ word ∷ [] ≡ codes "turn" ∷ decimal who.number ∷ []) × (count ≡ 1)) ⊎ (codes "read" ∷ number ∷ word ∷ [] ≡ codes "turn" ∷ decimal who.number ∷ decimal count ∷ [])) → ⊥
-  no_turn (inl e) = let same = ap letter e.0 in absurd (omega arith)
-  no_turn (inr e) = let same = ap letter e in absurd (omega arith)
+  where
+    no_turn : (((codes "read" ∷ number ∷ word ∷ [] ≡ codes "turn" ∷ decimal who.number ∷ []) × (count ≡ 1)) ⊎ (codes "read" ∷ number ∷ word ∷ [] ≡ codes "turn" ∷ decimal who.number ∷ decimal count ∷ [])) → ⊥
+    no_turn (inl e) = let same = ap letter e.0 in absurd (omega arith)
+    no_turn (inr e) = let same = ap letter e in absurd (omega arith)
 
 pub read_words : (begun : ℕ) (number word : List ℕ) (n : ℕ) (key : QKey) → IsNumber number n → n ≡ begun + 1 → IsKeyText word key
     → AreReadWords begun (Read key 0) (codes "read" ∷ number ∷ word ∷ [])
 read_words begun number word n key h e k =
-    let number_is : number ≡ decimal (begun + 1) = h.written ∙ ap decimal e in
-    (refl, record { id_from = k.id_from; id_below = k.id_below; written = refl },
-      ap (λ (w : List ℕ). codes "read" ∷ w ∷ word ∷ []) number_is ∙ ap (λ (w : List ℕ). codes "read" ∷ decimal (begun + 1) ∷ w ∷ []) k.written)
+    let number_is : number ≡ decimal (begun + 1) = h.written ∙ ap decimal e in (
+      refl,
+      record { id_from = k.id_from; id_below = k.id_below; written = refl },
+      ap (λ (w : List ℕ). codes "read" ∷ w ∷ word ∷ []) number_is ∙ ap (λ (w : List ℕ). codes "read" ∷ decimal (begun + 1) ∷ w ∷ []) k.written,
+    )
 
 -- no read line without the number
 pub no_read_number : (begun : ℕ) (number word : List ℕ) → begun ≤ 16 → IsNoNumber number → (a : Act) → AreWords begun a (codes "read" ∷ number ∷ word ∷ []) → ⊥
@@ -96,42 +98,46 @@ pub turns_said : (begun : ℕ) (a : Act) (number : List ℕ) (word : Option (Lis
 turns_said begun (act.Begin (Read key floor)) number word small h =
     let same = ap letter h.2 in absurd (omega arith)
 turns_said begun (act.Turns (Session who) count) number word small h = said h.4
- where
-  said : (((codes "turn" ∷ number ∷ option_to_list word ≡ codes "turn" ∷ decimal who.number ∷ []) × (count ≡ 1)) ⊎ (codes "turn" ∷ number ∷ option_to_list word ≡ codes "turn" ∷ decimal who.number ∷ decimal count ∷ [])) → SaysTurns begun number word
-  said (inl e) =
-    let at : word ≡ None = no_word word number (decimal who.number) e.0 in
-    let number_is : number ≡ decimal who.number = ap second_of e.0 in
-    let is_count : IsCount word count = rw at e.1 in
-    record {
-      who = who.number;
-      count = count;
-      number_is = record { from = h.0; below = omega (arith, h.1); written = number_is };
-      count_is = is_count;
-      within = h.1;
-      some = h.2;
-      few = h.3;
-    }
-  said (inr e) =
-    let at : word ≡ Some (decimal count) = one_word word number (decimal who.number) (decimal count) e in
-    let number_is : number ≡ decimal who.number = ap second_of e in
-    let is_count : IsCount word count = rw at (record { from = h.2; below = omega (arith, h.3); written = refl }) in
-    record {
-      who = who.number;
-      count = count;
-      number_is = record { from = h.0; below = omega (arith, h.1); written = number_is };
-      count_is = is_count;
-      within = h.1;
-      some = h.2;
-      few = h.3;
-    }
+  where
+    said : (((codes "turn" ∷ number ∷ option_to_list word ≡ codes "turn" ∷ decimal who.number ∷ []) × (count ≡ 1)) ⊎ (codes "turn" ∷ number ∷ option_to_list word ≡ codes "turn" ∷ decimal who.number ∷ decimal count ∷ [])) → SaysTurns begun number word
+    said (inl e) =
+        let at : word ≡ None = no_word word number (decimal who.number) e.0 in
+        let number_is : number ≡ decimal who.number = ap second_of e.0 in
+        let is_count : IsCount word count = rw at e.1 in
+        record {
+          who = who.number;
+          count = count;
+          number_is = record { from = h.0; below = omega (arith, h.1); written = number_is };
+          count_is = is_count;
+          within = h.1;
+          some = h.2;
+          few = h.3;
+        }
+    said (inr e) =
+        let at : word ≡ Some (decimal count) = one_word word number (decimal who.number) (decimal count) e in
+        let number_is : number ≡ decimal who.number = ap second_of e in
+        let is_count : IsCount word count = rw at (record { from = h.2; below = omega (arith, h.3); written = refl }) in
+        record {
+          who = who.number;
+          count = count;
+          number_is = record { from = h.0; below = omega (arith, h.1); written = number_is };
+          count_is = is_count;
+          within = h.1;
+          some = h.2;
+          few = h.3;
+        }
 
 pub turn_words : (begun n count : ℕ) (number : List ℕ) (word : Option (List ℕ)) → IsNumber number n → n ≤ begun → IsCount word count → count ≤ 1000
     → AreTurnWords begun (Session (record { number = n })) count (codes "turn" ∷ number ∷ option_to_list word)
 turn_words begun n count number None is within one few =
     (is.from, within, omega (arith, one), few, inl (ap (λ (w : List ℕ). codes "turn" ∷ w ∷ []) is.written, one))
-turn_words begun n count number (Some word) is within counted few =
-    (is.from, within, counted.from, few,
-      inr (ap (λ (w : List ℕ). codes "turn" ∷ w ∷ word ∷ []) is.written ∙ ap (λ (w : List ℕ). codes "turn" ∷ decimal n ∷ w ∷ []) counted.written))
+turn_words begun n count number (Some word) is within counted few = (
+  is.from,
+  within,
+  counted.from,
+  few,
+  inr (ap (λ (w : List ℕ). codes "turn" ∷ w ∷ word ∷ []) is.written ∙ ap (λ (w : List ℕ). codes "turn" ∷ decimal n ∷ w ∷ []) counted.written),
+)
 
 -- a word has one count
 pub count_once : (word : Option (List ℕ)) (a b : ℕ) → IsCount word a → IsCount word b → a ≡ b
@@ -155,19 +161,19 @@ no_turn_limits begun n count number word small is counted over a h =
     let within = said.within in
     let few = said.few in
     beyond over (omega arith) (omega arith)
- where
-  beyond : (begun < n) ⊎ (1000 < count) → n ≤ begun → count ≤ 1000 → ⊥
-  beyond (inl h) a b = omega arith
-  beyond (inr h) a b = omega arith
+  where
+    beyond : (begun < n) ⊎ (1000 < count) → n ≤ begun → count ≤ 1000 → ⊥
+    beyond (inl h) a b = omega arith
+    beyond (inr h) a b = omega arith
 
 -- a line with no fit words is that of no act
 pub no_words : (begun : ℕ) (line : List ℕ) → ((verb first : List ℕ) (second : Option (List ℕ)) → AreShortWords line verb first second → ⊥) → (a : Act) → IsLine begun a line → ⊥
 no_words begun line none (act.Begin (Read key floor)) h = none _ _ (Some (key_text key)) (record { short = h.0; words = h.1.2 })
 no_words begun line none (act.Turns (Session who) count) h = in_turns h.1.4
- where
-  in_turns : ((words_in line ≡ codes "turn" ∷ decimal who.number ∷ []) × (count ≡ 1)) ⊎ (words_in line ≡ codes "turn" ∷ decimal who.number ∷ decimal count ∷ []) → ⊥
-  in_turns (inl e) = none _ _ None (record { short = h.0; words = e.0 })
-  in_turns (inr e) = none _ _ (Some (decimal count)) (record { short = h.0; words = e })
+  where
+    in_turns : ((words_in line ≡ codes "turn" ∷ decimal who.number ∷ []) × (count ≡ 1)) ⊎ (words_in line ≡ codes "turn" ∷ decimal who.number ∷ decimal count ∷ []) → ⊥
+    in_turns (inl e) = none _ _ None (record { short = h.0; words = e.0 })
+    in_turns (inr e) = none _ _ (Some (decimal count)) (record { short = h.0; words = e })
 
 -- the words of a number of members
 pub members_words : (word : List ℕ) (n : ℕ) → IsNumber word n → n ≤ 100000 → AreMembersWords n (codes "members" ∷ word ∷ [])

@@ -71,8 +71,8 @@ stopped_at_line core shape world turn taken_old taken_new written line is at cut
   printed = lines_of world.past ++ cut.0;
   more = cut.1;
   parts = append_assoc (lines_of world.past) cut.0 cut.1
-    ∙ ap (λ (bytes : List ℕ). lines_of world.past ++ bytes) (cut.2 ∙ is)
-    ∙ sym (lines_more (turn_event shape world turn) world.past);
+      ∙ ap (λ (bytes : List ℕ). lines_of world.past ++ bytes) (cut.2 ∙ is)
+      ∙ sym (lines_more (turn_event shape world turn) world.past);
   prints = cut.3;
 }
 
@@ -84,8 +84,8 @@ pub stands_after_turn : (core : Core) (shape : Shape) (world : World) (turn : Tu
 stands_after_turn core shape world turn taken_old taken_new written line is at prints = record {
   at = at;
   prints =
-    subst (λ (bytes : List ℕ). Prints taken_old taken_new bytes written)
-    (ap (λ (bytes : List ℕ). lines_of world.past ++ bytes) is ∙ sym (lines_more (turn_event shape world turn) world.past)) prints;
+      subst (λ (bytes : List ℕ). Prints taken_old taken_new bytes written)
+      (ap (λ (bytes : List ℕ). lines_of world.past ++ bytes) is ∙ sym (lines_more (turn_event shape world turn) world.past)) prints;
 }
 
 -- moves in two parts
@@ -98,10 +98,11 @@ pub lines_longer : (shape : Shape) (world : World) (moves : List Move) → (more
 lines_longer shape world [] = ([], sym (append-nil (lines_of world.past)))
 lines_longer shape world (Begin plan ∷ moves) = lines_longer shape (begun world plan) moves
 lines_longer shape world (Take turn ∷ moves) =
-    let later = lines_longer shape (taken shape world turn) moves in
-    (line_of (turn_event shape world turn) ++ later.0,
+    let later = lines_longer shape (taken shape world turn) moves in (
+      line_of (turn_event shape world turn) ++ later.0,
       later.1 ∙ ap (λ (bytes : List ℕ). bytes ++ later.0) (lines_more (turn_event shape world turn) world.past)
-      ∙ append_assoc (lines_of world.past) (line_of (turn_event shape world turn)) later.0)
+          ∙ append_assoc (lines_of world.past) (line_of (turn_event shape world turn)) later.0,
+    )
 
 -- what stops in the midst of some moves stops in the midst of all
 pub stops_within : (core : Core) (shape : Shape) (world : World) (before moves after : List Move) (taken_old taken_new : Option (List ℕ)) (written : ℕ)
@@ -110,18 +111,18 @@ pub stops_within : (core : Core) (shape : Shape) (world : World) (before moves a
 stops_within core shape world before moves after taken_old taken_new written h =
     let here = world_after shape world before in
     let all : world_after shape world (before ++ (moves ++ after)) ≡ world_after shape (world_after shape here moves) after =
-      world_after-append shape world before (moves ++ after) ∙ world_after-append shape here moves after in
+    world_after-append shape world before (moves ++ after) ∙ world_after-append shape here moves after in
     let later = lines_longer shape (world_after shape here moves) after in
     record {
       made = before ++ h.made;
       others = h.others ++ after;
       moves_are = append_assoc before h.made (h.others ++ after)
-        ∙ ap (λ (xs : List Move). before ++ xs) (sym (append_assoc h.made h.others after) ∙ ap (λ (xs : List Move). xs ++ after) h.moves_are);
+          ∙ ap (λ (xs : List Move). before ++ xs) (sym (append_assoc h.made h.others after) ∙ ap (λ (xs : List Move). xs ++ after) h.moves_are);
       kept = subst (λ (w : World). HasHistories core shape w.past) (sym (world_after-append shape world before h.made)) h.kept;
       printed = h.printed;
       more = h.more ++ later.0;
       parts = sym (append_assoc h.printed h.more later.0) ∙ ap (λ (bytes : List ℕ). bytes ++ later.0) h.parts ∙ sym later.1
-        ∙ ap (λ (w : World). lines_of w.past) (sym all);
+          ∙ ap (λ (w : World). lines_of w.past) (sym all);
       prints = h.prints;
     }
 
@@ -210,7 +211,7 @@ pub stands_turn : (old core new : Core) (turn : Turn) (done : ℕ) (shape : Shap
     → Stands new shape (world_after shape world (replicate (done + 1) (Take turn))) taken_old taken_new' written'
 stands_turn old core new turn done shape world taken_old taken_new taken_new' written written' h on =
     let same : world_after shape world (replicate (done + 1) (Take turn)) ≡ world_after shape (world_after shape world (replicate done (Take turn))) (Take turn ∷ []) =
-      ap (world_after shape world) (turns_push turn done) ∙ world_after-append shape world (replicate done (Take turn)) (Take turn ∷ []) in
+    ap (world_after shape world) (turns_push turn done) ∙ world_after-append shape world (replicate done (Take turn)) (Take turn ∷ []) in
     subst (λ (w : World). Stands new shape w taken_old taken_new' written') (sym same) (on shape (world_after shape world (replicate done (Take turn))) taken_old h)
 
 -- a stop at one of the turns
@@ -220,9 +221,9 @@ pub stops_turn : (core : Core) (turn : Turn) (count done : ℕ) (shape : Shape) 
 stops_turn core turn count done shape world taken_old taken_new written below h =
     let rest : ℕ = count - (done + 1) in
     let parts : replicate done (Take turn) ++ ((Take turn ∷ []) ++ replicate rest (Take turn)) ≡ replicate count (Take turn) =
-      ap (λ (xs : List Move). replicate done (Take turn) ++ xs) (replicate-append-replicate 1 rest (Take turn))
-      ∙ replicate-append-replicate done (1 + rest) (Take turn)
-      ∙ ap (λ (n : ℕ). replicate n (Take turn)) (omega arith) in
+    ap (λ (xs : List Move). replicate done (Take turn) ++ xs) (replicate-append-replicate 1 rest (Take turn))
+    ∙ replicate-append-replicate done (1 + rest) (Take turn)
+    ∙ ap (λ (n : ℕ). replicate n (Take turn)) (omega arith) in
     subst (λ (xs : List Move). Stops core shape world xs taken_old taken_new written) parts
     (stops_within core shape world (replicate done (Take turn)) (Take turn ∷ []) (replicate rest (Take turn)) taken_old taken_new written h)
 
@@ -236,7 +237,7 @@ pub stands_act : (core new : Core) (a : Act) (done : List Act) (shape : Shape) (
     → Stands new shape (world_after shape world (moves_of (done ++ a ∷ []))) taken_old taken_new' written'
 stands_act core new a done shape world taken_old taken_new taken_new' written written' h on =
     let same : world_after shape world (moves_of (done ++ a ∷ [])) ≡ world_after shape (world_after shape world (moves_of done)) (moves_in a) =
-      ap (world_after shape world) (moves_push done a) ∙ world_after-append shape world (moves_of done) (moves_in a) in
+    ap (world_after shape world) (moves_push done a) ∙ world_after-append shape world (moves_of done) (moves_in a) in
     subst (λ (w : World). Stands new shape w taken_old taken_new' written') (sym same) (on shape (world_after shape world (moves_of done)) taken_old h)
 
 -- a stop at one of the acts

@@ -24,9 +24,9 @@ print_more taken old new printed bytes w w' h gains counted =
     record {
       gains = Gains-append taken old new printed bytes h.gains gains;
       counted = counted
-        ∙ ap (λ (n : ℕ). min (n + length bytes) (2 ^ 64 - 1)) h.counted
-        ∙ min_more (length printed) (length bytes) (2 ^ 64 - 1)
-        ∙ ap (λ (n : ℕ). min n (2 ^ 64 - 1)) (sym (length-append printed bytes));
+          ∙ ap (λ (n : ℕ). min (n + length bytes) (2 ^ 64 - 1)) h.counted
+          ∙ min_more (length printed) (length bytes) (2 ^ 64 - 1)
+          ∙ ap (λ (n : ℕ). min n (2 ^ 64 - 1)) (sym (length-append printed bytes));
     }
 
 -- the first bytes were printed
@@ -35,9 +35,12 @@ pub print_some : (taken old new : Option (List ℕ)) (printed bytes : List ℕ) 
     → (front : List ℕ) × (rest : List ℕ) × (front ++ rest ≡ bytes) × Prints taken new (printed ++ front) w'
 print_some taken old new printed bytes n w w' h gains fewer counted =
     let low : n ≤ length bytes = omega arith in
-    let len : length (take n bytes) ≡ n = length-take-le n bytes low in
-    (take n bytes, drop n bytes, take-append-drop n bytes,
-      print_more taken old new printed (take n bytes) w w' h gains (counted ∙ ap (λ (k : ℕ). min (w + k) (2 ^ 64 - 1)) (sym len)))
+    let len : length (take n bytes) ≡ n = length-take-le n bytes low in (
+      take n bytes,
+      drop n bytes,
+      take-append-drop n bytes,
+      print_more taken old new printed (take n bytes) w w' h gains (counted ∙ ap (λ (k : ℕ). min (w + k) (2 ^ 64 - 1)) (sym len)),
+    )
 
 -- the lines of a past with one event more
 pub lines_more : (event : Event) (past : List Event) → lines_of (event ∷ past) ≡ lines_of past ++ line_of event

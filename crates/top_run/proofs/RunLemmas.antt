@@ -116,9 +116,9 @@ histories_are [] members past h = let count : 0 ≡ 1 = h.count in absurd (omega
 histories_are (s ∷ []) members past h =
     let first = h.each 0 (omega arith) in
     ap (λ (shard : ShardView). shard.history ∷ []) (some_same first)
- where
-  some_same : {A : Type 0} {x y : A} → Some x ≡ Some y → x ≡ y
-  some_same e = cc
+  where
+    some_same : {A : Type 0} {x y : A} → Some x ≡ Some y → x ≡ y
+    some_same e = cc
 histories_are (s ∷ t ∷ shards) members past h = let count : suc (suc (length shards)) ≡ 1 = h.count in absurd (omega arith)
 
 pub kept_are : (core : Core) (members : ℕ) (past : List Event) → HasHistories core (shape_of members) past → histories_in core ≡ histories_of past
@@ -129,9 +129,9 @@ pub first_history : (core : Core) (members : ℕ) (past : List Event) (history :
 first_history core members past history h e =
     let same : slice_get (histories_of past) 0 ≡ Some history = sym (ap (λ (hs : List (List Step)). slice_get hs 0) (kept_are core members past h)) ∙ e in
     ap (λ (x : List Step). x ∷ []) (sym (some_same same))
- where
-  some_same : {A : Type 0} {x y : A} → Some x ≡ Some y → x ≡ y
-  some_same e = cc
+  where
+    some_same : {A : Type 0} {x y : A} → Some x ≡ Some y → x ≡ y
+    some_same e = cc
 
 -- what holds of each step of a history holds of each step the other way round
 all_reversed : {A : Type 0} (P : A → Type 0) (xs : List A) → All P xs → All P (reverse xs)

@@ -22,7 +22,7 @@ abbrev pub AreTurnWords : ℕ → Turn → ℕ → List (List ℕ) → Type 0
 AreTurnWords begun (Session who) count words =
     (1 ≤ who.number) × (who.number ≤ begun) × (1 ≤ count) × (count ≤ 1000)
     × (((words ≡ codes "turn" ∷ decimal who.number ∷ []) × (count ≡ 1))
-        ⊎ (words ≡ codes "turn" ∷ decimal who.number ∷ decimal count ∷ []))
+    ⊎ (words ≡ codes "turn" ∷ decimal who.number ∷ decimal count ∷ []))
 
 -- The words of an act, after so many read lines.
 abbrev pub AreWords : ℕ → Act → List (List ℕ) → Type 0

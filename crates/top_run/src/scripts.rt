@@ -7,8 +7,11 @@ use std::alloc::Global;
 
 /// The longest text, in bytes.
 pub(crate) const LONGEST_TEXT: usize = 16_777_216;
+
 const MOST_MEMBERS: u32 = 100_000;
+
 const MOST_SESSIONS: u32 = 16;
+
 const MOST_TURNS: u32 = 1_000_000;
 /// The most turns of one line.
 const MOST_TURNS_AT_ONCE: u32 = 1_000;

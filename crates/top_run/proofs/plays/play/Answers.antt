@@ -28,7 +28,7 @@ loop-act-preserved g c =
     record {
       can = can_rest c.loop-act.core c.play_act.new.core (get_or acts i no_act) (drop (i + 1) acts) _ _ _ _ (can_act c.loop-act.core acts i _ _ c.loop-act-test.true c.loop-act.invariant.can) c.in_ok-play_act.ensures.all;
       so_far = λ shape world taken h.
-        stands_at c.loop-act.core c.play_act.new.core acts i shape world taken _ _ _ _ c.loop-act-test.true (c.loop-act.invariant.so_far shape world taken h) c.in_ok-play_act.ensures.all;
+          stands_at c.loop-act.core c.play_act.new.core acts i shape world taken _ _ _ _ c.loop-act-test.true (c.loop-act.invariant.so_far shape world taken h) c.in_ok-play_act.ensures.all;
       up = omega arith;
     }
 

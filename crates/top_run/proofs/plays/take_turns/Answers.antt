@@ -20,7 +20,7 @@ loop-taken-preserved g c =
     record {
       can = can_turn c.loop-taken.core c.take_turn.new.core c.args.turn (c.args.count - c.loop-taken._taken) (c.args.count - (c.loop-taken._taken + 1)) _ _ _ _ (omega arith) c.loop-taken.invariant.can c.in_ok-take_turn.ensures.all;
       so_far = λ shape world taken h.
-        stands_turn c.args.core.now c.loop-taken.core c.take_turn.new.core c.args.turn c.loop-taken._taken shape world taken _ _ _ _ (c.loop-taken.invariant.so_far shape world taken h) c.in_ok-take_turn.ensures.all;
+          stands_turn c.args.core.now c.loop-taken.core c.take_turn.new.core c.args.turn c.loop-taken._taken shape world taken _ _ _ _ (c.loop-taken.invariant.so_far shape world taken h) c.in_ok-take_turn.ensures.all;
       up = omega arith;
     }
 

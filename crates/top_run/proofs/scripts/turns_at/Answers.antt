@@ -11,6 +11,6 @@ returns-in_err-count-clause-none c =
 pub returns-then-number-begun-clause-none : goal.returns-then-number-begun-clause-none
 returns-then-number-begun-clause-none c =
     elim c.then-number-begun.branch [
-      then-number-begun-via-then-number-begun w ↦ no_turn_limits c.args.begun c.in_ok-number.number c.in_ok-count.count c.args.number.now (option_copied c.args.count) (omega arith) c.in_ok-number.ensures.found c.in_ok-count.ensures.found (inl (omega arith))
+      | then-number-begun-via-then-number-begun w ↦ no_turn_limits c.args.begun c.in_ok-number.number c.in_ok-count.count c.args.number.now (option_copied c.args.count) (omega arith) c.in_ok-number.ensures.found c.in_ok-count.ensures.found (inl (omega arith))
       | then-number-begun-via-else-number-begun+then-count-gt-MOST_TURNS_AT_ONCE w ↦ no_turn_limits c.args.begun c.in_ok-number.number c.in_ok-count.count c.args.number.now (option_copied c.args.count) (omega arith) c.in_ok-number.ensures.found c.in_ok-count.ensures.found (inr (omega arith))
     ]
