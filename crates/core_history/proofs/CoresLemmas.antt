@@ -1,5 +1,5 @@
 -- How a core follows a session that begins, and a turn.
-use Rattle.std.proofs.Common.{ℕ, ◌+◌, ◌-◌, ◌≡◌, ◌≢◌, ◌<◌, ◌≤◌, ◌==◌, Bool, true, false, cond, List, [], ◌∷◌, ◌++◌, length, map, Option, Some, None, option_map, Result, Ok, Err, OnErr, zero, suc, eq-eqb, rules, slice_get, set, refl, sym, ap, subst, inl, inr, ◌⊎◌, ⊎_elim, ◌∙◌, length-append, arith}
+use Rattle.std.proofs.Common.{ℕ, ◌+◌, ◌-◌, ◌≡◌, ◌≢◌, ◌<◌, ◌≤◌, ◌==◌, Bool, true, false, cond, List, [], ◌∷◌, ◌++◌, length, map, Option, Some, option_map, Result, Ok, Err, OnErr, zero, suc, eq-eqb, rules, slice_get, set, refl, sym, ap, subst, ⊎_elim, ◌∙◌, length-append, arith}
 use Rattle.std.proofs.lemmas.Bool.{eqb-true, cases_Bool, cases_lt, false≢true}
 use Rattle.std.proofs.lemmas.List.{map-append}
 use Rattle.std.proofs.lemmas.Option.{slice_get-map, slice_get_within}
@@ -13,7 +13,7 @@ use Rattle.core_history.specs.declared.plans.Turn.TheVariants as turn
 use Rattle.core_history.specs.Machine.{World, event_of, turn_event, wanted_by, plan_at}
 use Rattle.core_history.specs.Wants.{wants}
 use Rattle.core_history.proofs.FreshLemmas.{told_in-event}
-use Rattle.core_history.specs.Events.{Event, told_in, told_to, reply_in}
+use Rattle.core_history.specs.Events.{Event, told_to, reply_in}
 use Rattle.core_history.specs.Follows.{plan_of, IsReady, Follows}
 use Rattle.core_history.proofs.ShardsLemmas.{slice_get_push, slice_get_pushed, slice_get-set_same, slice_get-set_other}
 
@@ -32,12 +32,12 @@ pub follow_begun : (sessions : List Session) (new : Session) (past : List Event)
 follow_begun sessions new past all none ready follows place session found =
     ⊎_elim (λ h. all place session (sym (slice_get_push sessions new place h) ∙ found))
     (λ h.
-      let inside : place < length (sessions ++ new ∷ []) = slice_get_within (sessions ++ new ∷ []) place session found in
-      let last : place ≡ length sessions = omega (arith, length-append sessions (new ∷ [])) in
-      let is : new ≡ session = some_same new session (sym (slice_get_pushed sessions new) ∙ ap (slice_get (sessions ++ new ∷ [])) (sym last) ∙ found) in
-      let P : Session → Type 0 = λ s. IsReady s × Follows s (told_to (place + 1) past) in
-      let Q : List Reply → Type 0 = λ heard. Follows new heard in
-      subst P is (ready, subst Q (sym (none (place + 1) (omega arith))) follows))
+    let inside : place < length (sessions ++ new ∷ []) = slice_get_within (sessions ++ new ∷ []) place session found in
+    let last : place ≡ length sessions = omega (arith, length-append sessions (new ∷ [])) in
+    let is : new ≡ session = some_same new session (sym (slice_get_pushed sessions new) ∙ ap (slice_get (sessions ++ new ∷ [])) (sym last) ∙ found) in
+    let P : Session → Type 0 = λ s. IsReady s × Follows s (told_to (place + 1) past) in
+    let Q : List Reply → Type 0 = λ heard. Follows new heard in
+    subst P is (ready, subst Q (sym (none (place + 1) (omega arith))) follows))
     (cases_lt place (length sessions))
 
 pub none_begun : (sessions : List Session) (new : Session) (past : List Event) → NoneUnbegun sessions past → NoneUnbegun (sessions ++ new ∷ []) past
@@ -57,25 +57,26 @@ pub follow_turn : (sessions : List Session) (who : ℕ) (after : Session) (past 
     IsReady after → Follows after (reply_in event ∷ told_to who past) → AllFollow (set sessions (who - 1) after) (event ∷ past)
 follow_turn sessions who after past event all some begun told ready follows place session found =
     ⊎_elim (λ here. mine here) (λ there. others there) (cases_Bool (who == place + 1))
- where
-  mine : (who == place + 1) ≡ true → IsReady session × Follows session (told_to (place + 1) (event ∷ past))
-  mine here =
-    let is : who ≡ place + 1 = eqb-true who (place + 1) here in
-    let at : who - 1 ≡ place = omega arith in
-    let same : after ≡ session = some_same after session (sym (slice_get-set_same sessions (who - 1) after (omega arith)) ∙ ap (slice_get (set sessions (who - 1) after)) at ∙ found) in
-    let heard : reply_in event ∷ told_to who past ≡ told_to (place + 1) (event ∷ past) =
-    ap (λ (n : ℕ). reply_in event ∷ told_to n past) is ∙ ap (λ (b : Bool). cond b (reply_in event ∷ []) [] ++ told_to (place + 1) past) (sym here) ∙ sym (told (place + 1)) in
-    let P : Session → Type 0 = λ s. IsReady s × Follows s (told_to (place + 1) (event ∷ past)) in
-    let Q : List Reply → Type 0 = λ heard. Follows after heard in
-    subst P same (ready, subst Q heard follows)
-  others : (who == place + 1) ≡ false → IsReady session × Follows session (told_to (place + 1) (event ∷ past))
-  others there =
-    let differ : who - 1 ≢ place = λ e. false≢true (sym there ∙ eq-eqb who (place + 1) (omega arith)) in
-    let old = all place session (sym (slice_get-set_other sessions (who - 1) place after differ) ∙ found) in
-    let heard : told_to (place + 1) past ≡ told_to (place + 1) (event ∷ past) =
-    ap (λ (b : Bool). cond b (reply_in event ∷ []) [] ++ told_to (place + 1) past) (sym there) ∙ sym (told (place + 1)) in
-    let Q : List Reply → Type 0 = λ heard. Follows session heard in
-    (old.0, subst Q heard old.1)
+  where
+    mine : (who == place + 1) ≡ true → IsReady session × Follows session (told_to (place + 1) (event ∷ past))
+    mine here =
+        let is : who ≡ place + 1 = eqb-true who (place + 1) here in
+        let at : who - 1 ≡ place = omega arith in
+        let same : after ≡ session = some_same after session (sym (slice_get-set_same sessions (who - 1) after (omega arith)) ∙ ap (slice_get (set sessions (who - 1) after)) at ∙ found) in
+        let heard : reply_in event ∷ told_to who past ≡ told_to (place + 1) (event ∷ past) =
+        ap (λ (n : ℕ). reply_in event ∷ told_to n past) is ∙ ap (λ (b : Bool). cond b (reply_in event ∷ []) [] ++ told_to (place + 1) past) (sym here) ∙ sym (told (place + 1)) in
+        let P : Session → Type 0 = λ s. IsReady s × Follows s (told_to (place + 1) (event ∷ past)) in
+        let Q : List Reply → Type 0 = λ heard. Follows after heard in
+        subst P same (ready, subst Q heard follows)
+
+    others : (who == place + 1) ≡ false → IsReady session × Follows session (told_to (place + 1) (event ∷ past))
+    others there =
+        let differ : who - 1 ≢ place = λ e. false≢true (sym there ∙ eq-eqb who (place + 1) (omega arith)) in
+        let old = all place session (sym (slice_get-set_other sessions (who - 1) place after differ) ∙ found) in
+        let heard : told_to (place + 1) past ≡ told_to (place + 1) (event ∷ past) =
+        ap (λ (b : Bool). cond b (reply_in event ∷ []) [] ++ told_to (place + 1) past) (sym there) ∙ sym (told (place + 1)) in
+        let Q : List Reply → Type 0 = λ heard. Follows session heard in
+        (old.0, subst Q heard old.1)
 
 pub none_turn : (sessions : List Session) (who : ℕ) (after : Session) (past : List Event) (event : Event) → NoneUnbegun sessions past → who ≤ length sessions →
     ((number : ℕ) → told_to number (event ∷ past) ≡ cond (who == number) (reply_in event ∷ []) [] ++ told_to number past) → NoneUnbegun (set sessions (who - 1) after) (event ∷ past)

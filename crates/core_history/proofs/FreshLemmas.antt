@@ -1,6 +1,6 @@
 -- Every hit of the machine is fresh. What is stored is what the store answered, and what is hit was stored.
-use Rattle.std.proofs.Common.{ℕ, suc, zero, ◌≡◌, ◌+◌, ◌-◌, ◌<◌, Bool, true, false, ◌&&◌, ◌==◌, cond, nat_le, nat_lt, List, [], ◌∷◌, ◌++◌, length, Option, Some, None, is_some, IfSome, slice_get, refl, sym, ap, subst, ◌∙◌, inl, inr, ⊎_elim, ◌⊎◌, arith, rules}
-use Rattle.std.specs.List.{AllByRecursion, All}
+use Rattle.std.proofs.Common.{ℕ, suc, zero, ◌≡◌, ◌+◌, ◌-◌, Bool, true, false, ◌==◌, cond, nat_le, nat_lt, List, [], ◌∷◌, ◌++◌, Option, Some, None, slice_get, refl, sym, ap, subst, inl, inr, ⊎_elim, ◌⊎◌}
+use Rattle.std.specs.List.{AllByRecursion}
 use Rattle.std.proofs.lemmas.Bool.{eqb-true}
 use Rattle.std.proofs.lemmas.List.Elements.{All-from_recursion}
 use Rattle.rows_model.specs.declared.keys.QKey.{QKey}
@@ -20,20 +20,19 @@ use Rattle.lease_table.specs.declared.records.Quar.{Quar}
 use Rattle.lease_table.specs.Leases.{is_current}
 use Rattle.rows_model.specs.Placement.{shard_of}
 use Rattle.key_shard.specs.Past.{Terms, entry, recorded, is_evicted, seen_by, own_of}
-use Rattle.key_shard.specs.Answers.{get_step, get_by, found_step, miss_by, miss_step, set_step}
+use Rattle.key_shard.specs.Answers.{get_step, get_by, found_step, miss_by, miss_step}
 use Rattle.core_history.specs.declared.plans.Plan.{Plan}
 use Rattle.core_history.specs.declared.plans.Plan.TheVariants.{Read}
 use Rattle.core_history.specs.declared.plans.Shape.{Shape}
-use Rattle.core_history.specs.declared.plans.Turn.{Turn}
 use Rattle.core_history.specs.declared.plans.Turn.TheVariants as turn
 use Rattle.core_history.specs.declared.replies.Answer.{Answer}
 use Rattle.core_history.specs.declared.replies.Reply.{Reply}
 use Rattle.core_history.specs.declared.replies.Reply.TheVariants as reply
 use Rattle.core_history.specs.declared.replies.Wanted.{Wanted}
 use Rattle.core_history.specs.declared.replies.Wanted.TheVariants as wanted
-use Rattle.core_history.specs.Wants.{wants, read_wants, set_after, agains}
-use Rattle.core_history.specs.Events.{Event, Stepped, Asked, Idle, steps_of, told_in, told_to, reply_of, reply_in}
-use Rattle.core_history.specs.Machine.{World, Move, Begin, Take, start, event_of, stepped_on, opening_rows, terms_of, moved, world_after, wanted_by, plan_at, turn_event}
+use Rattle.core_history.specs.Wants.{read_wants, set_after, agains}
+use Rattle.core_history.specs.Events.{Event, steps_of, told_in, told_to, reply_of, reply_in}
+use Rattle.core_history.specs.Machine.{World, Move, Begin, Take, start, event_of, opening_rows, terms_of, moved, world_after, wanted_by, plan_at, turn_event}
 use Rattle.core_history.specs.Fresh.{IsFreshStep, Fresh}
 
 -- the value and stamp are the key's answer over the rows, after no commit
@@ -98,15 +97,17 @@ missed P terms past key who floor now verdicts.Refuse again lease = lease _ _
 -- a get is one of four: a hit of the entry, an Own, an Again or a lease
 pub got_cases : (P : Step → Type 0) (terms : Terms) (past : List Step) (key : QKey) (who : Sid) (floor now : ℕ) → ((value : List ℕ) (stamp : ℕ) → entry key past ≡ Some (value, stamp) → P (step.Hit key who floor value stamp)) → P (step.Own key who) → ((standing : Stands) → P (step.Again key who floor now standing)) → ((token deadline : ℕ) → P (step.Lease key who floor now token deadline)) → P (get_step terms past key who floor now)
 got_cases P terms past key who floor now hit own again lease = by_own (own_of key who past)
- where
-  miss : P (miss_step terms past key who floor now)
-  miss = missed P terms past key who floor now (verdict (seen_by key who now past) read) again lease
-  by_entry : (found : Option (List ℕ × ℕ)) → entry key past ≡ found → P (found_step terms past key who floor now found)
-  by_entry None is = miss
-  by_entry (Some found) is = chosen P (nat_le floor found.1) _ _ (hit found.0 found.1 is) miss
-  by_own : (o : Option Quar) → P (get_by terms past key who floor now o)
-  by_own (Some quar) = own
-  by_own None = by_entry (entry key past) refl
+  where
+    miss : P (miss_step terms past key who floor now)
+    miss = missed P terms past key who floor now (verdict (seen_by key who now past) read) again lease
+
+    by_entry : (found : Option (List ℕ × ℕ)) → entry key past ≡ found → P (found_step terms past key who floor now found)
+    by_entry None is = miss
+    by_entry (Some found) is = chosen P (nat_le floor found.1) _ _ (hit found.0 found.1 is) miss
+
+    by_own : (o : Option Quar) → P (get_by terms past key who floor now o)
+    by_own (Some quar) = own
+    by_own None = by_entry (entry key past) refl
 
 get_honest : (rows : Tables) (terms : Terms) (past : List Step) (key : QKey) (who : Sid) (floor now : ℕ) → IsHonestPast rows past → IsHonestStep rows (get_step terms past key who floor now)
 get_honest rows terms past key who floor now h =
@@ -263,9 +264,9 @@ begun_facts shape world plan facts =
     record {
       honest = facts.honest;
       heard = λ number.
-        let heard = told_to number world.past in
-        let P : Option Plan → Type 0 = λ p. HasHeard (opening_rows shape) p heard in
-        ⊎_elim (λ same. subst P (sym same) (facts.heard number))
+          let heard = told_to number world.past in
+          let P : Option Plan → Type 0 = λ p. HasHeard (opening_rows shape) p heard in
+          ⊎_elim (λ same. subst P (sym same) (facts.heard number))
           (λ none. only_nothing (opening_rows shape) (slice_get (world.plans ++ plan ∷ []) (number - 1)) heard (subst P none (facts.heard number)))
           (plan_stays world.plans plan (number - 1));
     }

@@ -7,9 +7,7 @@ use Rattle.rows_model.specs.Placement.{shard_of}
 use Rattle.key_shard.specs.declared.steps.Step.{Step}
 use Rattle.key_shard.specs.Past.{Terms}
 use Rattle.key_shard.specs.Answers.{Answers, IsAtHome, IsLegalPast, Get, Set, get_step, set_step}
-use Rattle.core_history.specs.declared.plans.Plan.{Plan}
 use Rattle.core_history.specs.declared.plans.Shape.{Shape}
-use Rattle.core_history.specs.declared.plans.Turn.{Turn}
 use Rattle.core_history.specs.declared.plans.Turn.TheVariants as turn
 use Rattle.core_history.specs.declared.replies.Wanted.{Wanted}
 use Rattle.core_history.specs.declared.replies.Wanted.TheVariants as wanted

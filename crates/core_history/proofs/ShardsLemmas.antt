@@ -1,14 +1,13 @@
 -- How the shards of a core follow an event.
-use Rattle.std.proofs.Common.{ℕ, zero, suc, ◌+◌, ◌-◌, ◌^◌, ◌≡◌, ◌≢◌, ◌<◌, ◌≤◌, ◌==◌, ◌&&◌, Bool, true, false, cond, List, [], ◌∷◌, ◌++◌, length, reverse, count_by, Option, Some, None, Result, Ok, Err, slice_get, slice_set, set, refl, sym, ap, subst, ◌∙◌, inl, inr, ⊎_elim, ◌⊎◌, length-append, arith, rules, eq-eqb}
+use Rattle.std.proofs.Common.{ℕ, zero, suc, ◌+◌, ◌-◌, ◌^◌, ◌≡◌, ◌≢◌, ◌<◌, ◌≤◌, ◌==◌, ◌&&◌, Bool, true, false, cond, List, [], ◌∷◌, ◌++◌, length, reverse, Option, Some, None, Err, slice_get, set, refl, sym, ap, subst, ◌∙◌, inl, inr, ⊎_elim, ◌⊎◌, length-append, arith, rules, eq-eqb}
 use Rattle.std.proofs.lemmas.Bool.{eqb-true, cases_Bool, cases_lt, false≢true}
-use Rattle.std.proofs.lemmas.List.{reverse-reverse, reverse-append, length-reverse}
+use Rattle.std.proofs.lemmas.List.{reverse-reverse, reverse-append}
 use Rattle.std.proofs.lemmas.List.Sums.{count_by-le-length}
 use Rattle.std.proofs.Math.ListN.{length-set}
 use Rattle.rows_model.specs.declared.keys.QKey.{QKey}
 use Rattle.rows_model.specs.declared.keys.Sid.{Sid}
 use Rattle.rows_model.specs.Placement.{shard_of}
 use Rattle.key_shard.specs.declared.steps.Step.{Step}
-use Rattle.key_shard.specs.declared.steps.Step.TheVariants as step
 use Rattle.key_shard.specs.declared.replies.ShardFault.{ShardFault}
 use Rattle.key_shard.specs.declared.replies.ShardFault.TheVariants as faults
 use Rattle.key_shard.specs.Past.{Terms, draws, next_token}
@@ -17,7 +16,7 @@ use Rattle.key_shard.specs.Shards.{ShardView, past_of, stepped, out_after, refus
 use Rattle.core_history.specs.declared.plans.Shape.{Shape}
 use Rattle.core_history.specs.Events.{Event, Stepped, Asked, Idle, steps_of, steps_in}
 use Rattle.core_history.specs.Machine.{stepped_on, terms_of}
-use Rattle.core_history.specs.Cores.{IsShape, HasShards, HasHome, HasHomes, shard_after}
+use Rattle.core_history.specs.Cores.{HasShards, HasHomes, shard_after}
 
 -- a step at home that draws no last token isn't refused
 never_spent : (draw : Bool) (next : ℕ) → next < 2 ^ 64 - 1 → cond (draw && (next == 2 ^ 64 - 1)) (Some (faults.Spent next)) None ≡ None
@@ -93,10 +92,10 @@ home_within key count some = omega arith
 
 length-steps_in : (place : ℕ) (event : Event) → length (steps_in place event) ≤ 1
 length-steps_in place (Stepped shard who step) = one (shard == place) step
- where
-  one : (b : Bool) (s : Step) → length (cond b (s ∷ []) []) ≤ 1
-  one true s = omega arith
-  one false s = omega arith
+  where
+    one : (b : Bool) (s : Step) → length (cond b (s ∷ []) []) ≤ 1
+    one true s = omega arith
+    one false s = omega arith
 length-steps_in place (Asked who answer) = omega arith
 length-steps_in place (Idle who) = omega arith
 
@@ -115,13 +114,13 @@ homes_of shards shape past has few key =
       some = some;
       few = omega (arith, has.count, has.fit.few_shards);
       at_home = λ shard found. let same = some_is _ _ (sym is ∙ found) in let P : ShardView → Type 0 = λ v. IsAtHome v.terms key in
-        subst P same (ap (λ (n : ℕ). shard_of key n) (sym has.count));
+          subst P same (ap (λ (n : ℕ). shard_of key n) (sym has.count));
       unspent = λ shard found. let same = some_is _ _ (sym is ∙ found) in let P : ShardView → Type 0 = λ v. next_token v.terms (past_of v) < 2 ^ 64 - 1 in
-        subst P same (rw reverse-reverse (omega (arith, count_by-le-length draws (steps_of home past), length-steps_of home past)));
+          subst P same (rw reverse-reverse (omega (arith, count_by-le-length draws (steps_of home past), length-steps_of home past)));
     }
- where
-  some_is : (a b : ShardView) → Some a ≡ Some b → a ≡ b
-  some_is a b e = cc
+  where
+    some_is : (a b : ShardView) → Some a ≡ Some b → a ≡ b
+    some_is a b e = cc
 
 -- the shard at a key's place is the one of that number
 pub record IsShardOf (shape : Shape) (past : List Event) (key : QKey) (place : ℕ) (shard : ShardView) : Type 0 where
@@ -135,9 +134,9 @@ shard_found shape past key shards place shard has at found =
     let within = home_within key shape.shards has.fit.some_shards in
     let there : slice_get shards (shard_of key shape.shards) ≡ Some shard = ap (λ (n : ℕ). slice_get shards n) (sym here) ∙ found in
     record { here = here; within = within; same = some_is shard _ (sym there ∙ has.each (shard_of key shape.shards) within) }
- where
-  some_is : (a b : ShardView) → Some a ≡ Some b → a ≡ b
-  some_is a b e = cc
+  where
+    some_is : (a b : ShardView) → Some a ≡ Some b → a ≡ b
+    some_is a b e = cc
 
 -- what follows the shard's own past follows the steps on it
 pub step_is : (shape : Shape) (past : List Event) (key : QKey) (place : ℕ) (shard : ShardView) (f : Terms → List Step → Step) → IsShardOf shape past key place shard → f shard.terms (past_of shard) ≡ f (terms_of shape (shard_of key shape.shards)) (steps_of (shard_of key shape.shards) past)
@@ -171,5 +170,5 @@ pub each_pushed : {X : Type 0} (at : ℕ → X) (xs : List X) (x : X) (n : ℕ) 
 each_pushed {X} at xs x n count is each place below =
     ⊎_elim (λ h. slice_get_push xs x place (omega (arith, count)) ∙ each place h)
     (λ h. let last : place ≡ length xs = omega (arith, count) in
-      ap (slice_get (xs ++ x ∷ [])) last ∙ slice_get_pushed xs x ∙ ap (λ (v : X). Some v) (is ∙ ap at (omega (arith, count))))
+    ap (slice_get (xs ++ x ∷ [])) last ∙ slice_get_pushed xs x ∙ ap (λ (v : X). Some v) (is ∙ ap at (omega (arith, count))))
     (cases_lt place n)

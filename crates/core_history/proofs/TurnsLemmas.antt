@@ -1,15 +1,14 @@
 -- What a shard's answer tells and prints.
-use Rattle.std.proofs.Common.{ℕ, ◌≡◌, List, [], ◌∷◌, Option, Some, None, decimal, refl, sym, ap, subst, set, Result, Ok, Err, IfOk, inl, inr, ◌∙◌}
+use Rattle.std.proofs.Common.{ℕ, ◌≡◌, List, [], ◌∷◌, decimal, refl, ap, subst, set, Result, Ok, Err, IfOk, inr, ◌∙◌}
 use Rattle.rows_model.specs.declared.refusals.Memory.{Memory}
 use Rattle.core_history.specs.declared.turns.Made.{Made}
 use Rattle.rows_model.specs.declared.keys.QKey.{QKey}
 use Rattle.rows_model.specs.declared.keys.Sid.{Sid}
 use Rattle.lease_table.specs.Leases.{is_current}
 use Rattle.key_shard.specs.declared.steps.Step.{Step}
-use Rattle.key_shard.specs.declared.steps.Step.TheVariants as step
 use Rattle.key_shard.specs.declared.replies.Got.{Got}
 use Rattle.key_shard.specs.declared.replies.SetAnswer.{SetAnswer}
-use Rattle.key_shard.specs.Past.{Terms, recorded, evicts}
+use Rattle.key_shard.specs.Past.{Terms, recorded}
 use Rattle.key_shard.specs.Answers.{get_step, set_step}
 use Rattle.key_shard.specs.Replies.{ShowsGot, ShowsSet}
 use Rattle.key_shard.specs.Shards.{out_after}

@@ -1,5 +1,5 @@
 -- Which events a core stands after.
-use Rattle.std.specs.Prelude.{ℕ, ◌≡◌, ◌+◌, ◌-◌, ◌^◌, ◌≤◌, ◌<◌, List, [], ◌∷◌, length, map, reverse, Option, Some, slice_get, Result, MatchResult, ◌⊎◌, Vec}
+use Rattle.std.specs.Prelude.{ℕ, ◌≡◌, ◌+◌, ◌-◌, ◌^◌, ◌≤◌, ◌<◌, List, [], ◌∷◌, length, map, reverse, Some, slice_get, Result, MatchResult, ◌⊎◌, Vec}
 use Rattle.std.specs.Global.{Global}
 use Rattle.core_history.specs.declared.replies.Reply.{Reply}
 use Rattle.rows_model.specs.declared.keys.QKey.{QKey}
@@ -47,7 +47,7 @@ pub record IsAt (core : Core) (shape : Shape) (world : World) : Type 0 where
   pub shards : HasShards core.shards.items shape world.past
   pub plans : map plan_of core.sessions.items ≡ world.plans
   pub sessions : (place : ℕ) (session : Session) → slice_get core.sessions.items place ≡ Some session →
-    IsReady session × Follows session (told_to (place + 1) world.past)
+      IsReady session × Follows session (told_to (place + 1) world.past)
   pub unbegun : (number : ℕ) → length core.sessions.items < number → told_to number world.past ≡ []
 
 -- the histories of the core are those after these events

@@ -62,9 +62,9 @@ IsReady session = StageIsReady session.stage
 -- The session may have heard this, the latest first.
 abbrev pub Follows : Session → List Reply → Type 0
 Follows session heard = follows_plan session.plan
- where
-  follows_plan : Plan → Type 0
-  follows_plan (Read key floor) = StageFollows key floor session.stage heard
+  where
+    follows_plan : Plan → Type 0
+    follows_plan (Read key floor) = StageFollows key floor session.stage heard
 
 -- The reply may be told to the session.
 abbrev pub Belongs : Session → Reply → Type 0

@@ -1,5 +1,5 @@
 -- No hit is stale.
-use Rattle.std.specs.Prelude.{ℕ, ◌≡◌, List, All}
+use Rattle.std.specs.Prelude.{◌≡◌, List, All}
 use Rattle.rows_model.specs.Rows.{Tables}
 use Rattle.rows_model.specs.Query.{answer}
 use Rattle.key_shard.specs.declared.steps.Step.{Step}

@@ -2,7 +2,6 @@
 use Rattle.std.specs.Prelude.{ℕ, Bool, true, false, List, [], ◌∷◌, ◌++◌, flat_map, reverse, count_by, Option, Some, None, codes, decimal}
 use Rattle.std.specs.List.{join_with_byte}
 use Rattle.rows_model.specs.declared.keys.QKey.{QKey}
-use Rattle.rows_model.specs.declared.keys.Sid.{Sid}
 use Rattle.rows_model.specs.Key.{key_text}
 use Rattle.key_shard.specs.declared.steps.Stands.{Stands}
 use Rattle.key_shard.specs.declared.steps.Stands.TheVariants as stands
@@ -92,4 +91,4 @@ count_in test histories = count_by test (flat_map (λ history. history) historie
 unfoldable pub end_line : List (List Step) → List ℕ
 end_line histories =
     line (codes "end" ∷ codes "commits" ∷ codes "0" ∷ codes "hits" ∷ decimal (count_in is_hit histories)
-        ∷ codes "stores" ∷ decimal (count_in is_stored histories) ∷ codes "agains" ∷ decimal (count_in is_again histories) ∷ [])
+    ∷ codes "stores" ∷ decimal (count_in is_stored histories) ∷ codes "agains" ∷ decimal (count_in is_again histories) ∷ [])

@@ -130,14 +130,7 @@ fn shards_of(alloc: Global, shape: Shape) -> Result<Vec<Shard>, Memory>
 {
     let mut shards = Vec::new(alloc);
     for no in 0..shape.shards {
-        shards.push(Shard::new(
-            alloc,
-            no,
-            shape.shards,
-            shape.room,
-            shape.life,
-            1,
-        )?)?;
+        shards.push(Shard::new(alloc, no, shape.shards, shape.room, shape.life, 1)?)?;
     }
     Ok(shards)
 }

@@ -10,5 +10,4 @@ ghost use Rattle.core_history.specs.Machine.{Move, start, world_after, opening_r
 pub fn runs_are_fresh()
     ensures fresh { (shape : Shape) (moves : List Move) (place : ℕ) → Fresh (opening_rows shape) (steps_of place (world_after shape start moves).past) }
     ensures legal { (shape : Shape) (moves : List Move) (place : ℕ) → IsLegalPast (terms_of shape place) (steps_of place (world_after shape start moves).past) }
-{
-}
+{}

@@ -5,9 +5,14 @@ use rows_model::{QKey, Value};
 #[derive(Debug, Drop)]
 pub enum Wanted {
     /// The key's entry, with a stamp of at least the floor.
-    Get { key: QKey, floor: u64 },
+    Get {
+        key: QKey,
+        floor: u64,
+    },
     /// The store's answer for the key.
-    Ask { key: QKey },
+    Ask {
+        key: QKey,
+    },
     /// To store the value under the I lease of this token.
     Set {
         key: QKey,

@@ -44,7 +44,7 @@ pub(crate) fn session_turn(
     ensures one { (session : Session) → slice_get sessions.old.items (who.number - 1) ≡ Some session →
         (after : Session) × (sessions.new.items ≡ slice_set sessions.old.items (who.number - 1) after) × (plan_of after ≡ plan_of session) × OnOk result (IsReady after)
         × ((shape : Shape) (past : List Event) (heard : List Reply) → HasShards shards.old.items shape past → rows.now ≡ opening_rows shape → Follows session heard →
-            TakesTurn shape past heard (event_of shape past who (wants (plan_of session) heard)) shards.new.items after result) }
+        TakesTurn shape past heard (event_of shape past who (wants (plan_of session) heard)) shards.new.items after result) }
 {
     let place = (who.number - 1) as usize;
     let session = &mut sessions[place];

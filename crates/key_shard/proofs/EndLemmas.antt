@@ -1,5 +1,5 @@
 -- What the end of a quarantine leaves of the key's entry.
-use Rattle.std.proofs.Common.{◌≡◌, ℕ, Bool, true, false, not, cond, List, [], ◌∷◌, filter, Option, Some, None, is_some, option_map, refl, sym, ap, ◌∙◌, inl, inr}
+use Rattle.std.proofs.Common.{◌≡◌, ℕ, Bool, true, false, not, cond, List, filter, Option, Some, None, is_some, option_map, refl, sym, ap, ◌∙◌, inl, inr}
 use Rattle.std.specs.Prelude.{ℤ, decimal}
 use Rattle.std.proofs.lemmas.Bool.{cases_Bool}
 use Rattle.rows_model.specs.declared.keys.QKey.{QKey}
@@ -9,7 +9,7 @@ use Rattle.rows_model.proofs.SameKey.{same_key-true, same_key-swap}
 use Rattle.entry_table.specs.Entries.{Item, Table, IsSound, lookup, without, replaced, keys}
 use Rattle.entry_table.proofs.EntriesLemmas.{lookup-without, lookup-replaced, without-absent, keys-replaced}
 use Rattle.key_shard.specs.declared.steps.Ended.{Ended}
-use Rattle.key_shard.specs.declared.steps.Ended.TheVariants.{Keep, Drop, Put, Shift}
+use Rattle.key_shard.specs.declared.steps.Ended.TheVariants.{Keep, Drop, Shift}
 use Rattle.key_shard.specs.Past.{entry_ended, entry_shifted}
 use Rattle.key_shard.specs.Kept.{Ends}
 use Rattle.key_shard.proofs.PutLemmas.{keys-without_key}
@@ -41,10 +41,10 @@ kept-order key list (Some f) there = refl
 same_entries : (key : QKey) (list : List Item) (found : Option (List ℕ × ℕ)) → lookup key list ≡ found → (other : QKey) → lookup other list ≡ cond (same_key other key) found (lookup other list)
 same_entries key list found e other =
     both (same_key other key) (lookup other list) ∙ at_key (λ k. lookup k list) key other found (lookup other list) e
- where
-  both : (b : Bool) (o : Option (List ℕ × ℕ)) → o ≡ cond b o o
-  both true o = refl
-  both false o = refl
+  where
+    both : (b : Bool) (o : Option (List ℕ × ℕ)) → o ≡ cond b o o
+    both true o = refl
+    both false o = refl
 
 pub Ends-keep : (key : QKey) (table : Table) → IsSound table → Ends key Keep table table
 Ends-keep key table sound =

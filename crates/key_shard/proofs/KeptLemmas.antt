@@ -1,5 +1,5 @@
 -- A shard keeps what it keeps through a step.
-use Rattle.std.proofs.Common.{◌≡◌, ◌<◌, ◌≤◌, ◌+◌, ◌*◌, ℕ, Bool, true, List, [], ◌∷◌, ◌++◌, length, reverse, map, Option, Some, refl, sym, ap, subst, ◌∙◌, arith, vec_len}
+use Rattle.std.proofs.Common.{◌≡◌, ◌<◌, ◌≤◌, ◌+◌, ◌*◌, ℕ, true, List, [], ◌∷◌, ◌++◌, length, reverse, Some, refl, sym, ap, subst, ◌∙◌, arith, vec_len}
 use Rattle.std.specs.Prelude.{vec_capacity}
 use Rattle.std.specs.List.{All}
 use Rattle.std.proofs.lemmas.Bool.{or_left, or_right, and_from, eq-eqb}
@@ -19,8 +19,8 @@ use Rattle.key_shard.specs.declared.steps.Step.TheVariants.{Hit, Granted}
 use Rattle.key_shard.specs.Shards.{ShardView, stepped, out_after}
 use Rattle.key_shard.specs.Past.{Terms}
 use Rattle.key_shard.specs.Permit.{Permit}
-use Rattle.key_shard.specs.Answers.{WasGranted, IsAtHome}
-use Rattle.key_shard.specs.Kept.{Ties, IsKept, IsOut, terms_of, steps_of, permit_of}
+use Rattle.key_shard.specs.Answers.{IsAtHome}
+use Rattle.key_shard.specs.Kept.{Ties, IsKept, IsOut, terms_of, steps_of}
 
 -- what was granted stays so
 pub IsOut-later : (terms : Terms) (past : List Step) (step : Step) (out : List Out) → All (IsOut terms past) out → All (IsOut terms (step ∷ past)) out
@@ -64,7 +64,7 @@ pub IsKept-still : (old new : Body) → IsKept old → terms_of new ≡ terms_of
 IsKept-still old new kept same history list table next out one promises reserved =
     let past : steps_of new ≡ steps_of old = ap reverse history in
     let ties : Ties (terms_of old) (steps_of old) new.entries.list new.leases new.next =
-        subst (λ n. Ties (terms_of old) (steps_of old) new.entries.list new.leases n) (sym next) (subst (λ t. Ties (terms_of old) (steps_of old) new.entries.list t old.next) (sym table) (subst (λ l. Ties (terms_of old) (steps_of old) l old.leases old.next) (sym list) kept.ties)) in
+    subst (λ n. Ties (terms_of old) (steps_of old) new.entries.list new.leases n) (sym next) (subst (λ t. Ties (terms_of old) (steps_of old) new.entries.list t old.next) (sym table) (subst (λ l. Ties (terms_of old) (steps_of old) l old.leases old.next) (sym list) kept.ties)) in
     let outs : All (IsOut (terms_of old) (steps_of old)) new.out.items = subst (All (IsOut (terms_of old) (steps_of old))) (sym out) kept.outs in
     record {
       one_of = one;
@@ -80,11 +80,11 @@ IsOut-granted terms past out shift now deadline home = record {
   at_home = home;
   granted = or_left _ _ (and_from _ _ (and_from _ _ (and_from _ _ (same_key-refl out.key) (eq-eqb out.sid.number out.sid.number refl)) (same_way-refl (way_of out.mode))) (eq-eqb out.token out.token refl));
 }
- where
-  same_way-refl : (w : Way) → same_way w w ≡ true
-  same_way-refl invalidate = refl
-  same_way-refl refresh = refl
-  same_way-refl delta = refl
+  where
+    same_way-refl : (w : Way) → same_way w w ≡ true
+    same_way-refl invalidate = refl
+    same_way-refl refresh = refl
+    same_way-refl delta = refl
 
 -- the terms, of a body with another table of as much room
 abbrev terms_with : Body → ℕ → Terms

@@ -1,5 +1,5 @@
 -- What a get finds, by the row of the grid and the entry.
-use Rattle.std.proofs.Common.{◌≡◌, ◌<◌, ◌≤◌, ℕ, Bool, true, false, not, cond, List, [], ◌∷◌, map, find, filter, Option, Some, None, is_some, option_map, refl, sym, ap, ◌∙◌, arith}
+use Rattle.std.proofs.Common.{◌≡◌, ◌<◌, ◌≤◌, ℕ, Bool, true, false, not, cond, List, [], ◌∷◌, map, find, filter, Option, Some, None, option_map, refl, sym, ap, ◌∙◌, arith}
 use Rattle.std.specs.List.{list_all, list_any}
 use Rattle.rows_model.specs.declared.keys.QKey.{QKey}
 use Rattle.rows_model.specs.declared.keys.Sid.{Sid}
@@ -12,12 +12,12 @@ use Rattle.lease_table.specs.declared.records.ReadLease.{ReadLease}
 use Rattle.lease_table.specs.Leases as leases
 use Rattle.lease_table.specs.Leases.{way_of, is_of, is_unexpired}
 use Rattle.lease_table.proofs.ListLemmas.{find-none, filter-not-all}
-use Rattle.entry_table.specs.Entries.{Item, lookup}
+use Rattle.entry_table.specs.Entries.{Item}
 use Rattle.key_shard.specs.declared.steps.Stands.TheVariants.{I, Q}
 use Rattle.key_shard.specs.declared.steps.Step.{Step}
-use Rattle.key_shard.specs.declared.steps.Step.TheVariants.{Hit, Lease as StepLease, Again, Own}
+use Rattle.key_shard.specs.declared.steps.Step.TheVariants.{Hit, Again, Own}
 use Rattle.key_shard.specs.declared.lookups.Look.TheVariants as looks
-use Rattle.key_shard.specs.Past.{Terms, standing, recorded, own_of, others_of, seen_by, entry, next_token, deadline_at}
+use Rattle.key_shard.specs.Past.{Terms, standing, recorded, own_of, others_of, seen_by, entry}
 use Rattle.key_shard.specs.Answers.{stands_of, miss_by, miss_step, found_step, get_by, get_step}
 use Rattle.key_shard.specs.Kept.{Ties, IsLook, is_fresh}
 

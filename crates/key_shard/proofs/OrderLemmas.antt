@@ -107,24 +107,24 @@ order-ended past key sid token how none =
     filter_agree (λ k. is_some (entry k (Released key sid token how ∷ past))) (λ k. is_some (ended k)) (λ k. ap is_some (entry-ended past key k sid token how none)) (each_once (used (Released key sid token how ∷ past)))
     ∙ ap (λ keys. filter (λ k. is_some (ended k)) (each_once keys)) (used-ended past key sid token how none)
     ∙ by_end
- where
-  kept : is_some (entry_ended how (entry key past)) ≡ true → (k : QKey) → is_some (cond (same_key k key) (entry_ended how (entry k past)) (entry k past)) ≡ is_some (entry k past)
-  kept some k =
-      elim (cases_Bool (same_key k key)) [
-        | inl same ↦ ap (λ b. is_some (cond b (entry_ended how (entry k past)) (entry k past))) same ∙ ap (λ x. is_some (entry_ended how (entry x past))) (same_key-true k key same) ∙ some ∙ sym (ap (λ x. is_some (entry x past)) (same_key-true k key same) ∙ some-before how (entry key past) none some)
-        | inr apart ↦ ap (λ b. is_some (cond b (entry_ended how (entry k past)) (entry k past))) apart
-      ]
+  where
+    kept : is_some (entry_ended how (entry key past)) ≡ true → (k : QKey) → is_some (cond (same_key k key) (entry_ended how (entry k past)) (entry k past)) ≡ is_some (entry k past)
+    kept some k =
+        elim (cases_Bool (same_key k key)) [
+          | inl same ↦ ap (λ b. is_some (cond b (entry_ended how (entry k past)) (entry k past))) same ∙ ap (λ x. is_some (entry_ended how (entry x past))) (same_key-true k key same) ∙ some ∙ sym (ap (λ x. is_some (entry x past)) (same_key-true k key same) ∙ some-before how (entry key past) none some)
+          | inr apart ↦ ap (λ b. is_some (cond b (entry_ended how (entry k past)) (entry k past))) apart
+        ]
 
-  lost : is_some (entry_ended how (entry key past)) ≡ false → (k : QKey) → is_some (cond (same_key k key) (entry_ended how (entry k past)) (entry k past)) ≡ is_some (cond (same_key k key) None (entry k past))
-  lost gone k =
-      elim (cases_Bool (same_key k key)) [
-        | inl same ↦ ap (λ b. is_some (cond b (entry_ended how (entry k past)) (entry k past))) same ∙ ap (λ x. is_some (entry_ended how (entry x past))) (same_key-true k key same) ∙ gone ∙ sym (ap (λ b. is_some (cond b None (entry k past))) same)
-        | inr apart ↦ ap (λ b. is_some (cond b (entry_ended how (entry k past)) (entry k past))) apart ∙ sym (ap (λ b. is_some (cond b None (entry k past))) apart)
-      ]
+    lost : is_some (entry_ended how (entry key past)) ≡ false → (k : QKey) → is_some (cond (same_key k key) (entry_ended how (entry k past)) (entry k past)) ≡ is_some (cond (same_key k key) None (entry k past))
+    lost gone k =
+        elim (cases_Bool (same_key k key)) [
+          | inl same ↦ ap (λ b. is_some (cond b (entry_ended how (entry k past)) (entry k past))) same ∙ ap (λ x. is_some (entry_ended how (entry x past))) (same_key-true k key same) ∙ gone ∙ sym (ap (λ b. is_some (cond b None (entry k past))) same)
+          | inr apart ↦ ap (λ b. is_some (cond b (entry_ended how (entry k past)) (entry k past))) apart ∙ sym (ap (λ b. is_some (cond b None (entry k past))) apart)
+        ]
 
-  by_end : filter (λ k. is_some (cond (same_key k key) (entry_ended how (entry k past)) (entry k past))) (each_once (used past)) ≡ cond (is_some (entry_ended how (entry key past))) (order past) (filter (λ other. not (same_key key other)) (order past))
-  by_end =
-      elim (cases_Bool (is_some (entry_ended how (entry key past)))) [
-        | inl some ↦ filter_agree (λ k. is_some (cond (same_key k key) (entry_ended how (entry k past)) (entry k past))) (λ k. is_some (entry k past)) (kept some) (each_once (used past)) ∙ sym (ap (λ b. cond b (order past) (filter (λ other. not (same_key key other)) (order past))) some)
-        | inr gone ↦ filter_agree (λ k. is_some (cond (same_key k key) (entry_ended how (entry k past)) (entry k past))) (λ k. is_some (cond (same_key k key) None (entry k past))) (lost gone) (each_once (used past)) ∙ order-missed past key ∙ sym (ap (λ b. cond b (order past) (filter (λ other. not (same_key key other)) (order past))) gone)
-      ]
+    by_end : filter (λ k. is_some (cond (same_key k key) (entry_ended how (entry k past)) (entry k past))) (each_once (used past)) ≡ cond (is_some (entry_ended how (entry key past))) (order past) (filter (λ other. not (same_key key other)) (order past))
+    by_end =
+        elim (cases_Bool (is_some (entry_ended how (entry key past)))) [
+          | inl some ↦ filter_agree (λ k. is_some (cond (same_key k key) (entry_ended how (entry k past)) (entry k past))) (λ k. is_some (entry k past)) (kept some) (each_once (used past)) ∙ sym (ap (λ b. cond b (order past) (filter (λ other. not (same_key key other)) (order past))) some)
+          | inr gone ↦ filter_agree (λ k. is_some (cond (same_key k key) (entry_ended how (entry k past)) (entry k past))) (λ k. is_some (cond (same_key k key) None (entry k past))) (lost gone) (each_once (used past)) ∙ order-missed past key ∙ sym (ap (λ b. cond b (order past) (filter (λ other. not (same_key key other)) (order past))) gone)
+        ]

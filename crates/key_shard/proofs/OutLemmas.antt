@@ -1,8 +1,8 @@
 -- The grants that are out, less one, and what of it follows.
-use Rattle.std.proofs.Common.{◌≡◌, ◌<◌, ◌≤◌, ◌+◌, ◌*◌, ◌&&◌, ◌||◌, ◌==◌, ℕ, Bool, true, false, not, cond, List, [], ◌∷◌, ◌++◌, Option, Some, None, find, length, map, filter, refl, sym, ap, subst, ◌∙◌, inl, inr, arith, vec_len}
+use Rattle.std.proofs.Common.{◌≡◌, ◌<◌, ◌≤◌, ◌+◌, ◌&&◌, ◌||◌, ◌==◌, ℕ, Bool, true, false, not, cond, List, [], ◌∷◌, ◌++◌, Option, Some, find, length, map, filter, refl, sym, ap, subst, ◌∙◌, inl, inr, arith, vec_len}
 use Rattle.std.specs.Prelude.{vec_capacity}
 use Rattle.std.specs.List.{All, list_any}
-use Rattle.std.proofs.lemmas.Bool.{cases_Bool, and_parts, or_cases, eqb-true, false≢true}
+use Rattle.std.proofs.lemmas.Bool.{cases_Bool, and_parts, eqb-true, false≢true}
 use Rattle.std.proofs.lemmas.List.Elements.{All-head, All-tail, All-filter, All-weaker}
 use Rattle.rows_model.specs.declared.keys.QKey.{QKey}
 use Rattle.rows_model.specs.declared.keys.Sid.{Sid}
@@ -132,7 +132,7 @@ pub view-returned : (old : Body) (terms : Terms) (history : List Step) (outs : L
 view-returned old terms history outs step grant same pushed less =
     let made : Terms → List Step → List Permit → ShardView = λ t h o. record { terms = t; history = h; out = o } in
     let out : map (permit_of old.no) outs ≡ without_permit grant (map (permit_of old.no) old.out.items) =
-        ap (map (permit_of old.no)) less ∙ map-filter (λ g. not (same_permit grant g)) (permit_of old.no) old.out.items in
+    ap (map (permit_of old.no)) less ∙ map-filter (λ g. not (same_permit grant g)) (permit_of old.no) old.out.items in
     ap (λ t. made t history (map (permit_of old.no) outs)) same ∙ ap (λ h. made (terms_of old) h (map (permit_of old.no) outs)) pushed ∙ ap (made (terms_of old) (old.history.items ++ step ∷ [])) out
 
 -- the quarantine of a token, as the table of leases tells it
@@ -145,7 +145,7 @@ pub ended-leaves : {terms : Terms} {past : List Step} {list : List Item} {table 
 ended-leaves {table = table} h key token key' token' told quar new keys tokens e after stands =
     let some : told ≡ Some quar = sym (stands-told h key token key' token' told keys tokens e) ∙ stands in
     let leaves : Leaves key' (leases.recorded key' table) (filter (λ q. not (has_token token' q)) (leases.quars key' table)) table new =
-        subst (λ o. OnSome o (Leaves key' (leases.recorded key' table) (filter (λ q. not (has_token token' q)) (leases.quars key' table)) table new)) some after in
+    subst (λ o. OnSome o (Leaves key' (leases.recorded key' table) (filter (λ q. not (has_token token' q)) (leases.quars key' table)) table new)) some after in
     subst (λ t. Leaves key (leases.recorded key table) (filter (λ q. not (has_token t q)) (leases.quars key table)) table new) tokens (subst (λ k. Leaves k (leases.recorded k table) (filter (λ q. not (has_token token' q)) (leases.quars k table)) table new) keys leaves)
 
 -- a release puts no value

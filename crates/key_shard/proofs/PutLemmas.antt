@@ -1,5 +1,5 @@
 -- What putting a value in front leaves.
-use Rattle.std.proofs.Common.{◌≡◌, inl, inr, ◌<◌, ◌≤◌, ℕ, Bool, true, false, not, cond, List, [], ◌∷◌, ◌++◌, length, filter, Option, Some, None, is_some, option_map, refl, sym, ap, subst, ◌∙◌, arith, ltb}
+use Rattle.std.proofs.Common.{◌≡◌, inl, inr, ◌<◌, ◌≤◌, ℕ, true, false, not, cond, List, [], ◌∷◌, ◌++◌, length, filter, Option, Some, None, is_some, option_map, refl, sym, ap, subst, ◌∙◌, arith, ltb}
 use Rattle.std.specs.Prelude.{◌↔◌, IsSome, IsNone}
 use Rattle.std.specs.Option.{option_to_list}
 use Rattle.std.proofs.lemmas.List.{append-nil}
@@ -10,7 +10,7 @@ use Rattle.rows_model.specs.Key.{same_key}
 use Rattle.rows_model.proofs.SameKey.{same_key-refl, same_key-swap}
 use Rattle.entry_table.specs.Entries.{Item, Table, IsSound, DistinctKeys, lookup, without, keys}
 use Rattle.entry_table.proofs.EntriesLemmas.{keys-cons, keys-nil, keys-append, keys-without, length-keys, without-absent, without-split, lookup-put, lookup-init, lookup-nil, lookup-put_dropping, put-kept, put-dropped}
-use Rattle.key_shard.specs.Past.{is_evicted, last_key}
+use Rattle.key_shard.specs.Past.{last_key}
 use Rattle.key_shard.specs.Kept.{Puts, makes_room}
 
 -- a filter that keeps all
@@ -69,9 +69,9 @@ pub Puts-dropped : (key : QKey) (v : List ℕ) (s : ℕ) (old new : Table) (init
 Puts-dropped key v s old new init last sound absent full list parts room after =
     let distinct = subst DistinctKeys parts sound.distinct in
     let gone : lookup last.0 init ≡ None =
-        lookup-init last.0 init last distinct ∙ ap (λ b. cond b None (lookup last.0 (init ++ last ∷ []))) (same_key-refl last.0) in
+    lookup-init last.0 init last distinct ∙ ap (λ b. cond b None (lookup last.0 (init ++ last ∷ []))) (same_key-refl last.0) in
     let others : filter (λ other. not (same_key key other)) (keys old.list) ≡ keys old.list =
-        sym (keys-without_key key old.list) ∙ ap keys (without-absent key old.list absent) in
+    sym (keys-without_key key old.list) ∙ ap keys (without-absent key old.list absent) in
     record {
       entries = λ k. ap (lookup k) list ∙ lookup-put_dropping key k v s init last distinct ∙ ap (λ l. cond (same_key key k) (Some (v, s)) (cond (same_key last.0 k) None (lookup k l))) (sym parts) ∙ ap (λ b. cond b (Some (v, s)) (cond (same_key last.0 k) None (lookup k old.list))) (same_key-swap key k) ∙ ap (λ b. cond (same_key k key) (Some (v, s)) (cond b None (lookup k old.list))) (same_key-swap last.0 k);
       in_order = ap keys list ∙ keys-cons (key, v, s) init ∙ ap (λ ks. key ∷ ks) (less-last init last gone ∙ ap (λ l. filter (λ other. not (same_key other last.0)) (keys l)) (sym parts) ∙ ap (filter (λ other. not (same_key other last.0))) (sym others));

@@ -1,6 +1,6 @@
 -- What a request for a quarantine gives, by the verdict on it.
 use Rattle.std.proofs.Common.{◌≡◌, ℕ, Bool, true, false, cond, List, [], ◌∷◌, map, find, filter, not, Option, Some, None, is_some, option_map, refl, sym, ap, subst, ◌∙◌}
-use Rattle.std.specs.Prelude.{ℤ, Result, ◌==◌}
+use Rattle.std.specs.Prelude.{ℤ, Result}
 use Rattle.std.specs.Option.{option_or}
 use Rattle.std.specs.List.{list_all}
 use Rattle.std.specs.Prelude.{◌&&◌}
@@ -8,7 +8,7 @@ use Rattle.std.proofs.lemmas.Bool.{eq-eqb}
 use Rattle.rows_model.specs.declared.keys.QKey.{QKey}
 use Rattle.rows_model.specs.declared.keys.Sid.{Sid}
 use Rattle.rows_model.specs.Placement.{shard_of}
-use Rattle.case_tables.specs.Compatibility.{Way, Holding, is_given, is_invalidate, same_way, beside_verdict, new_verdict, quarantine_verdict, verdict, quarantine}
+use Rattle.case_tables.specs.Compatibility.{Way, is_given, is_invalidate, same_way, quarantine_verdict, verdict, quarantine}
 use Rattle.case_tables.specs.declared.grids.Verdict.{Verdict}
 use Rattle.case_tables.specs.declared.grids.Verdict.TheVariants.{Give, Wait, Void, Join, Same, Own, Refuse}
 use Rattle.lease_table.specs.declared.records.Lease.{Lease}
@@ -20,9 +20,9 @@ use Rattle.entry_table.specs.Entries.{Item}
 use Rattle.key_shard.specs.declared.replies.ShardFault.{ShardFault}
 use Rattle.key_shard.specs.declared.replies.ShardFault.TheVariants as faults
 use Rattle.key_shard.specs.declared.steps.Step.{Step}
-use Rattle.key_shard.specs.declared.steps.Step.TheVariants.{Granted, Held}
-use Rattle.key_shard.specs.Past.{Terms, standing, own_of, others_of, seen_by, first_of, holder_of, next_token, deadline_at}
-use Rattle.key_shard.specs.Answers.{refused_step, quarantine_by, quarantine_step, IsAtHome}
+use Rattle.key_shard.specs.declared.steps.Step.TheVariants.{Granted}
+use Rattle.key_shard.specs.Past.{Terms, standing, own_of, seen_by, first_of, holder_of, next_token, deadline_at}
+use Rattle.key_shard.specs.Answers.{quarantine_by, quarantine_step, IsAtHome}
 use Rattle.key_shard.specs.Shards.{ShardView, past_of, refusal, spent_at, Refuses}
 use Rattle.key_shard.specs.Kept.{Ties}
 use Rattle.key_shard.proofs.LookLemmas.{holding-seen}

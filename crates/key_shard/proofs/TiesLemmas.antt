@@ -1,5 +1,5 @@
 -- Each kind of step keeps what a shard holds tied to its past.
-use Rattle.std.proofs.Common.{◌≡◌, ◌<◌, ◌+◌, ◌^◌, ◌-◌, ℕ, Bool, true, false, not, cond, List, [], ◌∷◌, ◌++◌, filter, Option, Some, None, is_some, option_map, refl, sym, ap, subst, ◌∙◌, inl, inr, arith, ltb, length}
+use Rattle.std.proofs.Common.{◌≡◌, ◌<◌, ◌+◌, ℕ, true, not, cond, List, [], ◌∷◌, ◌++◌, filter, Option, Some, None, is_some, refl, sym, ap, subst, ◌∙◌, inl, inr, arith, ltb, length}
 use Rattle.std.specs.List.{All, count_by}
 use Rattle.std.specs.Prelude.{ℤ}
 use Rattle.std.proofs.lemmas.Bool.{cases_Bool, cond_both}
@@ -8,7 +8,7 @@ use Rattle.std.proofs.lemmas.List.Sums.{sum_by-cons}
 use Rattle.rows_model.specs.declared.keys.QKey.{QKey}
 use Rattle.rows_model.specs.declared.keys.Sid.{Sid}
 use Rattle.rows_model.specs.Key.{same_key}
-use Rattle.rows_model.proofs.SameKey.{same_key-true, same_key-refl, same_key-swap}
+use Rattle.rows_model.proofs.SameKey.{same_key-true, same_key-swap}
 use Rattle.lease_table.specs.declared.records.Lease.{Lease}
 use Rattle.lease_table.specs.declared.records.Quar.{Quar}
 use Rattle.lease_table.specs.declared.records.ReadLease.{ReadLease}
@@ -22,7 +22,7 @@ use Rattle.key_shard.specs.declared.steps.Ended.{Ended}
 use Rattle.key_shard.specs.declared.steps.Ended.TheVariants as ended
 use Rattle.key_shard.specs.declared.steps.Step.{Step}
 use Rattle.key_shard.specs.declared.steps.Step.TheVariants.{Hit, Lease as StepLease, Again, Own, Stored, Void, Granted, Held, Refused, Released, Gone}
-use Rattle.key_shard.specs.Past.{Terms, standing, recorded, entry, entry_ended, order, evicts, is_evicted, last_key, next_token, draws}
+use Rattle.key_shard.specs.Past.{Terms, standing, recorded, entry, entry_ended, order, evicts, is_evicted, last_key, draws}
 use Rattle.key_shard.specs.Answers.{Answers}
 use Rattle.key_shard.specs.Kept.{Ties, Puts, Ends, PutsNone, IsQuiet, makes_room}
 use Rattle.key_shard.proofs.OrderLemmas.{order-hit, order-missed, order-put, entry-ended, order-ended}
@@ -176,13 +176,13 @@ room-promoted key t = room-by (lookup key t.list) key t refl
 quars-by : {terms : Terms} {past : List Step} {list : List Item} {table : List Lease} {next : ℕ} → Ties terms past list table next → (key : QKey) (reader : Option ReadLease) (change : List Quar → List Quar) (new : List Lease) → Leaves key reader (change (leases.quars key table)) table new → (k : QKey) → leases.quars k new ≡ cond (same_key k key) (change (standing k past)) (standing k past)
 quars-by {past = past} {table = table} h key reader change new leaves k =
     quars-after key reader (change (leases.quars key table)) table new leaves k ∙ here ∙ ap (λ qs. cond (same_key k key) (change qs) qs) (h.quars k)
- where
-  here : cond (same_key k key) (change (leases.quars key table)) (leases.quars k table) ≡ cond (same_key k key) (change (leases.quars k table)) (leases.quars k table)
-  here =
-      elim (cases_Bool (same_key k key)) [
-        | inl same ↦ ap (λ x. cond (same_key k key) (change (leases.quars x table)) (leases.quars k table)) (sym (same_key-true k key same))
-        | inr apart ↦ ap (λ b. cond b (change (leases.quars key table)) (leases.quars k table)) apart ∙ sym (ap (λ b. cond b (change (leases.quars k table)) (leases.quars k table)) apart)
-      ]
+  where
+    here : cond (same_key k key) (change (leases.quars key table)) (leases.quars k table) ≡ cond (same_key k key) (change (leases.quars k table)) (leases.quars k table)
+    here =
+        elim (cases_Bool (same_key k key)) [
+          | inl same ↦ ap (λ x. cond (same_key k key) (change (leases.quars x table)) (leases.quars k table)) (sym (same_key-true k key same))
+          | inr apart ↦ ap (λ b. cond b (change (leases.quars key table)) (leases.quars k table)) apart ∙ sym (ap (λ b. cond b (change (leases.quars k table)) (leases.quars k table)) apart)
+        ]
 
 below-one : (next : ℕ) (quars : List Quar) (quar : Quar) → quar.token ≡ next → All (λ q. q.token < next) quars → All (λ q. q.token < next + 1) (quars ++ quar ∷ [])
 below-one next quars quar e h =
@@ -229,7 +229,7 @@ Ties-put terms past list table new next key sid token value stamp evicted put pu
 pub Ties-ended : (terms : Terms) (past : List Step) (list : List Item) (table new : List Lease) (next : ℕ) (key : QKey) (sid : Sid) (token : ℕ) (how : Ended) (put : Table) → PutsNone how → Ends key how (record { room = terms.room; list = list }) put → Leaves key (leases.recorded key table) (filter (λ quar. not (has_token token quar)) (leases.quars key table)) table new → Answers terms past (Released key sid token how) → Ties terms past list table next → Ties terms (Released key sid token how ∷ past) put.list new next
 Ties-ended terms past list table new next key sid token how put none ends leaves a h =
     let entries : (k : QKey) → lookup k put.list ≡ cond (same_key k key) (entry_ended how (entry k past)) (entry k past) =
-        λ k. ends.entries k ∙ ap (λ o. cond (same_key k key) (entry_ended how o) o) (h.entries k) in
+    λ k. ends.entries k ∙ ap (λ o. cond (same_key k key) (entry_ended how o) o) (h.entries k) in
     let in_order : keys put.list ≡ cond (is_some (entry_ended how (entry key past))) (order past) (filter (λ other. not (same_key key other)) (order past)) =
-        ends.in_order ∙ ap (λ o. cond (is_some (entry_ended how o)) (keys list) (filter (λ other. not (same_key key other)) (keys list))) (h.entries key) ∙ ap (λ ks. cond (is_some (entry_ended how (entry key past))) ks (filter (λ other. not (same_key key other)) ks)) h.in_order in
+    ends.in_order ∙ ap (λ o. cond (is_some (entry_ended how o)) (keys list) (filter (λ other. not (same_key key other)) (keys list))) (h.entries key) ∙ ap (λ ks. cond (is_some (entry_ended how (entry key past))) ks (filter (λ other. not (same_key key other)) ks)) h.in_order in
     Ties-released terms past list table new next key sid token how put.list (λ k. entries k ∙ sym (entry-ended past key k sid token how none)) (in_order ∙ sym (order-ended past key sid token how none)) (sound-put terms.room put ends.same_room ends.sound) leaves a h

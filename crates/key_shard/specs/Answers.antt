@@ -1,5 +1,5 @@
 -- The one step that a request gives after a past, and which histories are legal.
-use Rattle.std.specs.Prelude.{ℕ, ◌≡◌, ℤ, pos, IsTrue, Bool, nat_le, if◌then◌else◌, List, [], ◌∷◌, reverse, Option, Some, None}
+use Rattle.std.specs.Prelude.{ℕ, ◌≡◌, ℤ, pos, IsTrue, nat_le, if◌then◌else◌, List, [], ◌∷◌, reverse, Option, Some, None}
 use Rattle.std.specs.List.{list_any}
 use Rattle.rows_model.specs.declared.keys.QKey.{QKey}
 use Rattle.rows_model.specs.declared.keys.Sid.{Sid}

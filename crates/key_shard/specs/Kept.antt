@@ -12,7 +12,7 @@ use Rattle.entry_table.specs.Entries.{Item, Table, IsSound, lookup, keys}
 use Rattle.key_shard.specs.Permit.{Permit}
 use Rattle.key_shard.specs.declared.steps.Ended.{Ended}
 use Rattle.key_shard.specs.declared.steps.Step.{Step}
-use Rattle.key_shard.specs.declared.steps.Step.TheVariants.{Hit, Lease as StepLease, Again, Own, Stored, Void, Granted, Held, Refused, Released, Gone}
+use Rattle.key_shard.specs.declared.steps.Step.TheVariants.{Hit, Lease as StepLease, Again, Own, Void, Held, Refused, Gone}
 use Rattle.key_shard.specs.declared.replies.How.{How}
 use Rattle.key_shard.specs.declared.replies.How.TheVariants as hows
 use Rattle.key_shard.specs.declared.bodies.Body.{Body}

@@ -5,15 +5,14 @@ use Rattle.rows_model.specs.declared.keys.Sid.{Sid}
 use Rattle.rows_model.specs.Key.{same_key}
 use Rattle.rows_model.specs.Shift.{shifted}
 use Rattle.case_tables.specs.Compatibility.{Holding, same_way}
-use Rattle.lease_table.specs.declared.records.Mode.{Mode}
 use Rattle.lease_table.specs.declared.records.Quar.{Quar}
 use Rattle.lease_table.specs.declared.records.ReadLease.{ReadLease}
-use Rattle.lease_table.specs.Leases.{way_of, is_of, has_token, is_unexpired, is_current}
+use Rattle.lease_table.specs.Leases.{way_of, is_of, has_token, is_unexpired}
 use Rattle.key_shard.specs.Permit.{Permit}
 use Rattle.key_shard.specs.declared.steps.Ended.{Ended}
 use Rattle.key_shard.specs.declared.steps.Ended.TheVariants.{Keep, Drop, Put, Shift}
 use Rattle.key_shard.specs.declared.steps.Step.{Step}
-use Rattle.key_shard.specs.declared.steps.Step.TheVariants.{Hit, Lease, Again, Own, Stored, Void, Granted, Held, Refused, Released, Gone}
+use Rattle.key_shard.specs.declared.steps.Step.TheVariants.{Hit, Lease, Again, Stored, Granted, Released}
 
 -- What a shard is made with: its number of so many, how many entries it has room for, how long a lease lives, its first token.
 pub record Terms : Type 0 where
@@ -68,10 +67,10 @@ first_of (quar ∷ quars) = Some quar
 -- Who holds a key against a session: the session itself, or else the quarantine of least token.
 abbrev pub holder_of : QKey → Sid → List Step → Option Quar
 holder_of key who past = own_first (own_of key who past)
- where
-  own_first : Option Quar → Option Quar
-  own_first (Some own) = Some own
-  own_first None = first_of (standing key past)
+  where
+    own_first : Option Quar → Option Quar
+    own_first (Some own) = Some own
+    own_first None = first_of (standing key past)
 
 -- The quarantine of this token on a key.
 abbrev pub quar_of : QKey → ℕ → List Step → Option Quar

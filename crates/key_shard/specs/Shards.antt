@@ -5,7 +5,7 @@ use Rattle.rows_model.specs.declared.keys.QKey.{QKey}
 use Rattle.rows_model.specs.Placement.{shard_of}
 use Rattle.key_shard.specs.Permit.{Permit, same_permit}
 use Rattle.key_shard.specs.declared.steps.Step.{Step}
-use Rattle.key_shard.specs.declared.steps.Step.TheVariants.{Granted, Hit, Lease, Again, Own, Stored, Void, Held, Refused, Released, Gone}
+use Rattle.key_shard.specs.declared.steps.Step.TheVariants.{Granted}
 use Rattle.key_shard.specs.declared.replies.ShardFault.{ShardFault}
 use Rattle.key_shard.specs.declared.replies.ShardFault.TheVariants as faults
 use Rattle.key_shard.specs.Past.{Terms, draws, next_token}

@@ -39,11 +39,7 @@ pub struct Body {
 }
 
 /// Keeps so many places of the history free, beside those that are promised.
-pub fn make_room(
-    history: &mut Vec<Step>,
-    promised: usize,
-    places: usize,
-) -> Result<(), Memory>
+pub fn make_room(history: &mut Vec<Step>, promised: usize, places: usize) -> Result<(), Memory>
     requires few { places ≤ 3 }
     requires kept { vec_len history.old + promised ≤ vec_capacity history.old }
     ensures items { history.new.items ≡ history.old.items }

@@ -16,3 +16,5 @@ pub mod replies;
 mod sets;
 pub mod shards;
 pub mod steps;
+#[cfg(test)]
+mod tests;

@@ -78,13 +78,7 @@ fn shift_entry(entries: &mut Entries, key: &QKey, by: i32, stamp: u64, digits: V
 }
 
 /// Ends the entry of a key as its quarantine is released, and says how.
-fn end_entry(
-    entries: &mut Entries,
-    key: &QKey,
-    how: How,
-    quar: Quar,
-    digits: Vec<u8>,
-) -> Ended
+fn end_entry(entries: &mut Entries, key: &QKey, how: How, quar: Quar, digits: Vec<u8>) -> Ended
     requires sound { IsSound entries.old }
     requires room { HasRoom how digits.items (vec_capacity digits) }
     ensures ends { Ends key.now (ended_as quar how) entries.old entries.new }

@@ -36,7 +36,10 @@ pub enum QAnswer {
     /// The session has this quarantine already.
     Held,
     /// A quarantine stands in the way: the session's own, or the one of least token.
-    Refused { holder: Sid, mode: Mode },
+    Refused {
+        holder: Sid,
+        mode: Mode,
+    },
 }
 
 /// How a grant is to be released.

@@ -49,8 +49,10 @@ impl Shard {
         requires lively { 1 ≤ life }
         requires tokens { 1 ≤ first }
         ensures { IfOk result (λ shard. shard ≡ record {
-            terms = record { no = no; count = count; room = room; life = life; first = first };
-            history = []; out = [] }) }
+          terms = record { no = no; count = count; room = room; life = life; first = first };
+          history = [];
+          out = [];
+        }) }
     {
         Ok(Shard {
             body: Body {

@@ -24,7 +24,10 @@ pub enum Ended {
         evicted: Option<QKey>,
     },
     /// The entry's number is moved by so much, in its place, and has a new stamp.
-    Shift { by: i32, stamp: u64 },
+    Shift {
+        by: i32,
+        stamp: u64,
+    },
 }
 
 /// One step of a shard: a request on one key, and what came of it. A history is a list of these.
@@ -56,7 +59,10 @@ pub enum Step {
         standing: Stands,
     },
     /// A get of a key that its session has quarantined.
-    Own { key: QKey, sid: Sid },
+    Own {
+        key: QKey,
+        sid: Sid,
+    },
     /// A set under a token that stood. The key that had to make room is named.
     Stored {
         key: QKey,
@@ -67,7 +73,11 @@ pub enum Step {
         evicted: Option<QKey>,
     },
     /// A set under a token that did not stand, or no longer. It changes nothing.
-    Void { key: QKey, token: u64, now: u64 },
+    Void {
+        key: QKey,
+        token: u64,
+        now: u64,
+    },
     /// A quarantine was given, with this token and until this deadline. It ends the key's I lease.
     Granted {
         key: QKey,
@@ -79,7 +89,11 @@ pub enum Step {
         deadline: u64,
     },
     /// A session asked for a quarantine that it has already.
-    Held { key: QKey, sid: Sid, mode: Mode },
+    Held {
+        key: QKey,
+        sid: Sid,
+        mode: Mode,
+    },
     /// A quarantine was refused. One that stands in the way is named by its session and mode.
     Refused {
         key: QKey,
@@ -96,5 +110,9 @@ pub enum Step {
         how: Ended,
     },
     /// A quarantine was to be ended that stood no longer.
-    Gone { key: QKey, sid: Sid, token: u64 },
+    Gone {
+        key: QKey,
+        sid: Sid,
+        token: u64,
+    },
 }

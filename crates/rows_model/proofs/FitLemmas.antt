@@ -1,4 +1,4 @@
-use Rattle.std.proofs.Common.{ℕ, zero, suc, ◌+◌, ◌<◌, ◌≤◌, ◌≡◌, ◌≢◌, Bool, true, false, not, List, [], ◌∷◌, ◌++◌, length, get_or, take, drop, map, filter, find, All, AllPairs, IsSome, Some, refl, sym, ap, subst, zero-add, ◌∙◌, arith, rules, tests}
+use Rattle.std.proofs.Common.{ℕ, zero, suc, ◌+◌, ◌<◌, ◌≤◌, ◌≡◌, ◌≢◌, Bool, true, false, not, List, [], ◌∷◌, length, get_or, take, drop, map, filter, find, All, AllPairs, IsSome, Some, refl, sym, ap, subst, zero-add, ◌∙◌, arith}
 use Rattle.std.specs.Prelude.{count_by, ◌==◌, ◌&&◌, ◌||◌, nat_lt, cond, if◌then◌else◌}
 use Rattle.std.specs.List.{list_any, insert}
 use Rattle.std.proofs.lemmas.Bool.{false≢true, and_parts, eqb-true, eq-eqb}
@@ -8,13 +8,13 @@ use Rattle.std.proofs.lemmas.Bool.Decides.{nat_tests}
 use Rattle.std.proofs.lemmas.List.{get_or-map, length-map}
 use Rattle.std.proofs.lemmas.List.Edits.{length-insert}
 use Rattle.std.proofs.lemmas.List.Sums.{count_by-le-length, length-filter, sum_by-cons}
-use Rattle.std.proofs.lemmas.List.Elements.{All-nil, All-cons, All-head, All-tail, All-append, All-take, All-drop, All-filter, All-weaker, filter_passes}
+use Rattle.std.proofs.lemmas.List.Elements.{All-nil, All-cons, All-head, All-tail, All-append, All-take, All-drop, All-filter, filter_passes}
 use Rattle.std.proofs.lemmas.List.Kept.{AllPairs-cons, AllPairs-filter}
-use Rattle.rows_model.specs.declared.rows.LinkState.TheVariants.{Pending, Friend}
+use Rattle.rows_model.specs.declared.rows.LinkState.TheVariants.{Friend}
 use Rattle.rows_model.specs.declared.rows.Link.{Link}
 use Rattle.rows_model.specs.declared.rows.Member.{Member}
 use Rattle.rows_model.specs.Name.{IsName}
-use Rattle.rows_model.specs.Rows.{Tables, Fit, IsLink, IsBefore, IsMember, member_of, joins, is_pending, is_friend}
+use Rattle.rows_model.specs.Rows.{Tables, Fit, IsLink, IsBefore, IsMember, joins, is_pending}
 use Rattle.rows_model.specs.Changes.{is_before, with_link, without_link, invitation, friendship, renamed, is_member, is_linked, is_invited, applies}
 use Rattle.rows_model.specs.declared.changes.Change.TheVariants.{Invite, Accept}
 
@@ -54,7 +54,7 @@ go_insert R p new x xs false e pairs stop before after rest =
     let first : All (R new) (x ∷ xs) = λ k d l. after k d l (none k d l) in
     subst P (sym n) (AllPairs-cons R new (x ∷ xs) first pairs)
 
-pairs_insert : {X : Type 0} (R : X → X → Type 0) (p : X → Bool) (new : X) (xs : List X) → AllPairs R xs → ((x y : X) → R x y → p x ≡ false → p y ≡ false) → All (λ x. p x ≡ true → R x new) xs → All (λ x. p x ≡ false → R new x) xs → AllPairs R (insert xs (count_by p xs) new)
+pub pairs_insert : {X : Type 0} (R : X → X → Type 0) (p : X → Bool) (new : X) (xs : List X) → AllPairs R xs → ((x y : X) → R x y → p x ≡ false → p y ≡ false) → All (λ x. p x ≡ true → R x new) xs → All (λ x. p x ≡ false → R new x) xs → AllPairs R (insert xs (count_by p xs) new)
 pairs_insert R p new [] pairs stop before after = AllPairs-cons R new [] (All-nil (R new)) pairs
 pairs_insert R p new (x ∷ xs) pairs stop before after =
     go_insert R p new x xs (p x) refl pairs stop before after (pairs_insert R p new xs (pairs_tail R x xs pairs) stop (All-tail (λ y. p y ≡ true → R y new) x xs before) (All-tail (λ y. p y ≡ false → R new y) x xs after))

@@ -10,3 +10,4 @@ pub mod RowsLemmas
 pub mod SameKey
 pub mod ShiftLemmas
 pub mod UntouchedLemmas
+pub mod FootprintLemmas

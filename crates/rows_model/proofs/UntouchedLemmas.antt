@@ -1,7 +1,6 @@
-use Rattle.std.proofs.Common.{ℕ, zero, suc, ◌+◌, ◌<◌, ◌≤◌, ◌≡◌, ◌≢◌, Bool, true, false, not, List, [], ◌∷◌, ◌++◌, length, get_or, take, drop, map, filter, find, decimal, All, AllPairs, Option, Some, None, Result, Ok, Err, inl, inr, refl, sym, ap, subst, ◌∙◌, arith, rules, tests, take-append-drop}
+use Rattle.std.proofs.Common.{ℕ, ◌+◌, ◌<◌, ◌≡◌, ◌≢◌, Bool, true, false, not, List, [], ◌∷◌, ◌++◌, length, get_or, take, drop, map, filter, find, decimal, All, AllPairs, Option, Some, Ok, Err, inl, inr, refl, sym, ap, ◌∙◌, arith, take-append-drop}
 use Rattle.std.specs.Prelude.{count_by, ◌==◌, ◌&&◌, ◌||◌, nat_lt, cond, if◌then◌else◌}
-use Rattle.std.specs.List.{list_any, insert}
-use Rattle.std.proofs.lemmas.Bool.{false≢true, and_parts, eqb-true, eq-eqb, cases_order}
+use Rattle.std.proofs.lemmas.Bool.{false≢true, and_parts, eq-eqb, cases_order}
 use Rattle.std.proofs.lemmas.Bool.Decides.{nat_tests}
 use Rattle.std.proofs.lemmas.List.{get_or_default}
 use Rattle.std.proofs.lemmas.List.Folds.{Any-from_list_any}
@@ -10,14 +9,13 @@ use Rattle.std.proofs.lemmas.List.Elements.{filter-append, All-head, All-tail, f
 use Rattle.std.proofs.lemmas.List.Kept.{AllPairs-filter}
 use Rattle.rows_model.specs.declared.keys.Kind.{Kind}
 use Rattle.rows_model.specs.declared.keys.Kind.TheVariants.{Profile, Friends, Pending, NFriends, NPending}
-use Rattle.rows_model.specs.declared.keys.QKey.{QKey}
 use Rattle.rows_model.specs.declared.rows.LinkState.{LinkState}
 use Rattle.rows_model.specs.declared.rows.LinkState.TheVariants.{Pending as Waiting, Friend}
 use Rattle.rows_model.specs.declared.rows.Link.{Link}
 use Rattle.rows_model.specs.declared.rows.Member.{Member}
 use Rattle.rows_model.specs.declared.changes.Change.{Change}
 use Rattle.rows_model.specs.declared.changes.Change.TheVariants.{Invite, Accept, Reject, Thaw, Rename}
-use Rattle.rows_model.specs.Rows.{Tables, Fit, joins, member_of, is_pending, is_friend}
+use Rattle.rows_model.specs.Rows.{Tables, joins, member_of, is_pending, is_friend}
 use Rattle.rows_model.specs.Query.{befriends, invites, answer, answer_of, friend_count, pending_count, other_end, id_list, profile_text}
 use Rattle.rows_model.specs.Changes.{with_link, without_link, invitation, friendship, renamed, applies, changed, apply_from, apply_all, foot_of, has_key, touches, is_linked, is_invited, are_friends, is_member, is_before}
 use Rattle.rows_model.specs.Untouched.{UntouchedKeepsItsAnswer}

@@ -1,4 +1,4 @@
-use Rattle.std.specs.Prelude.{ℕ, ◌≡◌, List, Result, Ok, Err}
+use Rattle.std.specs.Prelude.{◌≡◌, List, Err}
 use Rattle.rows_model.specs.declared.changes.Change.{Change}
 use Rattle.rows_model.specs.declared.refusals.ApplyFault.{ApplyFault}
 use Rattle.rows_model.specs.declared.refusals.ApplyFault.TheVariants.{Rejected, Memory}

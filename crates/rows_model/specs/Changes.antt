@@ -1,4 +1,4 @@
-use Rattle.std.specs.Prelude.{ℕ, ◌+◌, Bool, true, false, ◌==◌, ◌&&◌, ◌||◌, ◌≡◌, ◌≤◌, ◌<◌, ◌⊎◌, not, nat_lt, if◌then◌else◌, List, [], ◌∷◌, ◌++◌, length, map, filter, fold, count_by, All, AllPairs, Result, Ok, Err}
+use Rattle.std.specs.Prelude.{ℕ, ◌+◌, Bool, ◌==◌, ◌&&◌, ◌||◌, ◌≤◌, not, nat_lt, if◌then◌else◌, List, [], ◌∷◌, ◌++◌, length, map, filter, fold, count_by, All, Result, Ok, Err}
 use Rattle.std.specs.List.{list_any, flat_map, insert}
 use Rattle.rows_model.specs.declared.keys.Kind.{Kind}
 use Rattle.rows_model.specs.declared.keys.Kind.TheVariants.{Profile, Friends, Pending, NFriends, NPending}
@@ -9,8 +9,7 @@ use Rattle.rows_model.specs.declared.rows.Member.{Member}
 use Rattle.rows_model.specs.declared.changes.Change.{Change}
 use Rattle.rows_model.specs.declared.changes.Change.TheVariants.{Invite, Accept, Reject, Thaw, Rename}
 use Rattle.rows_model.specs.Key.{kind_number, same_key}
-use Rattle.rows_model.specs.Rows.{Tables, Fit, is_pending, is_friend, joins}
-use Rattle.rows_model.specs.Query.{answer}
+use Rattle.rows_model.specs.Rows.{Tables, is_pending, is_friend, joins}
 
 -- whether some member has this id
 abbrev pub is_member : ℕ → Tables → Bool

@@ -9,3 +9,4 @@ pub mod Changes
 pub mod TxnFaults
 pub mod ApplyFaults
 pub mod Untouched
+pub mod Footprint

@@ -1,10 +1,9 @@
-use Rattle.std.specs.Prelude.{◌≡◌, false, List, AllPairs, Result, Ok}
-use Rattle.std.specs.Prelude.{true}
+use Rattle.std.specs.Prelude.{◌≡◌, false, List, Ok}
 use Rattle.rows_model.specs.declared.keys.QKey.{QKey}
 use Rattle.rows_model.specs.declared.changes.Change.{Change}
 use Rattle.rows_model.specs.Rows.{Tables, Fit}
 use Rattle.rows_model.specs.Query.{answer}
-use Rattle.rows_model.specs.Changes.{apply_all, touches, footprint, has_key, is_key_before}
+use Rattle.rows_model.specs.Changes.{apply_all, touches}
 
 -- a key that changes don't touch has one answer before and after them, on fit tables where they apply
 abbrev pub UntouchedKeepsItsAnswer : Type 0

@@ -2,12 +2,27 @@ ghost use Rattle.std.specs.Prelude.{◌≡◌, ◌++◌, ◌≤◌, length, fold
 ghost use Rattle.std.specs.List.{list_any};
 ghost use Rattle.rows_model.specs.Key.{same_key};
 ghost use Rattle.rows_model.specs.Changes.{keys_of, foot_of, has_key, touches, is_key_before, with_key, footprint};
+ghost use Rattle.rows_model.specs.Footprint.{FootprintsAreExact};
 ghost use Rattle.rows_model.specs.Untouched.{UntouchedKeepsItsAnswer};
 
 use crate::changes::{Change, Txn};
 use crate::keys::{Kind, QKey};
 use crate::refusals::Memory;
 use std::alloc::{AllocError, Global};
+
+// The kinds of keys in which a friendship is seen.
+const FRIENDS: &[Kind] = &[Kind::Profile, Kind::Friends, Kind::NFriends];
+
+// The kinds of keys in which an invitation to the member is seen.
+const PENDING: &[Kind] = &[Kind::Profile, Kind::Pending, Kind::NPending];
+
+const ALL: &[Kind] = &[
+    Kind::Profile,
+    Kind::Friends,
+    Kind::Pending,
+    Kind::NFriends,
+    Kind::NPending,
+];
 
 /// The keys that the transaction touches, ascending and without repeats: those whose answers it
 /// may alter. They depend on the changes alone, whether these apply or not.
@@ -30,6 +45,11 @@ pub fn touches(txn: &Txn, key: &QKey) -> bool
     txn.changes().iter().any(|change| Foot::of(change).has(key))
 }
 
+/// A footprint ascends, and has just the keys that are touched.
+pub fn footprints_are_exact()
+    ensures { FootprintsAreExact }
+{}
+
 /// A key that a transaction doesn't touch has one answer before and after it, on all rows on which
 /// it applies.
 pub fn untouched_keeps_its_answer()
@@ -50,31 +70,20 @@ impl Foot {
         ensures { keys_of result.first result.of_first.now ++ keys_of result.second result.of_second.now
             ≡ foot_of change.now }
     {
-        let (first, of_first, second, of_second): (u32, &'static [Kind], u32, &'static [Kind]) =
-            match *change {
-                Change::Invite { a, b } | Change::Reject { a, b } => {
-                    (a, &[], b, &[Kind::Profile, Kind::Pending, Kind::NPending])
-                }
-                Change::Accept { a, b } => (
-                    a,
-                    &[Kind::Profile, Kind::Friends, Kind::NFriends],
-                    b,
-                    &[
-                        Kind::Profile,
-                        Kind::Friends,
-                        Kind::Pending,
-                        Kind::NFriends,
-                        Kind::NPending,
-                    ],
-                ),
-                Change::Thaw { a, b } => (
-                    a,
-                    &[Kind::Profile, Kind::Friends, Kind::NFriends],
-                    b,
-                    &[Kind::Profile, Kind::Friends, Kind::NFriends],
-                ),
-                Change::Rename { a, .. } => (a, &[Kind::Profile], a, &[]),
-            };
+        match *change {
+            Change::Invite { a, b } | Change::Reject { a, b } => Foot::new(a, &[], b, PENDING),
+            Change::Accept { a, b } => Foot::new(a, FRIENDS, b, ALL),
+            Change::Thaw { a, b } => Foot::new(a, FRIENDS, b, FRIENDS),
+            Change::Rename { a, .. } => Foot::new(a, &[Kind::Profile], a, &[]),
+        }
+    }
+
+    fn new(first: u32, of_first: &'static [Kind], second: u32, of_second: &'static [Kind]) -> Foot
+        ensures first { result.first ≡ first }
+        ensures of_first { result.of_first.now ≡ of_first.now }
+        ensures second { result.second ≡ second }
+        ensures of_second { result.of_second.now ≡ of_second.now }
+    {
         Foot {
             first,
             of_first,

@@ -1,7 +1,6 @@
-use Rattle.std.proofs.Common.{◌≡◌, ◌<◌, ℕ, List, length, slice_get, Some, subst, sym, ap, refl, ◌∙◌, arith}
+use Rattle.std.proofs.Common.{◌≡◌, ◌<◌, ℕ, length, slice_get, sym, ap, refl, ◌∙◌, arith}
 use Rattle.std.proofs.lemmas.Option.{slice_get_read}
 use Rattle.rows_model.specs.Placement.{shard_of}
-use Rattle.core_history.specs.Lines.{line}
 use Rattle.core_history.proofs.ShardsLemmas.{home_within, shard_found}
 use Rattle.core_history.proofs.TurnsLemmas.{got_made, makes_from}
 use Rattle.core_history.proofs.turns.make_get.Goals as goal

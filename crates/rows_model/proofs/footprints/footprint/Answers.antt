@@ -1,4 +1,4 @@
-use Rattle.std.proofs.Common.{arith, rules, sym, ap, ◌∙◌}
+use Rattle.std.proofs.Common.{arith, sym, ap, ◌∙◌}
 use Rattle.rows_model.specs.Changes.{footprint}
 use Rattle.rows_model.proofs.FootLemmas.{foot_more, foot_all}
 use Rattle.rows_model.proofs.footprints.footprint.Goals as goal

@@ -1,4 +1,4 @@
-use Rattle.std.proofs.Common.{arith, rules, sym, ◌∙◌, get_or, refl}
+use Rattle.std.proofs.Common.{arith, rules, sym, ◌∙◌}
 use Rattle.rows_model.proofs.FootLemmas.{keys_more, keys_all}
 use Rattle.rows_model.proofs.footprints.put_keys.Goals as goal
 

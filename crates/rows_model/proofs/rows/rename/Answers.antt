@@ -1,4 +1,4 @@
-use Rattle.std.proofs.Common.{arith, refl, sym, ap, ◌∙◌, set}
+use Rattle.std.proofs.Common.{arith, ap, ◌∙◌, set}
 use Rattle.std.proofs.lemmas.List.Edits.{map_over_more}
 use Rattle.rows_model.specs.declared.rows.Member.{Member}
 use Rattle.rows_model.specs.Changes.{renamed}

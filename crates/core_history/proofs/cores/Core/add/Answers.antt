@@ -1,6 +1,5 @@
-use Rattle.std.proofs.Common.{◌≡◌, ℕ, ◌+◌, List, length, map, sym, subst, ap, refl, ◌∙◌, arith}
+use Rattle.std.proofs.Common.{List, length, map, sym, subst, ap, ◌∙◌, arith}
 use Rattle.core_history.specs.declared.sessions.Session.{Session}
-use Rattle.core_history.specs.Cores.{IsAt}
 use Rattle.core_history.specs.Follows.{plan_of}
 use Rattle.std.proofs.lemmas.List.{length-map}
 use Rattle.core_history.proofs.CoresLemmas.{on_err, AllFollow, NoneUnbegun, follow_begun, none_begun, plans_begun}
@@ -25,11 +24,13 @@ returns-clause-begins c shape world at =
     let new = c.new.result in
     let grew = c.in_ok-push.ensures.items in
     let P : List Session → Type 0 = λ xs. AllFollow xs world.past in
-    let Q : List Session → Type 0 = λ xs. NoneUnbegun xs world.past in
-    (omega (arith, c.len.ensures, c.args.self.now.sessions.ok.0, ap length at.plans, length-map old plan_of), record {
-      rows = at.rows;
-      shards = at.shards;
-      plans = ap (map plan_of) grew ∙ plans_begun old new world.plans c.args.plan at.plans c.new.ensures.plan;
-      sessions = subst P (sym grew) (follow_begun old new world.past at.sessions at.unbegun c.new.ensures.ready c.new.ensures.follows);
-      unbegun = subst Q (sym grew) (none_begun old new world.past at.unbegun);
-    })
+    let Q : List Session → Type 0 = λ xs. NoneUnbegun xs world.past in (
+      omega (arith, c.len.ensures, c.args.self.now.sessions.ok.0, ap length at.plans, length-map old plan_of),
+      record {
+        rows = at.rows;
+        shards = at.shards;
+        plans = ap (map plan_of) grew ∙ plans_begun old new world.plans c.args.plan at.plans c.new.ensures.plan;
+        sessions = subst P (sym grew) (follow_begun old new world.past at.sessions at.unbegun c.new.ensures.ready c.new.ensures.follows);
+        unbegun = subst Q (sym grew) (none_begun old new world.past at.unbegun);
+      },
+    )

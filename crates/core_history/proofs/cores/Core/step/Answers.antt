@@ -1,6 +1,5 @@
 use Rattle.std.proofs.Common.{◌≡◌, ◌⊎◌, ◌∷◌, IfOk, OnErr, subst, sym}
 use Rattle.core_history.specs.declared.plans.Turn.{Turn}
-use Rattle.core_history.specs.declared.plans.Turn.TheVariants as turn
 use Rattle.core_history.specs.Cores.{HasBegun, HasHistories, IsAt}
 use Rattle.core_history.specs.Lines.{line_of}
 use Rattle.core_history.specs.Machine.{taken, turn_event}

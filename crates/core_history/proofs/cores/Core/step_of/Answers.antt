@@ -1,7 +1,5 @@
-use Rattle.std.proofs.Common.{◌≡◌, ◌⊎◌, ℕ, ◌+◌, ◌-◌, ◌<◌, ◌≤◌, List, ◌∷◌, length, map, slice_get, Some, refl, sym, ap, subst, ◌∙◌, arith}
-use Rattle.core_history.specs.declared.plans.Turn.{Turn}
+use Rattle.std.proofs.Common.{◌≡◌, ◌⊎◌, ℕ, ◌+◌, ◌-◌, List, ◌∷◌, map, sym, ap, subst, ◌∙◌, arith}
 use Rattle.core_history.specs.declared.plans.Turn.TheVariants as turn
-use Rattle.core_history.specs.declared.replies.Reply.{Reply}
 use Rattle.core_history.specs.declared.sessions.Session.{Session}
 use Rattle.core_history.specs.Cores.{HasBegun, HasShards, IsAt}
 use Rattle.core_history.specs.Events.{Event, reply_in, told_to}

@@ -46,9 +46,9 @@ returns-clause-kept c =
     let out : Out = record { key = c.args.key; sid = c.args.sid; mode = c.args.mode; token = token } in
     let step : Step = Granted c.args.key c.args.sid c.args.mode shift c.args.now token deadline in
     let answers : Answers (terms_of old) (steps_of old) step =
-        subst (λ t. Answers (terms_of old) (steps_of old) (Granted c.args.key c.args.sid c.args.mode shift c.args.now t deadline)) (sym c.requires.kept.ties.counted) (subst (λ d. Answers (terms_of old) (steps_of old) (Granted c.args.key c.args.sid c.args.mode shift c.args.now (next_token (terms_of old) (steps_of old)) d)) (sym c.deadline-deadline.ensures) c.requires.answers) in
+    subst (λ t. Answers (terms_of old) (steps_of old) (Granted c.args.key c.args.sid c.args.mode shift c.args.now t deadline)) (sym c.requires.kept.ties.counted) (subst (λ d. Answers (terms_of old) (steps_of old) (Granted c.args.key c.args.sid c.args.mode shift c.args.now (next_token (terms_of old) (steps_of old)) d)) (sym c.deadline-deadline.ensures) c.requires.answers) in
     let given : is_given c.in-Ok.field-0 ≡ true =
-        ap is_given (c.in-Ok.ensures.verdict ∙ ap (λ h. verdict h (quarantine (way_of c.args.mode))) (holding-seen c.requires.kept.ties c.args.key c.args.sid c.args.now)) ∙ c.requires.given in
+    ap is_given (c.in-Ok.ensures.verdict ∙ ap (λ h. verdict h (quarantine (way_of c.args.mode))) (holding-seen c.requires.kept.ties c.args.key c.args.sid c.args.now)) ∙ c.requires.given in
     let told : ℤ → Type 0 = λ s. MatchBool (is_given c.in-Ok.field-0) (Leaves c.args.key None (quars c.args.key old.leases ++ record { sid = c.args.sid; mode = c.args.mode; token = token; deadline = deadline; shift = s } ∷ []) old.leases c.ask_q.new.self) (c.ask_q.new.self ≡ old.leases) in
     let leaves = MatchBool-at_true (Leaves c.args.key None (quars c.args.key old.leases ++ quar ∷ []) old.leases c.ask_q.new.self) (c.ask_q.new.self ≡ old.leases) given (subst told (to_z-of_z w32 shift fits) c.in-Ok.ensures.after) in
     let pushed = subst (λ (s : ℤ). c.push_reserved-2.new.self.items ≡ c.make_room.new.history.items ++ Granted c.args.key c.args.sid c.args.mode s c.args.now token deadline ∷ []) (to_z-of_z w32 shift fits) c.push_reserved-2.ensures.items ∙ ap (λ (h : List Step). h ++ step ∷ []) c.make_room.ensures.items in

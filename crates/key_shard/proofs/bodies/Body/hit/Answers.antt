@@ -1,5 +1,5 @@
-use Rattle.std.proofs.Common.{◌≡◌, ◌+◌, ℕ, refl, ap, subst, sym, ◌∙◌, arith, List, Some, ◌++◌, ◌∷◌, []}
-use Rattle.entry_table.specs.Entries.{Item, Table}
+use Rattle.std.proofs.Common.{ℕ, refl, ap, subst, sym, ◌∙◌, arith, List, ◌∷◌}
+use Rattle.entry_table.specs.Entries.{Table}
 use Rattle.key_shard.specs.declared.steps.Step.{Step}
 use Rattle.key_shard.specs.declared.steps.Step.TheVariants.{Hit}
 use Rattle.key_shard.specs.Kept.{Ties, shown, terms_of, steps_of}

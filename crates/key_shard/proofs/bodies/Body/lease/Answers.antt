@@ -1,13 +1,11 @@
 use Rattle.std.proofs.Common.{◌≡◌, ◌+◌, ℕ, true, refl, ap, subst, sym, ◌∙◌, arith, List, Some, ◌++◌, ◌∷◌, []}
 use Rattle.case_tables.specs.Compatibility.{verdict, read, is_given}
-use Rattle.case_tables.specs.declared.grids.Verdict.{Verdict}
-use Rattle.lease_table.specs.declared.records.Lease.{Lease as LeaseRecord}
-use Rattle.lease_table.specs.Leases.{Leaves, holding, quars}
+use Rattle.lease_table.specs.Leases.{Leaves, quars}
 use Rattle.std.proofs.lemmas.Bool.{MatchBool-at_true}
 use Rattle.entry_table.specs.Entries.{Item}
 use Rattle.key_shard.specs.declared.steps.Step.{Step}
 use Rattle.key_shard.specs.declared.steps.Step.TheVariants.{Lease}
-use Rattle.key_shard.specs.Past.{next_token, deadline_at}
+use Rattle.key_shard.specs.Past.{next_token}
 use Rattle.key_shard.specs.Answers.{Answers}
 use Rattle.key_shard.specs.Kept.{Ties, terms_of, steps_of}
 use Rattle.key_shard.proofs.KeptLemmas.{IsKept-still, IsKept-step, terms-kept}
@@ -22,9 +20,9 @@ returns-clause-kept c =
     let deadline : ℕ = c.deadline-deadline.result in
     let step : Step = Lease c.args.key c.args.who c.args.floor c.args.now token deadline in
     let answers : Answers (terms_of old) (steps_of old) step =
-        subst (λ t. Answers (terms_of old) (steps_of old) (Lease c.args.key c.args.who c.args.floor c.args.now t deadline)) (sym c.requires.kept.ties.counted) (subst (λ d. Answers (terms_of old) (steps_of old) (Lease c.args.key c.args.who c.args.floor c.args.now (next_token (terms_of old) (steps_of old)) d)) (sym c.deadline-deadline.ensures) c.requires.answers) in
+    subst (λ t. Answers (terms_of old) (steps_of old) (Lease c.args.key c.args.who c.args.floor c.args.now t deadline)) (sym c.requires.kept.ties.counted) (subst (λ d. Answers (terms_of old) (steps_of old) (Lease c.args.key c.args.who c.args.floor c.args.now (next_token (terms_of old) (steps_of old)) d)) (sym c.deadline-deadline.ensures) c.requires.answers) in
     let given : is_given c.in_ok-ask_i.field-0 ≡ true =
-        ap is_given (c.in_ok-ask_i.ensures.verdict ∙ ap (λ h. verdict h read) (holding-seen c.requires.kept.ties c.args.key c.args.who c.args.now) ∙ c.requires.free) in
+    ap is_given (c.in_ok-ask_i.ensures.verdict ∙ ap (λ h. verdict h read) (holding-seen c.requires.kept.ties c.args.key c.args.who c.args.now) ∙ c.requires.free) in
     let leaves = MatchBool-at_true (Leaves c.args.key (Some (record { sid = c.args.who; token = token; deadline = deadline })) (quars c.args.key old.leases) old.leases c.ask_i.new.self) (c.ask_i.new.self ≡ old.leases) given c.in_ok-ask_i.ensures.after in
     let pushed = c.push_reserved.ensures.items ∙ ap (λ (h : List Step). h ++ step ∷ []) c.make_room.ensures.items in
     let ties = Ties-lease (terms_of old) (steps_of old) old.entries.list old.leases c.ask_i.new.self old.next c.args.key c.args.who c.args.floor c.args.now token deadline leaves answers c.requires.kept.ties in

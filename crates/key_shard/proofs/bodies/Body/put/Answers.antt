@@ -33,7 +33,7 @@ returns-clause-kept c =
     let evicted : Option QKey = evicts (terms_of old) grant.key (steps_of old) in
     let step : Step = Released grant.key c.args.quar.sid grant.token (Put c.args.value c.args.stamp evicted) in
     let room : c.in-Ok-put_in_front.evicted ≡ evicted =
-        c.in-Ok-put_in_front.ensures.puts.room_by ∙ evicts-room c.requires.kept.ties c.key-key.result ∙ ap (λ k. evicts (terms_of old) k (steps_of old)) c.key-key.ensures in
+    c.in-Ok-put_in_front.ensures.puts.room_by ∙ evicts-room c.requires.kept.ties c.key-key.result ∙ ap (λ k. evicts (terms_of old) k (steps_of old)) c.key-key.ensures in
     let pushed = c.push_reserved.ensures.items ∙ ap (λ (s : Step). old.history.items ++ s ∷ []) (step-same grant.key c.key-key.result c.args.quar.sid grant.token c.token-token.result c.args.value c.in-Ok.copy c.args.stamp evicted c.in-Ok-put_in_front.evicted c.key-key.ensures c.token-token.ensures c.in-Ok.ensures room) in
     let puts = told grant.key c.key-key.result c.args.value c.args.stamp evicted c.in-Ok-put_in_front.evicted old.entries c.put_in_front.new.entries c.key-key.ensures room c.in-Ok-put_in_front.ensures.puts in
     let leaves = ended-leaves c.requires.kept.ties grant.key grant.token c.key-key.result c.token-token.result c.end_q.result c.args.quar c.end_q.new.self c.key-key.ensures c.token-token.ensures c.end_q.ensures.ended c.end_q.ensures.after c.requires.stands in
@@ -47,6 +47,6 @@ returns-clause-step c =
     let grant = c.args.grant in
     let evicted : Option QKey = evicts (terms_of old) grant.key (steps_of old) in
     let room : c.in-Ok-put_in_front.evicted ≡ evicted =
-        c.in-Ok-put_in_front.ensures.puts.room_by ∙ evicts-room c.requires.kept.ties c.key-key.result ∙ ap (λ k. evicts (terms_of old) k (steps_of old)) c.key-key.ensures in
+    c.in-Ok-put_in_front.ensures.puts.room_by ∙ evicts-room c.requires.kept.ties c.key-key.result ∙ ap (λ k. evicts (terms_of old) k (steps_of old)) c.key-key.ensures in
     let pushed = c.push_reserved.ensures.items ∙ ap (λ (s : Step). old.history.items ++ s ∷ []) (step-same grant.key c.key-key.result c.args.quar.sid grant.token c.token-token.result c.args.value c.in-Ok.copy c.args.stamp evicted c.in-Ok-put_in_front.evicted c.key-key.ensures c.token-token.ensures c.in-Ok.ensures room) in
     view-returned old _ c.push_reserved.new.self.items c.drop_out.new.outs.items (Released grant.key c.args.quar.sid grant.token (Put c.args.value c.args.stamp evicted)) grant (terms-kept old c.put_in_front.new.entries.room c.in-Ok-put_in_front.ensures.puts.same_room) pushed c.drop_out.ensures.items

@@ -1,5 +1,5 @@
-use Rattle.std.proofs.Common.{◌≡◌, sym, ap, subst, ◌∙◌}
-use Rattle.std.specs.Prelude.{ℤ, OnOk, IfOk, Result}
+use Rattle.std.proofs.Common.{◌≡◌, sym, ap, subst}
+use Rattle.std.specs.Prelude.{ℤ, OnOk, IfOk}
 use Rattle.std.proofs.lemmas.Int.{to_z-of_z}
 use mir.Syntax.{w32}
 use Rattle.case_tables.specs.declared.grids.Verdict.TheVariants.{Same, Refuse}
@@ -8,7 +8,7 @@ use Rattle.key_shard.specs.declared.steps.Step.TheVariants.{Granted}
 use Rattle.key_shard.specs.Past.{next_token, deadline_at}
 use Rattle.key_shard.specs.Replies.{ShowsQuarantine}
 use Rattle.key_shard.specs.Shards.{Refuses, refusal, spent_at, stepped}
-use Rattle.key_shard.specs.Answers.{Answers, Quarantine, quarantine_by, quarantine_step, FitsShift}
+use Rattle.key_shard.specs.Answers.{Answers, Quarantine, quarantine_by}
 use Rattle.key_shard.specs.Kept.{shown, terms_of, steps_of}
 use Rattle.key_shard.proofs.QuarantineLemmas.{judged, holder-some, is-given, step-granted, refuses-home}
 use Rattle.key_shard.proofs.bodies.Body.quarantine.Goals as goal

@@ -1,7 +1,7 @@
 use Rattle.std.proofs.Common.{◌≡◌, true, sym, ap, ◌∙◌, None, Some}
 use Rattle.key_shard.specs.Answers.{Release, release_by}
 use Rattle.key_shard.specs.Shards.{is_out}
-use Rattle.key_shard.specs.Kept.{shown, steps_of}
+use Rattle.key_shard.specs.Kept.{shown}
 use Rattle.key_shard.proofs.OutLemmas.{out-granted, stands-told}
 use Rattle.key_shard.proofs.bodies.Body.release.Goals as goal
 

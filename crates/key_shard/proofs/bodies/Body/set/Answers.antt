@@ -10,7 +10,7 @@ pub store-requires-clause-answers : goal.store-requires-clause-answers
 store-requires-clause-answers c =
     let old = c.args.self.now in
     let current : is_current c.args.token c.args.now (recorded c.args.key (steps_of old)) ≡ true =
-        sym (ap (is_current c.args.token c.args.now) (c.requires.ties.reads c.args.key)) ∙ sym c.can_take_i.ensures ∙ c.if-can_take_i.true in
+    sym (ap (is_current c.args.token c.args.now) (c.requires.ties.reads c.args.key)) ∙ sym c.can_take_i.ensures ∙ c.if-can_take_i.true in
     record {
       request = Set c.args.key c.args.token c.args.value c.args.stamp c.args.now;
       at_home = c.in_ok-check_home.ensures.home;
@@ -22,7 +22,7 @@ pub note-requires-clause-answers : goal.note-requires-clause-answers
 note-requires-clause-answers c =
     let old = c.args.self.now in
     let void : is_current c.args.token c.args.now (recorded c.args.key (steps_of old)) ≡ false =
-        sym (ap (is_current c.args.token c.args.now) (c.requires.ties.reads c.args.key)) ∙ sym c.can_take_i.ensures ∙ c.if-can_take_i.false in
+    sym (ap (is_current c.args.token c.args.now) (c.requires.ties.reads c.args.key)) ∙ sym c.can_take_i.ensures ∙ c.if-can_take_i.false in
     record {
       request = Set c.args.key c.args.token c.args.value c.args.stamp c.args.now;
       at_home = c.in_ok-check_home.ensures.home;

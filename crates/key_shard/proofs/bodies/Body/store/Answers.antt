@@ -1,4 +1,4 @@
-use Rattle.std.proofs.Common.{◌≡◌, true, refl, ap, subst, sym, ◌∙◌, arith, List, ℕ, Option, None, ◌++◌, ◌∷◌, []}
+use Rattle.std.proofs.Common.{◌≡◌, refl, ap, subst, ◌∙◌, arith, List, Option, None, ◌++◌, ◌∷◌, []}
 use Rattle.std.proofs.lemmas.Bool.{MatchBool-at_true}
 use Rattle.rows_model.specs.declared.keys.QKey.{QKey}
 use Rattle.entry_table.specs.Entries.{Table}
@@ -19,7 +19,7 @@ returns-clause-kept c =
     let put = c.put_in_front.new.entries in
     let told : c.in-Ok.evicted ≡ evicted = c.in-Ok.ensures.puts.room_by ∙ evicts-room c.requires.kept.ties c.args.key in
     let puts : Puts c.args.key c.args.value c.args.stamp evicted old.entries put =
-        subst (λ e. Puts c.args.key c.args.value c.args.stamp e old.entries put) told (subst (λ v. Puts c.args.key v c.args.stamp c.in-Ok.evicted old.entries put) c.in_ok-copy.ensures c.in-Ok.ensures.puts) in
+    subst (λ e. Puts c.args.key c.args.value c.args.stamp e old.entries put) told (subst (λ v. Puts c.args.key v c.args.stamp c.in-Ok.evicted old.entries put) c.in_ok-copy.ensures c.in-Ok.ensures.puts) in
     let current = c.take_i.ensures.taken ∙ ap (is_current c.args.token c.args.now) (c.requires.kept.ties.reads c.args.key) ∙ c.requires.current in
     let leaves = MatchBool-at_true (Leaves c.args.key None (quars c.args.key old.leases) old.leases c.take_i.new.self) (c.take_i.new.self ≡ old.leases) current c.take_i.ensures.after in
     let pushed = c.push_reserved.ensures.items ∙ ap (λ (h : List Step). h ++ Stored c.args.key c.args.token c.args.now c.args.value c.args.stamp c.in-Ok.evicted ∷ []) c.make_room.ensures.items ∙ ap (λ e. old.history.items ++ Stored c.args.key c.args.token c.args.now c.args.value c.args.stamp e ∷ []) told in

@@ -1,5 +1,4 @@
-use Rattle.std.proofs.Common.{◌≡◌, false, arith, rules, tests, sym, ◌∙◌}
-use Rattle.std.proofs.lemmas.Bool.Decides.{nat_tests}
+use Rattle.std.proofs.Common.{◌≡◌, false, arith, sym, ◌∙◌}
 use Rattle.rows_model.specs.Changes.{applies}
 use Rattle.rows_model.proofs.ApplyLemmas.{rejected_at, all_made}
 use Rattle.rows_model.proofs.rows.Rows.apply.Goals as goal
