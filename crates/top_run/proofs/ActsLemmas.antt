@@ -1,19 +1,19 @@
-use Rattle.std.proofs.Common.{◌==◌, ◌^◌, ◌+◌, ℕ, ◌≡◌, ◌<◌, ◌≤◌, Bool, true, false, List, [], ◌∷◌, ◌++◌, length, get_or, decimal, Option, Some, None, arith, refl, sym, ap, ◌∙◌, inl, inr, subst, append_assoc, append-nil}
-use Rattle.std.specs.Prelude.{◌≢◌, ◌⊎◌, codes, sum_by}
+use Rattle.std.proofs.Common.{◌==◌, ◌+◌, ℕ, ◌≡◌, ◌<◌, ◌≤◌, Bool, true, false, List, [], ◌∷◌, ◌++◌, length, get_or, decimal, arith, refl, sym, ap, ◌∙◌, inl, inr, subst, append_assoc, append-nil}
+use Rattle.std.specs.Prelude.{◌⊎◌, codes, sum_by}
 use Rattle.std.specs.List.{onto_first}
 use Rattle.std.proofs.lemmas.Fmt.{decimal_injective}
 use Rattle.std.proofs.lemmas.List.Sums.{sum_by-append, sum_by-cons}
 use Rattle.std.proofs.lemmas.List.Splits.{length-slice_split, slice_split-cons_yes, slice_split-cons_no}
 use Rattle.rows_model.specs.declared.keys.QKey.{QKey}
 use Rattle.rows_model.specs.declared.keys.Sid.{Sid}
-use Rattle.rows_model.specs.Key.{key_text, IsKeyText}
+use Rattle.rows_model.specs.Key.{key_text}
 use Rattle.rows_model.proofs.KeyLemmas.{key_text_injective}
 use Rattle.core_history.specs.declared.plans.Plan.TheVariants.{Read}
 use Rattle.core_history.specs.declared.plans.Turn.TheVariants.{Session}
 use Rattle.top_run.specs.declared.scripts.Act.{Act}
 use Rattle.top_run.specs.declared.scripts.Act.TheVariants as act
 use Rattle.top_run.specs.Texts.{parts_at, without_empty_last, lines_in, words_in}
-use Rattle.top_run.specs.Script.{AreWords, AreTurnWords, IsLine, AreLines, AreScriptLines, IsMembersLine, IsScript, sessions_of, turns_of}
+use Rattle.top_run.specs.Script.{AreWords, IsLine, AreLines, sessions_of, turns_of}
 use Rattle.top_run.specs.Parsing.{AreActsOf, AreNoActs, IsTally, FitsTally}
 use Rattle.top_run.proofs.CutLemmas.{in_front, one_line}
 

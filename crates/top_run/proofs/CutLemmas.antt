@@ -1,18 +1,17 @@
-use Rattle.std.proofs.Common.{◌==◌, ◌^◌, ◌+◌, ◌-◌, ℕ, zero, suc, ◌≡◌, ◌<◌, ◌≤◌, Bool, true, false, cond, ltb, List, [], ◌∷◌, length, take, drop, get_or, position, decimal, Option, Some, None, arith, refl, sym, ap, ◌∙◌}
+use Rattle.std.proofs.Common.{◌==◌, ◌+◌, ℕ, suc, ◌≡◌, ◌<◌, ◌≤◌, Bool, false, cond, ltb, List, [], ◌∷◌, length, take, drop, get_or, position, Option, Some, None, arith, refl, sym, ap, ◌∙◌}
 use Rattle.std.specs.Prelude.{option_to_list, IfSome, IfNone, Result, MatchOption}
 use Rattle.std.specs.Result.{result_ok}
 use Rattle.std.specs.Str.Parse.{ParsesUnsigned}
 use Rattle.rows_model.specs.Number.{IsIdText, IsNoIdText}
 use Rattle.rows_model.proofs.NumberLemmas.{id_parsed}
-use Rattle.std.specs.List.{slice_split, position_or_len, All}
+use Rattle.std.specs.List.{position_or_len, All}
 use Rattle.std.proofs.lemmas.Bool.Decides.{nat_tests}
-use Rattle.std.proofs.lemmas.List.{take_rest}
 use Rattle.std.proofs.lemmas.List.Elements.{All-from_get_or}
 use Rattle.std.proofs.lemmas.List.Quantifiers.{position-Some}
 use Rattle.std.proofs.lemmas.List.Splits.{slice_split_first, slice_split_none, length-slice_split}
 use Rattle.std.proofs.lemmas.List.Sums.{position_or_len_is, fails_before_first}
 use Rattle.top_run.specs.Texts.{parts_at, without_empty_last, lines_in, words_in, IsNumber, IsNoNumber}
-use Rattle.top_run.specs.Cuts.{parts_behind, AreShortWords}
+use Rattle.top_run.specs.Cuts.{AreShortWords}
 
 abbrev is : ℕ → ℕ → Bool
 is byte b = b == byte

@@ -1,17 +1,16 @@
-use Rattle.std.proofs.Common.{◌^◌, ◌+◌, ℕ, ◌≡◌, ◌<◌, ◌≤◌, List, [], ◌∷◌, ◌++◌, length, get_or, decimal, Option, Some, None, arith, refl, sym, ap, ◌∙◌, inl, inr}
-use Rattle.std.specs.Prelude.{◌≢◌, ◌⊎◌, codes, option_to_list, sum_by}
+use Rattle.std.proofs.Common.{◌^◌, ◌+◌, ℕ, ◌≡◌, ◌<◌, ◌≤◌, List, [], ◌∷◌, length, get_or, decimal, Option, Some, None, arith, refl, sym, ap, ◌∙◌, inl, inr}
+use Rattle.std.specs.Prelude.{◌≢◌, ◌⊎◌, codes, option_to_list}
 use Rattle.std.proofs.lemmas.Fmt.{decimal_injective}
 use Rattle.rows_model.specs.declared.keys.QKey.{QKey}
-use Rattle.rows_model.specs.declared.keys.Sid.{Sid}
 use Rattle.rows_model.specs.Key.{key_text, IsKeyText, IsNoKeyText}
 use Rattle.core_history.specs.declared.plans.Plan.TheVariants.{Read}
 use Rattle.core_history.specs.declared.plans.Turn.TheVariants.{Session}
 use Rattle.top_run.specs.declared.scripts.Act.{Act}
 use Rattle.top_run.specs.declared.scripts.Act.TheVariants as act
-use Rattle.top_run.specs.Texts.{lines_in, words_in, IsNumber, IsNoNumber}
+use Rattle.top_run.specs.Texts.{words_in, IsNumber, IsNoNumber}
 use Rattle.top_run.specs.Cuts.{AreShortWords}
-use Rattle.top_run.specs.Script.{AreReadWords, AreTurnWords, AreWords, IsLine, AreLines, IsMembersLine, AreMembersWords, sessions_of, turns_of}
-use Rattle.top_run.specs.Parsing.{IsCount, AreActsOf, AreNoActs}
+use Rattle.top_run.specs.Script.{AreReadWords, AreTurnWords, AreWords, IsLine, IsMembersLine, AreMembersWords}
+use Rattle.top_run.specs.Parsing.{IsCount}
 
 -- the first letter of the first word
 abbrev letter : List (List ℕ) → ℕ

@@ -1,10 +1,9 @@
-use Rattle.std.proofs.Common.{take, drop, get_or, take-append-drop, ℕ, zero, suc, ◌≡◌, ◌+◌, ◌-◌, ◌^◌, ◌<◌, ◌≤◌, List, [], ◌∷◌, ◌++◌, length, arith, refl, sym, ap, ◌∙◌, subst, inl, inr, append_assoc, append-nil}
+use Rattle.std.proofs.Common.{take, drop, get_or, take-append-drop, ℕ, zero, suc, ◌≡◌, ◌+◌, ◌-◌, ◌^◌, ◌<◌, List, [], ◌∷◌, ◌++◌, length, arith, refl, sym, ap, ◌∙◌, subst, inl, inr, append_assoc, append-nil}
 use Rattle.std.specs.Prelude.{◌⊎◌, Option, Result, OnErr, Ok, Err, replicate, sum_by}
 use Rattle.core_history.specs.declared.cores.Core.{Core}
 use Rattle.core_history.specs.declared.plans.Shape.{Shape}
 use Rattle.core_history.specs.declared.plans.Turn.{Turn}
 use Rattle.core_history.specs.declared.plans.Plan.{Plan}
-use Rattle.core_history.specs.Events.{Event}
 use Rattle.core_history.specs.Lines.{line_of, lines_of}
 use Rattle.core_history.specs.Cores.{IsAt, HasHistories}
 use Rattle.core_history.specs.Machine.{World, Move, Begin, Take, turn_event, taken, begun, moved, world_after}
@@ -15,7 +14,7 @@ use Rattle.core_history.specs.Cores.{IsRunning, HasBegun}
 use Rattle.top_run.specs.declared.scripts.Act.{Act}
 use Rattle.top_run.specs.declared.scripts.Act.TheVariants as act
 use Rattle.top_run.specs.Script.{moves_in, moves_of, sessions_of, turns_of}
-use Rattle.top_run.specs.Plays.{IsTurnOf, IsFit, AreFit, CanPlay, Stands, Stops}
+use Rattle.top_run.specs.Plays.{IsTurnOf, AreFit, CanPlay, Stands, Stops}
 use Rattle.rows_model.specs.declared.keys.Kind.TheVariants.{Profile}
 use Rattle.core_history.specs.declared.plans.Plan.TheVariants.{Read}
 use Rattle.std.proofs.lemmas.List.{take_more, drop_more, length-append, length-map, replicate-append-replicate}

@@ -1,4 +1,4 @@
-use Rattle.std.proofs.Common.{ℕ, ◌≡◌, ◌-◌, ◌≤◌, List, [], ◌∷◌, ◌++◌, take, drop}
+use Rattle.std.proofs.Common.{ℕ, ◌-◌, ◌≤◌, List, [], ◌∷◌, take, drop}
 use Rattle.std.specs.Prelude.{Option, replicate}
 use Rattle.core_history.specs.declared.cores.Core.{Core}
 use Rattle.core_history.specs.declared.plans.Shape.{Shape}

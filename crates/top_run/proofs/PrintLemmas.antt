@@ -1,5 +1,5 @@
 use Rattle.std.proofs.Common.{ℕ, ◌≡◌, ◌+◌, ◌-◌, ◌^◌, ◌<◌, ◌≤◌, min, List, [], ◌∷◌, ◌++◌, length, take, drop, decimal, arith, refl, sym, ap, ◌∙◌, append_assoc, append-nil, take-append-drop, reverse, flat_map}
-use Rattle.std.specs.Prelude.{Bool, Option, codes, count_by, Result, OnErr, Ok, Err}
+use Rattle.std.specs.Prelude.{Bool, Option, codes, count_by}
 use Rattle.std.proofs.lemmas.List.{length-append, length-take-le, reverse-append}
 use Rattle.std.proofs.lemmas.List.Concat.{flat_map-append}
 use Rattle.iq_outside.specs.Outside.{Gains}

@@ -1,33 +1,30 @@
-use Rattle.std.proofs.Common.{get_or, ℕ, suc, ◌≡◌, ◌+◌, ◌-◌, ◌^◌, ◌<◌, ◌≤◌, List, [], ◌∷◌, ◌++◌, length, map, reverse, arith, refl, sym, ap, ◌∙◌, subst, inl, inr, append_assoc, append-nil, min}
-use Rattle.std.specs.Prelude.{◌⊎◌, All, Option, Some, None, IfNone, Result, OnErr, OnOk, Ok, Err, slice_get, sum_by}
+use Rattle.std.proofs.Common.{get_or, ℕ, suc, ◌≡◌, ◌+◌, ◌≤◌, List, [], ◌∷◌, ◌++◌, length, map, reverse, arith, refl, sym, ap, ◌∙◌, subst, inl, inr, append_assoc, append-nil}
+use Rattle.std.specs.Prelude.{All, Option, Some, None, IfNone, Result, OnErr, OnOk, Ok, Err, slice_get}
 use Rattle.std.proofs.lemmas.List.{reverse-reverse, reverse-append}
 use Rattle.std.proofs.lemmas.List.Elements.{All-cons, All-nil, All-append, All-head, All-tail}
-use Rattle.iq_outside.specs.Outside.{Rose, Takes, TakesSome, AtEnd, Gains}
+use Rattle.iq_outside.specs.Outside.{Rose, Takes, AtEnd}
 use Rattle.iq_outside.proofs.OutsideLemmas.{Gains-none}
 use Rattle.key_shard.specs.declared.steps.Step.{Step}
 use Rattle.key_shard.specs.Shards.{ShardView}
 use Rattle.key_shard.specs.Answers.{Legal, IsLegalPast}
 use Rattle.core_history.specs.declared.cores.Core.{Core}
-use Rattle.core_history.specs.declared.plans.Shape.{Shape}
 use Rattle.core_history.specs.declared.plans.Turn.TheVariants.{Session}
 use Rattle.core_history.specs.Events.{Event, steps_of}
 use Rattle.core_history.specs.Fresh.{Fresh, IsFreshStep}
 use Rattle.core_history.specs.Lines.{lines_of, end_line}
 use Rattle.core_history.specs.Cores.{IsAt, HasShards, HasHistories, histories_in}
-use Rattle.core_history.specs.Machine.{World, Move, start, world_after, opening_rows, terms_of}
+use Rattle.core_history.specs.Machine.{Move, start, world_after, opening_rows, terms_of}
 use Rattle.core_history.proofs.FreshLemmas.{fresh_after}
 use Rattle.core_history.proofs.LegalLemmas.{legal_after}
 use Rattle.top_run.specs.declared.plays.Stop.{Stop}
 use Rattle.top_run.specs.declared.plays.Stop.TheVariants as stop
-use Rattle.top_run.specs.declared.runs.Status.{Status}
-use Rattle.top_run.specs.declared.runs.Status.TheVariants as status
 use Rattle.top_run.specs.declared.scripts.Act.{Act}
 use Rattle.top_run.specs.declared.scripts.Act.TheVariants as act
 use Rattle.top_run.specs.declared.scripts.Script.{Script}
-use Rattle.top_run.specs.Script.{AreLines, AreScriptLines, IsScript, IsNoScript, moves_of, sessions_of, turns_of}
-use Rattle.top_run.specs.Runs.{shape_of, past_of, histories_of, out, AreHistories, IsRead, IsReadInVain, Prints, PrintsAll, PrintsFront, KeepsFront, IsWhole, IsCutOff, IsOutOfMemory, IsNotStarted, Tells, Ended}
+use Rattle.top_run.specs.Script.{AreLines, AreScriptLines, IsNoScript, moves_of}
+use Rattle.top_run.specs.Runs.{shape_of, past_of, histories_of, AreHistories, IsRead, IsReadInVain, Prints, KeepsFront}
 use Rattle.top_run.specs.Plays.{AreFit, IsPlayable, CanPlay, Stands, Stops, IsStopped, IsFinished, status_of, Replayed}
-use Rattle.top_run.proofs.PrintLemmas.{print_none, lines_none}
+use Rattle.top_run.proofs.PrintLemmas.{lines_none}
 use Rattle.top_run.proofs.PlayLemmas.{histories_at}
 
 -- a text that is no script was read in vain

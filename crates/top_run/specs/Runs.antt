@@ -1,5 +1,5 @@
 -- What a run reads, prints and keeps.
-use Rattle.std.specs.Prelude.{ℕ, ◌≡◌, ◌-◌, ◌^◌, ◌≤◌, ◌⊎◌, min, List, [], ◌∷◌, ◌++◌, length, map, reverse, All, Option, codes}
+use Rattle.std.specs.Prelude.{ℕ, ◌≡◌, ◌-◌, ◌^◌, ◌≤◌, ◌⊎◌, min, List, [], ◌∷◌, ◌++◌, length, reverse, All, Option, codes}
 use Rattle.iq_outside.specs.Outside.{Rose, Takes, TakesSome, AtEnd, Gains}
 use Rattle.key_shard.specs.declared.steps.Step.{Step}
 use Rattle.key_shard.specs.Answers.{Legal}
@@ -7,7 +7,7 @@ use Rattle.core_history.specs.declared.plans.Shape.{Shape}
 use Rattle.core_history.specs.Events.{Event, steps_of}
 use Rattle.core_history.specs.Fresh.{Fresh}
 use Rattle.core_history.specs.Lines.{lines_of, end_line}
-use Rattle.core_history.specs.Machine.{World, Move, start, world_after, opening_rows, terms_of}
+use Rattle.core_history.specs.Machine.{Move, start, world_after, opening_rows, terms_of}
 use Rattle.top_run.specs.declared.runs.Status.{Status}
 use Rattle.top_run.specs.declared.runs.Status.TheVariants as status
 use Rattle.top_run.specs.declared.scripts.Act.{Act}

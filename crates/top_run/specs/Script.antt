@@ -1,6 +1,5 @@
 -- The script: which text says which acts.
 use Rattle.std.specs.Prelude.{ℕ, ◌≡◌, ◌+◌, ◌≤◌, ◌⊎◌, List, [], ◌∷◌, length, sum_by, flat_map, replicate, codes, decimal}
-use Rattle.rows_model.specs.declared.keys.Sid.{Sid}
 use Rattle.rows_model.specs.Key.{key_text, IsKeyText}
 use Rattle.core_history.specs.declared.plans.Plan.{Plan}
 use Rattle.core_history.specs.declared.plans.Plan.TheVariants.{Read}

@@ -1,5 +1,5 @@
 -- The lines of a text, the words of a line, and numbers.
-use Rattle.std.specs.Prelude.{ℕ, Bool, ◌==◌, ◌≡◌, ◌≤◌, ◌<◌, ◌^◌, if◌then◌else◌, List, [], ◌∷◌, length, decimal}
+use Rattle.std.specs.Prelude.{ℕ, ◌==◌, ◌≡◌, ◌≤◌, ◌<◌, ◌^◌, if◌then◌else◌, List, [], ◌∷◌, length, decimal}
 use Rattle.std.specs.List.{slice_split}
 
 -- The parts of a text between the bytes of this value.

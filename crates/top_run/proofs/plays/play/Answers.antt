@@ -1,4 +1,4 @@
-use Rattle.std.proofs.Common.{◌+◌, ◌≤◌, drop, take, length, get_or, arith, subst, List}
+use Rattle.std.proofs.Common.{◌+◌, drop, get_or, arith, subst, List}
 use Rattle.core_history.specs.Machine.{world_after}
 use Rattle.top_run.specs.declared.scripts.Act.{Act}
 use Rattle.std.proofs.lemmas.List.{take_all}

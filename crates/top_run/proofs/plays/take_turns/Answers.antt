@@ -1,4 +1,4 @@
-use Rattle.std.proofs.Common.{ℕ, ◌≡◌, ◌-◌, ◌+◌, arith}
+use Rattle.std.proofs.Common.{◌≡◌, ◌-◌, ◌+◌, arith}
 use Rattle.top_run.proofs.PlayLemmas.{can_take, can_turn, stands_turn, stops_turn, on_err}
 use Rattle.top_run.proofs.plays.take_turns.Goals as goal
 

@@ -1,4 +1,3 @@
-use Rattle.std.proofs.Common.{ℕ, List, []}
 use Rattle.top_run.proofs.PlayStates.{HasTaken}
 use Rattle.top_run.proofs.plays.take_turns.Given as goal
 

@@ -1,9 +1,9 @@
-use Rattle.std.proofs.Common.{arith, [], ◌∷◌, ap, sym, ◌∙◌, refl}
+use Rattle.std.proofs.Common.{arith, ap, ◌∙◌}
 use Rattle.core_history.specs.Lines.{end_line}
-use Rattle.core_history.specs.Machine.{start, world_after}
+use Rattle.core_history.specs.Machine.{start}
 use Rattle.top_run.specs.Runs.{shape_of, past_of}
 use Rattle.top_run.specs.Script.{moves_of}
-use Rattle.top_run.specs.Plays.{IsStopped, Stands}
+use Rattle.top_run.specs.Plays.{IsStopped}
 use Rattle.top_run.proofs.PlayLemmas.{on_err}
 use Rattle.top_run.proofs.RunLemmas.{can_start, stands_new, stopped_at_act, stopped_before_end, stopped_at_end, first_history}
 use Rattle.top_run.proofs.runs.play_whole.Goals as goal

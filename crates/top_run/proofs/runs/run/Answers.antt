@@ -1,4 +1,3 @@
-use Rattle.std.proofs.Common.{rules}
 use Rattle.top_run.proofs.RunLemmas.{playable}
 use Rattle.top_run.proofs.runs.run.Goals as goal
 

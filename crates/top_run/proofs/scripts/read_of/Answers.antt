@@ -1,5 +1,4 @@
 use Rattle.top_run.proofs.ParseLemmas.{no_read_other}
-use Rattle.std.proofs.Common.{arith}
 use Rattle.top_run.proofs.scripts.read_of.Goals as goal
 
 pub returns-then-branch-begun-clause-none : goal.returns-then-branch-begun-clause-none
