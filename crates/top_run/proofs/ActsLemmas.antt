@@ -15,16 +15,8 @@ use Rattle.top_run.specs.declared.scripts.Act.TheVariants as act
 use Rattle.top_run.specs.Texts.{parts_at, without_empty_last, lines_in, words_in}
 use Rattle.top_run.specs.Script.{AreWords, IsLine, AreLines, sessions_of, turns_of}
 use Rattle.top_run.specs.Parsing.{AreActsOf, AreNoActs, IsTally, FitsTally}
+use Rattle.top_run.proofs.ParseLemmas.{letter, second_of, third_of}
 use Rattle.top_run.proofs.CutLemmas.{in_front, one_line}
-
-abbrev letter : List (List ℕ) → ℕ
-letter words = get_or (get_or words 0 []) 0 0
-
-abbrev third_of : List (List ℕ) → List ℕ
-third_of words = get_or words 2 []
-
-abbrev second_of : List (List ℕ) → List ℕ
-second_of words = get_or words 1 []
 
 -- the counts of one turn line
 counts_once : (number a b : ℕ) (words : List (List ℕ)) → a ≤ 1000 → b ≤ 1000

@@ -13,14 +13,14 @@ use Rattle.top_run.specs.Script.{AreReadWords, AreTurnWords, AreWords, IsLine, I
 use Rattle.top_run.specs.Parsing.{IsCount}
 
 -- the first letter of the first word
-abbrev letter : List (List ℕ) → ℕ
+abbrev pub letter : List (List ℕ) → ℕ
 letter words = get_or (get_or words 0 []) 0 0
 
 -- the second word
-abbrev second_of : List (List ℕ) → List ℕ
+abbrev pub second_of : List (List ℕ) → List ℕ
 second_of words = get_or words 1 []
 
-abbrev third_of : List (List ℕ) → List ℕ
+abbrev pub third_of : List (List ℕ) → List ℕ
 third_of words = get_or words 2 []
 
 -- two numbers of one word are one
