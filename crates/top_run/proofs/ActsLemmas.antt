@@ -13,7 +13,7 @@ use Rattle.core_history.specs.declared.plans.Turn.TheVariants.{Session}
 use Rattle.top_run.specs.declared.scripts.Act.{Act}
 use Rattle.top_run.specs.declared.scripts.Act.TheVariants as act
 use Rattle.top_run.specs.Texts.{parts_at, without_empty_last, lines_in, words_in}
-use Rattle.top_run.specs.Script.{AreWords, IsLine, AreLines, sessions_of, turns_of}
+use Rattle.top_run.specs.Script.{AreWords, IsLine, AreLines, AreScriptLines, TextsTellScripts, sessions_of, turns_of}
 use Rattle.top_run.specs.Parsing.{AreActsOf, AreNoActs, IsTally, FitsTally}
 use Rattle.top_run.proofs.ParseLemmas.{letter, second_of, third_of}
 use Rattle.top_run.proofs.CutLemmas.{in_front, one_line}
@@ -72,6 +72,33 @@ no_end begun (act.Turns (Session who) count) line e h = in_turns h.1.4
     in_turns : ((words_in line ≡ codes "turn" ∷ decimal who.number ∷ []) × (count ≡ 1)) ⊎ (words_in line ≡ codes "turn" ∷ decimal who.number ∷ decimal count ∷ []) → ⊥
     in_turns (inl k) = let lengths = ap (λ (ws : List (List ℕ)). length ws) (sym (ap words_in e) ∙ k.0) in absurd (omega arith)
     in_turns (inr k) = let lengths = ap (λ (ws : List (List ℕ)). length ws) (sym (ap words_in e) ∙ k) in absurd (omega arith)
+
+-- lines are those of one list of acts
+lines_once : (begun : ℕ) (acts acts' : List Act) (lines : List (List ℕ)) → begun + sum_by sessions_of acts ≤ 16 → AreLines begun acts lines → AreLines begun acts' lines → acts ≡ acts'
+lines_once begun [] [] lines few h k = refl
+lines_once begun [] (b ∷ others) [] few h k = absurd k
+lines_once begun [] (b ∷ others) (line ∷ lines) few h k = absurd (no_end begun b line (ap (λ (ls : List (List ℕ)). get_or ls 0 []) h) k.0)
+lines_once begun (a ∷ acts) [] [] few h k = absurd h
+lines_once begun (a ∷ acts) [] (line ∷ lines) few h k = absurd (no_end begun a line (ap (λ (ls : List (List ℕ)). get_or ls 0 []) k) h.0)
+lines_once begun (a ∷ acts) (b ∷ others) [] few h k = absurd h
+lines_once begun (a ∷ acts) (b ∷ others) (line ∷ lines) few h k =
+    let sum = sum_by-cons sessions_of a acts in
+    let same : b ≡ a = words_once begun b a (words_in line) (omega arith) k.0.1 h.0.1 in
+    let after : AreLines (begun + sessions_of a) others lines = rw same at k.1 in
+    let rest : acts ≡ others = lines_once (begun + sessions_of a) acts others lines (omega arith) h.1 after in
+    ap (λ (x : Act). x ∷ acts) (sym same) ∙ ap (λ (xs : List Act). b ∷ xs) rest
+
+script_lines_once : (members members' : ℕ) (acts acts' : List Act) (lines : List (List ℕ)) → sum_by sessions_of acts ≤ 16
+    → AreScriptLines members acts lines → AreScriptLines members' acts' lines → (members ≡ members') × (acts ≡ acts')
+script_lines_once members members' acts acts' [] few h k = absurd h
+script_lines_once members members' acts acts' (line ∷ lines) few h k =
+    let some = h.0.1.1 in
+    let some' = k.0.1.1 in
+    (decimal_injective members members' (omega arith) (omega arith) (ap second_of (sym h.0.1.2 ∙ k.0.1.2)), lines_once 0 acts acts' lines (omega arith) h.1 k.1)
+
+-- a text says one script at most
+pub texts_tell : TextsTellScripts
+texts_tell text members members' acts acts' h k = script_lines_once members members' acts acts' (lines_in text) h.sessions h.lines k.lines
 
 -- a text that isn't empty has a line
 first_part : (byte : ℕ) (parts : List (List ℕ)) → 0 < length (without_empty_last (onto_first byte parts))

@@ -74,6 +74,12 @@ pub record IsScript (text : List ℕ) (members : ℕ) (acts : List Act) : Type 0
 abbrev pub IsNoScript : List ℕ → Type 0
 IsNoScript text = (members : ℕ) (acts : List Act) → IsScript text members acts → ⊥
 
+-- A text says one script at most.
+abbrev pub TextsTellScripts : Type 0
+TextsTellScripts =
+    (text : List ℕ) (members members' : ℕ) (acts acts' : List Act)
+    → IsScript text members acts → IsScript text members' acts' → (members ≡ members') × (acts ≡ acts')
+
 -- The moves of an act.
 abbrev pub moves_in : Act → List Move
 moves_in (act.Begin plan) = Begin plan ∷ []

@@ -4,6 +4,7 @@
 pub use runs::{RunEnd, Status, run};
 
 mod cuts;
+pub mod laws;
 mod plays;
 mod printing;
 pub mod runs;
