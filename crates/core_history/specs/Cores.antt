@@ -1,5 +1,5 @@
 -- Which events a core stands after.
-use Rattle.std.specs.Prelude.{ℕ, ◌≡◌, ◌+◌, ◌-◌, ◌^◌, ◌≤◌, ◌<◌, List, [], ◌∷◌, length, map, reverse, Some, slice_get, Result, MatchResult, ◌⊎◌, Vec}
+use Rattle.std.specs.Prelude.{ℕ, ◌≡◌, ◌+◌, ◌-◌, ◌^◌, ◌≤◌, ◌<◌, List, [], ◌∷◌, length, map, reverse, Some, slice_get, Result, MatchResult, ◌⊎◌, Vec, vec_capacity}
 use Rattle.std.specs.Global.{Global}
 use Rattle.core_history.specs.declared.replies.Reply.{Reply}
 use Rattle.rows_model.specs.declared.keys.QKey.{QKey}
@@ -41,6 +41,10 @@ pub record HasShards (shards : List ShardView) (shape : Shape) (past : List Even
   pub count : length shards ≡ shape.shards
   pub each : (place : ℕ) → place < shape.shards → slice_get shards place ≡ Some (shard_after shape past place)
 
+-- the core has room for the histories of all its shards, and holds none yet
+abbrev pub HasEnds : Core → Type 0
+HasEnds core = (core.ended.items ≡ []) × (length core.shards.items ≤ vec_capacity core.ended)
+
 -- the core stands after these sessions and events: its rows are the opening ones, its shards and sessions follow from the events
 pub record IsAt (core : Core) (shape : Shape) (world : World) : Type 0 where
   pub rows : core.rows ≡ opening_rows shape
@@ -49,10 +53,11 @@ pub record IsAt (core : Core) (shape : Shape) (world : World) : Type 0 where
   pub sessions : (place : ℕ) (session : Session) → slice_get core.sessions.items place ≡ Some session →
       IsReady session × Follows session (told_to (place + 1) world.past)
   pub unbegun : (number : ℕ) → length core.sessions.items < number → told_to number world.past ≡ []
+  pub ends : HasEnds core
 
--- the histories of the core are those after these events
+-- the histories of the core are those after these events, and it has room to hand them out
 abbrev pub HasHistories : Core → Shape → List Event → Type 0
-HasHistories core shape past = HasShards core.shards.items shape past
+HasHistories core shape past = HasEnds core × HasShards core.shards.items shape past
 
 -- how many shards the core has
 abbrev pub shards_in : Core → ℕ

@@ -14,6 +14,8 @@ pub struct Core {
     rows: Rows,
     shards: Vec<Shard>,
     sessions: Vec<Session>,
+    // Empty, with room for each shard's history, so that taking the core apart wants no memory.
+    ended: Vec<Vec<Step>>,
 }
 
 /// What a turn prints.
@@ -37,7 +39,7 @@ impl Core {
     ghost use Rattle.core_history.specs.declared.plans.Shape.{Shape};
     ghost use Rattle.core_history.specs.Machine.{World, start, begun, taken, turn_event};
     ghost use Rattle.core_history.specs.Lines.{line_of};
-    ghost use Rattle.core_history.specs.Cores.{IsShape, IsAt, IsRunning, HasBegun, HasHistories, shards_in, histories_in};
+    ghost use Rattle.core_history.specs.Cores.{IsShape, IsAt, IsRunning, HasBegun, HasEnds, HasHistories, shards_in, histories_in};
     ghost use Rattle.core_history.specs.Told.{line_in};
 
     /// A core of this shape, over the rows at the start, with no session.
@@ -46,11 +48,14 @@ impl Core {
         ensures { IfOk result (λ core. IsAt core shape start) }
     {
         let rows = Rows::start(alloc, shape.members)?;
+        let shards = shards_of(alloc, shape)?;
+        let ended = Vec::with_capacity(alloc, shards.len())?;
         Ok(Core {
             alloc,
             rows,
-            shards: shards_of(alloc, shape)?,
+            shards,
             sessions: Vec::new(alloc),
+            ended,
         })
     }
 
@@ -104,22 +109,23 @@ impl Core {
         self.shards[shard as usize].history()
     }
 
-    /// Takes the core apart into the histories of its shards, in their order.
-    pub fn into_histories(self) -> Result<Vec<Vec<Step>>, Memory>
-        ensures { IfOk result (λ histories. map (λ history. history.items) histories.items ≡ histories_in self) }
+    /// Takes the core apart into the histories of its shards, in their order. It takes no memory.
+    pub fn into_histories(self) -> Vec<Vec<Step>>
+        requires { HasEnds self }
+        ensures { map (λ history. history.items) result.items ≡ histories_in self }
     {
         let Core {
-            alloc,
+            alloc: _,
             rows: _,
             mut shards,
             sessions: _,
+            ended: mut histories,
         } = self;
-        let mut histories = Vec::new(alloc);
         while !shards.is_empty() {
             let shard = shards.remove(0);
-            histories.push(shard.take_history())?;
+            histories.push_reserved(shard.take_history());
         }
-        Ok(histories)
+        histories
     }
 }
 

@@ -29,7 +29,7 @@ on_err (Err e) p = p
 
 -- a core that stands somewhere has the histories of there
 pub histories_at : (core : Core) (shape : Shape) (world : World) → IsAt core shape world → HasHistories core shape world.past
-histories_at core shape world h = h.shards
+histories_at core shape world h = (h.ends, h.shards)
 
 -- a turn that wasn't told
 pub stopped_at_turn : (old new : Core) (shape : Shape) (world : World) (turn : Turn) (taken_old taken_new : Option (List ℕ)) (written : ℕ)

@@ -12,7 +12,7 @@ use Rattle.core_history.specs.declared.plans.Turn.TheVariants.{Session}
 use Rattle.core_history.specs.Events.{Event, steps_of}
 use Rattle.core_history.specs.Fresh.{Fresh, IsFreshStep}
 use Rattle.core_history.specs.Lines.{lines_of, end_line}
-use Rattle.core_history.specs.Cores.{IsAt, HasShards, HasHistories, histories_in}
+use Rattle.core_history.specs.Cores.{IsAt, HasEnds, HasShards, HasHistories, histories_in}
 use Rattle.core_history.specs.Machine.{Move, start, world_after, opening_rows, terms_of}
 use Rattle.core_history.proofs.FreshLemmas.{fresh_after}
 use Rattle.core_history.proofs.LegalLemmas.{legal_after}
@@ -119,7 +119,7 @@ histories_are (s ∷ []) members past h =
 histories_are (s ∷ t ∷ shards) members past h = let count : suc (suc (length shards)) ≡ 1 = h.count in absurd (omega arith)
 
 pub kept_are : (core : Core) (members : ℕ) (past : List Event) → HasHistories core (shape_of members) past → histories_in core ≡ histories_of past
-kept_are core members past h = histories_are core.shards.items members past h
+kept_are core members past h = histories_are core.shards.items members past h.1
 
 -- the first history of a core
 pub first_history : (core : Core) (members : ℕ) (past : List Event) (history : List Step) → HasHistories core (shape_of members) past → slice_get (histories_in core) 0 ≡ Some history → history ∷ [] ≡ histories_of past
@@ -158,6 +158,14 @@ keeps_front core members acts taken_old taken_new histories written h kept = rec
   kept = keeps members h.made histories (kept ∙ kept_are core members (past_of members h.made) h.kept);
 }
 
+-- a core has room to hand out its histories, however its run ended
+pub room_at_end : (ended : Result (Unit {0}) Stop) (core : Core) (members : ℕ) (acts : List Act) (taken_old taken_new : Option (List ℕ)) (written : ℕ)
+    → OnOk ended (IsFinished members acts core taken_old taken_new written)
+    → OnErr ended (IsStopped members acts core taken_old taken_new written)
+    → HasEnds core
+room_at_end (Ok done) core members acts taken_old taken_new written all some = all.kept.0
+room_at_end (Err stop) core members acts taken_old taken_new written all some = some.kept.0
+
 -- the end of a run whose histories are kept
 pub replayed : (ended : Result (Unit {0}) Stop) (core : Core) (members : ℕ) (acts : List Act) (taken_old taken_new : Option (List ℕ)) (faults_old faults_new : ℕ) (histories : List (List Step)) (written : ℕ)
     → OnOk ended (IsFinished members acts core taken_old taken_new written)
@@ -172,7 +180,7 @@ replayed (Ok done) core members acts taken_old taken_new faults_old faults_new h
 replayed (Err stop.WriteFault) core members acts taken_old taken_new faults_old faults_new histories written all some rose kept =
     (rose refl, some.front, keeps_front core members acts taken_old taken_new histories written some kept)
 replayed (Err stop.Memory) core members acts taken_old taken_new faults_old faults_new histories written all some rose kept =
-    inr (some.front, inl (keeps_front core members acts taken_old taken_new histories written some kept))
+    inr (some.front, keeps_front core members acts taken_old taken_new histories written some kept)
 
 -- a list of one element
 pub one_alone : {A B : Type 0} (f : A → B) (xs : List A) (x : A) → length xs ≡ 1 → x ≡ get_or xs 0 x → map f xs ≡ f x ∷ []

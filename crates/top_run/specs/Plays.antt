@@ -91,5 +91,5 @@ Replayed status.WriteFault members acts taken_old taken_new faults_old faults_ne
     Rose faults_old faults_new × PrintsFront members acts taken_old taken_new written × KeepsFront members acts histories
 Replayed status.Memory members acts taken_old taken_new faults_old faults_new histories written =
     IsNotStarted taken_old taken_new histories written
-    ⊎ (PrintsFront members acts taken_old taken_new written × (KeepsFront members acts histories ⊎ (histories ≡ [])))
+    ⊎ (PrintsFront members acts taken_old taken_new written × KeepsFront members acts histories)
 Replayed other members acts taken_old taken_new faults_old faults_new histories written = ⊥

@@ -101,13 +101,13 @@ pub record IsCutOff (before after : Tells) (histories : List (List Step)) (writt
   pub front : PrintsFront members acts before.taken after.taken written
   pub kept : KeepsFront members acts histories
 
--- A script was read, and its run stopped for want of memory. Then there may be no history to keep.
+-- A script was read, and its run stopped for want of memory.
 pub record IsOutOfMemory (before after : Tells) (histories : List (List Step)) (written : ℕ) : Type 0 where
   pub members : ℕ
   pub acts : List Act
   pub read : IsRead before.left after.left members acts
   pub front : PrintsFront members acts before.taken after.taken written
-  pub kept : KeepsFront members acts histories ⊎ (histories ≡ [])
+  pub kept : KeepsFront members acts histories
 
 -- Nothing was run: the sink took nothing, and no history is kept.
 pub record IsNotStarted (taken_old taken_new : Option (List ℕ)) (histories : List (List Step)) (written : ℕ) : Type 0 where

@@ -128,17 +128,10 @@ fn replay<W: Sink>(alloc: Global, script: Script, sink: &mut W) -> RunEnd
     };
     let mut written = 0;
     let ended = play_whole(alloc, &mut core, &script, sink, &mut written);
-    match core.into_histories() {
-        Ok(histories) => RunEnd {
-            status: end_status(ended),
-            histories,
-            written,
-        },
-        Err(Memory) => RunEnd {
-            status: Status::Memory,
-            histories: Vec::new(alloc),
-            written,
-        },
+    RunEnd {
+        status: end_status(ended),
+        histories: core.into_histories(),
+        written,
     }
 }
 

@@ -36,7 +36,7 @@ pub returns-in_err-print-clause-some : goal.returns-in_err-print-clause-some
 returns-in_err-print-clause-some g c =
     let new = stands_new c.args.core.now c.args.script.now.members (g.W.Sink.taken c.args.sink.now) c.args.written.now c.requires.start c.requires.nothing in
     let stands = rw c.as_slice.ensures.value at (c.in_ok-play.ensures.all (shape_of c.args.script.now.members) start (g.W.Sink.taken c.args.sink.now) new) in
-    let same = first_history c.play.new.core c.args.script.now.members (past_of c.args.script.now.members (moves_of c.args.script.now.acts.items)) c.history.result.now stands.at.shards c.history.ensures in
+    let same = first_history c.play.new.core c.args.script.now.members (past_of c.args.script.now.members (moves_of c.args.script.now.acts.items)) c.history.result.now (stands.at.ends, stands.at.shards) c.history.ensures in
     let cut = c.in_err-print.ensures.some (g.W.Sink.taken c.args.sink.now) _ stands.prints in
     on_err {P = IsStopped c.args.script.now.members c.args.script.now.acts.items c.play.new.core (g.W.Sink.taken c.args.sink.now) (g.W.Sink.taken c.print.new.sink) c.print.new.written} c.from_residual-in_err-print.result
     (stopped_at_end c.play.new.core c.args.script.now.members c.args.script.now.acts.items (g.W.Sink.taken c.args.sink.now) (g.W.Sink.taken c.print.new.sink) c.print.new.written cut.0 cut.1 stands.at
@@ -46,9 +46,9 @@ pub returns-clause-all : goal.returns-clause-all
 returns-clause-all g c =
     let new = stands_new c.args.core.now c.args.script.now.members (g.W.Sink.taken c.args.sink.now) c.args.written.now c.requires.start c.requires.nothing in
     let stands = rw c.as_slice.ensures.value at (c.in_ok-play.ensures.all (shape_of c.args.script.now.members) start (g.W.Sink.taken c.args.sink.now) new) in
-    let same = first_history c.play.new.core c.args.script.now.members (past_of c.args.script.now.members (moves_of c.args.script.now.acts.items)) c.history.result.now stands.at.shards c.history.ensures in
+    let same = first_history c.play.new.core c.args.script.now.members (past_of c.args.script.now.members (moves_of c.args.script.now.acts.items)) c.history.result.now (stands.at.ends, stands.at.shards) c.history.ensures in
     let prints = c.in_ok-print.ensures.all (g.W.Sink.taken c.args.sink.now) _ stands.prints in
     record {
       prints = rw (← same, ← c.in_ok-line.ensures, ← c.as_slice-2.ensures.value) prints;
-      kept = stands.at.shards;
+      kept = (stands.at.ends, stands.at.shards);
     }

@@ -16,6 +16,7 @@ returns-in_err-push-clause-err c shape world at =
       plans = ap (map plan_of) same ∙ at.plans;
       sessions = subst P (sym same) at.sessions;
       unbegun = subst Q (sym same) at.unbegun;
+      ends = at.ends;
     })
 
 pub returns-clause-begins : goal.returns-clause-begins
@@ -32,5 +33,6 @@ returns-clause-begins c shape world at =
         plans = ap (map plan_of) grew ∙ plans_begun old new world.plans c.args.plan at.plans c.new.ensures.plan;
         sessions = subst P (sym grew) (follow_begun old new world.past at.sessions at.unbegun c.new.ensures.ready c.new.ensures.follows);
         unbegun = subst Q (sym grew) (none_begun old new world.past at.unbegun);
+        ends = at.ends;
       },
     )

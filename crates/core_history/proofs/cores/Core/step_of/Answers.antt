@@ -1,4 +1,4 @@
-use Rattle.std.proofs.Common.{◌≡◌, ◌⊎◌, ℕ, ◌+◌, ◌-◌, List, ◌∷◌, map, sym, ap, subst, ◌∙◌, arith}
+use Rattle.std.proofs.Common.{◌≡◌, ◌≤◌, ◌⊎◌, ℕ, ◌+◌, ◌-◌, List, ◌∷◌, length, map, sym, ap, subst, ⊎_elim, inl, inr, vec_capacity, ◌∙◌, arith}
 use Rattle.core_history.specs.declared.plans.Turn.TheVariants as turn
 use Rattle.core_history.specs.declared.sessions.Session.{Session}
 use Rattle.core_history.specs.Cores.{HasBegun, HasShards, IsAt}
@@ -31,11 +31,13 @@ returns-in-Ok-clause-takes c shape world at =
     let done = subst E (event_is shape world who old found.0 at.plans found.1) made in
     let S : List Session → Type 0 = λ xs. AllFollow xs (event ∷ world.past) in
     let N : List Session → Type 0 = λ xs. NoneUnbegun xs (event ∷ world.past) in
-    let after : IsAt (record { alloc = self.alloc; rows = self.rows; shards = c.session_turn-taken.new.shards; sessions = c.session_turn-taken.new.sessions }) shape (taken shape world (turn.Session who)) = record {
+    let room = at.ends.1 in
+    let after : IsAt (record { alloc = self.alloc; rows = self.rows; shards = c.session_turn-taken.new.shards; sessions = c.session_turn-taken.new.sessions; ended = self.ended }) shape (taken shape world (turn.Session who)) = record {
       rows = at.rows;
       shards = done.0;
       plans = ap (map plan_of) one.1 ∙ plans_turn old (who.number - 1) one.0 found.0 found.1 one.2 ∙ at.plans;
       sessions = subst S (sym one.1) (follow_turn old who.number one.0 world.past event at.sessions begun.0 begun.1 (told_after shape world who) one.3 done.1);
+      ends = (at.ends.0, omega (arith, room, done.0.count, at.shards.count));
       unbegun = subst N (sym one.1) (none_turn old who.number one.0 world.past event at.unbegun begun.1 (told_after shape world who));
     } in
     (after, done.2)
@@ -52,5 +54,10 @@ returns-in-Err-clause-err c shape world at =
     let F : ℕ → Type 0 = λ n. Follows found.0 (told_to n world.past) in
     let follows = subst F number (at.sessions (who.number - 1) found.0 found.1).1 in
     let made = one.4 shape world.past (told_to who.number world.past) at.shards at.rows follows in
-    let E : Event → Type 0 = λ e. HasShards c.session_turn-taken.new.shards.items shape world.past ⊎ HasShards c.session_turn-taken.new.shards.items shape (e ∷ world.past) in
-    subst E (event_is shape world who old found.0 at.plans found.1) made
+    let shards = c.session_turn-taken.new.shards.items in
+    let room = at.ends.1 in
+    let ends : (past : List Event) → HasShards shards shape past → length shards ≤ vec_capacity self.ended = λ past has. omega (arith, room, has.count, at.shards.count) in
+    let E : Event → Type 0 = λ e. HasShards shards shape world.past ⊎ HasShards shards shape (e ∷ world.past) in
+    ⊎_elim (λ has. inl ((at.ends.0, ends world.past has), has))
+    (λ has. inr ((at.ends.0, ends (turn_event shape world (turn.Session who) ∷ world.past) has), has))
+    (subst E (event_is shape world who old found.0 at.plans found.1) made)
