@@ -1,5 +1,1 @@
-pub mod LegalLemmas
-pub mod FreshLemmas
-pub mod ShardsLemmas
-pub mod TurnsLemmas
-pub mod CoresLemmas
+pub mod GrantFacts

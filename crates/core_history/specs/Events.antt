@@ -1,41 +1,38 @@
 -- What happened, one event a turn. A past is a list of events, the latest first.
-use Rattle.std.specs.Prelude.{ℕ, ◌==◌, if◌then◌else◌, List, [], ◌∷◌, flat_map}
+use Rattle.std.specs.Prelude.{ℕ, ◌==◌, Bool, true, false, if◌then◌else◌, List, [], ◌∷◌, ◌++◌, flat_map}
+use Rattle.std.specs.List.{list_any}
 use Rattle.rows_model.specs.declared.keys.Sid.{Sid}
-use Rattle.key_shard.specs.declared.replies.Got.TheVariants as got
-use Rattle.key_shard.specs.declared.replies.SetAnswer.TheVariants as set
 use Rattle.key_shard.specs.declared.steps.Step.{Step}
-use Rattle.key_shard.specs.declared.steps.Step.TheVariants as step
-use Rattle.core_history.specs.declared.replies.Answer.{Answer}
-use Rattle.core_history.specs.declared.replies.Reply.{Reply}
-use Rattle.core_history.specs.declared.replies.Reply.TheVariants as reply
+use Rattle.sql_keeper.specs.declared.stores.Commit.{Commit}
+use Rattle.session_client.specs.declared.replies.Reply.{Reply}
+use Rattle.session_client.specs.declared.replies.Reply.TheVariants as reply
+use Rattle.session_client.specs.declared.replies.Wanted.{Wanted}
+use Rattle.session_client.specs.declared.replies.Wanted.TheVariants as wanted
 
--- One event: a request on a shard and the step that came of it, the store's answer, or the turn of a session that is done.
+-- One event: a session's request on a shard, the step that came of it and what the session was told; or a request at the store, or none, and what it was told.
 pub data Event : Type 0 where
-  Stepped : (shard : ℕ) (who : Sid) (step : Step) → Event
-  Asked : (who : Sid) (answer : Answer) → Event
-  Idle : (who : Sid) → Event
+  Stepped : (shard : ℕ) (who : Sid) (request : Wanted) (step : Step) (told : Reply) → Event
+  Called : (who : Sid) (request : Wanted) (told : Reply) → Event
 
--- The reply that shows a step. No session asks for the other steps yet.
-abbrev pub reply_of : Step → Reply
-reply_of (step.Hit key sid floor value stamp) = reply.Got (got.Hit value stamp)
-reply_of (step.Lease key sid floor now token deadline) = reply.Got (got.Lease token)
-reply_of (step.Again key sid floor now standing) = reply.Got (got.Again standing)
-reply_of (step.Own key sid) = reply.Got got.Own
-reply_of (step.Stored key token now value stamp evicted) = reply.Set (set.Stored evicted)
-reply_of (step.Void key token now) = reply.Set set.Void
-reply_of other = reply.Nothing
+-- The session whose turn it was.
+abbrev pub who_in : Event → Sid
+who_in (Stepped shard who request step told) = who
+who_in (Called who request told) = who
 
--- What an event tells its session.
+-- What was wanted.
+abbrev pub request_in : Event → Wanted
+request_in (Stepped shard who request step told) = request
+request_in (Called who request told) = request
+
+-- What the session was told.
 abbrev pub reply_in : Event → Reply
-reply_in (Stepped shard who step) = reply_of step
-reply_in (Asked who answer) = reply.Answer answer
-reply_in (Idle who) = reply.Nothing
+reply_in (Stepped shard who request step told) = told
+reply_in (Called who request told) = told
 
 -- The steps that an event made on the shard of this number: one or none.
 abbrev pub steps_in : ℕ → Event → List Step
-steps_in place (Stepped shard who step) = if shard == place then step ∷ [] else []
-steps_in place (Asked who answer) = []
-steps_in place (Idle who) = []
+steps_in place (Stepped shard who request step told) = if shard == place then step ∷ [] else []
+steps_in place (Called who request told) = []
 
 -- A shard's own past.
 abbrev pub steps_of : ℕ → List Event → List Step
@@ -43,10 +40,34 @@ steps_of place past = flat_map (steps_in place) past
 
 -- What an event told the session of this number, if it was a turn of that session.
 abbrev pub told_in : ℕ → Event → List Reply
-told_in number (Stepped shard who step) = if who.number == number then reply_of step ∷ [] else []
-told_in number (Asked who answer) = if who.number == number then reply.Answer answer ∷ [] else []
-told_in number (Idle who) = if who.number == number then reply.Nothing ∷ [] else []
+told_in number event = if (who_in event).number == number then reply_in event ∷ [] else []
 
 -- All that a session was told, the latest first.
 abbrev pub told_to : ℕ → List Event → List Reply
 told_to number past = flat_map (told_in number) past
+
+-- The commit that a reply tells of, if it does.
+abbrev pub commits_told : Sid → Reply → List Commit
+commits_told who (reply.Committed number txn grants) = record { sid = who; txn = txn } ∷ []
+commits_told who other = []
+
+-- The log after these events, the earliest commit first.
+abbrev pub log_of : List Event → List Commit
+log_of [] = []
+log_of (event ∷ past) = log_of past ++ commits_told (who_in event) (reply_in event)
+
+-- Whether an event ended this session at the store.
+abbrev pub is_end : Wanted → Bool
+is_end wanted.End = true
+is_end other = false
+
+abbrev pub ends : ℕ → Event → Bool
+ends number event = if (who_in event).number == number then is_end (request_in event) else false
+
+-- Whether the session of this number was ended at the store.
+abbrev pub was_ended : ℕ → List Event → Bool
+was_ended number past = list_any (ends number) past
+
+-- Whether the session of this number has committed.
+abbrev pub has_committed : ℕ → List Event → Bool
+has_committed number past = list_any (λ commit. commit.sid.number == number) (log_of past)

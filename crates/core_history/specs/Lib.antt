@@ -3,11 +3,8 @@ pub use Rattle.rows_model.specs.Rows
 pub use Rattle.rows_model.specs.Query
 pub use Rattle.key_shard.specs.Past
 pub use Rattle.key_shard.specs.Answers
-pub mod Wants
-pub mod Follows
 pub mod Events
 pub mod Machine
-pub mod Lines
-pub mod Fresh
-pub mod Cores
-pub mod Told
+pub mod Truth
+pub mod Facts
+pub mod Freshness

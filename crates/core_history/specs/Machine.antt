@@ -1,31 +1,54 @@
--- The machine: what each turn does, read off the events before it.
-use Rattle.std.specs.Prelude.{ℕ, ◌-◌, List, [], ◌∷◌, ◌++◌, Option, Some, None, slice_get}
+-- The machine: what each turn does, read off the events before it, and off what the store's keeper said in it.
+use Rattle.std.specs.Prelude.{ℕ, pos, ◌+◌, ◌-◌, Bool, true, false, not, ◌==◌, ◌&&◌, if◌then◌else◌, List, [], ◌∷◌, ◌++◌, length, Option, Some, None, slice_get}
 use Rattle.rows_model.specs.declared.keys.QKey.{QKey}
 use Rattle.rows_model.specs.declared.keys.Sid.{Sid}
-use Rattle.rows_model.specs.Rows.{Tables, start_tables}
+use Rattle.rows_model.specs.declared.changes.Change.{Change}
 use Rattle.rows_model.specs.Placement.{shard_of}
-use Rattle.rows_model.specs.Query.{answer}
+use Rattle.lease_table.specs.declared.records.Mode.TheVariants.{Invalidate}
+use Rattle.key_shard.specs.Permit.{Permit}
 use Rattle.key_shard.specs.declared.steps.Step.{Step}
-use Rattle.key_shard.specs.Past.{Terms}
-use Rattle.key_shard.specs.Answers.{get_step, set_step}
-use Rattle.core_history.specs.declared.plans.Plan.{Plan}
-use Rattle.core_history.specs.declared.plans.Shape.{Shape}
-use Rattle.core_history.specs.declared.plans.Turn.{Turn}
-use Rattle.core_history.specs.declared.plans.Turn.TheVariants as turn
-use Rattle.core_history.specs.declared.replies.Reply.{Reply}
-use Rattle.core_history.specs.declared.replies.Wanted.{Wanted}
-use Rattle.core_history.specs.declared.replies.Wanted.TheVariants as wanted
-use Rattle.core_history.specs.Wants.{wants}
-use Rattle.core_history.specs.Events.{Event, Stepped, Asked, Idle, steps_of, told_to}
-
--- The rows that a run of this shape begins with.
-abbrev pub opening_rows : Shape → Tables
-opening_rows shape = start_tables shape.members
+use Rattle.key_shard.specs.declared.steps.Step.TheVariants as step
+use Rattle.key_shard.specs.declared.replies.Got.TheVariants as got
+use Rattle.key_shard.specs.declared.replies.SetAnswer.TheVariants as set
+use Rattle.key_shard.specs.declared.replies.QAnswer.TheVariants as quarantine
+use Rattle.key_shard.specs.declared.replies.Rel.TheVariants as rel
+use Rattle.key_shard.specs.declared.replies.How.TheVariants.{Keep, Drop}
+use Rattle.key_shard.specs.Past.{Terms, entry, evicted_by}
+use Rattle.key_shard.specs.Answers.{get_step, set_step, quarantine_step, release_step}
+use Rattle.key_shard.specs.Replies.{old_value}
+use Rattle.key_shard.specs.Shards.{without_permit, out_after}
+use Rattle.sql_keeper.specs.declared.faults.CommitFault.{CommitFault}
+use Rattle.sql_keeper.specs.declared.faults.CommitFault.TheVariants as faults
+use Rattle.sql_keeper.specs.Commits.{commit_fault}
+use Rattle.session_client.specs.Grants.{GrantsView}
+use Rattle.session_client.specs.declared.plans.Plan.{Plan}
+use Rattle.session_client.specs.declared.plans.Shape.{Shape}
+use Rattle.session_client.specs.declared.plans.Turn.{Turn}
+use Rattle.session_client.specs.declared.plans.Turn.TheVariants as turn
+use Rattle.session_client.specs.declared.replies.Fault.TheVariants as causes
+use Rattle.session_client.specs.declared.replies.Reply.{Reply}
+use Rattle.session_client.specs.declared.replies.Reply.TheVariants as reply
+use Rattle.session_client.specs.declared.replies.Wanted.{Wanted}
+use Rattle.session_client.specs.declared.replies.Wanted.TheVariants as wanted
+use Rattle.session_client.specs.Plans.{IsPlan, writes}
+use Rattle.session_client.specs.Wants.{wants}
+use Rattle.core_history.specs.Events.{Event, Stepped, Called, steps_of, told_to, log_of, was_ended, has_committed}
 
 -- What a shard of this shape is made with. Its tokens begin at 1.
 abbrev pub terms_of : Shape → ℕ → Terms
 terms_of shape place =
     record { no = place; count = shape.shards; room = shape.room; life = shape.life; first = 1 }
+
+-- How many commits a log holds at most.
+abbrev pub log_cap : ℕ
+log_cap = 8000000
+
+-- What the store's keeper said in a turn, if it was asked: a value, that a transaction was made, which change didn't apply, or that it failed.
+pub data Said : Type 0 where
+  Value : (value : List ℕ) → Said
+  Made : Said
+  Rejected : (index : ℕ) → Said
+  Failed : Said
 
 -- The sessions begun, by their plans, and the events so far.
 pub record World : Type 0 where
@@ -45,45 +68,124 @@ abbrev pub wanted_by : Option Plan → List Reply → Wanted
 wanted_by None heard = wanted.Nothing
 wanted_by (Some plan) heard = wants plan heard
 
--- A request on the shard of a key shows the step that follows that shard's own past.
-abbrev pub stepped_on : Shape → List Event → Sid → QKey → (Terms → List Step → Step) → Event
-stepped_on shape past who key step =
-    let place = shard_of key shape.shards in Stepped place who (step (terms_of shape place) (steps_of place past))
+-- Whether a session of this plan writes; no session does.
+abbrev pub is_writer : Option Plan → Bool
+is_writer None = false
+is_writer (Some plan) = writes plan
 
--- The event that a request is: on a shard, at the store, or nothing. The clock stands at 0, and no transaction is committed.
-abbrev pub event_of : Shape → List Event → Sid → Wanted → Event
-event_of shape past who (wanted.Get key floor) =
-    stepped_on shape past who key (λ terms steps. get_step terms steps key who floor 0)
-event_of shape past who (wanted.Ask key) =
-    Asked who (record { key = key; value = answer key (opening_rows shape); stamp = 0 })
-event_of shape past who (wanted.Set key token value stamp) =
-    stepped_on shape past who key (λ terms steps. set_step terms steps key token value stamp 0)
-event_of shape past who wanted.Nothing = Idle who
+-- A session may commit from its beginning until it has committed or was ended.
+abbrev pub is_open : World → Sid → Bool
+is_open world who =
+    is_writer (plan_at who.number world.plans) && not (has_committed who.number world.past) && not (was_ended who.number world.past)
+
+-- What a session is told of a step, after the steps before it.
+abbrev pub shown : Terms → List Step → Step → Reply
+shown terms past (step.Hit key sid floor value stamp) = reply.Got (got.Hit value stamp)
+shown terms past (step.Lease key sid floor now token deadline) = reply.Got (got.Lease token)
+shown terms past (step.Again key sid floor now standing) = reply.Got (got.Again standing)
+shown terms past (step.Own key sid) = reply.Got got.Own
+shown terms past (step.Stored key token now value stamp evicted) = reply.Set (set.Stored evicted)
+shown terms past (step.Void key token now) = reply.Set set.Void
+shown terms past (step.Granted key sid mode shift now token deadline) =
+    reply.Quar (quarantine.Granted (record { shard = terms.no; key = key; sid = sid; mode = mode; token = token }) (old_value mode (entry key past)))
+shown terms past (step.Held key sid mode) = reply.Quar quarantine.Held
+shown terms past (step.Refused key sid mode holder held) = reply.Quar (quarantine.Refused holder held)
+shown terms past (step.Released key sid token how) = reply.Rel (rel.Released (evicted_by how))
+shown terms past (step.Gone key sid token) = reply.Rel rel.Gone
+
+-- A request on the shard of a key makes the step that follows that shard's own past.
+abbrev pub stepped_on : Shape → List Event → Sid → Wanted → QKey → (Terms → List Step → Step) → Event
+stepped_on shape past who request key step =
+    let place = shard_of key shape.shards in
+    let terms = terms_of shape place in
+    let steps = steps_of place past in
+    Stepped place who request (step terms steps) (shown terms steps (step terms steps))
+
+-- The store's answer to a key has the number of commits as its stamp.
+abbrev pub ask_told : List Event → QKey → Said → Reply
+ask_told past key (Value value) = reply.Answer (record { key = key; value = value; stamp = length (log_of past) })
+ask_told past key other = reply.Fault causes.Keep
+
+-- What a session is told of a commit that the keeper was asked for.
+abbrev pub commit_said : ℕ → List Change → GrantsView → Said → Reply
+commit_said count txn grants Made = reply.Committed (count + 1) txn grants
+commit_said count txn grants (Rejected index) = reply.NotCommitted (faults.Rejected index) txn grants
+commit_said count txn grants other = reply.NotCommitted faults.KeepFault txn grants
+
+abbrev pub commit_by : ℕ → List Change → GrantsView → Said → Option CommitFault → Reply
+commit_by count txn grants said (Some fault) = reply.NotCommitted fault txn grants
+commit_by count txn grants said None = commit_said count txn grants said
+
+-- What a session is told of its commit: it is refused for its first fault, and else is as the keeper says.
+abbrev pub commit_told : World → Sid → List Change → GrantsView → Said → Reply
+commit_told world who txn grants said =
+    let count = length (log_of world.past) in
+    commit_by count txn grants said (commit_fault (is_open world who) who grants.items txn count log_cap)
+
+-- The event that a request is: on a shard, at the store, or nothing. The clock stands at 0.
+abbrev pub event_of : Shape → World → Sid → Wanted → Said → Event
+event_of shape world who (wanted.Get key floor) said =
+    stepped_on shape world.past who (wanted.Get key floor) key (λ terms steps. get_step terms steps key who floor 0)
+event_of shape world who (wanted.Ask key) said = Called who (wanted.Ask key) (ask_told world.past key said)
+event_of shape world who (wanted.Set key token value stamp) said =
+    stepped_on shape world.past who (wanted.Set key token value stamp) key (λ terms steps. set_step terms steps key token value stamp 0)
+event_of shape world who (wanted.QaReg key) said =
+    stepped_on shape world.past who (wanted.QaReg key) key (λ terms steps. quarantine_step terms steps key who Invalidate (pos 0) 0)
+event_of shape world who (wanted.Commit txn grants) said =
+    Called who (wanted.Commit txn grants) (commit_told world who txn grants said)
+event_of shape world who wanted.End said = Called who wanted.End (reply.End (is_open world who))
+event_of shape world who (wanted.Dar grant) said =
+    stepped_on shape world.past who (wanted.Dar grant) grant.key (λ terms steps. release_step steps grant Drop)
+event_of shape world who (wanted.Abort grant) said =
+    stepped_on shape world.past who (wanted.Abort grant) grant.key (λ terms steps. release_step steps grant Keep)
+event_of shape world who wanted.Nothing said = Called who wanted.Nothing reply.Nothing
+
+-- What a session wants next.
+abbrev pub wanted_of : World → Sid → Wanted
+wanted_of world who = wanted_by (plan_at who.number world.plans) (told_to who.number world.past)
 
 -- The event of a turn.
-abbrev pub turn_event : Shape → World → Turn → Event
-turn_event shape world (turn.Session who) =
-    event_of shape world.past who (wanted_by (plan_at who.number world.plans) (told_to who.number world.past))
+abbrev pub turn_event : Shape → World → Turn → Said → Event
+turn_event shape world (turn.Session who) said = event_of shape world who (wanted_of world who) said
 
--- A move of the world: a session begins, or a turn is taken.
+-- A move of the world: a session begins, or a turn is taken, in which the keeper said this if it was asked.
 pub data Move : Type 0 where
   Begin : (plan : Plan) → Move
-  Take : (turn : Turn) → Move
+  Take : (turn : Turn) (said : Said) → Move
 
 -- The world after a session begins.
 abbrev pub begun : World → Plan → World
 begun world plan = record { plans = world.plans ++ plan ∷ []; past = world.past }
 
 -- The world after a turn.
-abbrev pub taken : Shape → World → Turn → World
-taken shape world turn =
-    record { plans = world.plans; past = turn_event shape world turn ∷ world.past }
+abbrev pub taken : Shape → World → Turn → Said → World
+taken shape world turn said =
+    record { plans = world.plans; past = turn_event shape world turn said ∷ world.past }
 
 abbrev pub moved : Shape → World → Move → World
 moved shape world (Begin plan) = begun world plan
-moved shape world (Take turn) = taken shape world turn
+moved shape world (Take turn said) = taken shape world turn said
 
--- The world after these moves, in order.
-abbrev pub world_after : Shape → World → List Move → World
-world_after shape world [] = world
-world_after shape world (move ∷ moves) = world_after shape (moved shape world move) moves
+-- The world after these moves, the latest first.
+abbrev pub world_of : Shape → List Move → World
+world_of shape [] = start
+world_of shape (move ∷ moves) = moved shape (world_of shape moves) move
+
+-- The plans that are begun are plans that a session takes.
+abbrev pub HasPlans : List Move → Type 0
+HasPlans [] = Unit {0}
+HasPlans (Begin plan ∷ moves) = IsPlan plan × HasPlans moves
+HasPlans (Take turn said ∷ moves) = HasPlans moves
+
+-- The grants that are out at a shard after a request and its step: a release takes its own away, and a granted quarantine adds one.
+abbrev pub out_by : Terms → Wanted → Step → List Permit → List Permit
+out_by terms (wanted.Dar grant) step out = without_permit grant out
+out_by terms (wanted.Abort grant) step out = without_permit grant out
+out_by terms request step out = out_after terms step out
+
+-- The grants that are out at the shard of this number after these events.
+abbrev pub out_of : Shape → ℕ → List Event → List Permit
+out_of shape place [] = []
+out_of shape place (Stepped shard who request step told ∷ past) =
+    if shard == place then out_by (terms_of shape place) request step (out_of shape place past) else out_of shape place past
+out_of shape place (Called who request told ∷ past) = out_of shape place past

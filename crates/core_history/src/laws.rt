@@ -1,13 +1,16 @@
-ghost use Rattle.std.specs.Prelude.{ℕ, List};
-ghost use Rattle.key_shard.specs.Answers.{IsLegalPast};
-ghost use Rattle.core_history.specs.declared.plans.Shape.{Shape};
-ghost use Rattle.core_history.specs.Events.{steps_of};
-ghost use Rattle.core_history.specs.Fresh.{Fresh};
-ghost use Rattle.core_history.specs.Machine.{Move, start, world_after, opening_rows, terms_of};
+// Laws of the machine, each the clause of a function that does nothing.
+ghost use Rattle.core_history.specs.Freshness.{RunsAreLawful, RunsAreFresh};
 
-/// No run goes stale, whichever sessions it begins and in whatever order it takes their turns: on each
-/// shard every hit is its key's answer, and every step answers its own request.
+/// Every run is lawful, whichever sessions it begins, in whatever order it takes their turns, and
+/// whatever the keeper says: each history is legal, and no transaction is committed that touches a key
+/// which its session hasn't quarantined.
+pub fn runs_are_lawful()
+    ensures { RunsAreLawful }
+{}
+
+/// No run goes stale where the keeper's word is true: each hit is its key's answer on the rows after
+/// as many commits as its stamp says, and among these is each commit on that key whose quarantine
+/// there had ended before.
 pub fn runs_are_fresh()
-    ensures fresh { (shape : Shape) (moves : List Move) (place : ℕ) → Fresh (opening_rows shape) (steps_of place (world_after shape start moves).past) }
-    ensures legal { (shape : Shape) (moves : List Move) (place : ℕ) → IsLegalPast (terms_of shape place) (steps_of place (world_after shape start moves).past) }
+    ensures { RunsAreFresh }
 {}

@@ -1,0 +1,115 @@
+-- What holds before and after every event of a run.
+use Rattle.std.specs.Prelude.{ℕ, ◌+◌, ◌-◌, ◌≡◌, ◌≢◌, ◌<◌, ◌≤◌, ◌==◌, ◌&&◌, ◌||◌, Bool, true, false, not, if◌then◌else◌, List, [], ◌∷◌, length, All, count_by, Option, Some, None, slice_get}
+use Rattle.std.specs.List.{list_any}
+use Rattle.rows_model.specs.declared.keys.QKey.{QKey}
+use Rattle.rows_model.specs.declared.keys.Sid.{Sid}
+use Rattle.rows_model.specs.Key.{same_key}
+use Rattle.rows_model.specs.Rows.{Tables}
+use Rattle.rows_model.specs.Query.{answer}
+use Rattle.rows_model.specs.Changes.{touches}
+use Rattle.rows_model.specs.Placement.{shard_of}
+use Rattle.lease_table.specs.declared.records.Mode.{Mode}
+use Rattle.lease_table.specs.declared.records.Mode.TheVariants.{Invalidate}
+use Rattle.lease_table.specs.declared.records.Quar.{Quar}
+use Rattle.lease_table.specs.declared.records.ReadLease.{ReadLease}
+use Rattle.key_shard.specs.Permit.{Permit}
+use Rattle.key_shard.specs.declared.steps.Ended.{Ended}
+use Rattle.key_shard.specs.declared.steps.Ended.TheVariants as ended
+use Rattle.key_shard.specs.declared.steps.Step.{Step}
+use Rattle.key_shard.specs.declared.steps.Step.TheVariants as step
+use Rattle.key_shard.specs.declared.replies.Got.TheVariants as got
+use Rattle.key_shard.specs.Past.{standing, recorded, entry}
+use Rattle.sql_keeper.specs.declared.stores.Answer.{Answer}
+use Rattle.sql_keeper.specs.declared.stores.Commit.{Commit}
+use Rattle.sql_keeper.specs.Log.{state}
+use Rattle.sql_keeper.specs.Fresh.{quarantines}
+use Rattle.session_client.specs.declared.plans.Plan.{Plan}
+use Rattle.session_client.specs.declared.plans.Plan.TheVariants.{Read}
+use Rattle.session_client.specs.declared.plans.Shape.{Shape}
+use Rattle.session_client.specs.declared.replies.Reply.{Reply}
+use Rattle.session_client.specs.declared.replies.Reply.TheVariants as reply
+use Rattle.core_history.specs.Events.{Event, Stepped, Called, steps_of, reply_in, told_to, log_of, has_committed}
+use Rattle.core_history.specs.Machine.{World, plan_at, is_open}
+
+-- The past of a key's own shard.
+abbrev pub steps_on : Shape → World → QKey → List Step
+steps_on shape world key = steps_of (shard_of key shape.shards) world.past
+
+-- The entry of a key, if it has one, is the key's answer on the rows after as many commits as its stamp says.
+abbrev pub IsAnswer : Tables → List Commit → QKey → Option (List ℕ × ℕ) → Type 0
+IsAnswer opening log key None = Unit {0}
+IsAnswer opening log key (Some found) = (found.1 ≤ length log) × (found.0 ≡ answer key (state opening log found.1))
+
+-- A quarantine of this session stands among these.
+abbrev pub stands_for : Sid → List Quar → Bool
+stands_for who quars = list_any (λ quar. quar.sid.number == who.number) quars
+
+-- Each commit on the key that the entry doesn't hold has its session's quarantine standing there.
+abbrev pub ArePending : List Commit → QKey → List Quar → Option (List ℕ × ℕ) → Type 0
+ArePending log key quars None = Unit {0}
+ArePending log key quars (Some found) =
+    (place : ℕ) (commit : Commit) → slice_get log place ≡ Some commit → found.1 ≤ place → touches commit.txn key ≡ true
+    → stands_for commit.sid quars ≡ true
+
+-- Where a quarantine stands no lease to read is recorded, and one that isn't to invalidate is the only one.
+pub record AreApart (past : List Step) (key : QKey) : Type 0 where
+  pub no_reader : (quar : Quar) (quars : List Quar) → standing key past ≡ quar ∷ quars → recorded key past ≡ None
+  pub alone : All (λ quar. quar.mode ≢ Invalidate → length (standing key past) ≡ 1) (standing key past)
+
+-- Whether a step gives a lease to read the key.
+abbrev pub leases : QKey → Step → Bool
+leases key (step.Lease on sid floor now token deadline) = same_key key on
+leases key other = false
+
+-- Whether a reply tells of a commit that touches the key.
+abbrev pub commits_on : QKey → Reply → Bool
+commits_on key (reply.Committed number txn grants) = touches txn key
+commits_on key other = false
+
+-- Whether a commit touched the key since the last lease to read it was given.
+abbrev pub touched_since : QKey → List Event → Bool
+touched_since key [] = false
+touched_since key (Stepped shard who request step told ∷ past) =
+    if leases key step then false else touched_since key past
+touched_since key (Called who request told ∷ past) = commits_on key told || touched_since key past
+
+-- The answer that a reader holds under this lease, if it holds one.
+abbrev pub held_under : ℕ → List Reply → Option Answer
+held_under token (reply.Answer answered ∷ reply.Got (got.Lease mine) ∷ heard) =
+    if mine == token then Some answered else None
+held_under token heard = None
+
+-- An answer is the key's on the rows after as many commits as its stamp says, and no commit after those touches the key.
+abbrev pub IsCurrent : Tables → List Commit → QKey → Option Answer → Type 0
+IsCurrent opening log key None = Unit {0}
+IsCurrent opening log key (Some answered) =
+    (answered.key ≡ key) × (answered.stamp ≤ length log) × (answered.value ≡ answer key (state opening log answered.stamp))
+    × ((place : ℕ) (commit : Commit) → slice_get log place ≡ Some commit → answered.stamp ≤ place → touches commit.txn key ≡ false)
+
+-- No commit has touched a key since the lease that is recorded on it, and the answer that a reader of the key holds under that lease is current.
+pub record IsQuiet (opening : Tables) (shape : Shape) (world : World) (key : QKey) (lease : ReadLease) : Type 0 where
+  pub untouched : touched_since key world.past ≡ false
+  pub held : (number floor : ℕ) → plan_at number world.plans ≡ Some (Read key floor) → IsCurrent opening (log_of world.past) key (held_under lease.token (told_to number world.past))
+
+-- A session that may still commit has each quarantine standing that it was granted. One whose quarantine ended with Keep didn't commit, and any whose quarantine ended may commit no more.
+abbrev pub IsOrdered : Shape → World → Step → Type 0
+IsOrdered shape world (step.Granted key sid mode shift now token deadline) =
+    is_open world sid ≡ true → stands_for sid (standing key (steps_on shape world key)) ≡ true
+IsOrdered shape world (step.Released key sid token how) =
+    (is_open world sid ≡ false) × (how ≡ ended.Keep → has_committed sid.number world.past ≡ false)
+IsOrdered shape world other = Unit {0}
+
+-- What holds before and after every event.
+pub record Facts (opening : Tables) (shape : Shape) (world : World) : Type 0 where
+  -- each entry is its key's answer on the rows after as many commits as its stamp says
+  pub answers : (key : QKey) → IsAnswer opening (log_of world.past) key (entry key (steps_on shape world key))
+  -- each commit that an entry doesn't hold has its quarantine standing
+  pub pending : (key : QKey) → ArePending (log_of world.past) key (standing key (steps_on shape world key)) (entry key (steps_on shape world key))
+  -- quarantines stand apart from readers, and from others unless all are to invalidate
+  pub apart : (key : QKey) → AreApart (steps_on shape world key) key
+  -- readers are quiet
+  pub quiet : (key : QKey) (lease : ReadLease) → recorded key (steps_on shape world key) ≡ Some lease → IsQuiet opening shape world key lease
+  -- a session is granted each key at most once
+  pub once : (key : QKey) (who : Sid) → count_by (quarantines key who) (steps_on shape world key) ≤ 1
+  -- quarantines end after their session has
+  pub order : (place : ℕ) → place < shape.shards → All (IsOrdered shape world) (steps_of place world.past)

@@ -1,0 +1,54 @@
+-- What holds of every run: of its log, its histories, and of each turn that commits.
+use Rattle.std.specs.Prelude.{ℕ, ◌≡◌, ◌≢◌, true, List, [], ◌∷◌, map, reverse, length, All}
+use Rattle.std.specs.List.{range_with_len}
+use Rattle.rows_model.specs.declared.keys.QKey.{QKey}
+use Rattle.rows_model.specs.declared.keys.Sid.{Sid}
+use Rattle.rows_model.specs.Rows.{Tables, Fit}
+use Rattle.rows_model.specs.Changes.{touches}
+use Rattle.rows_model.specs.Placement.{shard_of}
+use Rattle.key_shard.specs.declared.steps.Step.{Step}
+use Rattle.key_shard.specs.Past.{standing}
+use Rattle.key_shard.specs.Answers.{IsLegalPast}
+use Rattle.sql_keeper.specs.Fresh.{Fresh, Covered}
+use Rattle.session_client.specs.declared.plans.Shape.{Shape}
+use Rattle.session_client.specs.declared.replies.Reply.{Reply}
+use Rattle.session_client.specs.declared.replies.Reply.TheVariants as reply
+use Rattle.core_history.specs.Events.{Event, who_in, reply_in, steps_of, log_of}
+use Rattle.core_history.specs.Machine.{Move, world_of, HasPlans, terms_of}
+use Rattle.core_history.specs.Truth.{IsTruePast}
+use Rattle.core_history.specs.Facts.{Facts, stands_for}
+
+-- The histories of all shards, in their order, the earliest step first.
+abbrev pub histories_of : Shape → List Event → List (List Step)
+histories_of shape past = map (λ place. reverse (steps_of place past)) (range_with_len 0 shape.shards)
+
+-- Where a session is told that it has committed, a quarantine of its stands on each key that its transaction touches.
+abbrev pub IsQuarantinedReply : Shape → List Event → Sid → Reply → Type 0
+IsQuarantinedReply shape past who (reply.Committed number txn grants) =
+    (key : QKey) → touches txn key ≡ true → stands_for who (standing key (steps_of (shard_of key shape.shards) past)) ≡ true
+IsQuarantinedReply shape past who other = Unit {0}
+
+-- So it is at each turn.
+abbrev pub AreQuarantined : Shape → List Event → Type 0
+AreQuarantined shape [] = Unit {0}
+AreQuarantined shape (event ∷ past) =
+    IsQuarantinedReply shape past (who_in event) (reply_in event) × AreQuarantined shape past
+
+-- What holds after any moves, whatever the keeper said: each history is legal, each commit is covered, and was so when it was made.
+pub record IsLawful (shape : Shape) (past : List Event) : Type 0 where
+  pub legal : (place : ℕ) → IsLegalPast (terms_of shape place) (steps_of place past)
+  pub covered : Covered (log_of past) (histories_of shape past)
+  pub quarantined : AreQuarantined shape past
+
+-- Whichever sessions begin, in whatever order they take their turns, and whatever the keeper says, the run is lawful.
+abbrev pub RunsAreLawful : Type 0
+RunsAreLawful =
+    (shape : Shape) (moves : List Move) → shape.shards ≢ 0 → HasPlans moves → IsLawful shape (world_of shape moves).past
+
+-- Where the keeper's word was true as well, the facts hold, and each hit is fresh.
+abbrev pub RunsAreFresh : Type 0
+RunsAreFresh =
+    (shape : Shape) (opening : Tables) (moves : List Move) → shape.shards ≢ 0 → HasPlans moves → Fit opening
+    → IsTruePast opening (world_of shape moves).past
+    → Facts opening shape (world_of shape moves)
+    × Fresh opening (log_of (world_of shape moves).past) (histories_of shape (world_of shape moves).past)

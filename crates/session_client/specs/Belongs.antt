@@ -1,0 +1,65 @@
+-- Which replies belong to a request.
+use Rattle.std.specs.Prelude.{ℕ, ◌≡◌, ◌≤◌, List, Option, None}
+use Rattle.rows_model.specs.declared.keys.QKey.{QKey}
+use Rattle.rows_model.specs.declared.keys.Sid.{Sid}
+use Rattle.lease_table.specs.declared.records.Mode.{Mode}
+use Rattle.lease_table.specs.declared.records.Mode.TheVariants.{Invalidate}
+use Rattle.key_shard.specs.Permit.{Permit}
+use Rattle.key_shard.specs.declared.replies.QAnswer.{QAnswer}
+use Rattle.key_shard.specs.declared.replies.QAnswer.TheVariants as quarantine
+use Rattle.session_client.specs.Grants.{GrantsView}
+use Rattle.session_client.specs.declared.replies.Fault.{Fault}
+use Rattle.session_client.specs.declared.replies.Fault.TheVariants as faults
+use Rattle.session_client.specs.declared.replies.Reply.{Reply}
+use Rattle.session_client.specs.declared.replies.Reply.TheVariants as reply
+use Rattle.session_client.specs.declared.replies.Wanted.{Wanted}
+use Rattle.session_client.specs.declared.replies.Wanted.TheVariants as wanted
+
+-- A shard that draws a token may have none left, or memory may run out.
+abbrev pub IsShardFault : Fault → Type 0
+IsShardFault faults.Spent = Unit {0}
+IsShardFault faults.Memory = Unit {0}
+IsShardFault faults.Keep = ⊥
+
+-- The store's keeper may fail, or memory may run out.
+abbrev pub IsStoreFault : Fault → Type 0
+IsStoreFault faults.Keep = Unit {0}
+IsStoreFault faults.Memory = Unit {0}
+IsStoreFault faults.Spent = ⊥
+
+-- A grant of the key, to this session, in this mode.
+pub record IsGrantOf (who : Sid) (key : QKey) (mode : Mode) (grant : Permit) : Type 0 where
+  pub of_key : grant.key ≡ key
+  pub of_session : grant.sid ≡ who
+  pub in_mode : grant.mode ≡ mode
+
+-- An answer to a quarantine to invalidate: a grant brings no old value along.
+abbrev pub IsQuarantineOf : Sid → QKey → QAnswer → Type 0
+IsQuarantineOf who key (quarantine.Granted grant old) = IsGrantOf who key Invalidate grant × (old ≡ None)
+IsQuarantineOf who key quarantine.Held = Unit {0}
+IsQuarantineOf who key (quarantine.Refused holder mode) = Unit {0}
+
+-- The same grants come back, with no less room.
+pub record AreBack (lent back : GrantsView) : Type 0 where
+  pub same : back.items ≡ lent.items
+  pub roomy : lent.room ≤ back.room
+
+-- The reply belongs to the request of this session.
+abbrev pub Belongs : Sid → Wanted → Reply → Type 0
+Belongs who (wanted.Get key floor) (reply.Got got) = Unit {0}
+Belongs who (wanted.Get key floor) (reply.Fault fault) = IsShardFault fault
+Belongs who (wanted.Ask key) (reply.Answer answer) = answer.key ≡ key
+Belongs who (wanted.Ask key) (reply.Fault fault) = IsStoreFault fault
+Belongs who (wanted.Set key token value stamp) (reply.Set told) = Unit {0}
+Belongs who (wanted.Set key token value stamp) (reply.Fault fault) = fault ≡ faults.Memory
+Belongs who (wanted.QaReg key) (reply.Quar told) = IsQuarantineOf who key told
+Belongs who (wanted.QaReg key) (reply.Fault fault) = IsShardFault fault
+Belongs who (wanted.Commit txn grants) (reply.Committed number changes back) =
+    (changes ≡ txn) × AreBack grants back
+Belongs who (wanted.Commit txn grants) (reply.NotCommitted fault changes back) =
+    (changes ≡ txn) × AreBack grants back
+Belongs who wanted.End (reply.End was) = Unit {0}
+Belongs who (wanted.Dar grant) (reply.Rel told) = Unit {0}
+Belongs who (wanted.Abort grant) (reply.Rel told) = Unit {0}
+Belongs who wanted.Nothing reply.Nothing = Unit {0}
+Belongs who request told = ⊥

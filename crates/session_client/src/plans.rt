@@ -1,0 +1,47 @@
+use lease_table::Mode;
+use rows_model::{QKey, Sid, Txn};
+
+/// What a session is to do.
+#[derive(Debug, Drop)]
+pub enum Plan {
+    /// Read a key. An entry whose stamp is below the floor is not good enough.
+    Read { key: QKey, floor: u64 },
+    /// Quarantine each key that the transaction touches, in this mode, commit it, and then release
+    /// the keys as the mode says.
+    Write { mode: Mode, txn: Txn },
+    /// Write in mode invalidate, and leave out the quarantine of this key, which the transaction
+    /// touches. So the store refuses the commit.
+    Skip { key: QKey, txn: Txn },
+}
+
+/// One turn of the core.
+#[derive(Clone, Copy, Debug, PartialEq, Eq)]
+pub enum Turn {
+    /// The session makes the next request that its plan wants.
+    Session { sid: Sid },
+}
+
+impl Turn {
+    ghost use Rattle.std.specs.Prelude.{◌≡◌};
+
+    /// The session whose turn it is.
+    pub fn sid(self) -> Sid
+        ensures { self ≡ Turn.Session result }
+    {
+        let Turn::Session { sid } = self;
+        sid
+    }
+}
+
+/// What a run is made with.
+#[derive(Clone, Copy, Debug, PartialEq, Eq)]
+pub struct Shape {
+    /// How many members there are at the start, from 1 to 100,000.
+    pub members: u32,
+    /// How many shards, from 1 to 64.
+    pub shards: u32,
+    /// How many entries a shard has room for, from 1 to 65,536.
+    pub room: u32,
+    /// How long a lease lives, in ticks, at least 1.
+    pub life: u64,
+}

@@ -1,0 +1,99 @@
+use crate::grant_lists::Grants;
+use key_shard::{Got, Grant, QAnswer, Rel, SetAnswer};
+use lease_table::Mode;
+use rows_model::{QKey, Sid, Txn, Value};
+use sql_keeper::{Answer, CommitFault};
+
+/// What a session wants next. A request hands its grants over, and the reply brings back those that
+/// it doesn't spend.
+#[derive(Debug)]
+pub enum Wanted {
+    /// The key's entry, with a stamp of at least the floor.
+    Get { key: QKey, floor: u64 },
+    /// The store's answer for the key.
+    Ask { key: QKey },
+    /// To store the value under the I lease of this token.
+    Set {
+        key: QKey,
+        token: u64,
+        value: Value,
+        stamp: u64,
+    },
+    /// A quarantine of the key, to invalidate it.
+    QaReg { key: QKey },
+    /// To commit the transaction, with these grants on the keys that it touches.
+    Commit { txn: Txn, grants: Grants },
+    /// To be ended at the store: it won't commit.
+    End,
+    /// To drop the key's value and end the quarantine.
+    Dar { grant: Grant },
+    /// To end the quarantine and leave the key's value.
+    Abort { grant: Grant },
+    /// Nothing: the session is done.
+    Nothing,
+}
+
+/// Why a request was not made.
+#[derive(Clone, Copy, Debug, PartialEq, Eq)]
+pub enum Fault {
+    /// The shard has no more tokens.
+    Spent,
+    /// The store's keeper failed.
+    Keep,
+    /// Memory ran out.
+    Memory,
+}
+
+/// What a session is told.
+#[derive(Debug)]
+pub enum Reply {
+    /// The answer to a get.
+    Got { got: Got },
+    /// The store's answer.
+    Answer { answer: Answer },
+    /// The answer to a set.
+    Set { told: SetAnswer },
+    /// The answer to a quarantine.
+    Quar { told: QAnswer },
+    /// The transaction is the commit of this number, from 1.
+    Committed {
+        number: u64,
+        txn: Txn,
+        grants: Grants,
+    },
+    /// The transaction was not committed.
+    NotCommitted {
+        fault: CommitFault,
+        txn: Txn,
+        grants: Grants,
+    },
+    /// Whether the session was open at the store. It isn't now.
+    End { was: bool },
+    /// The answer to a release.
+    Rel { told: Rel },
+    /// The request was not made.
+    Fault { fault: Fault },
+    /// The session is done.
+    Nothing,
+}
+
+/// How a session ended.
+#[derive(Clone, Copy, Debug, PartialEq, Eq)]
+pub enum Outcome {
+    /// A reader got an entry.
+    Hit,
+    /// A reader stored the store's answer.
+    Stored,
+    /// A reader's answer was not stored, since its lease stood no longer.
+    Void,
+    /// A reader has the store's answer, and had no lease to store it under.
+    Bypass,
+    /// A writer's transaction is the commit of this number.
+    Committed { number: u64 },
+    /// A writer was refused a quarantine, by this session's in this mode.
+    Refused { holder: Sid, mode: Mode },
+    /// A writer's transaction was not committed.
+    NotCommitted { fault: CommitFault },
+    /// A request was not made.
+    Failed { fault: Fault },
+}

@@ -1,0 +1,9 @@
+pub use Rattle.rows_model.specs.Key
+pub use Rattle.rows_model.specs.Rows
+pub use Rattle.rows_model.specs.Query
+pub use Rattle.rows_model.specs.Changes
+pub use Rattle.rows_model.specs.Placement
+pub mod Keepers
+pub mod Log
+pub mod Commits
+pub mod Fresh

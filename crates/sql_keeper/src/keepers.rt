@@ -1,0 +1,69 @@
+ghost use Rattle.std.specs.Prelude.{◌≡◌, ℕ, ◌≤◌, Option, Some, IfOk, OnOk, OnErr, Err};
+ghost use Rattle.std.specs.Option.{ForSome};
+ghost use Rattle.iq_outside.specs.Outside.{Rose};
+ghost use Rattle.rows_model.specs.Rows.{Tables, start_tables};
+ghost use Rattle.rows_model.specs.Query.{answer};
+ghost use Rattle.sql_keeper.specs.Keepers.{Commits, AnswersAfter};
+
+use crate::faults::{AfterFault, KeepFault};
+use rows_model::{QKey, Rows, Txn, Value};
+use std::alloc::Global;
+
+/// Where the rows of a store lie.
+#[derive(Debug, Drop)]
+pub enum Place {
+    /// In memory, made afresh at each start.
+    Fresh,
+    /// In the file of this path, with the rows that it has.
+    File { path: Value },
+}
+
+/// Who keeps the rows of a store.
+///
+/// Contracts see three things of a keeper: `rows`, its rows, or `None` where it doesn't tell them;
+/// `faults`, how often it failed; and `is_started`, that it was started. Only `start` begins the
+/// telling: where rows are told after another call they were told before it. No refusal changes
+/// rows that are told, and the count of faults never falls.
+pub trait Keeper {
+    ghost rows: { Self → Option Tables };
+
+    ghost faults: { Self → ℕ };
+
+    ghost is_started: { Self → Type 0 };
+
+    /// Starts the keeper, and answers the rows that it has. A fresh place has so many members, and
+    /// no links.
+    fn start(&mut self, alloc: Global, place: &Place, members: u32) -> Result<Rows, KeepFault>
+        requires some { 1 ≤ members }
+        requires few { members ≤ 100000 }
+        ensures started { OnOk result (is_started self.new) }
+        ensures tells { IfOk result (λ opening. ForSome (rows self.new) (λ told. told ≡ opening)) }
+        ensures fresh { place.now ≡ Place.Fresh → IfOk result (λ opening. ForSome (rows self.new) (λ told. told ≡ start_tables members)) }
+        ensures kept { OnErr result (rows self.new ≡ rows self.old) }
+        ensures failed_rose { result ≡ Err KeepFault.Failed → Rose (faults self.old) (faults self.new) }
+        ensures never_falls { faults self.old ≤ faults self.new };
+
+    /// The answer to a key on the rows.
+    fn ask(&mut self, alloc: Global, key: &QKey) -> Result<Value, KeepFault>
+        requires { is_started self.old }
+        ensures started { is_started self.new }
+        ensures tells { (told : Tables) → rows self.new ≡ Some told → (rows self.old ≡ Some told) × IfOk result (λ value. value ≡ answer key.now told) }
+        ensures failed_rose { result ≡ Err KeepFault.Failed → Rose (faults self.old) (faults self.new) }
+        ensures never_falls { faults self.old ≤ faults self.new };
+
+    /// The answer to a key on the rows as they were after a transaction, which isn't made.
+    fn ask_after(&mut self, alloc: Global, txn: &Txn, key: &QKey) -> Result<Value, AfterFault>
+        requires { is_started self.old }
+        ensures started { is_started self.new }
+        ensures tells { (told : Tables) → rows self.new ≡ Some told → (rows self.old ≡ Some told) × AnswersAfter txn.now key.now told result }
+        ensures failed_rose { result ≡ Err AfterFault.Failed → Rose (faults self.old) (faults self.new) }
+        ensures never_falls { faults self.old ≤ faults self.new };
+
+    /// Makes the changes of a transaction, all or none.
+    fn commit(&mut self, alloc: Global, txn: &Txn) -> Result<(), AfterFault>
+        requires { is_started self.old }
+        ensures started { is_started self.new }
+        ensures tells { (told : Tables) → rows self.new ≡ Some told → (before : Tables) × (rows self.old ≡ Some before) × Commits txn.now before told result }
+        ensures failed_rose { result ≡ Err AfterFault.Failed → Rose (faults self.old) (faults self.new) }
+        ensures never_falls { faults self.old ≤ faults self.new };
+}

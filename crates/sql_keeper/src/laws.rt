@@ -1,0 +1,1 @@
+// Laws of the log, each the clause of a function that does nothing.

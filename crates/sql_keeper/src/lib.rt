@@ -1,0 +1,11 @@
+//! The store: rows that a keeper keeps, the log of what was committed, and the sessions that may commit.
+#![tactic(auto)]
+
+pub use faults::{AfterFault, CommitFault, KeepFault};
+pub use keepers::{Keeper, Place};
+pub use stores::{Answer, Commit, Phase};
+
+pub mod faults;
+pub mod keepers;
+pub mod laws;
+pub mod stores;

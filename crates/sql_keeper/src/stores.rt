@@ -1,0 +1,29 @@
+use rows_model::{QKey, Sid, Txn, Value};
+
+/// What the store answered for a key, after as many commits as the stamp says.
+#[derive(Debug, Drop)]
+pub struct Answer {
+    pub key: QKey,
+    pub value: Value,
+    pub stamp: u64,
+}
+
+/// A transaction that was committed, and the session that committed it.
+#[derive(Debug, Drop)]
+pub struct Commit {
+    pub sid: Sid,
+    pub txn: Txn,
+}
+
+/// Where a session stands with the store.
+#[derive(Clone, Copy, Debug, PartialEq, Eq)]
+pub enum Phase {
+    /// It began to read, and never commits.
+    Reads,
+    /// It began to write, and may still commit.
+    Open,
+    /// It has committed.
+    Committed,
+    /// It was ended before it committed, and never will.
+    Ended,
+}
