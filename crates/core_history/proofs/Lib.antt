@@ -1,1 +1,4 @@
 pub mod GrantFacts
+pub mod LogLemmas
+pub mod Invariant
+pub mod EntrySteps
