@@ -4,3 +4,4 @@ pub mod Invariant
 pub mod EntrySteps
 pub mod QuietSteps
 pub mod ShardTurns
+pub mod StoreTurns
