@@ -5,3 +5,5 @@ pub mod EntrySteps
 pub mod QuietSteps
 pub mod ShardTurns
 pub mod StoreTurns
+pub mod WantLemmas
+pub mod GoodSteps
