@@ -7,3 +7,4 @@ pub mod ShardTurns
 pub mod StoreTurns
 pub mod WantLemmas
 pub mod GoodSteps
+pub mod KeepLemmas
