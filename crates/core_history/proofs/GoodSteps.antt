@@ -105,6 +105,7 @@ module _ (opening : Tables) (log : List Commit) (shape : Shape) (world : World) 
   set_good key token answered number floor plan held =
       chosen (IsGood opening log world (steps_on shape world key)) (is_current token 0 (recorded key (steps_on shape world key))) _ _ (λ current. latest_by key token answered _ refl current number floor plan held) (λ e. tt)
 
+module _ (opening : Tables) (log : List Commit) (world : World) where
   refused_good : (past : List Step) (key : QKey) (who : Sid) (mode : Mode) (holder : Option Quar) → IsGood opening log world past (refused_step key who mode holder)
   refused_good past key who mode (Some holder) = tt
   refused_good past key who mode None = tt

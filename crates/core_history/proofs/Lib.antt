@@ -8,3 +8,5 @@ pub mod StoreTurns
 pub mod WantLemmas
 pub mod GoodSteps
 pub mod KeepLemmas
+pub mod StubGrants
+pub mod TurnLemmas
