@@ -10,3 +10,4 @@ pub mod GoodSteps
 pub mod KeepLemmas
 pub mod StubGrants
 pub mod TurnLemmas
+pub mod FreshRuns

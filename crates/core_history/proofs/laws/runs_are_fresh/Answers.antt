@@ -1,6 +1,5 @@
-use Rattle.core_history.proofs.TurnLemmas.{turn_holds}
-use Rattle.core_history.specs.Freshness.{RunsAreLawful, RunsAreFresh}
+use Rattle.core_history.proofs.FreshRuns.{runs_fresh}
 use Rattle.core_history.proofs.laws.runs_are_fresh.Goals as goal
 
 pub returns : goal.returns
-returns c = ?
+returns c = runs_fresh
