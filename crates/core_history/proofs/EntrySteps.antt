@@ -1,12 +1,10 @@
 -- A good step keeps each entry right and each hit fresh.
-use Rattle.std.proofs.Common.{ℕ, ◌≡◌, ◌≤◌, Bool, true, false, not, cond, ◌==◌, ◌||◌, List, [], ◌∷◌, ◌++◌, filter, Option, Some, None, slice_get, refl, sym, subst, ◌∙◌}
-use Rattle.std.specs.List.{list_any}
+use Rattle.std.proofs.Common.{ℕ, ◌≡◌, Bool, true, false, not, cond, ◌==◌, ◌||◌, List, [], ◌∷◌, ◌++◌, filter, Option, Some, None, slice_get, refl, sym, subst, ◌∙◌}
 use Rattle.std.proofs.lemmas.Bool.{true≢false}
 use Rattle.rows_model.specs.declared.keys.QKey.{QKey}
 use Rattle.rows_model.specs.declared.keys.Sid.{Sid}
 use Rattle.rows_model.specs.Key.{same_key}
 use Rattle.rows_model.specs.Rows.{Tables}
-use Rattle.rows_model.specs.Changes.{touches}
 use Rattle.rows_model.proofs.SameKey.{same_key-true}
 use Rattle.lease_table.specs.declared.records.Quar.{Quar}
 use Rattle.lease_table.specs.Leases.{has_token}
@@ -55,7 +53,7 @@ module _ (opening : Tables) (log : List Commit) where
   granted_or_kept key quar quars false found h = h
 
   ended_or_kept : (key on : QKey) (quars : List Quar) (token : ℕ) (how : Ended) (b : Bool) (found : Option (List ℕ × ℕ)) → (b ≡ true → IsGoodEnd log token quars how) → IsRight opening log key quars found
-    → IsRight opening log key (cond b (filter (λ quar. not (has_token token quar)) quars) quars) (cond b (entry_ended how found) (cond (is_evicted key (evicted_by how)) None found))
+      → IsRight opening log key (cond b (filter (λ quar. not (has_token token quar)) quars) quars) (cond b (entry_ended how found) (cond (is_evicted key (evicted_by how)) None found))
   ended_or_kept key on quars token ended.Keep true found good h = more_pending key quars _ found (good refl) h
   ended_or_kept key on quars token ended.Drop true found good h = (tt, tt)
   ended_or_kept key on quars token (ended.Put value stamp evicted) true found good h = absurd (good refl)

@@ -1,26 +1,25 @@
 -- Every run whose replies were true is fresh: by its moves, the latest first.
-use Rattle.std.proofs.Common.{ℕ, zero, suc, ◌-◌, ◌+◌, ◌≡◌, ◌≢◌, ◌<◌, true, List, [], ◌∷◌, ◌++◌, length, map, reverse, Option, Some, None, slice_get, refl, sym, ap, subst, ◌∙◌, ◌⊎◌, inl, inr, ⊎_elim, arith}
-use Rattle.std.specs.List.{All, AllByRecursion, range_with_len}
+use Rattle.std.proofs.Common.{ℕ, zero, suc, ◌-◌, ◌+◌, ◌≡◌, ◌≢◌, ◌<◌, true, List, [], ◌∷◌, ◌++◌, reverse, Option, None, slice_get, refl, sym, subst, ◌∙◌, ◌⊎◌, inl, inr, ⊎_elim, arith}
+use Rattle.std.specs.List.{range_with_len}
 use Rattle.std.proofs.lemmas.List.{reverse-reverse}
 use Rattle.std.proofs.lemmas.List.Elements.{All-map}
 use Rattle.std.proofs.lemmas.List.FromFn.{length-range_with_len, get_or-range_with_len}
 use Rattle.rows_model.specs.declared.keys.QKey.{QKey}
-use Rattle.rows_model.specs.Rows.{Tables, Fit}
+use Rattle.rows_model.specs.Rows.{Tables}
 use Rattle.key_shard.specs.declared.steps.Step.{Step}
 use Rattle.sql_keeper.specs.declared.stores.Commit.{Commit}
 use Rattle.sql_keeper.specs.Fresh.{IsFreshPast, Fresh}
 use Rattle.session_client.specs.declared.plans.Plan.{Plan}
-use Rattle.session_client.specs.declared.plans.Plan.TheVariants.{Read}
 use Rattle.session_client.specs.declared.plans.Shape.{Shape}
 use Rattle.session_client.specs.declared.plans.Turn.TheVariants as turn
-use Rattle.core_history.specs.Events.{Event, steps_of, told_to, log_of}
+use Rattle.core_history.specs.Events.{steps_of, told_to, log_of}
 use Rattle.core_history.specs.Machine.{World, Move, Begin, Take, start, begun, plan_at, wanted_of, world_of, HasPlans}
 use Rattle.core_history.specs.Truth.{IsTruePast}
-use Rattle.core_history.specs.Facts.{Facts, IsQuiet, IsCurrent, held_under}
+use Rattle.core_history.specs.Facts.{Facts, IsCurrent, held_under}
 use Rattle.core_history.specs.Freshness.{RunsAreFresh, histories_of}
 use Rattle.core_history.proofs.GrantFacts.{GrantFacts}
 use Rattle.core_history.proofs.StubGrants.{grant_facts}
-use Rattle.core_history.proofs.Invariant.{AreHeld, Holds}
+use Rattle.core_history.proofs.Invariant.{Holds}
 use Rattle.core_history.proofs.WantLemmas.{wants_may}
 use Rattle.core_history.proofs.TurnLemmas.{turn_holds}
 
@@ -44,11 +43,13 @@ begun_holds opening shape world plan holds =
     record {
       right = holds.right;
       quiet = λ key lease is.
-          let was = holds.quiet key lease is in
-          (was.0, λ number floor reads.
-              ⊎_elim (λ same. was.1 number floor (sym same ∙ reads))
-              (λ none. none_held opening (log_of world.past) world key lease.token number (holds.idle number lease.token none))
-              (plan_stays world.plans plan (number - 1)));
+          let was = holds.quiet key lease is in (
+            was.0,
+            λ number floor reads.
+                ⊎_elim (λ same. was.1 number floor (sym same ∙ reads))
+                (λ none. none_held opening (log_of world.past) world key lease.token number (holds.idle number lease.token none))
+                (plan_stays world.plans plan (number - 1)),
+          );
       idle = λ number token none. holds.idle number token (not_begun world.plans plan (number - 1) none);
       fresh = holds.fresh;
     }
@@ -86,10 +87,10 @@ fresh_from opening shape world holds =
     let P : List Step → Type 0 = λ history. IsFreshPast opening (log_of world.past) (reverse history) in
     let Q : List Step → Type 0 = λ past. IsFreshPast opening (log_of world.past) past in
     All-map P (λ place. reverse (steps_of place world.past)) (range_with_len 0 shape.shards) (λ k d lt.
-        let within : k < shape.shards = subst (λ (n : ℕ). k < n) (length-range_with_len 0 shape.shards) lt in
-        let at = get_or-range_with_len 0 shape.shards k d within in
-        let R : ℕ → Type 0 = λ place. P (reverse (steps_of place world.past)) in
-        subst R (sym at) (subst Q (sym (reverse-reverse (steps_of (0 + k) world.past))) (holds.fresh (0 + k) (omega (arith, within)))))
+    let within : k < shape.shards = subst (λ (n : ℕ). k < n) (length-range_with_len 0 shape.shards) lt in
+    let at = get_or-range_with_len 0 shape.shards k d within in
+    let R : ℕ → Type 0 = λ place. P (reverse (steps_of place world.past)) in
+    subst R (sym at) (subst Q (sym (reverse-reverse (steps_of (0 + k) world.past))) (holds.fresh (0 + k) (omega (arith, within)))))
 
 pub runs_fresh : RunsAreFresh
 runs_fresh shape opening moves some plans fit word =

@@ -1,7 +1,7 @@
 -- The steps of sessions are good: each request that a session may make gives a step that keeps what holds.
-use Rattle.std.proofs.Common.{ℕ, ◌+◌, ◌≡◌, ◌≢◌, ◌<◌, ◌≤◌, ℤ, Bool, true, false, cond, ◌==◌, ◌&&◌, ◌||◌, not, nat_le, nat_lt, List, [], ◌∷◌, ◌++◌, length, filter, find, Option, Some, None, slice_get, refl, sym, ap, subst, ◌∙◌, ◌⊎◌, inl, inr, ⊎_elim, arith}
-use Rattle.std.specs.List.{All, list_any, AllByRecursion, AllPairs}
-use Rattle.std.proofs.lemmas.Bool.{eqb-true, eq-eqb, ne_eqb, true≢false, and_parts, cases_Bool, cases_lt}
+use Rattle.std.proofs.Common.{ℕ, ◌≡◌, ◌<◌, ℤ, Bool, true, false, cond, ◌==◌, nat_le, nat_lt, List, ◌∷◌, Option, Some, None, refl, sym, subst, ◌∙◌, ⊎_elim, arith}
+use Rattle.std.specs.List.{AllByRecursion}
+use Rattle.std.proofs.lemmas.Bool.{eqb-true, ne_eqb, true≢false, and_parts, cases_lt}
 use Rattle.std.proofs.lemmas.List.Elements.{recursion_from_All}
 use Rattle.rows_model.specs.declared.keys.QKey.{QKey}
 use Rattle.rows_model.specs.declared.keys.Sid.{Sid}
@@ -14,26 +14,24 @@ use Rattle.case_tables.specs.declared.grids.Verdict.TheVariants as verdicts
 use Rattle.lease_table.specs.declared.records.Mode.{Mode}
 use Rattle.lease_table.specs.declared.records.Quar.{Quar}
 use Rattle.lease_table.specs.declared.records.ReadLease.{ReadLease}
-use Rattle.lease_table.specs.Leases.{is_current, has_token, way_of}
+use Rattle.lease_table.specs.Leases.{is_current, way_of}
 use Rattle.key_shard.specs.Permit.{Permit}
-use Rattle.key_shard.specs.declared.steps.Ended.TheVariants as ended
 use Rattle.key_shard.specs.declared.steps.Stands.{Stands}
 use Rattle.key_shard.specs.declared.steps.Step.{Step}
 use Rattle.key_shard.specs.declared.steps.Step.TheVariants as step
 use Rattle.key_shard.specs.declared.replies.How.TheVariants as how
-use Rattle.key_shard.specs.Past.{Terms, standing, recorded, entry, own_of, seen_by, holder_of, quar_of, next_token, deadline_at, evicts}
-use Rattle.key_shard.specs.Answers.{get_step, get_by, found_step, miss_by, miss_step, set_step, quarantine_step, quarantine_by, refused_step, release_step, release_by, stands_of}
+use Rattle.key_shard.specs.Past.{Terms, standing, recorded, entry, own_of, seen_by, holder_of, quar_of, next_token, deadline_at}
+use Rattle.key_shard.specs.Answers.{get_step, get_by, found_step, miss_by, miss_step, set_step, quarantine_step, quarantine_by, refused_step, release_step, release_by}
 use Rattle.sql_keeper.specs.declared.stores.Answer.{Answer}
 use Rattle.sql_keeper.specs.declared.stores.Commit.{Commit}
-use Rattle.sql_keeper.specs.Fresh.{releases}
 use Rattle.session_client.specs.declared.plans.Plan.TheVariants.{Read}
 use Rattle.session_client.specs.declared.plans.Shape.{Shape}
 use Rattle.session_client.specs.declared.replies.Reply.{Reply}
 use Rattle.session_client.specs.declared.replies.Reply.TheVariants as reply
 use Rattle.key_shard.specs.declared.replies.Got.TheVariants as got
-use Rattle.core_history.specs.Events.{Event, steps_of, told_to}
+use Rattle.core_history.specs.Events.{told_to}
 use Rattle.core_history.specs.Machine.{World, plan_at, terms_of}
-use Rattle.core_history.specs.Facts.{steps_on, stands_for, held_under, IsCurrent}
+use Rattle.core_history.specs.Facts.{steps_on, held_under, IsCurrent}
 use Rattle.core_history.proofs.GrantFacts.{GrantFacts, IsDrawnBelow}
 use Rattle.core_history.proofs.Invariant.{IsRight, IsLatest, IsGood, Holds}
 
@@ -60,21 +58,21 @@ got_cases P terms past key who floor now hit own again lease = by_own (own_of ke
     by_own (Some quar) = own
     by_own None = by_entry (entry key past) refl
 
-unheld_if : (next token : ℕ) (answered : Answer) (b : Bool) → b ≡ false → cond b (Some answered) None ≡ None
-unheld_if next token answered true e = absurd cc
-unheld_if next token answered false e = refl
+other_held : (answered : Answer) (b : Bool) → b ≡ false → cond b (Some answered) None ≡ None
+other_held answered true e = absurd cc
+other_held answered false e = refl
 
 -- nobody holds an answer under a token that wasn't drawn yet
 unheld : (next : ℕ) (heard : List Reply) → AllByRecursion (IsDrawnBelow next) heard → held_under next heard ≡ None
 unheld next (reply.Answer answered ∷ reply.Got (got.Lease mine) ∷ heard) h =
-    unheld_if next mine answered (mine == next) (ne_eqb mine next (λ e. let lt : mine < next = h.1.0 in omega (arith, lt, e)))
+    other_held answered (mine == next) (ne_eqb mine next (λ e. let lt : mine < next = h.1.0 in omega (arith, lt, e)))
 unheld next heard h = refl
 
 module _ (opening : Tables) (log : List Commit) (shape : Shape) (world : World) (facts : GrantFacts shape world) (holds : Holds opening log shape world) where
   hit_good : (key : QKey) (who : Sid) (floor : ℕ) (value : List ℕ) (stamp : ℕ) → entry key (steps_on shape world key) ≡ Some (value, stamp) → IsGood opening log world (steps_on shape world key) (step.Hit key who floor value stamp)
   hit_good key who floor value stamp is =
       let right : IsRight opening log key (standing key (steps_on shape world key)) (Some (value, stamp)) =
-          subst (λ (o : Option (List ℕ × ℕ)). IsRight opening log key (standing key (steps_on shape world key)) o) is (holds.right key) in
+      subst (λ (o : Option (List ℕ × ℕ)). IsRight opening log key (standing key (steps_on shape world key)) o) is (holds.right key) in
       record {
         known = right.0.0;
         right = right.0.1;

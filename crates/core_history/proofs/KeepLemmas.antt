@@ -1,7 +1,7 @@
 -- A quarantine that ends with Keep leaves those of the sessions that committed.
-use Rattle.std.proofs.Common.{ℕ, ◌≡◌, ◌≢◌, ◌<◌, Bool, true, false, cond, not, ◌==◌, ◌||◌, List, [], ◌∷◌, ◌++◌, filter, find, Option, Some, None, slice_get, zero, suc, refl, sym, ap, subst, ◌∙◌, ⊎_elim}
+use Rattle.std.proofs.Common.{ℕ, ◌≡◌, ◌≢◌, Bool, true, false, cond, not, ◌==◌, ◌||◌, List, [], ◌∷◌, ◌++◌, filter, find, Option, Some, None, slice_get, zero, suc, refl, sym, ap, subst, ◌∙◌}
 use Rattle.std.specs.List.{AllPairs, list_any, AllByRecursion}
-use Rattle.std.proofs.lemmas.Bool.{eqb-true, eq-eqb, ne_eqb, true≢false, cases_Bool}
+use Rattle.std.proofs.lemmas.Bool.{eqb-true, eq-eqb, ne_eqb, true≢false}
 use Rattle.std.proofs.lemmas.List.Elements.{recursion_from_All}
 use Rattle.rows_model.specs.declared.keys.Sid.{Sid}
 use Rattle.rows_model.specs.Rows.{Tables}
@@ -15,7 +15,7 @@ use Rattle.key_shard.specs.Past.{standing, quar_of}
 use Rattle.key_shard.specs.Answers.{release_step, release_by}
 use Rattle.sql_keeper.specs.declared.stores.Commit.{Commit}
 use Rattle.session_client.specs.declared.plans.Shape.{Shape}
-use Rattle.core_history.specs.Events.{log_of, has_committed}
+use Rattle.core_history.specs.Events.{log_of}
 use Rattle.core_history.specs.Machine.{World}
 use Rattle.core_history.specs.Facts.{stands_for, IsOrdered}
 use Rattle.core_history.proofs.Invariant.{IsGood}
@@ -58,7 +58,7 @@ rest_stands true rest not_b h = absurd (not_b refl)
 rest_stands false rest not_b h = h
 
 keep_step : (who : Sid) (token : ℕ) (first quar : Quar) (quars : List Quar) (b : Bool) → has_token token first ≡ b → AllByRecursion (λ other. first.token ≢ other.token) quars → cond b (Some first) (find (has_token token) quars) ≡ Some quar → (quar.sid.number ≡ who.number → ⊥) → (find (has_token token) quars ≡ Some quar → stands_for who quars ≡ true → stands_for who (filter (λ other. not (has_token token other)) quars) ≡ true) → stands_for who (first ∷ quars) ≡ true
-  → stands_for who (cond (not b) (first ∷ filter (λ other. not (has_token token other)) quars) (filter (λ other. not (has_token token other)) quars)) ≡ true
+    → stands_for who (cond (not b) (first ∷ filter (λ other. not (has_token token other)) quars) (filter (λ other. not (has_token token other)) quars)) ≡ true
 keep_step who token first quar quars true is apart e other rest h =
     let same : first ≡ quar = cc in
     let P : ℕ → Type 0 = λ t. AllByRecursion (λ q. t ≢ q.token) quars in
@@ -75,10 +75,10 @@ kept_good : (opening : Tables) (shape : Shape) (world next : World) (more : List
 kept_good opening shape world next more past grant None grows apart is ordered = tt
 kept_good opening shape world next more past grant (Some quar) grows apart is ordered =
     λ place commit e stands.
-        let p : Commit → Bool = λ c. c.sid.number == quar.sid.number in
-        let none = none_any p (log_of world.past) more (ap (λ l. list_any p l) (sym grows) ∙ ordered.1 refl) in
-        let differs = fails_at p (log_of world.past) commit place none e in
-        keep_stands commit.sid grant.token quar (standing grant.key past) apart is (λ same. true≢false (sym (eq-eqb commit.sid.number quar.sid.number (sym same)) ∙ differs)) stands
+    let p : Commit → Bool = λ c. c.sid.number == quar.sid.number in
+    let none = none_any p (log_of world.past) more (ap (λ l. list_any p l) (sym grows) ∙ ordered.1 refl) in
+    let differs = fails_at p (log_of world.past) commit place none e in
+    keep_stands commit.sid grant.token quar (standing grant.key past) apart is (λ same. true≢false (sym (eq-eqb commit.sid.number quar.sid.number (sym same)) ∙ differs)) stands
 
 -- a release with Keep is good where the session hasn't committed after it
 pub keep_good : (opening : Tables) (shape : Shape) (world next : World) (more : List Commit) (past : List Step) (grant : Permit) → log_of next.past ≡ log_of world.past ++ more → AllPairs (λ a b. a.token ≢ b.token) (standing grant.key past) → IsOrdered shape next (release_step past grant how.Keep) → IsGood opening (log_of world.past) world past (release_step past grant how.Keep)

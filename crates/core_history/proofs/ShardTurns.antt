@@ -1,5 +1,5 @@
 -- A turn on a shard whose step is good keeps what holds.
-use Rattle.std.proofs.Common.{ℕ, ◌≡◌, ◌<◌, Bool, true, false, cond, ◌==◌, List, [], ◌∷◌, ◌++◌, Option, Some, None, refl, sym, ap, subst, ◌∙◌, ⊎_elim}
+use Rattle.std.proofs.Common.{ℕ, ◌≡◌, Bool, true, false, cond, ◌==◌, List, [], ◌∷◌, ◌++◌, Option, Some, None, refl, sym, ap, subst, ◌∙◌, ⊎_elim}
 use Rattle.std.proofs.lemmas.Bool.{eqb-true}
 use Rattle.rows_model.specs.declared.keys.QKey.{QKey}
 use Rattle.rows_model.specs.declared.keys.Sid.{Sid}
@@ -17,7 +17,7 @@ use Rattle.session_client.specs.declared.replies.Reply.{Reply}
 use Rattle.session_client.specs.declared.replies.Wanted.{Wanted}
 use Rattle.core_history.specs.Events.{Event, Stepped, steps_of, told_to}
 use Rattle.core_history.specs.Machine.{World, plan_at}
-use Rattle.core_history.specs.Facts.{steps_on, touched_since, held_under, IsCurrent, leases}
+use Rattle.core_history.specs.Facts.{touched_since, held_under, IsCurrent, leases}
 use Rattle.core_history.proofs.Invariant.{IsRight, IsGood, MayHear, AreHeld, Holds}
 use Rattle.core_history.proofs.EntrySteps.{right_after, fresh_after}
 use Rattle.core_history.proofs.QuietSteps.{held_after, idle_after, Gives, recorded_after, untouched_kept, untouched_given}
@@ -53,7 +53,7 @@ module _ (opening : Tables) (log : List Commit) (shape : Shape) (world : World) 
   pub stepped_holds : (place : ℕ) (who : Sid) (request : Wanted) (s : Step) (told : Reply) → MayHear opening log (plan_at who.number world.plans) told → IsGood opening log world (steps_of place world.past) s → Holds opening log shape world → Holds opening log shape (after world (Stepped place who request s told))
   stepped_holds place who request s told may good holds =
       let good_at : (other : ℕ) → (place == other) ≡ true → IsGood opening log world (steps_of other world.past) s = λ other same.
-          subst (λ (p : ℕ). IsGood opening log world (steps_of p world.past) s) (eqb-true place other same) good in
+      subst (λ (p : ℕ). IsGood opening log world (steps_of p world.past) s) (eqb-true place other same) good in
       record {
         right = λ key. let home = shard_of key shape.shards in
             right_if key (place == home) (steps_of home world.past) s (good_at home) (holds.right key);

@@ -1,13 +1,12 @@
 -- A turn at the store keeps what holds, whether it commits or not.
-use Rattle.std.proofs.Common.{ℕ, ◌+◌, ◌≡◌, ◌<◌, ◌≤◌, Bool, true, false, cond, ◌==◌, ◌&&◌, ◌||◌, not, List, [], ◌∷◌, ◌++◌, length, Option, Some, None, slice_get, refl, sym, ap, subst, ◌∙◌, ◌⊎◌, inl, inr, ⊎_elim, arith}
-use Rattle.std.specs.List.{All, list_any, AllByRecursion}
+use Rattle.std.proofs.Common.{ℕ, ◌≡◌, ◌≤◌, Bool, true, false, ◌==◌, ◌&&◌, ◌||◌, not, List, [], ◌∷◌, ◌++◌, length, Option, Some, None, refl, sym, ap, subst, ◌∙◌, ⊎_elim, arith}
+use Rattle.std.specs.List.{list_any, AllByRecursion}
 use Rattle.std.proofs.lemmas.Bool.{eqb-true, true≢false, and_right, cases_Bool}
 use Rattle.std.proofs.lemmas.List.Elements.{recursion_from_All}
 use Rattle.rows_model.specs.declared.keys.QKey.{QKey}
 use Rattle.rows_model.specs.declared.keys.Sid.{Sid}
 use Rattle.rows_model.specs.declared.changes.Change.{Change}
 use Rattle.rows_model.specs.Key.{same_key}
-use Rattle.rows_model.specs.Placement.{shard_of}
 use Rattle.rows_model.specs.Rows.{Tables}
 use Rattle.rows_model.specs.Query.{answer}
 use Rattle.rows_model.specs.Changes.{touches}
@@ -21,17 +20,16 @@ use Rattle.sql_keeper.specs.declared.stores.Commit.{Commit}
 use Rattle.sql_keeper.specs.Log.{state}
 use Rattle.sql_keeper.specs.Fresh.{IsFreshHit, IsFreshPast, releases}
 use Rattle.session_client.specs.Grants.{GrantsView}
-use Rattle.session_client.specs.declared.plans.Plan.TheVariants.{Read}
 use Rattle.session_client.specs.declared.plans.Shape.{Shape}
 use Rattle.session_client.specs.declared.replies.Reply.{Reply}
 use Rattle.session_client.specs.declared.replies.Reply.TheVariants as reply
 use Rattle.session_client.specs.declared.replies.Wanted.{Wanted}
-use Rattle.core_history.specs.Events.{Event, Called, steps_of, told_to, has_committed, was_ended}
+use Rattle.core_history.specs.Events.{Called, steps_of, told_to, has_committed, was_ended}
 use Rattle.core_history.specs.Machine.{World, plan_at, is_open, is_writer}
-use Rattle.core_history.specs.Facts.{steps_on, stands_for, AreApart, IsOrdered, IsAnswer, IsCurrent, commits_on, touched_since, held_under}
+use Rattle.core_history.specs.Facts.{steps_on, stands_for, AreApart, IsOrdered, IsCurrent, commits_on, touched_since}
 use Rattle.core_history.proofs.GrantFacts.{GrantFacts}
-use Rattle.core_history.proofs.LogLemmas.{state-more, get-within, get-pushed, length-pushed}
-use Rattle.core_history.proofs.Invariant.{IsRight, MayHear, AreHeld, Holds}
+use Rattle.core_history.proofs.LogLemmas.{state-more, get-pushed, length-pushed}
+use Rattle.core_history.proofs.Invariant.{IsRight, MayHear, Holds}
 use Rattle.core_history.proofs.QuietSteps.{held_after, idle_after}
 use Rattle.core_history.proofs.ShardTurns.{after}
 
@@ -69,20 +67,26 @@ module _ (opening : Tables) (log : List Commit) (new : Commit) where
   -- one more commit keeps an entry right where a session that touches its key has it quarantined
   right_more : (key : QKey) (quars : List Quar) (found : Option (List ℕ × ℕ)) → (touches new.txn key ≡ true → stands_for new.sid quars ≡ true) → IsRight opening log key quars found → IsRight opening (log ++ new ∷ []) key quars found
   right_more key quars None stands h = (tt, tt)
-  right_more key quars (Some found) stands h =
-      ((more found.1 h.0.0, same_rows key found.0 found.1 h.0.0 h.0.1), λ place commit e le t.
-          ⊎_elim (λ old. h.1 place commit old le t)
-          (λ last. let P : Commit → Type 0 = λ c. touches c.txn key ≡ true → stands_for c.sid quars ≡ true in subst P last.1 stands t)
-          (get-pushed log new commit place e))
+  right_more key quars (Some found) stands h = (
+    (more found.1 h.0.0, same_rows key found.0 found.1 h.0.0 h.0.1),
+    λ place commit e le t.
+        ⊎_elim (λ old. h.1 place commit old le t)
+        (λ last. let P : Commit → Type 0 = λ c. touches c.txn key ≡ true → stands_for c.sid quars ≡ true in subst P last.1 stands t)
+        (get-pushed log new commit place e),
+  )
 
   -- one more commit keeps what is held current where it doesn't touch the key
   current_more : (key : QKey) (held : Option Answer) → touches new.txn key ≡ false → IsCurrent opening log key held → IsCurrent opening (log ++ new ∷ []) key held
   current_more key None none h = tt
-  current_more key (Some answered) none h =
-      (h.0, more answered.stamp h.1, same_rows key answered.value answered.stamp h.1 h.2, λ place commit e le.
-          ⊎_elim (λ old. h.3 place commit old le)
-          (λ last. let P : Commit → Type 0 = λ c. touches c.txn key ≡ false in subst P last.1 none)
-          (get-pushed log new commit place e))
+  current_more key (Some answered) none h = (
+    h.0,
+    more answered.stamp h.1,
+    same_rows key answered.value answered.stamp h.1 h.2,
+    λ place commit e le.
+        ⊎_elim (λ old. h.3 place commit old le)
+        (λ last. let P : Commit → Type 0 = λ c. touches c.txn key ≡ false in subst P last.1 none)
+        (get-pushed log new commit place e),
+  )
 
   hit_more : (past : List Step) (key : QKey) (value : List ℕ) (stamp : ℕ) → list_any (releases key new.sid) past ≡ false → IsFreshHit opening log past key value stamp → IsFreshHit opening (log ++ new ∷ []) past key value stamp
   hit_more past key value stamp none h =
@@ -132,9 +136,9 @@ none_by_all shape world who (s ∷ past) opened h =
 
 -- a turn that commits
 pub committed_holds : (opening : Tables) (log : List Commit) (shape : Shape) (world : World) (who : Sid) (request : Wanted) (number : ℕ) (txn : List Change) (grants : GrantsView)
-  → GrantFacts shape world → is_open world who ≡ true
-  → ((key : QKey) → touches txn key ≡ true → stands_for who (standing key (steps_on shape world key)) ≡ true)
-  → Holds opening log shape world → Holds opening (log ++ record { sid = who; txn = txn } ∷ []) shape (after world (Called who request (reply.Committed number txn grants)))
+    → GrantFacts shape world → is_open world who ≡ true
+    → ((key : QKey) → touches txn key ≡ true → stands_for who (standing key (steps_on shape world key)) ≡ true)
+    → Holds opening log shape world → Holds opening (log ++ record { sid = who; txn = txn } ∷ []) shape (after world (Called who request (reply.Committed number txn grants)))
 committed_holds opening log shape world who request number txn grants facts opened stands holds =
     let new : Commit = record { sid = who; txn = txn } in
     let told : Reply = reply.Committed number txn grants in

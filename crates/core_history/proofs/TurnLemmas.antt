@@ -1,5 +1,5 @@
 -- A turn keeps what holds, whatever its session wants.
-use Rattle.std.proofs.Common.{ℕ, ◌+◌, ◌≡◌, ◌≢◌, ◌<◌, ◌≤◌, ℤ, pos, Bool, true, false, cond, ◌==◌, List, [], ◌∷◌, ◌++◌, length, Option, Some, None, slice_get, refl, sym, ap, subst, ◌∙◌, append-nil, arith, mod-lt, pos_of_ne-zero}
+use Rattle.std.proofs.Common.{ℕ, ◌+◌, ◌≡◌, ◌≢◌, ◌<◌, pos, Bool, true, false, cond, ◌==◌, List, [], ◌∷◌, ◌++◌, length, Option, Some, None, refl, sym, ap, subst, ◌∙◌, append-nil, arith, mod-lt, pos_of_ne-zero}
 use Rattle.std.specs.List.{AllByRecursion}
 use Rattle.std.proofs.lemmas.Bool.{eq-eqb}
 use Rattle.std.proofs.lemmas.List.Elements.{recursion_from_All}
@@ -15,13 +15,11 @@ use Rattle.key_shard.specs.declared.steps.Step.{Step}
 use Rattle.key_shard.specs.declared.steps.Step.TheVariants as step
 use Rattle.key_shard.specs.declared.replies.How.TheVariants as how
 use Rattle.key_shard.specs.Past.{Terms}
-use Rattle.key_shard.specs.Answers.{get_step, set_step, quarantine_step, release_step}
+use Rattle.key_shard.specs.Answers.{set_step, release_step}
 use Rattle.sql_keeper.specs.declared.faults.CommitFault.{CommitFault}
-use Rattle.sql_keeper.specs.declared.faults.CommitFault.TheVariants as faults
-use Rattle.sql_keeper.specs.declared.stores.Answer.{Answer}
 use Rattle.sql_keeper.specs.declared.stores.Commit.{Commit}
 use Rattle.sql_keeper.specs.Commits.{commit_fault}
-use Rattle.sql_keeper.specs.Log.{state, rows_after}
+use Rattle.sql_keeper.specs.Log.{rows_after}
 use Rattle.session_client.specs.Grants.{GrantsView}
 use Rattle.session_client.specs.declared.plans.Plan.{Plan}
 use Rattle.session_client.specs.declared.plans.Plan.TheVariants.{Read, Write, Skip}
@@ -31,9 +29,9 @@ use Rattle.session_client.specs.declared.replies.Reply.TheVariants as reply
 use Rattle.session_client.specs.declared.replies.Wanted.{Wanted}
 use Rattle.session_client.specs.declared.replies.Wanted.TheVariants as wanted
 use Rattle.core_history.specs.Events.{Event, Stepped, Called, reply_in, steps_of, told_to, commits_told, log_of}
-use Rattle.core_history.specs.Machine.{World, Said, Value, Made, Rejected, Failed, plan_at, is_open, terms_of, shown, ask_told, commit_said, commit_by, commit_told, log_cap, event_of}
+use Rattle.core_history.specs.Machine.{World, Said, Value, Made, Rejected, plan_at, is_open, terms_of, shown, ask_told, commit_said, commit_by, commit_told, log_cap, event_of}
 use Rattle.core_history.specs.Truth.{IsTrueReply}
-use Rattle.core_history.specs.Facts.{steps_on, IsOrdered, held_under, IsCurrent}
+use Rattle.core_history.specs.Facts.{steps_on, IsOrdered, IsCurrent}
 use Rattle.core_history.specs.Freshness.{IsQuarantinedReply}
 use Rattle.core_history.proofs.GrantFacts.{GrantFacts}
 use Rattle.core_history.proofs.LogLemmas.{state-whole, get-within}
@@ -77,7 +75,7 @@ module _ (opening : Tables) (shape : Shape) (world : World) (who : Sid) where
 
   -- a good step on a key's shard
   on_shard : (key : QKey) (request : Wanted) (s : Step) → IsGood opening (log_of world.past) world (steps_on shape world key) s → Holds opening (log_of world.past) shape world
-    → Holds opening (log_of (turned key request s ∷ world.past)) shape (after world (turned key request s))
+      → Holds opening (log_of (turned key request s ∷ world.past)) shape (after world (turned key request s))
   on_shard key request s good holds =
       let place = shard_of key shape.shards in
       let terms = terms_of shape place in
@@ -100,11 +98,13 @@ module _ (opening : Tables) (shape : Shape) (world : World) (who : Sid) where
 
   asked_may : (key : QKey) (said : Said) → MayWant (plan_at who.number world.plans) (told_to who.number world.past) (wanted.Ask key) → IsTrueReply (rows_after opening (log_of world.past)) (ask_told world.past key said) → MayHear opening (log_of world.past) (plan_at who.number world.plans) (ask_told world.past key said)
   asked_may key (Value value) may word =
-      let P : Option Plan → Type 0 = λ p. MayWant p (told_to who.number world.past) (wanted.Ask key) in
-      (λ none. subst P none may, λ on floor is.
-          let mine : key ≡ on = subst P is may in
-          let Q : QKey → Type 0 = λ k. IsCurrent opening (log_of world.past) k (Some (record { key = key; value = value; stamp = length (log_of world.past) })) in
-          subst Q mine (whole_current key value word))
+      let P : Option Plan → Type 0 = λ p. MayWant p (told_to who.number world.past) (wanted.Ask key) in (
+        λ none. subst P none may,
+        λ on floor is.
+            let mine : key ≡ on = subst P is may in
+            let Q : QKey → Type 0 = λ k. IsCurrent opening (log_of world.past) k (Some (record { key = key; value = value; stamp = length (log_of world.past) })) in
+            subst Q mine (whole_current key value word),
+      )
   asked_may key other may word = tt
 
   asked_plain : (key : QKey) (said : Said) → IsPlain (ask_told world.past key said)
@@ -158,7 +158,7 @@ module _ (opening : Tables) (shape : Shape) (world : World) (who : Sid) where
 
   -- each turn keeps what holds
   pub turn_holds : (said : Said) (request : Wanted) → shape.shards ≢ 0 → MayWant (plan_at who.number world.plans) (told_to who.number world.past) request → GrantFacts shape world → GrantFacts shape (after world (event_of shape world who request said)) → IsTrueReply (rows_after opening (log_of world.past)) (reply_in (event_of shape world who request said)) → Holds opening (log_of world.past) shape world
-    → Holds opening (log_of (event_of shape world who request said ∷ world.past)) shape (after world (event_of shape world who request said))
+      → Holds opening (log_of (event_of shape world who request said ∷ world.past)) shape (after world (event_of shape world who request said))
   turn_holds said (wanted.Get key floor) some may facts then word holds =
       on_shard key (wanted.Get key floor) _ (get_good opening (log_of world.past) shape world facts holds key who floor) holds
   turn_holds said (wanted.Ask key) some may facts then word holds =

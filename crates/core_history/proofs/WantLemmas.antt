@@ -1,5 +1,5 @@
 -- What a session may want: a reader asks for its key and stores what it holds under its lease, and no writer does either.
-use Rattle.std.proofs.Common.{ℕ, ◌+◌, ◌≡◌, Bool, true, false, cond, ◌==◌, nat_lt, List, [], ◌∷◌, length, Option, Some, None, slice_get, refl, sym, ap, subst, ◌∙◌, eq-eqb}
+use Rattle.std.proofs.Common.{ℕ, ◌+◌, ◌≡◌, Bool, true, false, cond, ◌==◌, nat_lt, List, [], ◌∷◌, Option, Some, None, slice_get, refl, eq-eqb}
 use Rattle.rows_model.specs.declared.keys.QKey.{QKey}
 use Rattle.rows_model.specs.declared.changes.Change.{Change}
 use Rattle.key_shard.specs.Permit.{Permit}
@@ -12,7 +12,7 @@ use Rattle.session_client.specs.declared.replies.Reply.{Reply}
 use Rattle.session_client.specs.declared.replies.Reply.TheVariants as reply
 use Rattle.session_client.specs.declared.replies.Wanted.{Wanted}
 use Rattle.session_client.specs.declared.replies.Wanted.TheVariants as wanted
-use Rattle.session_client.specs.Wants.{read_wants, set_after, agains, write_wants, quarantine_next, quarantine_or_commit, granted, is_had, released, release_next, release_of, was_committed, without_key, wants}
+use Rattle.session_client.specs.Wants.{read_wants, set_after, agains, write_wants, quarantine_next, quarantine_or_commit, granted, is_had, released, release_next, release_of, was_committed, without_key}
 use Rattle.rows_model.specs.Changes.{footprint}
 use Rattle.std.specs.Prelude.{count_by}
 use Rattle.core_history.specs.Machine.{wanted_by}
