@@ -8,3 +8,5 @@ pub mod Machine
 pub mod Truth
 pub mod Facts
 pub mod Freshness
+pub mod Lines
+pub mod Words
