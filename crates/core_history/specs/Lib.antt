@@ -10,3 +10,6 @@ pub mod Facts
 pub mod Freshness
 pub mod Lines
 pub mod Words
+pub mod Cores
+pub mod Requests
+pub mod Told
