@@ -3,7 +3,7 @@ pub use Rattle.rows_model.specs.Rows
 pub use Rattle.rows_model.specs.Query
 pub use Rattle.rows_model.specs.Changes
 pub use Rattle.rows_model.specs.Placement
-pub mod AfterFaults
+pub mod Faults
 pub mod Keepers
 pub mod Log
 pub mod Sessions

@@ -15,3 +15,7 @@ counted true keeper =
     record { rows = keeper.rows; fails = keeper.fails; calls = count_up keeper.calls; faults = count_up keeper.faults }
 counted false keeper =
     record { rows = keeper.rows; fails = keeper.fails; calls = count_up keeper.calls; faults = keeper.faults }
+
+-- the keeper, with these rows
+abbrev pub with_rows : Option Tables → MapView → MapView
+with_rows rows keeper = record { rows = rows; fails = keeper.fails; calls = keeper.calls; faults = keeper.faults }

@@ -1,14 +1,10 @@
 -- What contracts see of a store, and what becomes of it.
-use Rattle.std.specs.Prelude.{ℕ, ◌≡◌, ◌≢◌, ◌≤◌, Bool, true, false, List, [], ◌∷◌, ◌++◌, length, All, AllPairs, Option, Some, Result, Ok, Err}
+use Rattle.std.specs.Prelude.{ℕ, ◌≡◌, ◌≢◌, ◌≤◌, Bool, true, false, List, [], ◌∷◌, ◌++◌, length, All, AllPairs, Option, Some, None, Err}
 use Rattle.iq_outside.specs.Outside.{Rose, count_up}
 use Rattle.rows_model.specs.declared.keys.Sid.{Sid}
 use Rattle.rows_model.specs.declared.changes.Change.{Change}
 use Rattle.rows_model.specs.Rows.{Tables}
 use Rattle.rows_model.specs.Changes.{apply_all}
-use Rattle.sql_keeper.specs.declared.faults.KeepFault.{KeepFault}
-use Rattle.sql_keeper.specs.declared.faults.KeepFault.TheVariants as keep
-use Rattle.sql_keeper.specs.declared.faults.AfterFault.{AfterFault}
-use Rattle.sql_keeper.specs.declared.faults.AfterFault.TheVariants as staged
 use Rattle.sql_keeper.specs.declared.faults.CommitFault.{CommitFault}
 use Rattle.sql_keeper.specs.declared.faults.CommitFault.TheVariants as faults
 use Rattle.sql_keeper.specs.declared.stores.Commit.{Commit}
@@ -70,28 +66,6 @@ with_call false ledger = ledger
 abbrev pub RoseIf : Bool → ℕ → ℕ → Type 0
 RoseIf true before after = Rose before after
 RoseIf false before after = Unit {0}
-
--- whether the keeper failed, by what it answered
-abbrev pub keep_failed : {A : Type 0} → Result A KeepFault → Bool
-keep_failed (Ok answer) = false
-keep_failed (Err keep.Failed) = true
-keep_failed (Err keep.Memory) = false
-
--- whether the keeper failed, by what it answered on the rows after a transaction
-abbrev pub staged_failed : {A : Type 0} → Result A AfterFault → Bool
-staged_failed (Ok answer) = false
-staged_failed (Err (staged.Rejected index)) = false
-staged_failed (Err staged.Failed) = true
-staged_failed (Err staged.Memory) = false
-
--- whether a fault of a commit is that of a keeper that failed
-abbrev pub is_failure : CommitFault → Bool
-is_failure faults.Ended = false
-is_failure (faults.Uncovered key) = false
-is_failure (faults.LogFull count) = false
-is_failure faults.Memory = false
-is_failure (faults.Rejected index) = false
-is_failure faults.KeepFault = true
 
 -- A commit is refused for this fault: for the first that is found before the keeper is asked; where there is none, for one of the keeper's. Memory may always run out.
 abbrev pub IsRefusal : Option CommitFault → CommitFault → Type 0

@@ -45,7 +45,7 @@ impl From<Memory> for AfterFault {
 
 impl From<ApplyFault> for AfterFault {
     ghost use Rattle.std.specs.Prelude.{◌≡◌};
-    ghost use Rattle.sql_keeper.specs.AfterFaults.{after_apply};
+    ghost use Rattle.sql_keeper.specs.Faults.{after_apply};
 
     ghost from_gives = { λ cause fault. fault ≡ after_apply cause };
 
@@ -99,7 +99,7 @@ impl From<AllocError> for CommitFault {
 
 impl From<AfterFault> for CommitFault {
     ghost use Rattle.std.specs.Prelude.{◌≡◌};
-    ghost use Rattle.sql_keeper.specs.AfterFaults.{after_keeper};
+    ghost use Rattle.sql_keeper.specs.Faults.{after_keeper};
 
     ghost from_gives = { λ cause fault. fault ≡ after_keeper cause };
 

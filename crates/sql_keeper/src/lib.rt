@@ -11,7 +11,7 @@ pub mod faults;
 pub mod keepers;
 pub mod laws;
 pub mod map_keeper;
-mod sessions;
 mod requests;
+mod sessions;
 pub mod store;
 pub mod stores;

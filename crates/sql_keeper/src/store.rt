@@ -9,7 +9,8 @@ ghost use Rattle.sql_keeper.specs.Keepers.{AnswersAfter};
 ghost use Rattle.sql_keeper.specs.Log.{rows_after};
 ghost use Rattle.sql_keeper.specs.Sessions.{is_open};
 ghost use Rattle.sql_keeper.specs.Commits.{commit_fault};
-ghost use Rattle.sql_keeper.specs.Stores.{opened, with_session, with_end, with_commit, with_call, RoseIf, keep_failed, staged_failed, is_failure, IsRefusal, IsTrueFault};
+ghost use Rattle.sql_keeper.specs.Faults.{keep_failed, staged_failed, is_failure};
+ghost use Rattle.sql_keeper.specs.Stores.{opened, with_session, with_end, with_commit, with_call, RoseIf, IsRefusal, IsTrueFault};
 
 use crate::faults::{AfterFault, CommitFault, KeepFault};
 use crate::keepers::{Keeper, Place};
@@ -109,8 +110,8 @@ impl<K: Keeper> Store<K> {
     /// only where the keeper's count of faults rose, and is counted.
     pub fn ask(&mut self, key: &QKey) -> Result<Answer, KeepFault>
         ensures ledger { self.new.ledger ≡ with_call (keep_failed result) self.old.ledger }
-        ensures answer { IfOk result (λ answer. (answer.key ≡ key.now) × (answer.stamp ≡ length self.old.ledger.log)) }
-        ensures tells { IsSome self.new.told → (IsSome self.old.told) × IfOk result (λ answer. answer.value ≡ answer key.now (rows_after self.old.ledger.opening self.old.ledger.log)) }
+        ensures answer { IfOk result (λ given. (given.key ≡ key.now) × (given.stamp ≡ length self.old.ledger.log)) }
+        ensures tells { IsSome self.new.told → (IsSome self.old.told) × IfOk result (λ given. given.value ≡ answer key.now (rows_after self.old.ledger.opening self.old.ledger.log)) }
         ensures failed_rose { RoseIf (keep_failed result) self.old.faults self.new.faults }
         ensures never_falls { self.old.faults ≤ self.new.faults }
     {
