@@ -1,4 +1,4 @@
-ghost use Rattle.std.specs.Prelude.{◌≡◌, false, ◌<◌, not, find, IfOk, IfErr, OnOk, IsSome, Some, None, vec_len, vec_capacity};
+ghost use Rattle.std.specs.Prelude.{◌≡◌, false, length, ◌<◌, not, find, IfOk, IfErr, OnOk, IsSome, Some, None, vec_len, vec_capacity};
 ghost use Rattle.std.specs.Option.{option_copied};
 ghost use Rattle.rows_model.specs.Changes.{footprint};
 ghost use Rattle.sql_keeper.specs.Sessions.{is_open};
@@ -44,8 +44,8 @@ pub fn admit(
     grants: &[Grant],
 ) -> Result<(), CommitFault>
     ensures items { log.new.items ≡ log.old.items }
-    ensures ok { OnOk result (commit_fault (is_open sid sessions.now) sid grants.now txn.now (vec_len log.old) cap ≡ None) }
-    ensures refusal { IfErr result (λ fault. IsRefusal (commit_fault (is_open sid sessions.now) sid grants.now txn.now (vec_len log.old) cap) fault) }
+    ensures ok { OnOk result (commit_fault (is_open sid sessions.now) sid grants.now txn.now (length log.old.items) cap ≡ None) }
+    ensures refusal { IfErr result (λ fault. IsRefusal (commit_fault (is_open sid sessions.now) sid grants.now txn.now (length log.old.items) cap) fault) }
     ensures unasked { IfErr result (λ fault. (is_failure fault ≡ false) × ((rows : Tables) → IsTrueFault txn.now rows fault)) }
     ensures place { OnOk result (vec_len log.new < vec_capacity log.new) }
 {
