@@ -11,3 +11,4 @@ pub mod KeepLemmas
 pub mod StubGrants
 pub mod TurnLemmas
 pub mod FreshRuns
+pub mod DeterminedLemmas

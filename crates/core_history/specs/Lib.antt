@@ -14,3 +14,4 @@ pub mod Cores
 pub mod Requests
 pub mod Told
 pub mod Voids
+pub mod Determined

@@ -1,5 +1,6 @@
 // Laws of the machine, each the clause of a function that does nothing.
 ghost use Rattle.core_history.specs.Freshness.{RunsAreLawful, RunsAreFresh};
+ghost use Rattle.core_history.specs.Determined.{RunsAreDetermined};
 ghost use Rattle.core_history.specs.Voids.{VoidsAreInert};
 
 /// Every run is lawful, whichever sessions it begins, in whatever order it takes their turns, and
@@ -20,4 +21,11 @@ pub fn runs_are_fresh()
 /// the next token are as they were before it.
 pub fn voids_are_inert()
     ensures { VoidsAreInert }
+{}
+
+/// Where the keeper's word is true, a run is told by its script and by which of its turns were answered
+/// FAULT: two runs of one script in which the same turns were answered so have the same events, and so
+/// the same log, the same histories and the same lines.
+pub fn runs_are_determined()
+    ensures { RunsAreDetermined }
 {}
