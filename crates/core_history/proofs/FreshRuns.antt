@@ -93,6 +93,6 @@ fresh_from opening shape world holds =
     subst R (sym at) (subst Q (sym (reverse-reverse (steps_of (0 + k) world.past))) (holds.fresh (0 + k) (omega (arith, within)))))
 
 pub runs_fresh : RunsAreFresh
-runs_fresh shape opening moves some plans fit word =
+runs_fresh shape opening moves some plans word =
     let holds = run_holds shape opening moves some plans word in
     (facts_from opening shape (world_of shape moves) (grant_facts shape moves some plans) holds, fresh_from opening shape (world_of shape moves) holds)

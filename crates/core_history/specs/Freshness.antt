@@ -3,7 +3,7 @@ use Rattle.std.specs.Prelude.{ℕ, ◌≡◌, ◌≢◌, true, List, [], ◌∷�
 use Rattle.std.specs.List.{range_with_len}
 use Rattle.rows_model.specs.declared.keys.QKey.{QKey}
 use Rattle.rows_model.specs.declared.keys.Sid.{Sid}
-use Rattle.rows_model.specs.Rows.{Tables, Fit}
+use Rattle.rows_model.specs.Rows.{Tables}
 use Rattle.rows_model.specs.Changes.{touches}
 use Rattle.rows_model.specs.Placement.{shard_of}
 use Rattle.key_shard.specs.declared.steps.Step.{Step}
@@ -48,7 +48,7 @@ RunsAreLawful =
 -- Where the keeper's word was true as well, the facts hold, and each hit is fresh.
 abbrev pub RunsAreFresh : Type 0
 RunsAreFresh =
-    (shape : Shape) (opening : Tables) (moves : List Move) → shape.shards ≢ 0 → HasPlans moves → Fit opening
+    (shape : Shape) (opening : Tables) (moves : List Move) → shape.shards ≢ 0 → HasPlans moves
     → IsTruePast opening (world_of shape moves).past
     → Facts opening shape (world_of shape moves)
     × Fresh opening (log_of (world_of shape moves).past) (histories_of shape (world_of shape moves).past)
