@@ -1,1 +1,3 @@
 pub mod GrantFacts
+pub mod ListLemmas
+pub mod KeyLemmas

@@ -1,0 +1,7 @@
+use Rattle.std.proofs.Common.{◌≡◌}
+use Rattle.core_history.proofs.KeyLemmas.{quiet-key}
+use Rattle.core_history.proofs.laws.runs_are_lawful.Goals as goal
+
+-- src/laws.rt:7:1
+pub returns : goal.returns
+returns c = ?
