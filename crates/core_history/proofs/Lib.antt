@@ -1,3 +1,6 @@
 pub mod GrantFacts
 pub mod ListLemmas
 pub mod KeyLemmas
+pub mod CaseLemmas
+pub mod EventLemmas
+pub mod SessionLemmas
