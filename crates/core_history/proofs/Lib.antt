@@ -4,3 +4,5 @@ pub mod KeyLemmas
 pub mod CaseLemmas
 pub mod EventLemmas
 pub mod SessionLemmas
+pub mod WriterLemmas
+pub mod InnerLemmas

@@ -160,7 +160,7 @@ pub record Writer (shape : Shape) (past : List Event) (n : ℕ) (heard : List Re
 abbrev pub Keeps : Shape → Event → List Event → ℕ → Type 0
 Keeps shape event past n = (grant : Permit) → grant.sid.number ≡ n → Stood shape past n grant → Stood shape (event ∷ past) n grant
 
-shut-more : (n : ℕ) (event : Event) (past : List Event) (heard : List Reply) → (released heard ≡ 0) ⊎ (closed n past ≡ true) → (released heard ≡ 0) ⊎ (closed n (event ∷ past) ≡ true)
+pub shut-more : (n : ℕ) (event : Event) (past : List Event) (heard : List Reply) → (released heard ≡ 0) ⊎ (closed n past ≡ true) → (released heard ≡ 0) ⊎ (closed n (event ∷ past) ≡ true)
 shut-more n event past heard (inl e) = inl e
 shut-more n event past heard (inr e) = inr (closed-more n event past e)
 
