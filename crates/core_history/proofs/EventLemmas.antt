@@ -95,7 +95,7 @@ IsKnown past (step.Released key sid token how) =
     (closed sid.number past ≡ true) × (how ≡ ended.Keep → has_committed sid.number past ≡ false)
 IsKnown past other = Unit {0}
 
-uncommitted-more : (n : ℕ) (event : Event) (past : List Event) → was_committed (told_in n event) ≡ false → has_committed n past ≡ false → has_committed n (event ∷ past) ≡ false
+pub uncommitted-more : (n : ℕ) (event : Event) (past : List Event) → was_committed (told_in n event) ≡ false → has_committed n past ≡ false → has_committed n (event ∷ past) ≡ false
 uncommitted-more n event past new old =
     committed-told n (event ∷ past) ∙ list_any-append is_commit (told_in n event) (told_to n past)
     ∙ ap (λ b. b || was_committed (told_to n past)) new ∙ sym (committed-told n past) ∙ old

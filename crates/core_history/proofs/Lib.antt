@@ -6,3 +6,6 @@ pub mod EventLemmas
 pub mod SessionLemmas
 pub mod WriterLemmas
 pub mod InnerLemmas
+pub mod ReadTurnLemmas
+pub mod WriteTurnLemmas
+pub mod GrantLemmas
