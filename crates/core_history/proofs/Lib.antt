@@ -8,4 +8,5 @@ pub mod WriterLemmas
 pub mod InnerLemmas
 pub mod ReadTurnLemmas
 pub mod WriteTurnLemmas
+pub mod WorldLemmas
 pub mod GrantLemmas

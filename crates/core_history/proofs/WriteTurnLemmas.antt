@@ -146,10 +146,10 @@ no_fault true who grants txn count cap h = (refl, by (uncovered who grants txn) 
     by None h = refl
     by (Some key) h = cc
 
-pub covered-stands : (shape : Shape) (past : List Event) (who : Sid) (heard : List Reply) (keys : List QKey) (txn : List Change) → Writer shape past who.number heard keys → (closed who.number past ≡ true → ⊥) → uncovered who (granted heard) txn ≡ None → (key : QKey) → touches txn key ≡ true → stands_for who (standing key (steps_of (shard_of key shape.shards) past)) ≡ true
-covered-stands shape past who heard keys txn w still none key touched =
-    let has = (footprints_are_exact_is txn).exact key ∙ touched in
-    let found = place_of (covers who key) (granted heard) (found_none (is_covered who (granted heard)) key (footprint txn) none has) in
+-- before a session is closed, a quarantine of its stands on each key that a grant covers
+pub granted-stands : (shape : Shape) (past : List Event) (who : Sid) (heard : List Reply) (keys : List QKey) → Writer shape past who.number heard keys → (closed who.number past ≡ true → ⊥) → (key : QKey) → is_covered who (granted heard) key ≡ true → stands_for who (standing key (steps_of (shard_of key shape.shards) past)) ≡ true
+granted-stands shape past who heard keys w still key covered =
+    let found = place_of (covers who key) (granted heard) covered in
     let grant = found.1 in
     let same = same_key-true key grant.key (and_elim (same_key key grant.key) (grant.sid.number == who.number) found.3).0 in
     let kept : released heard ≡ 0 = by w.shut in
@@ -160,6 +160,10 @@ covered-stands shape past who heard keys txn w still none key touched =
     by : (released heard ≡ 0) ⊎ (closed who.number past ≡ true) → released heard ≡ 0
     by (inl e) = e
     by (inr shut) = absurd (still shut)
+
+covered-stands : (shape : Shape) (past : List Event) (who : Sid) (heard : List Reply) (keys : List QKey) (txn : List Change) → Writer shape past who.number heard keys → (closed who.number past ≡ true → ⊥) → uncovered who (granted heard) txn ≡ None → (key : QKey) → touches txn key ≡ true → stands_for who (standing key (steps_of (shard_of key shape.shards) past)) ≡ true
+covered-stands shape past who heard keys txn w still none key touched =
+    granted-stands shape past who heard keys w still key (found_none (is_covered who (granted heard)) key (footprint txn) none ((footprints_are_exact_is txn).exact key ∙ touched))
 
 commit-turn : (shape : Shape) (world : World) (who : Sid) (said : Said) (keys : List QKey) (txn : List Change) → Inner shape world → IsWriter shape world who.number keys → After shape world who said (wanted.Commit txn (record { items = granted (told_to who.number world.past); room = length keys }))
 commit-turn shape world who said keys txn inner w =
