@@ -1,21 +1,20 @@
 -- What a get, a quarantine and a release come to.
-use Rattle.std.proofs.Common.{ℕ, ◌≡◌, ◌==◌, Bool, true, false, not, cond, ◌&&◌, ◌||◌, nat_le, List, [], ◌∷◌, map, filter, find, is_some, option_map, Option, Some, None, refl, sym, ap, subst, ◌∙◌, ℤ}
+use Rattle.std.proofs.Common.{ℕ, ◌≡◌, Bool, true, false, not, cond, ◌&&◌, ◌||◌, nat_le, List, [], ◌∷◌, map, filter, find, is_some, option_map, Option, Some, None, refl, ap, ◌∙◌, ℤ}
 use Rattle.std.specs.List.{AllByRecursion, list_any, list_all}
 use Rattle.std.proofs.lemmas.Bool.{false≢true}
 use Rattle.rows_model.specs.declared.keys.QKey.{QKey}
 use Rattle.rows_model.specs.declared.keys.Sid.{Sid}
-use Rattle.case_tables.specs.Compatibility.{Way, invalidate, is_invalidate, is_any, verdict, read, quarantine, quarantine_verdict, new_verdict, beside_verdict}
-use Rattle.case_tables.specs.declared.grids.Verdict.{Verdict}
+use Rattle.case_tables.specs.Compatibility.{Way, invalidate, is_invalidate, is_any, quarantine_verdict}
 use Rattle.case_tables.specs.declared.grids.Verdict.TheVariants as verdicts
 use Rattle.lease_table.specs.declared.records.Mode.TheVariants.{Invalidate}
 use Rattle.lease_table.specs.declared.records.Quar.{Quar}
-use Rattle.lease_table.specs.Leases.{way_of, is_of, is_current, is_unexpired}
+use Rattle.lease_table.specs.Leases.{way_of, is_of, is_unexpired}
 use Rattle.key_shard.specs.declared.steps.Stands.{Stands}
 use Rattle.key_shard.specs.declared.steps.Step.{Step}
 use Rattle.key_shard.specs.declared.steps.Step.TheVariants as step
-use Rattle.key_shard.specs.Past.{Terms, standing, recorded, entry, evicts, own_of, others_of, seen_by, next_token, deadline_at}
-use Rattle.key_shard.specs.Answers.{get_step, get_by, found_step, miss_by, miss_step, set_step, quarantine_by, quarantine_step}
-use Rattle.core_history.proofs.ListLemmas.{choose, not_both, not_true, every-filter}
+use Rattle.key_shard.specs.Past.{Terms, standing, recorded, entry, own_of, others_of, next_token, deadline_at}
+use Rattle.key_shard.specs.Answers.{get_step, get_by, found_step, miss_by, miss_step, quarantine_by, quarantine_step}
+use Rattle.core_history.proofs.ListLemmas.{choose, not_both, every-filter}
 
 none_stands : (p : Quar → Bool) (xs : List Quar) → find p xs ≡ None → filter (λ x. not (p x)) xs ≡ [] → xs ≡ []
 none_stands p [] h e = refl

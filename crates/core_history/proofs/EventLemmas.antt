@@ -1,7 +1,7 @@
 -- What an event adds to what sessions are told, to the log, and to the steps of each shard.
-use Rattle.std.proofs.Common.{ℕ, zero, suc, ◌≡◌, ◌≢◌, ◌+◌, ◌<◌, ◌≤◌, ◌==◌, Bool, true, false, not, cond, ◌&&◌, ◌||◌, List, [], ◌∷◌, ◌++◌, length, filter, find, count_by, Option, Some, None, slice_get, IsTrue, append_assoc, append-nil, refl, sym, ap, subst, ◌∙◌, inl, inr, ◌⊎◌, arith}
-use Rattle.std.specs.List.{AllByRecursion, list_any}
-use Rattle.std.proofs.lemmas.Bool.{cases_Bool, false≢true, eqb-true, eq-eqb}
+use Rattle.std.proofs.Common.{ℕ, ◌≡◌, ◌==◌, Bool, true, false, cond, ◌&&◌, ◌||◌, List, [], ◌∷◌, ◌++◌, count_by, append_assoc, append-nil, refl, sym, ap, subst, ◌∙◌, inl, inr, arith}
+use Rattle.std.specs.List.{list_any}
+use Rattle.std.proofs.lemmas.Bool.{eq-eqb}
 use Rattle.std.proofs.lemmas.List.Folds.{list_any-append}
 use Rattle.rows_model.specs.declared.keys.QKey.{QKey}
 use Rattle.rows_model.specs.declared.keys.Sid.{Sid}
@@ -18,8 +18,8 @@ use Rattle.sql_keeper.specs.Fresh.{quarantines}
 use Rattle.session_client.specs.declared.replies.Reply.{Reply}
 use Rattle.session_client.specs.declared.replies.Reply.TheVariants as reply
 use Rattle.session_client.specs.Wants.{grants_in, granted, is_commit, was_committed}
-use Rattle.core_history.specs.Events.{Event, Stepped, Called, who_in, request_in, reply_in, steps_in, steps_of, told_in, told_to, commits_told, log_of, ends, was_ended, has_committed}
-use Rattle.core_history.proofs.ListLemmas.{choose, or_inl, or_inr, or_elim, not_both, not_true, every-weaker, any-front, any-back, count-append, count-cons, tick, zero_if}
+use Rattle.core_history.specs.Events.{Event, Stepped, Called, who_in, reply_in, steps_in, steps_of, told_in, told_to, commits_told, log_of, ends, was_ended, has_committed}
+use Rattle.core_history.proofs.ListLemmas.{choose, or_inl, or_inr, or_elim, not_both, any-front, count-append, count-cons, tick, zero_if}
 
 pub grants-append : (new heard : List Reply) → granted (new ++ heard) ≡ granted heard ++ granted new
 grants-append [] heard = sym (append-nil (granted heard))

@@ -1,6 +1,6 @@
 -- The facts of grants hold of every world, and so every run is lawful.
-use Rattle.std.proofs.Common.{ℕ, zero, suc, ◌≡◌, ◌≢◌, ◌+◌, ◌<◌, ◌≤◌, ◌==◌, Bool, true, false, List, [], ◌∷◌, length, map, reverse, count_by, Option, Some, None, slice_get, get_or, All, AllPairs, mod-lt, pos_of_ne-zero, refl, sym, ap, subst, ◌∙◌, inl, inr, ◌⊎◌, arith}
-use Rattle.std.specs.List.{AllByRecursion, list_any, range_with_len}
+use Rattle.std.proofs.Common.{ℕ, ◌≡◌, ◌≢◌, ◌<◌, ◌≤◌, ◌==◌, true, List, [], ◌∷◌, length, reverse, count_by, Option, Some, None, slice_get, AllPairs, mod-lt, pos_of_ne-zero, sym, ap, subst, ◌∙◌, inl, inr, ◌⊎◌, arith}
+use Rattle.std.specs.List.{list_any}
 use Rattle.std.proofs.lemmas.Bool.{false≢true}
 use Rattle.std.proofs.lemmas.Option.{slice_get-get_or}
 use Rattle.std.proofs.lemmas.List.Elements.{All-from_recursion}
@@ -11,7 +11,7 @@ use Rattle.rows_model.specs.declared.keys.Sid.{Sid}
 use Rattle.rows_model.specs.declared.changes.Change.{Change}
 use Rattle.rows_model.specs.Key.{same_key, key_text}
 use Rattle.rows_model.proofs.SameKey.{same_key-true}
-use Rattle.rows_model.specs.Changes.{footprint, touches}
+use Rattle.rows_model.specs.Changes.{footprint}
 use Rattle.rows_model.specs.Placement.{shard_of, hash_of}
 use Rattle.lease_table.specs.declared.records.Mode.TheVariants.{Invalidate}
 use Rattle.lease_table.specs.declared.records.Quar.{Quar}
@@ -27,19 +27,18 @@ use Rattle.session_client.specs.declared.plans.Plan.TheVariants.{Read, Write, Sk
 use Rattle.session_client.specs.declared.plans.Shape.{Shape}
 use Rattle.session_client.specs.declared.replies.Reply.{Reply}
 use Rattle.session_client.specs.declared.replies.Wanted.{Wanted}
-use Rattle.session_client.specs.declared.replies.Wanted.TheVariants as wanted
-use Rattle.session_client.specs.Wants.{granted, released, write_wants, read_wants, without_key}
+use Rattle.session_client.specs.Wants.{granted, released, write_wants, without_key}
 use Rattle.core_history.specs.Events.{Event, steps_of, told_to, log_of}
-use Rattle.core_history.specs.Machine.{World, Move, world_of, HasPlans, terms_of, plan_at, wanted_by, wanted_of, is_open, out_of}
+use Rattle.core_history.specs.Machine.{World, Move, world_of, HasPlans, terms_of, plan_at, wanted_by, is_open, out_of}
 use Rattle.core_history.specs.Facts.{steps_on, stands_for, AreApart, IsOrdered}
-use Rattle.core_history.specs.Freshness.{histories_of, IsLawful, RunsAreLawful}
+use Rattle.core_history.specs.Freshness.{histories_of, RunsAreLawful}
 use Rattle.core_history.proofs.GrantFacts.{GrantFacts, IsDrawnBelow, IsReleaseOf}
-use Rattle.core_history.proofs.ListLemmas.{and_elim, not_both, not_true, any-reverse, count-once, count-some, every-weaker}
+use Rattle.core_history.proofs.ListLemmas.{and_elim, not_true, any-reverse, count-once, count-some, every-weaker}
 use Rattle.core_history.proofs.KeyLemmas.{KeyFacts, Distinct}
 use Rattle.core_history.proofs.EventLemmas.{IsKnown}
-use Rattle.core_history.proofs.SessionLemmas.{Stood, Writer, is_ending}
+use Rattle.core_history.proofs.SessionLemmas.{Writer}
 use Rattle.core_history.proofs.WriterLemmas.{write_cases, read_cases}
-use Rattle.core_history.proofs.InnerLemmas.{Inner, IsIdle, IsSession, IsCovered}
+use Rattle.core_history.proofs.InnerLemmas.{Inner, IsSession, IsCovered}
 use Rattle.core_history.proofs.WriteTurnLemmas.{open-closed, granted-stands}
 use Rattle.core_history.proofs.WorldLemmas.{idle-grants, inner_of}
 

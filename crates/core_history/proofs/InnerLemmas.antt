@@ -1,5 +1,5 @@
 -- The facts that hold of every world, and what of an event keeps them.
-use Rattle.std.proofs.Common.{ℕ, zero, suc, ◌≡◌, ◌≢◌, ◌+◌, ◌<◌, ◌≤◌, ◌==◌, Bool, true, false, not, cond, ◌&&◌, ◌||◌, List, [], ◌∷◌, ◌++◌, length, count_by, Option, Some, None, slice_get, append-nil, refl, sym, ap, subst, ◌∙◌, inl, inr, ◌⊎◌, arith}
+use Rattle.std.proofs.Common.{ℕ, ◌≡◌, ◌≤◌, ◌==◌, Bool, true, false, cond, List, [], ◌∷◌, ◌++◌, count_by, Option, Some, None, slice_get, append-nil, sym, ap, subst, ◌∙◌, inl, inr, ◌⊎◌, arith}
 use Rattle.std.specs.List.{AllByRecursion, list_any}
 use Rattle.std.proofs.lemmas.Bool.{cases_Bool, false≢true, eqb-true, eq-eqb}
 use Rattle.rows_model.specs.declared.keys.QKey.{QKey}
@@ -23,13 +23,12 @@ use Rattle.session_client.specs.declared.replies.Wanted.{Wanted}
 use Rattle.session_client.specs.Wants.{granted, grants_in, is_commit, without_key}
 use Rattle.core_history.specs.Events.{Event, Stepped, Called, who_in, reply_in, steps_in, steps_of, told_to, commits_told, log_of}
 use Rattle.core_history.specs.Machine.{World, terms_of, plan_at, out_by}
-use Rattle.core_history.specs.Facts.{stands_for}
 use Rattle.core_history.specs.Freshness.{IsQuarantinedReply, AreQuarantined}
 use Rattle.core_history.proofs.GrantFacts.{IsDrawnBelow}
 use Rattle.core_history.proofs.ListLemmas.{every-weaker, every-append, any-back, push-place, count-append, count-some, some-count}
 use Rattle.core_history.proofs.KeyLemmas.{KeyFacts, QuietStep, quiet-key}
 use Rattle.core_history.proofs.EventLemmas.{IsLate, late-mild, IsKnown, known-more, IsCounted, counts-more, counted-mild, counted-called, told_to-mine, told_to-other}
-use Rattle.core_history.proofs.SessionLemmas.{Stood, stood-quiet, stood-called, maybe-step, Writer, Keeps, writer-more}
+use Rattle.core_history.proofs.SessionLemmas.{stood-quiet, stood-called, maybe-step, Writer, Keeps, writer-more}
 
 abbrev pub IsIdle : Reply → Type 0
 IsIdle reply.Nothing = Unit {0}

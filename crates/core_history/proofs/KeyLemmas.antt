@@ -1,21 +1,20 @@
 -- What holds of the leases and quarantines of one key, and how a step of its shard keeps it.
-use Rattle.std.proofs.Common.{ℕ, zero, suc, ◌≡◌, ◌≢◌, ◌+◌, ◌<◌, ◌≤◌, ◌==◌, Bool, true, false, not, cond, ◌&&◌, List, [], ◌∷◌, ◌++◌, filter, find, count_by, Option, Some, None, refl, sym, ap, subst, ◌∙◌, inl, inr, ◌⊎◌, arith}
+use Rattle.std.proofs.Common.{ℕ, ◌≡◌, ◌≢◌, ◌+◌, ◌<◌, ◌≤◌, ◌==◌, Bool, true, false, not, cond, ◌&&◌, List, [], ◌∷◌, ◌++◌, filter, find, count_by, Some, None, refl, sym, ap, subst, ◌∙◌, inl, inr, ◌⊎◌, arith}
 use Rattle.std.specs.List.{AllByRecursion, list_any}
-use Rattle.std.proofs.lemmas.Bool.{cases_Bool, false≢true, eqb-true, eq-eqb}
+use Rattle.std.proofs.lemmas.Bool.{cases_Bool, false≢true, eqb-true}
 use Rattle.rows_model.specs.declared.keys.QKey.{QKey}
 use Rattle.rows_model.specs.declared.keys.Sid.{Sid}
 use Rattle.rows_model.specs.Key.{same_key}
 use Rattle.rows_model.proofs.SameKey.{same_key-true}
 use Rattle.lease_table.specs.declared.records.Mode.TheVariants.{Invalidate}
 use Rattle.lease_table.specs.declared.records.Quar.{Quar}
-use Rattle.lease_table.specs.declared.records.ReadLease.{ReadLease}
 use Rattle.lease_table.specs.Leases.{is_of, has_token}
 use Rattle.key_shard.specs.declared.steps.Ended.{Ended}
 use Rattle.key_shard.specs.declared.steps.Step.{Step}
 use Rattle.key_shard.specs.declared.steps.Step.TheVariants as step
 use Rattle.key_shard.specs.Past.{Terms, standing, recorded, draws, next_token}
 use Rattle.sql_keeper.specs.Fresh.{releases, quarantines}
-use Rattle.core_history.proofs.ListLemmas.{choose, tick, zero_if, or_inl, or_inr, or_elim, and_elim, and_intro, not_both, not_true, every-append, every-weaker, every-filter, every-any, any-filter, count-cons, count-append}
+use Rattle.core_history.proofs.ListLemmas.{choose, tick, zero_if, or_elim, and_elim, not_true, every-append, every-weaker, every-filter, every-any, any-filter, count-cons, count-append}
 
 -- each token is another
 abbrev pub Distinct : List Quar → Type 0

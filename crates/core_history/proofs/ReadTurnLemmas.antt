@@ -1,7 +1,6 @@
 -- A turn of a reader, or of no session, keeps the facts.
-use Rattle.std.proofs.Common.{ℕ, ◌≡◌, ◌≢◌, ◌+◌, ◌<◌, ◌≤◌, ◌==◌, Bool, true, false, not, cond, ◌&&◌, ◌||◌, List, [], ◌∷◌, ◌++◌, Option, Some, None, append-nil, refl, sym, ap, subst, ◌∙◌, inl, inr, ◌⊎◌, arith}
-use Rattle.std.specs.List.{AllByRecursion, list_any}
-use Rattle.std.proofs.lemmas.Bool.{cases_Bool, false≢true, eqb-true, eq-eqb}
+use Rattle.std.proofs.Common.{ℕ, ◌≡◌, ◌<◌, ◌==◌, Bool, true, false, cond, List, [], ◌∷◌, ◌++◌, Option, Some, None, append-nil, refl, sym, ap, subst, ◌∙◌, inl, inr, ◌⊎◌, arith}
+use Rattle.std.proofs.lemmas.Bool.{cases_Bool, false≢true, eq-eqb}
 use Rattle.rows_model.specs.declared.keys.QKey.{QKey}
 use Rattle.rows_model.specs.declared.keys.Sid.{Sid}
 use Rattle.rows_model.specs.Key.{same_key}
@@ -15,16 +14,16 @@ use Rattle.key_shard.specs.declared.steps.Step.TheVariants as step
 use Rattle.key_shard.specs.declared.replies.Got.TheVariants as got
 use Rattle.key_shard.specs.declared.replies.SetAnswer.TheVariants as set
 use Rattle.key_shard.specs.Past.{Terms, draws, standing, recorded, evicts, next_token, deadline_at}
-use Rattle.key_shard.specs.Answers.{Answers, Get, Set, step_of, get_step, set_step}
+use Rattle.key_shard.specs.Answers.{Answers, Get, Set, get_step, set_step}
 use Rattle.session_client.specs.declared.plans.Plan.{Plan}
-use Rattle.session_client.specs.declared.plans.Plan.TheVariants.{Read, Write, Skip}
+use Rattle.session_client.specs.declared.plans.Plan.TheVariants.{Read}
 use Rattle.session_client.specs.declared.plans.Shape.{Shape}
 use Rattle.session_client.specs.declared.replies.Reply.{Reply}
 use Rattle.session_client.specs.declared.replies.Reply.TheVariants as reply
 use Rattle.session_client.specs.declared.replies.Wanted.{Wanted}
 use Rattle.session_client.specs.declared.replies.Wanted.TheVariants as wanted
 use Rattle.session_client.specs.Wants.{granted, grants_in, is_commit, read_wants}
-use Rattle.core_history.specs.Events.{Event, Stepped, Called, who_in, reply_in, steps_in, steps_of, told_to}
+use Rattle.core_history.specs.Events.{Event, Stepped, Called, who_in, reply_in, steps_of, told_to}
 use Rattle.core_history.specs.Machine.{World, Said, Value, Made, Rejected, Failed, terms_of, plan_at, shown, event_of, ask_told, out_by}
 use Rattle.core_history.specs.Freshness.{IsQuarantinedReply}
 use Rattle.core_history.proofs.GrantFacts.{IsDrawnBelow}

@@ -1,12 +1,11 @@
 -- What a session was told, and which of its quarantines stand.
-use Rattle.std.proofs.Common.{ℕ, zero, suc, ◌≡◌, ◌≢◌, ◌+◌, ◌<◌, ◌≤◌, ◌==◌, Bool, true, false, not, cond, ◌&&◌, ◌||◌, List, [], ◌∷◌, ◌++◌, length, filter, find, count_by, Option, Some, None, slice_get, append-nil, refl, sym, ap, subst, ◌∙◌, inl, inr, ◌⊎◌, arith}
+use Rattle.std.proofs.Common.{ℕ, ◌≡◌, ◌≢◌, ◌≤◌, ◌==◌, Bool, true, false, not, cond, List, [], ◌∷◌, ◌++◌, length, filter, count_by, Some, slice_get, append-nil, refl, sym, ap, subst, ◌∙◌, inl, inr, ◌⊎◌, arith}
 use Rattle.std.specs.List.{AllByRecursion, list_any}
-use Rattle.std.proofs.lemmas.Bool.{cases_Bool, false≢true, eqb-true, eq-eqb}
+use Rattle.std.proofs.lemmas.Bool.{eq-eqb}
 use Rattle.rows_model.specs.declared.keys.QKey.{QKey}
 use Rattle.rows_model.specs.declared.keys.Sid.{Sid}
 use Rattle.rows_model.specs.Key.{same_key}
 use Rattle.rows_model.proofs.SameKey.{same_key-true, same_key-refl}
-use Rattle.rows_model.specs.Changes.{footprint}
 use Rattle.rows_model.specs.Placement.{shard_of}
 use Rattle.case_tables.specs.Compatibility.{same_way}
 use Rattle.lease_table.specs.declared.records.Mode.{Mode}
@@ -17,23 +16,19 @@ use Rattle.key_shard.specs.Permit.{Permit, same_permit}
 use Rattle.key_shard.specs.declared.steps.Ended.{Ended}
 use Rattle.key_shard.specs.declared.steps.Step.{Step}
 use Rattle.key_shard.specs.declared.steps.Step.TheVariants as step
-use Rattle.key_shard.specs.declared.replies.QAnswer.TheVariants as quarantine
-use Rattle.key_shard.specs.Past.{Terms, standing, next_token, grants}
-use Rattle.key_shard.specs.Shards.{without_permit, out_after}
+use Rattle.key_shard.specs.Past.{Terms, standing, grants}
+use Rattle.key_shard.specs.Shards.{without_permit}
 use Rattle.key_shard.proofs.OutLemmas.{same_permit-true}
-use Rattle.session_client.specs.declared.plans.Plan.{Plan}
-use Rattle.session_client.specs.declared.plans.Plan.TheVariants.{Read, Write, Skip}
 use Rattle.session_client.specs.declared.plans.Shape.{Shape}
 use Rattle.session_client.specs.declared.replies.Reply.{Reply}
 use Rattle.session_client.specs.declared.replies.Reply.TheVariants as reply
 use Rattle.session_client.specs.declared.replies.Wanted.{Wanted}
 use Rattle.session_client.specs.declared.replies.Wanted.TheVariants as wanted
-use Rattle.session_client.specs.Wants.{grants_in, granted, is_had, is_release, released, keys_of}
+use Rattle.session_client.specs.Wants.{grants_in, granted, is_had, is_release, released}
 use Rattle.core_history.specs.Events.{Event, Stepped, Called, steps_of}
 use Rattle.core_history.specs.Machine.{terms_of, out_by, out_of}
-use Rattle.core_history.proofs.GrantFacts.{IsDrawnBelow}
-use Rattle.core_history.proofs.ListLemmas.{choose, or_inl, or_inr, and_intro, and_elim, not_both, not_true, every-weaker, any-filter, any-front, any-back, push-place, tick, count-cons, zero_if, one_if}
-use Rattle.core_history.proofs.KeyLemmas.{QuietStep, Distinct, is_quar, stays-of, next-more}
+use Rattle.core_history.proofs.ListLemmas.{choose, or_inl, and_intro, not_both, not_true, any-filter, any-front, any-back, count-cons, zero_if}
+use Rattle.core_history.proofs.KeyLemmas.{QuietStep, Distinct, is_quar, stays-of}
 use Rattle.core_history.proofs.EventLemmas.{closed, closed-more}
 
 -- the quarantine of a grant stands, the grant is out, and it was given

@@ -1,51 +1,30 @@
 -- Each move keeps the facts, and so they hold of every world.
-use Rattle.std.proofs.Common.{ℕ, zero, suc, ◌≡◌, ◌≢◌, ◌+◌, ◌-◌, ◌%◌, ◌<◌, ◌≤◌, ◌==◌, Bool, true, false, not, cond, ◌&&◌, ◌||◌, List, [], ◌∷◌, ◌++◌, length, map, reverse, count_by, Option, Some, None, slice_get, option_map, All, AllPairs, IsTrue, mod-lt, refl, sym, ap, subst, ◌∙◌, inl, inr, ◌⊎◌, arith}
-use Rattle.std.specs.List.{AllByRecursion, list_any, range_with_len}
-use Rattle.std.proofs.lemmas.Bool.{cases_Bool, false≢true, eqb-true, eq-eqb}
-use Rattle.std.proofs.lemmas.Option.{slice_get-get_or}
-use Rattle.std.proofs.lemmas.List.Elements.{All-from_recursion}
-use Rattle.std.proofs.lemmas.List.FromFn.{get_or-map-range_with_len, length-map-range_with_len}
-use Rattle.std.proofs.lemmas.List.Kept.{AllPairs-cons}
+use Rattle.std.proofs.Common.{ℕ, zero, suc, ◌≡◌, ◌-◌, Bool, false, List, [], ◌∷◌, ◌++◌, length, count_by, Option, Some, None, slice_get, refl, sym, ap, subst, ◌∙◌, inl, inr, ◌⊎◌, arith}
+use Rattle.std.specs.List.{AllByRecursion}
 use Rattle.rows_model.specs.declared.keys.QKey.{QKey}
 use Rattle.rows_model.specs.declared.keys.Sid.{Sid}
-use Rattle.rows_model.specs.declared.changes.Change.{Change}
-use Rattle.rows_model.specs.Key.{same_key}
-use Rattle.rows_model.proofs.SameKey.{same_key-true, same_key-refl}
-use Rattle.rows_model.specs.Changes.{footprint, touches}
-use Rattle.rows_model.specs.Placement.{shard_of, hash_of}
-use Rattle.rows_model.specs.Key.{key_text}
-use Rattle.lease_table.specs.declared.records.Mode.TheVariants.{Invalidate}
-use Rattle.lease_table.specs.declared.records.Quar.{Quar}
-use Rattle.lease_table.specs.Leases.{is_of}
-use Rattle.key_shard.specs.Permit.{Permit, same_permit}
-use Rattle.key_shard.specs.declared.steps.Ended.TheVariants as ended
-use Rattle.key_shard.specs.declared.steps.Step.{Step}
-use Rattle.key_shard.specs.declared.steps.Step.TheVariants as step
-use Rattle.key_shard.specs.Past.{Terms, standing, recorded, next_token}
-use Rattle.sql_keeper.specs.Commits.{covers, is_covered}
-use Rattle.sql_keeper.specs.Fresh.{quarantines, releases, Covered}
+use Rattle.rows_model.specs.Changes.{footprint}
+use Rattle.rows_model.specs.Placement.{shard_of}
+use Rattle.key_shard.specs.Permit.{Permit}
+use Rattle.key_shard.specs.Past.{next_token}
 use Rattle.session_client.specs.declared.plans.Plan.{Plan}
 use Rattle.session_client.specs.declared.plans.Plan.TheVariants.{Read, Write, Skip}
 use Rattle.session_client.specs.declared.plans.Shape.{Shape}
 use Rattle.session_client.specs.declared.plans.Turn.TheVariants as turn
 use Rattle.session_client.specs.declared.replies.Reply.{Reply}
 use Rattle.session_client.specs.declared.replies.Reply.TheVariants as reply
-use Rattle.session_client.specs.declared.replies.Wanted.{Wanted}
 use Rattle.session_client.specs.declared.replies.Wanted.TheVariants as wanted
-use Rattle.session_client.specs.Wants.{granted, is_had, is_release, released, was_committed, write_wants, without_key}
-use Rattle.core_history.specs.Events.{Event, Stepped, Called, steps_of, told_to, log_of, has_committed, was_ended}
-use Rattle.core_history.specs.Machine.{World, Move, Begin, Take, Said, start, world_of, moved, begun, taken, HasPlans, terms_of, plan_at, wanted_by, wanted_of, event_of, is_open, is_writer, out_of}
-use Rattle.core_history.specs.Facts.{steps_on, stands_for, AreApart, IsOrdered}
-use Rattle.core_history.specs.Freshness.{histories_of, AreQuarantined, IsLawful, RunsAreLawful}
-use Rattle.core_history.proofs.GrantFacts.{GrantFacts, IsDrawnBelow, IsReleaseOf}
-use Rattle.core_history.proofs.ListLemmas.{choose, tick, zero_if, count-cons, and_elim, not_both, not_true, any-weaker, any-reverse, place_of, count-once, count-some, some-count, every-weaker}
-use Rattle.core_history.proofs.KeyLemmas.{KeyFacts, KeyFacts-start, Distinct, is_quar}
-use Rattle.core_history.proofs.EventLemmas.{closed, IsKnown}
-use Rattle.core_history.proofs.SessionLemmas.{Stood, AreOnce, Writer, is_ending}
-use Rattle.core_history.proofs.WriterLemmas.{write_cases, read_cases, footprint-once, skipped-once}
-use Rattle.core_history.proofs.InnerLemmas.{Inner, IsIdle, IsSession, IsCovered, with_event}
+use Rattle.session_client.specs.Wants.{granted, is_had, is_release, without_key}
+use Rattle.core_history.specs.Events.{Event, Called, steps_of, told_to}
+use Rattle.core_history.specs.Machine.{World, Move, Begin, Take, Said, start, world_of, begun, taken, terms_of, plan_at, wanted_by}
+use Rattle.core_history.proofs.GrantFacts.{IsDrawnBelow}
+use Rattle.core_history.proofs.ListLemmas.{zero_if, count-cons, not_both, every-weaker}
+use Rattle.core_history.proofs.KeyLemmas.{KeyFacts-start}
+use Rattle.core_history.proofs.SessionLemmas.{AreOnce, Writer, is_ending}
+use Rattle.core_history.proofs.WriterLemmas.{footprint-once, skipped-once}
+use Rattle.core_history.proofs.InnerLemmas.{Inner, IsIdle, IsSession, IsCovered}
 use Rattle.core_history.proofs.ReadTurnLemmas.{After, idle-turn, read-turn}
-use Rattle.core_history.proofs.WriteTurnLemmas.{IsWriter, write-turn, open-closed}
+use Rattle.core_history.proofs.WriteTurnLemmas.{write-turn}
 
 -- a turn keeps the facts
 taken-inner : (shape : Shape) (world : World) (who : Sid) (said : Said) → Inner shape world → Inner shape (taken shape world (turn.Session who) said)

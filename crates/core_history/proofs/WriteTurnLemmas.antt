@@ -1,9 +1,8 @@
 -- A turn of a writer keeps the facts.
-use Rattle.std.proofs.Common.{ℕ, ◌≡◌, ◌≢◌, ◌+◌, ◌<◌, ◌≤◌, ◌==◌, Bool, true, false, not, cond, ◌&&◌, ◌||◌, List, [], ◌∷◌, ◌++◌, length, find, count_by, pos, Option, Some, None, slice_get, refl, sym, ap, subst, ◌∙◌, inl, inr, ◌⊎◌, arith}
-use Rattle.std.specs.List.{AllByRecursion, list_any}
-use Rattle.std.proofs.lemmas.Bool.{cases_Bool, false≢true, eqb-true, eq-eqb}
+use Rattle.std.proofs.Common.{ℕ, ◌≡◌, ◌+◌, ◌==◌, Bool, true, false, not, cond, ◌||◌, List, [], ◌∷◌, length, find, count_by, pos, Option, Some, None, slice_get, refl, sym, ap, subst, ◌∙◌, inl, inr, ◌⊎◌, arith}
+use Rattle.std.specs.List.{list_any}
+use Rattle.std.proofs.lemmas.Bool.{false≢true, eqb-true, eq-eqb}
 use Rattle.std.proofs.lemmas.Option.{slice_get_within}
-use Rattle.std.proofs.lemmas.List.Folds.{list_any-append}
 use Rattle.rows_model.specs.declared.keys.QKey.{QKey}
 use Rattle.rows_model.specs.declared.keys.Sid.{Sid}
 use Rattle.rows_model.specs.declared.changes.Change.{Change}
@@ -14,7 +13,7 @@ use Rattle.rows_model.proofs.FootprintLemmas.{footprints_are_exact_is}
 use Rattle.rows_model.specs.Placement.{shard_of}
 use Rattle.lease_table.specs.declared.records.Mode.TheVariants.{Invalidate}
 use Rattle.lease_table.specs.declared.records.Quar.{Quar}
-use Rattle.lease_table.specs.Leases.{is_of, has_token}
+use Rattle.lease_table.specs.Leases.{is_of}
 use Rattle.key_shard.specs.Permit.{Permit}
 use Rattle.key_shard.specs.declared.replies.How.{How}
 use Rattle.key_shard.specs.declared.replies.How.TheVariants.{Keep, Drop}
@@ -23,32 +22,32 @@ use Rattle.key_shard.specs.declared.replies.Rel.TheVariants as rel
 use Rattle.key_shard.specs.declared.steps.Ended.TheVariants as ended
 use Rattle.key_shard.specs.declared.steps.Step.{Step}
 use Rattle.key_shard.specs.declared.steps.Step.TheVariants as step
-use Rattle.key_shard.specs.Past.{Terms, entry, evicted_by, standing, next_token, deadline_at, own_of}
-use Rattle.key_shard.specs.Answers.{Answers, Quarantine, Release, FitsMode, quarantine_step, release_step, release_by, ended_as}
+use Rattle.key_shard.specs.Past.{Terms, entry, evicted_by, standing, next_token, deadline_at}
+use Rattle.key_shard.specs.Answers.{Quarantine, Release, FitsMode, release_step, release_by, ended_as}
 use Rattle.key_shard.specs.Replies.{old_value}
 use Rattle.key_shard.specs.Shards.{without_permit}
 use Rattle.sql_keeper.specs.declared.faults.CommitFault.{CommitFault}
 use Rattle.sql_keeper.specs.declared.faults.CommitFault.TheVariants as faults
-use Rattle.sql_keeper.specs.Commits.{covers, is_covered, uncovered, full, covered_fault, commit_fault}
+use Rattle.sql_keeper.specs.Commits.{covers, is_covered, uncovered, covered_fault, commit_fault}
 use Rattle.sql_keeper.specs.Fresh.{quarantines}
 use Rattle.session_client.specs.declared.plans.Shape.{Shape}
 use Rattle.session_client.specs.declared.replies.Reply.{Reply}
 use Rattle.session_client.specs.declared.replies.Reply.TheVariants as reply
 use Rattle.session_client.specs.declared.replies.Wanted.{Wanted}
 use Rattle.session_client.specs.declared.replies.Wanted.TheVariants as wanted
-use Rattle.session_client.specs.Wants.{granted, grants_in, is_had, released, is_commit, was_committed, write_wants}
-use Rattle.core_history.specs.Events.{Event, Stepped, Called, who_in, reply_in, steps_in, steps_of, told_in, told_to, log_of, has_committed, was_ended, ends}
-use Rattle.core_history.specs.Machine.{World, Said, Value, Made, Rejected, Failed, terms_of, plan_at, shown, out_by, is_open, is_writer, commit_said, commit_by, commit_told, log_cap}
+use Rattle.session_client.specs.Wants.{granted, is_had, released, was_committed, write_wants}
+use Rattle.core_history.specs.Events.{Event, Stepped, Called, steps_of, told_to, log_of, has_committed, was_ended, ends}
+use Rattle.core_history.specs.Machine.{World, Said, Value, Made, Rejected, Failed, terms_of, plan_at, shown, out_by, is_open, commit_said, commit_by, log_cap}
 use Rattle.core_history.specs.Facts.{stands_for}
 use Rattle.core_history.specs.Freshness.{IsQuarantinedReply}
-use Rattle.core_history.proofs.ListLemmas.{choose, or_inl, or_inr, or_elim, and_elim, and_intro, not_both, not_true, any-back, any-weaker, place_of, count-some, some-count}
-use Rattle.core_history.proofs.KeyLemmas.{KeyFacts, is_quar, find-of, granted-key, released-key}
+use Rattle.core_history.proofs.ListLemmas.{choose, or_inl, or_inr, or_elim, and_elim, and_intro, not_true, any-back, any-weaker, place_of, count-some, some-count}
+use Rattle.core_history.proofs.KeyLemmas.{is_quar, find-of, granted-key, released-key}
 use Rattle.core_history.proofs.CaseLemmas.{quarantine_is, no_own}
 use Rattle.core_history.proofs.EventLemmas.{closed, closed-more, committed-told, uncommitted-more, IsLate, late-mild, counted-mild, counted-granted, told_to-mine}
-use Rattle.core_history.proofs.SessionLemmas.{Stood, stood-called, stood-granted, stood-new, stood-released, is_ending, Writer, Mild, Keeps, writer-mild}
+use Rattle.core_history.proofs.SessionLemmas.{stood-called, stood-granted, stood-new, stood-released, is_ending, Writer, Mild, Keeps, writer-mild}
 use Rattle.core_history.proofs.WriterLemmas.{writer-granted, writer-released, write_cases}
-use Rattle.core_history.proofs.InnerLemmas.{Inner, IsSession, HasTold, with_event, called-inner, stepped-inner, granted-standing}
-use Rattle.core_history.proofs.ReadTurnLemmas.{After, idle-turn}
+use Rattle.core_history.proofs.InnerLemmas.{Inner, IsSession, with_event, called-inner, stepped-inner, granted-standing}
+use Rattle.core_history.proofs.ReadTurnLemmas.{After}
 
 -- what is told a writer of these keys keeps its session's facts
 abbrev pub IsWriter : Shape → World → ℕ → List QKey → Type 0

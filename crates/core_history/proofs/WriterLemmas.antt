@@ -1,24 +1,19 @@
 -- What a session wants, and what its grants are after each reply.
-use Rattle.std.proofs.Common.{ℕ, zero, suc, ◌≡◌, ◌≢◌, ◌+◌, ◌-◌, ◌<◌, ◌≤◌, ◌==◌, Bool, true, false, not, cond, ◌&&◌, ◌||◌, nat_lt, List, [], ◌∷◌, ◌++◌, length, length-append, filter, find, count_by, Option, Some, None, slice_get, get_or, AllPairs, refl, sym, ap, subst, ◌∙◌, inl, inr, ◌⊎◌, arith}
-use Rattle.std.specs.List.{AllByRecursion, list_any}
-use Rattle.std.proofs.lemmas.Bool.{cases_order, cases_Bool, false≢true, eqb-true, eq-eqb}
+use Rattle.std.proofs.Common.{ℕ, ◌≡◌, ◌+◌, ◌<◌, Bool, true, false, not, nat_lt, List, [], ◌∷◌, ◌++◌, length, length-append, count_by, Option, Some, None, slice_get, get_or, AllPairs, refl, sym, ap, subst, ◌∙◌, inl, inr, ◌⊎◌, arith}
+use Rattle.std.proofs.lemmas.Bool.{cases_order, false≢true}
 use Rattle.std.proofs.lemmas.Bool.Decides.{nat_tests}
 use Rattle.std.proofs.lemmas.Option.{slice_get_within, get_or_from_slice_get}
 use Rattle.std.proofs.lemmas.List.Kept.{AllPairs-filter}
 use Rattle.rows_model.specs.declared.keys.QKey.{QKey}
-use Rattle.rows_model.specs.declared.keys.Sid.{Sid}
 use Rattle.rows_model.specs.declared.changes.Change.{Change}
 use Rattle.rows_model.specs.Key.{same_key}
-use Rattle.rows_model.proofs.SameKey.{same_key-true, same_key-refl}
+use Rattle.rows_model.proofs.SameKey.{same_key-true}
 use Rattle.rows_model.proofs.FootprintLemmas.{footprints_are_exact_is}
 use Rattle.rows_model.specs.Changes.{footprint, is_key_before}
-use Rattle.rows_model.specs.Placement.{shard_of}
 use Rattle.key_shard.specs.Permit.{Permit}
 use Rattle.key_shard.specs.declared.replies.Got.TheVariants as got
 use Rattle.key_shard.specs.declared.replies.QAnswer.TheVariants as quarantine
 use Rattle.sql_keeper.specs.declared.stores.Answer.{Answer}
-use Rattle.session_client.specs.declared.plans.Plan.{Plan}
-use Rattle.session_client.specs.declared.plans.Plan.TheVariants.{Read, Write, Skip}
 use Rattle.session_client.specs.declared.plans.Shape.{Shape}
 use Rattle.session_client.specs.declared.replies.Reply.{Reply}
 use Rattle.session_client.specs.declared.replies.Reply.TheVariants as reply
@@ -26,7 +21,7 @@ use Rattle.session_client.specs.declared.replies.Wanted.{Wanted}
 use Rattle.session_client.specs.declared.replies.Wanted.TheVariants as wanted
 use Rattle.session_client.specs.Wants.{granted, is_had, is_release, released, was_committed, write_wants, quarantine_next, quarantine_or_commit, release_next, release_of, read_wants, set_after, agains, without_key}
 use Rattle.core_history.specs.Events.{Event}
-use Rattle.core_history.proofs.ListLemmas.{choose, not_both, not_true, push-place, tick, count-cons, zero_if, one_if}
+use Rattle.core_history.proofs.ListLemmas.{choose, push-place, count-cons}
 use Rattle.core_history.proofs.EventLemmas.{closed, closed-more}
 use Rattle.core_history.proofs.SessionLemmas.{Stood, is_ending, AreOnce, Fits, Writer, Keeps, shut-more}
 
