@@ -10,3 +10,14 @@ pub mod ReadTurnLemmas
 pub mod WriteTurnLemmas
 pub mod WorldLemmas
 pub mod GrantLemmas
+pub mod LogLemmas
+pub mod Invariant
+pub mod EntrySteps
+pub mod QuietSteps
+pub mod ShardTurns
+pub mod StoreTurns
+pub mod WantLemmas
+pub mod GoodSteps
+pub mod KeepLemmas
+pub mod TurnLemmas
+pub mod FreshRuns

@@ -8,3 +8,4 @@ pub mod Machine
 pub mod Truth
 pub mod Facts
 pub mod Freshness
+pub mod Voids
