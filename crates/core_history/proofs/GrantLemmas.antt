@@ -59,9 +59,6 @@ tokens-key (x ∷ xs) h =
     AllPairs-cons (λ a b. a.token ≢ b.token) x xs (All-from_recursion (λ b. x.token ≢ b.token) xs h.0) (tokens-key xs h.1)
 
 -- a session has one grant on a key at most
-some_same : {X : Type 0} {a b : X} → Some a ≡ Some b → a ≡ b
-some_same e = cc
-
 writer-once : (shape : Shape) (past : List Event) (who : Sid) (heard : List Reply) (keys : List QKey) (key : QKey) → Writer shape past who.number heard keys → count_by (covers who key) (granted heard) ≤ 1
 writer-once shape past who heard keys key w =
     count-once (covers who key) (granted heard) (λ i j a b at_i at_j on_a on_b.

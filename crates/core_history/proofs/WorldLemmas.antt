@@ -1,5 +1,5 @@
 -- Each move keeps the facts, and so they hold of every world.
-use Rattle.std.proofs.Common.{ℕ, zero, suc, ◌≡◌, ◌-◌, Bool, false, List, [], ◌∷◌, ◌++◌, length, count_by, Option, Some, None, slice_get, refl, sym, ap, subst, ◌∙◌, inl, inr, ◌⊎◌, arith}
+use Rattle.std.proofs.Common.{append-nil, ℕ, zero, suc, ◌≡◌, ◌-◌, Bool, false, List, [], ◌∷◌, ◌++◌, length, count_by, Option, Some, None, slice_get, refl, sym, ap, subst, ◌∙◌, inl, inr, ◌⊎◌, arith}
 use Rattle.std.specs.List.{AllByRecursion}
 use Rattle.rows_model.specs.declared.keys.QKey.{QKey}
 use Rattle.rows_model.specs.declared.keys.Sid.{Sid}
@@ -48,11 +48,7 @@ taken-inner shape world who said inner = by (plan_at who.number world.plans) ref
 -- a session that was told nothing is as one of any plan
 pub idle-grants : (heard : List Reply) → AllByRecursion IsIdle heard → granted heard ≡ []
 idle-grants [] h = refl
-idle-grants (reply.Nothing ∷ heard) h = append_nothing (granted heard) ∙ idle-grants heard h.1
-  where
-    append_nothing : {X : Type 0} (xs : List X) → xs ++ [] ≡ xs
-    append_nothing [] = refl
-    append_nothing (x ∷ xs) = ap (λ l. x ∷ l) (append_nothing xs)
+idle-grants (reply.Nothing ∷ heard) h = append-nil (granted heard) ∙ idle-grants heard h.1
 idle-grants (reply.Got told ∷ heard) h = absurd h.0
 idle-grants (reply.Answer told ∷ heard) h = absurd h.0
 idle-grants (reply.Set told ∷ heard) h = absurd h.0

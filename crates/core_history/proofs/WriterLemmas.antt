@@ -1,5 +1,5 @@
 -- What a session wants, and what its grants are after each reply.
-use Rattle.std.proofs.Common.{ℕ, ◌≡◌, ◌+◌, ◌<◌, Bool, true, false, not, nat_lt, List, [], ◌∷◌, ◌++◌, length, length-append, count_by, Option, Some, None, slice_get, get_or, AllPairs, refl, sym, ap, subst, ◌∙◌, inl, inr, ◌⊎◌, arith}
+use Rattle.std.proofs.Common.{append-nil, ℕ, ◌≡◌, ◌+◌, ◌<◌, Bool, true, false, not, nat_lt, List, [], ◌∷◌, ◌++◌, length, length-append, count_by, Option, Some, None, slice_get, get_or, AllPairs, refl, sym, ap, subst, ◌∙◌, inl, inr, ◌⊎◌, arith}
 use Rattle.std.proofs.lemmas.Bool.{cases_order, false≢true}
 use Rattle.std.proofs.lemmas.Bool.Decides.{nat_tests}
 use Rattle.std.proofs.lemmas.Option.{slice_get_within, get_or_from_slice_get}
@@ -52,7 +52,7 @@ pub writer-released : (shape : Shape) (event : Event) (past : List Event) (n : �
 writer-released shape event past n gone told heard keys at shut keeps w =
     let a = count-cons is_had (reply.Rel told) heard in
     let c = count-cons is_release (reply.Rel told) heard in
-    let same : granted (reply.Rel told ∷ heard) ≡ granted heard = append_nothing (granted heard) in
+    let same : granted (reply.Rel told ∷ heard) ≡ granted heard = append-nil (granted heard) in
     let had = w.had in
     let len = ap length same in
     record {
@@ -67,10 +67,6 @@ writer-released shape event past n gone told heard keys at shut keeps w =
       shut = inr (closed-more n event past shut);
       ending = λ _. closed-more n event past shut;
     }
-  where
-    append_nothing : {X : Type 0} (xs : List X) → xs ++ [] ≡ xs
-    append_nothing [] = refl
-    append_nothing (x ∷ xs) = ap (λ l. x ∷ l) (append_nothing xs)
 
 -- what a writer wants
 next_cases : (P : Wanted → Type 0) (keys : List QKey) (txn : List Change) (heard : List Reply) → ((key : QKey) → slice_get keys (count_by is_had heard) ≡ Some key → P (wanted.QaReg key)) → P (wanted.Commit txn (record { items = granted heard; room = length keys })) → P (quarantine_next keys txn heard)
