@@ -18,7 +18,7 @@ use Rattle.core_history.specs.Truth.{IsTruePast}
 use Rattle.core_history.specs.Facts.{Facts, IsCurrent, held_under}
 use Rattle.core_history.specs.Freshness.{RunsAreFresh, histories_of}
 use Rattle.core_history.proofs.GrantFacts.{GrantFacts}
-use Rattle.core_history.proofs.StubGrants.{grant_facts}
+use Rattle.core_history.proofs.GrantLemmas.{grant_facts}
 use Rattle.core_history.proofs.Invariant.{Holds}
 use Rattle.core_history.proofs.WantLemmas.{wants_may}
 use Rattle.core_history.proofs.TurnLemmas.{turn_holds}

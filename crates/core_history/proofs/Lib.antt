@@ -1,4 +1,15 @@
 pub mod GrantFacts
+pub mod ListLemmas
+pub mod KeyLemmas
+pub mod CaseLemmas
+pub mod EventLemmas
+pub mod SessionLemmas
+pub mod WriterLemmas
+pub mod InnerLemmas
+pub mod ReadTurnLemmas
+pub mod WriteTurnLemmas
+pub mod WorldLemmas
+pub mod GrantLemmas
 pub mod LogLemmas
 pub mod Invariant
 pub mod EntrySteps
@@ -8,7 +19,6 @@ pub mod StoreTurns
 pub mod WantLemmas
 pub mod GoodSteps
 pub mod KeepLemmas
-pub mod StubGrants
 pub mod TurnLemmas
 pub mod FreshRuns
 pub mod DeterminedLemmas
