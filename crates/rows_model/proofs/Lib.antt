@@ -12,3 +12,5 @@ pub mod ShiftLemmas
 pub mod UntouchedLemmas
 pub mod FootprintLemmas
 pub mod StayFitLemmas
+pub mod EditLemmas
+pub mod MadeLemmas

@@ -11,3 +11,4 @@ pub mod ApplyFaults
 pub mod Untouched
 pub mod Footprint
 pub mod RowsStayFit
+pub mod Undo

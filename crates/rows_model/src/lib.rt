@@ -15,6 +15,7 @@ pub use shifts::{numbers_are_decimal, shift};
 pub use values::Value;
 
 pub mod changes;
+mod edits;
 pub mod footprints;
 pub mod keys;
 pub mod names;

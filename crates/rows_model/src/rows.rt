@@ -77,42 +77,42 @@ impl Link {
 
 impl Link {
     // Whether the link joins these two, in whichever order.
-    fn joins(&self, a: u32, b: u32) -> bool
+    pub(crate) fn joins(&self, a: u32, b: u32) -> bool
         ensures { result ≡ joins a b self.now }
     {
         self.a == a && self.b == b || self.a == b && self.b == a
     }
 
     // Whether the link joins others than these two.
-    fn joins_others(&self, a: u32, b: u32) -> bool
+    pub(crate) fn joins_others(&self, a: u32, b: u32) -> bool
         ensures { result ≡ not (joins a b self.now) }
     {
         !self.joins(a, b)
     }
 
     // Whether this is the invitation of `b` by `a`.
-    fn invites_by(&self, a: u32, b: u32) -> bool
+    pub(crate) fn invites_by(&self, a: u32, b: u32) -> bool
         ensures { result ≡ (is_pending self.now.state && (self.now.a == a) && (self.now.b == b)) }
     {
         self.state == LinkState::Pending && self.a == a && self.b == b
     }
 
     // Whether this is the friendship of the two.
-    fn is_friendship(&self, a: u32, b: u32) -> bool
+    pub(crate) fn is_friendship(&self, a: u32, b: u32) -> bool
         ensures { result ≡ (is_friend self.now.state && joins a b self.now) }
     {
         self.state == LinkState::Friend && self.joins(a, b)
     }
 
     // Whether the link stands before another.
-    fn is_before(&self, later: &Link) -> bool
+    pub(crate) fn is_before(&self, later: &Link) -> bool
         ensures { result ≡ is_before later.now self.now }
     {
         self.a < later.a || self.a == later.a && self.b < later.b
     }
 
     // The friendship of the two.
-    fn friendship(a: u32, b: u32) -> Link
+    pub(crate) fn friendship(a: u32, b: u32) -> Link
         ensures { result ≡ friendship a b }
     {
         Link {
