@@ -20,7 +20,7 @@ fit_go : (place : ℕ) (change : Change) (changes : List Change) (t after : Tabl
 fit_go place change changes t after true takes fit ids e rest = rest (Fit-changed change t fit ids takes) e
 fit_go place change changes t after false takes fit ids e rest = absurd cc
 
-fit_from : (place : ℕ) (changes : List Change) (t after : Tables) → Fit t → All HasIds changes → apply_from place changes t ≡ Ok after → Fit after
+pub fit_from : (place : ℕ) (changes : List Change) (t after : Tables) → Fit t → All HasIds changes → apply_from place changes t ≡ Ok after → Fit after
 fit_from place [] t after fit ids e =
     let same : t ≡ after = cc in subst Fit same fit
 fit_from place (change ∷ changes) t after fit ids e =

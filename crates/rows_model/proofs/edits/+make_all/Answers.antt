@@ -1,4 +1,4 @@
-use Rattle.std.proofs.Common.{◌≡◌, ◌≤◌, ◌+◌, ◌∷◌, length, arith, rules, vec_len, vec_capacity}
+use Rattle.std.proofs.Common.{◌≡◌, ◌+◌, ◌∷◌, length, arith, rules, vec_capacity}
 use Rattle.rows_model.specs.Undo.{tables_of, IsMade}
 use Rattle.rows_model.proofs.MadeLemmas.{Fit-made, ids_rest}
 use Rattle.rows_model.proofs.edits.+make_all.Goals as goal

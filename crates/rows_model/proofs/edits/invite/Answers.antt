@@ -1,4 +1,4 @@
-use Rattle.std.proofs.Common.{◌≡◌, true, arith, rules}
+use Rattle.std.proofs.Common.{◌≡◌, true, rules}
 use Rattle.rows_model.specs.Changes.{applies}
 use Rattle.rows_model.specs.declared.changes.Change.TheVariants.{Invite}
 use Rattle.rows_model.specs.Undo.{tables_of}
