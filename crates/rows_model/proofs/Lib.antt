@@ -11,3 +11,6 @@ pub mod SameKey
 pub mod ShiftLemmas
 pub mod UntouchedLemmas
 pub mod FootprintLemmas
+pub mod StayFitLemmas
+pub mod EditLemmas
+pub mod MadeLemmas

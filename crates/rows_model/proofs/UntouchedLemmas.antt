@@ -69,7 +69,7 @@ only_link a b links k x pairs l is e j d m f = elim (cases_order j k) [
   ]
 ]
 
-pending_joins : (a b : ℕ) (link : Link) → (is_pending link.state && (link.a == a) && (link.b == b)) ≡ true → joins a b link ≡ true
+pub pending_joins : (a b : ℕ) (link : Link) → (is_pending link.state && (link.a == a) && (link.b == b)) ≡ true → joins a b link ≡ true
 pending_joins a b link e = grind (arith, nat_tests)
 
 -- the one link of an invitation

@@ -10,3 +10,5 @@ pub mod TxnFaults
 pub mod ApplyFaults
 pub mod Untouched
 pub mod Footprint
+pub mod RowsStayFit
+pub mod Undo

@@ -67,3 +67,13 @@ impl From<Memory> for ApplyFault {
         ApplyFault::Memory
     }
 }
+
+impl From<AllocError> for ApplyFault {
+    ghost use Rattle.rows_model.specs.declared.refusals.ApplyFault.TheVariants.{Memory};
+
+    ghost from_gives = { λ _ fault. fault ≡ Memory };
+
+    fn from(_error: AllocError) -> ApplyFault {
+        ApplyFault::Memory
+    }
+}

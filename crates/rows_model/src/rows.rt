@@ -6,13 +6,12 @@ ghost use Rattle.rows_model.specs.ApplyFaults.{IsRejection};
 ghost use Rattle.rows_model.specs.declared.changes.Change.{Change};
 ghost use Rattle.rows_model.specs.Query.{invites, befriends, other_end, friend_count, pending_count};
 
-use crate::changes::{Change, Txn};
+use crate::changes::Txn;
+use crate::edits::make_all;
 use crate::names::Name;
 use crate::refusals::{ApplyFault, Memory};
-use std::alloc::{AllocError, Global};
+use std::alloc::Global;
 use std::marker::Model;
-
-const MOST_LINKS: usize = 1_000_000;
 
 /// A member of the store.
 #[derive(Clone, Copy, Debug, PartialEq, Eq)]
@@ -20,19 +19,6 @@ pub struct Member {
     /// From 1 to 100,000.
     pub id: u32,
     pub name: Name,
-}
-
-impl Member {
-    // The member, with this name if it has this id.
-    fn renamed(self, id: u32, name: Name) -> Member
-        ensures { result ≡ renamed id name self }
-    {
-        if self.id == id {
-            Member { id: self.id, name }
-        } else {
-            self
-        }
-    }
 }
 
 /// How two members are linked.
@@ -77,42 +63,35 @@ impl Link {
 
 impl Link {
     // Whether the link joins these two, in whichever order.
-    fn joins(&self, a: u32, b: u32) -> bool
+    pub(crate) fn joins(&self, a: u32, b: u32) -> bool
         ensures { result ≡ joins a b self.now }
     {
         self.a == a && self.b == b || self.a == b && self.b == a
     }
 
-    // Whether the link joins others than these two.
-    fn joins_others(&self, a: u32, b: u32) -> bool
-        ensures { result ≡ not (joins a b self.now) }
-    {
-        !self.joins(a, b)
-    }
-
     // Whether this is the invitation of `b` by `a`.
-    fn invites_by(&self, a: u32, b: u32) -> bool
+    pub(crate) fn invites_by(&self, a: u32, b: u32) -> bool
         ensures { result ≡ (is_pending self.now.state && (self.now.a == a) && (self.now.b == b)) }
     {
         self.state == LinkState::Pending && self.a == a && self.b == b
     }
 
     // Whether this is the friendship of the two.
-    fn is_friendship(&self, a: u32, b: u32) -> bool
+    pub(crate) fn is_friendship(&self, a: u32, b: u32) -> bool
         ensures { result ≡ (is_friend self.now.state && joins a b self.now) }
     {
         self.state == LinkState::Friend && self.joins(a, b)
     }
 
     // Whether the link stands before another.
-    fn is_before(&self, later: &Link) -> bool
+    pub(crate) fn is_before(&self, later: &Link) -> bool
         ensures { result ≡ is_before later.now self.now }
     {
         self.a < later.a || self.a == later.a && self.b < later.b
     }
 
     // The friendship of the two.
-    fn friendship(a: u32, b: u32) -> Link
+    pub(crate) fn friendship(a: u32, b: u32) -> Link
         ensures { result ≡ friendship a b }
     {
         Link {
@@ -120,44 +99,6 @@ impl Link {
             b: a.max(b),
             state: LinkState::Friend,
         }
-    }
-}
-
-// Puts the link among the links, in its place.
-fn put_link(links: &mut Vec<Link>, new: Link) -> Result<(), AllocError>
-    ensures { OnOk result (links.new.items ≡ with_link new links.old.items) }
-{
-    let place = place_of(links, &new);
-    links.insert(place, new)?;
-    Ok(())
-}
-
-// How many of the links stand before this one.
-fn place_of(links: &[Link], new: &Link) -> usize
-    ensures place { result ≡ count_by (is_before new.now) links.now }
-    ensures bound { result ≤ length links.now }
-{
-    links.iter().filter(|link| link.is_before(new)).count()
-}
-
-// The links without the one that joins these two.
-fn parted(links: &Vec<Link>, a: u32, b: u32) -> Result<Vec<Link>, AllocError>
-    ensures { IfOk result (λ kept. kept.items ≡ without_link a b links.now.items) }
-{
-    links
-        .iter()
-        .filter(|link| link.joins_others(a, b))
-        .copied()
-        .collect(*links.allocator())
-}
-
-// Gives the member with this id the name.
-fn rename(members: &mut Vec<Member>, id: u32, name: Name)
-    ensures { members.new.items ≡ map (renamed id name) members.old.items }
-{
-    for place in 0..members.len() {
-        let member = members[place];
-        members[place] = member.renamed(id, name);
     }
 }
 
@@ -250,129 +191,19 @@ impl Rows {
     }
 
     /// Makes the changes of the transaction in turn, all or none. `Rejected` comes exactly where a
-    /// change doesn't apply, with the place of the first. After a fault the rows are as before.
+    /// change doesn't apply, with the place of the first. After a fault the rows are as before. No
+    /// row is copied but those that the changes alter.
     pub fn apply(&mut self, txn: &Txn) -> Result<(), ApplyFault>
         ensures made { OnOk result (apply_all txn.now self.old ≡ Ok self.new) }
         ensures fault { IfErr result (λ fault. IsRejection txn.now self.old fault) }
         ensures kept { OnErr result (self.new ≡ self.old) }
     {
-        let mut rows = self.copy()?;
-        let mut index = 0;
-        for change in txn.changes() {
-            if !rows.takes(change) {
-                return Err(ApplyFault::Rejected { index });
-            }
-            rows = rows.after(change)?;
-            index += 1;
+        let changes = txn.changes();
+        // Room for the links of all the changes, so that none of them wants memory.
+        self.links.reserve(changes.len())?;
+        if let Err(index) = make_all(&mut self.members, &mut self.links, changes, 0) {
+            return Err(ApplyFault::Rejected { index });
         }
-        *self = rows;
         Ok(())
-    }
-
-    // Whether the change applies.
-    fn takes(&self, change: &Change) -> bool
-        ensures { result ≡ applies change.now self.now }
-    {
-        match *change {
-            Change::Invite { a, b } => {
-                a != b
-                    && self.has_member(a)
-                    && self.has_member(b)
-                    && !self.has_link(a, b)
-                    && self.links.len() < MOST_LINKS
-            }
-            Change::Accept { a, b } | Change::Reject { a, b } => self.has_invitation(a, b),
-            Change::Thaw { a, b } => self.has_friendship(a, b),
-            Change::Rename { a, .. } => self.has_member(a),
-        }
-    }
-
-    // Whether a link stands between the two.
-    fn has_link(&self, a: u32, b: u32) -> bool
-        ensures { result ≡ is_linked a b self.now }
-    {
-        self.links.iter().any(|link| link.joins(a, b))
-    }
-
-    // Whether the invitation of `b` by `a` waits for an answer.
-    fn has_invitation(&self, a: u32, b: u32) -> bool
-        ensures { result ≡ is_invited a b self.now }
-    {
-        self.links.iter().any(|link| link.invites_by(a, b))
-    }
-
-    // Whether the two are friends.
-    fn has_friendship(&self, a: u32, b: u32) -> bool
-        ensures { result ≡ are_friends a b self.now }
-    {
-        self.links.iter().any(|link| link.is_friendship(a, b))
-    }
-
-    // Whether some member has this id.
-    fn has_member(&self, id: u32) -> bool
-        ensures { result ≡ is_member id self.now }
-    {
-        self.members.iter().any(|member| member.id == id)
-    }
-
-    // The rows after a change that applies.
-    fn after(self, change: &Change) -> Result<Rows, Memory>
-        requires { applies change.now self ≡ true }
-        ensures { IfOk result (λ rows. rows ≡ changed change.now self) }
-    {
-        match *change {
-            Change::Invite { a, b } => self.invited(a, b),
-            Change::Accept { a, b } => self.accepted(a, b),
-            Change::Reject { a, b } | Change::Thaw { a, b } => self.parted(a, b),
-            Change::Rename { a, name } => Ok(self.renamed(a, name)),
-        }
-    }
-
-    // The rows after an invitation.
-    fn invited(self, a: u32, b: u32) -> Result<Rows, Memory>
-        requires { applies (Change.Invite a b) self ≡ true }
-        ensures { IfOk result (λ rows. rows ≡ changed (Change.Invite a b) self) }
-    {
-        let Rows { members, mut links } = self;
-        put_link(
-            &mut links,
-            Link {
-                a,
-                b,
-                state: LinkState::Pending,
-            },
-        )?;
-        Ok(Rows { members, links })
-    }
-
-    // The rows after an invitation was accepted.
-    fn accepted(self, a: u32, b: u32) -> Result<Rows, Memory>
-        requires { applies (Change.Accept a b) self ≡ true }
-        ensures { IfOk result (λ rows. rows ≡ changed (Change.Accept a b) self) }
-    {
-        let Rows { members, links } = self;
-        let mut links = parted(&links, a, b)?;
-        put_link(&mut links, Link::friendship(a, b))?;
-        Ok(Rows { members, links })
-    }
-
-    // The rows without the link of the two.
-    fn parted(self, a: u32, b: u32) -> Result<Rows, Memory>
-        ensures { IfOk result (λ rows. rows ≡ changed (Change.Reject a b) self) }
-    {
-        let Rows { members, links } = self;
-        let links = parted(&links, a, b)?;
-        Ok(Rows { members, links })
-    }
-
-    // The rows in which the member has the name.
-    fn renamed(self, a: u32, name: Name) -> Rows
-        ensures { result ≡ changed (Change.Rename a name) self }
-    {
-        let Rows { mut members, links } = self;
-        // The bytes of a name are one, as the rows need.
-        let _ = name.bytes();
-        rename(&mut members, a, name);
-        Rows { members, links }
     }
 }
