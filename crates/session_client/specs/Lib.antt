@@ -5,3 +5,5 @@ pub mod Grants
 pub mod Plans
 pub mod Wants
 pub mod Belongs
+pub mod Writers
+pub mod Follows

@@ -44,6 +44,31 @@ pub enum Fault {
     Memory,
 }
 
+impl Fault {
+    ghost use Rattle.std.specs.Prelude.{◌↔◌, IsTrue};
+    ghost use Rattle.session_client.specs.Belongs.{IsShardFault, IsStoreFault};
+
+    /// Whether a shard answers this to a request that draws a token.
+    pub fn is_of_shard(self) -> bool
+        ensures { IsTrue result ↔ IsShardFault self }
+    {
+        match self {
+            Fault::Spent | Fault::Memory => true,
+            Fault::Keep => false,
+        }
+    }
+
+    /// Whether the store answers this to a question.
+    pub fn is_of_store(self) -> bool
+        ensures { IsTrue result ↔ IsStoreFault self }
+    {
+        match self {
+            Fault::Keep | Fault::Memory => true,
+            Fault::Spent => false,
+        }
+    }
+}
+
 /// What a session is told.
 #[derive(Debug)]
 pub enum Reply {
@@ -75,6 +100,37 @@ pub enum Reply {
     Fault { fault: Fault },
     /// The session is done.
     Nothing,
+}
+
+impl Reply {
+    /// Lets go of the reply and of the grants that it brings. Their quarantines are not ended by that,
+    /// and stand until others end them.
+    pub fn let_go(self) {
+        match self {
+            Reply::Quar { told } => match told {
+                QAnswer::Granted { grant, old: _ } => grant.let_go(),
+                QAnswer::Held => {}
+                QAnswer::Refused { holder: _, mode: _ } => {}
+            },
+            Reply::Committed {
+                number: _,
+                txn: _,
+                grants,
+            } => grants.let_go(),
+            Reply::NotCommitted {
+                fault: _,
+                txn: _,
+                grants,
+            } => grants.let_go(),
+            Reply::Got { got: _ } => {}
+            Reply::Answer { answer: _ } => {}
+            Reply::Set { told: _ } => {}
+            Reply::End { was: _ } => {}
+            Reply::Rel { told: _ } => {}
+            Reply::Fault { fault: _ } => {}
+            Reply::Nothing => {}
+        }
+    }
 }
 
 /// How a session ended.
