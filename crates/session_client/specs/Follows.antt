@@ -105,20 +105,25 @@ QuarantineAwaits who (Some key) (reply.Quar told) = IsQuarantineOf who key told
 QuarantineAwaits who (Some key) (reply.Fault fault) = IsShardFault fault
 QuarantineAwaits who key told = ⊥
 
+-- The answers to a commit of this transaction with these grants.
+abbrev pub CommitAwaits : List Change → GrantsView → Reply → Type 0
+CommitAwaits changes lent (reply.Committed number txn grants) = (txn ≡ changes) × AreBack lent grants
+CommitAwaits changes lent (reply.NotCommitted fault txn grants) = (txn ≡ changes) × AreBack lent grants
+CommitAwaits changes lent told = ⊥
+
 -- The replies to the request that a writer of this transaction has out.
+abbrev pub StageAwaits : Sid → List Change → List QKey → List Permit → WriteStage → Reply → Type 0
+StageAwaits who changes keys given (writes.Quarantining count txn) told =
+    QuarantineAwaits who (slice_get keys count) told
+StageAwaits who changes keys given writes.Committing told =
+    CommitAwaits changes (record { items = given; room = length keys }) told
+StageAwaits who changes keys given (writes.Ending ended) (reply.End was) = Unit {0}
+StageAwaits who changes keys given (writes.Returning ended) (reply.Rel told) = Unit {0}
+StageAwaits who changes keys given (writes.Done ended) reply.Nothing = Unit {0}
+StageAwaits who changes keys given stage told = ⊥
+
 abbrev pub WriteAwaits : Sid → List Change → WriterView → Reply → Type 0
-WriteAwaits who changes writer told = awaits writer.stage told
-  where
-    awaits : WriteStage → Reply → Type 0
-    awaits (writes.Quarantining count txn) told = QuarantineAwaits who (slice_get writer.keys count) told
-    awaits writes.Committing (reply.Committed number txn grants) =
-        (txn ≡ changes) × AreBack (record { items = writer.given; room = length writer.keys }) grants
-    awaits writes.Committing (reply.NotCommitted fault txn grants) =
-        (txn ≡ changes) × AreBack (record { items = writer.given; room = length writer.keys }) grants
-    awaits (writes.Ending ended) (reply.End was) = Unit {0}
-    awaits (writes.Returning ended) (reply.Rel told) = Unit {0}
-    awaits (writes.Done ended) reply.Nothing = Unit {0}
-    awaits stage told = ⊥
+WriteAwaits who changes writer told = StageAwaits who changes writer.keys writer.given writer.stage told
 
 -- A session of this plan goes its course: a reader has the plan's key and floor, and a writer's wants are those of the plan.
 abbrev pub Goes : Plan → Course → List Reply → Type 0
@@ -138,18 +143,20 @@ abbrev pub CourseAwaits : Sid → Plan → Course → Reply → Type 0
 CourseAwaits who plan (course.Read reader) told = ReadAwaits reader.key reader.stage told
 CourseAwaits who plan (course.Write writer) told = WriteAwaits who (changes_of plan) writer told
 
+-- Whether a reader is at its end.
+abbrev pub read_is_over : ReadStage → Bool
+read_is_over (reads.Done ended) = true
+read_is_over stage = false
+
+-- Whether a writer is at its end.
+abbrev pub write_is_over : WriteStage → Bool
+write_is_over (writes.Done ended) = true
+write_is_over stage = false
+
 -- Whether a course is at its end.
 abbrev pub is_over : Course → Bool
 is_over (course.Read reader) = read_is_over reader.stage
-  where
-    read_is_over : ReadStage → Bool
-    read_is_over (reads.Done ended) = true
-    read_is_over stage = false
 is_over (course.Write writer) = write_is_over writer.stage
-  where
-    write_is_over : WriteStage → Bool
-    write_is_over (writes.Done ended) = true
-    write_is_over stage = false
 
 -- The plan of a session.
 abbrev pub plan_of : Session → Plan

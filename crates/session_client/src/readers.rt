@@ -1,8 +1,8 @@
-ghost use Rattle.std.specs.Prelude.{◌≡◌, ℕ, List, [], ◌∷◌, ◌↔◌, IsTrue, IfSome, IfNone};
+ghost use Rattle.std.specs.Prelude.{◌≡◌, ℕ, List, [], ◌∷◌, ◌↔◌, IsTrue, IfSome, None, if◌then◌else◌};
 ghost use Rattle.rows_model.specs.declared.keys.QKey.{QKey};
 ghost use Rattle.rows_model.specs.declared.keys.Sid.{Sid};
 ghost use Rattle.session_client.specs.Belongs.{Belongs};
-ghost use Rattle.session_client.specs.Wants.{read_wants};
+ghost use Rattle.session_client.specs.Wants.{read_wants, read_outcome, is_nothing};
 ghost use Rattle.session_client.specs.declared.replies.Reply.{Reply};
 
 use crate::replies::{Fault, Outcome, Reply, Wanted};
@@ -118,10 +118,18 @@ impl Reader {
         self.stage = next_stage(self.key, stage, reply);
     }
 
+    /// Whether the reader is at its end.
+    pub fn is_over(&self) -> bool
+        ensures { result ≡ read_is_over self.now.stage }
+    {
+        matches!(self.stage, ReadStage::Done { .. })
+    }
+
     /// How the reader ended, if it has.
     pub fn done(&self) -> Option<Outcome>
-        ensures done { IfSome result (λ outcome. self.now.stage ≡ ReadStage.Done outcome) }
-        ensures going { IfNone result (is_over (Course.Read self.now) ≡ false) }
+        ensures done { (heard : List Reply) → ReadIsReady self.now.stage → ReadFollows self.now heard → result ≡ (if is_nothing (read_wants self.now.key self.now.floor heard) then read_outcome heard else None) }
+        ensures going { IfSome result (λ _. IsTrue (read_is_over self.now.stage)) }
+        ensures ready { IfSome result (λ _. ReadIsReady self.now.stage) }
     {
         match self.stage {
             ReadStage::Done { outcome } => Some(outcome),
@@ -130,8 +138,7 @@ impl Reader {
     }
 }
 
-ghost use Rattle.session_client.specs.Follows.{ReadAwaits, ReadIsReady, StageFollows, is_over};
-ghost use Rattle.session_client.specs.declared.sessions.Course.TheVariants as Course;
+ghost use Rattle.session_client.specs.Follows.{ReadAwaits, ReadIsReady, StageFollows, read_is_over};
 
 /// Where a reader of this key stands after a reply.
 fn next_stage(key: QKey, stage: ReadStage, reply: Reply) -> ReadStage

@@ -85,12 +85,22 @@ impl Session {
     pub fn takes(&self, reply: &Reply) -> bool
         ensures { IsTrue result ↔ IsAwaited self.now reply.now }
     {
-        if !self.out && self.done().is_none() {
+        if !self.out && !self.is_over() {
             return false;
         }
         match &self.course {
             Course::Read(reader) => reader.takes(reply),
             Course::Write(writer) => writer.takes(self.sid, self.plan.changes(), reply),
+        }
+    }
+
+    /// Whether the session is at its end.
+    fn is_over(&self) -> bool
+        ensures { result ≡ is_over self.now.course }
+    {
+        match &self.course {
+            Course::Read(reader) => reader.is_over(),
+            Course::Write(writer) => writer.is_over(),
         }
     }
 
@@ -136,9 +146,7 @@ impl Session {
     }
 }
 
-ghost use Rattle.session_client.specs.Follows.{Goes, CourseIsReady};
-ghost use Rattle.session_client.specs.declared.plans.Plan.{Plan};
-ghost use Rattle.std.specs.Prelude.{filter};
+ghost use Rattle.session_client.specs.Follows.{Goes, CourseIsReady, is_over};
 
 /// The keys without one of them.
 fn without_key(alloc: Global, key: &QKey, keys: &[QKey]) -> Result<Vec<QKey>, Memory>

@@ -1,4 +1,4 @@
-ghost use Rattle.std.specs.Prelude.{◌≡◌, ◌≤◌, ◌<◌, ◌↔◌, List, [], ◌∷◌, ◌++◌, length, IsTrue, IfOk, IfSome, IfNone, vec_capacity};
+ghost use Rattle.std.specs.Prelude.{◌≡◌, ◌≤◌, ◌<◌, ◌↔◌, List, [], ◌∷◌, length, IsTrue, IfOk, IfSome, vec_capacity};
 ghost use Rattle.rows_model.specs.declared.changes.Change.{Change};
 ghost use Rattle.rows_model.specs.declared.keys.QKey.{QKey};
 ghost use Rattle.rows_model.specs.declared.keys.Sid.{Sid};
@@ -142,41 +142,32 @@ impl Writer {
         ensures follows { (changes : List Change) (heard : List Reply) → WriteFollows changes self.old heard → WriteFollows changes self.new (reply ∷ heard) }
     {
         let stage = mem::replace(&mut self.stage, WriteStage::Committing);
-        self.stage = match reply {
-            Reply::Quar { told } => quarantined(&mut self.given, &mut self.grants, stage, told),
-            Reply::Fault { fault } => WriteStage::Ending {
-                outcome: Outcome::Failed { fault },
-            },
-            Reply::Committed {
-                number,
-                txn: _,
-                grants,
-            } => {
-                mem::replace(&mut self.grants, grants).let_go();
-                releasing(&self.grants, Outcome::Committed { number })
+        self.stage = match stage {
+            WriteStage::Quarantining { count, txn } => {
+                stage_after_quarantine(&mut self.given, &mut self.grants, count, txn, reply)
             }
-            Reply::NotCommitted {
-                fault,
-                txn: _,
-                grants,
-            } => {
-                mem::replace(&mut self.grants, grants).let_go();
-                WriteStage::Ending {
-                    outcome: Outcome::NotCommitted { fault },
-                }
-            }
-            Reply::End { was: _ } => stage_after_end(&self.grants, stage),
-            Reply::Rel { told: _ } => stage_after_end(&self.grants, stage),
+            WriteStage::Committing => stage_after_commit(&mut self.grants, reply),
+            WriteStage::Ending { outcome } => stage_after_end(&self.grants, outcome, reply),
+            WriteStage::Returning { outcome } => stage_after_release(&self.grants, outcome, reply),
             other => {
-                other.let_go();
-                stage
+                reply.let_go();
+                other
             }
         };
     }
 
+    /// Whether the writer is at its end.
+    pub fn is_over(&self) -> bool
+        ensures { result ≡ write_is_over self.now.stage }
+    {
+        matches!(self.stage, WriteStage::Done { .. })
+    }
+
     /// How the writer ended, if it has.
     pub fn done(&self) -> Option<Outcome>
-        ensures done { IfSome result (λ outcome. self.now.stage ≡ WriteStage.Done outcome) }
+        ensures done { (changes : List Change) (heard : List Reply) → WriteIsReady self.now.stage → WriteFollows changes self.now heard → result ≡ (if is_nothing (write_wants self.now.keys changes heard) then write_outcome heard else None) }
+        ensures going { IfSome result (λ _. IsTrue (write_is_over self.now.stage)) }
+        ensures ready { IfSome result (λ _. WriteIsReady self.now.stage) }
     {
         match self.stage {
             WriteStage::Done { outcome } => Some(outcome),
@@ -214,14 +205,20 @@ fn answers_quarantine(who: Sid, key: &QKey, reply: &Reply) -> bool
     }
 }
 
-ghost use Rattle.session_client.specs.Follows.{PartsFollow, WriteIsReady, QuarantineAwaits, is_committed};
-ghost use Rattle.session_client.specs.Wants.{granted};
+ghost use Rattle.session_client.specs.Follows.{CommitAwaits, PartsFollow, QuarantineAwaits, StageAwaits, WriteIsReady, is_committed, write_is_over};
+ghost use Rattle.session_client.specs.Grants.{GrantsView};
+ghost use Rattle.session_client.specs.Wants.{granted, released, was_committed, release_of, write_outcome, is_nothing};
 ghost use Rattle.session_client.specs.Writers.{HasRoom};
-ghost use Rattle.std.specs.Prelude.{ℕ, Some, slice_get};
+ghost use Rattle.session_client.specs.Belongs.{AreBack};
+ghost use Rattle.std.specs.Prelude.{ℕ, Some, None, slice_get, drop, if◌then◌else◌};
+ghost use Rattle.std.specs.List.{remove};
+ghost use Rattle.key_shard.specs.Permit.{Permit};
 
 /// The release of the first grant: after the commit its value is dropped, and else it is left.
 fn release_of(outcome: Outcome, grants: &mut Grants) -> Wanted
     requires { 1 ≤ length grants.old.items }
+    ensures wanted { result ≡ release_of (is_committed outcome) (slice_get grants.old.items 0) }
+    ensures rest { grants.new.items ≡ drop 1 grants.old.items }
 {
     let grant = grants.take(0);
     match outcome {
@@ -231,7 +228,11 @@ fn release_of(outcome: Outcome, grants: &mut Grants) -> Wanted
 }
 
 /// Where a writer stands that has these grants to release.
-fn releasing(grants: &Grants, outcome: Outcome) -> WriteStage {
+fn releasing(grants: &Grants, outcome: Outcome) -> WriteStage
+    ensures ready { WriteIsReady result }
+    ensures room { (keys : List QKey) (given : List Permit) → HasRoom keys given grants.now result }
+    ensures follows { (changes : List Change) (keys : List QKey) (heard : List Reply) → write_wants keys changes heard ≡ release_of (is_committed outcome) (slice_get (granted heard) (released heard)) → grants.now.items ≡ drop (released heard) (granted heard) → was_committed heard ≡ is_committed outcome → write_outcome heard ≡ Some outcome → PartsFollow changes keys grants.now result heard }
+{
     if grants.is_empty() {
         WriteStage::Done { outcome }
     } else {
@@ -239,44 +240,137 @@ fn releasing(grants: &Grants, outcome: Outcome) -> WriteStage {
     }
 }
 
-/// Where a writer stands after it was ended at the store, or a grant was released.
-fn stage_after_end(grants: &Grants, stage: WriteStage) -> WriteStage {
-    match stage {
-        WriteStage::Ending { outcome } | WriteStage::Returning { outcome } => {
-            releasing(grants, outcome)
+/// Where a writer that was to be ended at the store stands after that.
+fn stage_after_end(grants: &Grants, outcome: Outcome, reply: Reply) -> WriteStage
+    ensures ready { WriteIsReady result }
+    ensures room { (keys : List QKey) (given : List Permit) → HasRoom keys given grants.now result }
+    ensures given { (who : Sid) (changes : List Change) (keys : List QKey) (given : List Permit) (heard : List Reply) → StageAwaits who changes keys given (WriteStage.Ending outcome) reply → granted (reply ∷ heard) ≡ granted heard }
+    ensures follows { (who : Sid) (changes : List Change) (keys : List QKey) (given : List Permit) (heard : List Reply) → StageAwaits who changes keys given (WriteStage.Ending outcome) reply → PartsFollow changes keys grants.now (WriteStage.Ending outcome) heard → PartsFollow changes keys grants.now result (reply ∷ heard) }
+{
+    match reply {
+        Reply::End { was: _ } => releasing(grants, outcome),
+        other => {
+            other.let_go();
+            WriteStage::Ending { outcome }
         }
-        other => other,
     }
 }
 
-/// Where a writer stands with one key more quarantined.
-fn with_one_more(stage: WriteStage) -> WriteStage {
-    match stage {
-        WriteStage::Quarantining { count, txn } => WriteStage::Quarantining {
-            count: count + 1,
-            txn,
-        },
-        other => other,
+/// Where a writer stands after a grant was released.
+fn stage_after_release(grants: &Grants, outcome: Outcome, reply: Reply) -> WriteStage
+    ensures ready { WriteIsReady result }
+    ensures room { (keys : List QKey) (given : List Permit) → HasRoom keys given grants.now result }
+    ensures given { (who : Sid) (changes : List Change) (keys : List QKey) (given : List Permit) (heard : List Reply) → StageAwaits who changes keys given (WriteStage.Returning outcome) reply → granted (reply ∷ heard) ≡ granted heard }
+    ensures follows { (who : Sid) (changes : List Change) (keys : List QKey) (given : List Permit) (heard : List Reply) → StageAwaits who changes keys given (WriteStage.Returning outcome) reply → PartsFollow changes keys grants.now (WriteStage.Returning outcome) heard → PartsFollow changes keys grants.now result (reply ∷ heard) }
+{
+    match reply {
+        Reply::Rel { told: _ } => releasing(grants, outcome),
+        other => {
+            other.let_go();
+            WriteStage::Done { outcome }
+        }
     }
 }
 
-/// Where a writer stands after the answer to a quarantine. A new grant is put last.
+/// Where a writer stands after the answer to its commit, which brings its grants back.
+fn stage_after_commit(grants: &mut Grants, reply: Reply) -> WriteStage
+    requires awaited { (changes : List Change) × (lent : GrantsView) × CommitAwaits changes lent reply }
+    ensures ready { WriteIsReady result }
+    ensures room { (keys : List QKey) (given : List Permit) → HasRoom keys given grants.new result }
+    ensures given { (heard : List Reply) → granted (reply ∷ heard) ≡ granted heard }
+    ensures follows { (changes : List Change) (keys : List QKey) (lent : GrantsView) (heard : List Reply) → CommitAwaits changes lent reply → lent.items ≡ granted heard → PartsFollow changes keys grants.old WriteStage.Committing heard → PartsFollow changes keys grants.new result (reply ∷ heard) }
+{
+    match reply {
+        Reply::Committed {
+            number,
+            txn: _,
+            grants: back,
+        } => {
+            mem::replace(grants, back).let_go();
+            releasing(grants, Outcome::Committed { number })
+        }
+        Reply::NotCommitted {
+            fault,
+            txn: _,
+            grants: back,
+        } => {
+            mem::replace(grants, back).let_go();
+            WriteStage::Ending {
+                outcome: Outcome::NotCommitted { fault },
+            }
+        }
+        other => {
+            other.let_go();
+            WriteStage::Committing
+        }
+    }
+}
+
+/// Where a writer stands that has quarantined so many keys, after the answer to the next quarantine. A
+/// new grant is put last.
 fn quarantined(
     given: &mut Vec<Note>,
     grants: &mut Grants,
-    stage: WriteStage,
+    count: usize,
+    txn: Txn,
     told: QAnswer,
 ) -> WriteStage
+    requires given { length given.old.items ≤ count }
+    requires held { length grants.old.items ≤ count }
+    requires reserved { count < vec_capacity given.old }
+    requires room { count < grants.old.room }
+    ensures ready { WriteIsReady result }
+    ensures capacity { vec_capacity given.new ≡ vec_capacity given.old }
+    ensures room { (keys : List QKey) → grants.old.room ≡ length keys → HasRoom keys given.new.items grants.new result }
+    ensures given { (heard : List Reply) → given.old.items ≡ granted heard → given.new.items ≡ granted (Reply.Quar told ∷ heard) }
+    ensures follows { (changes : List Change) (keys : List QKey) (heard : List Reply) → PartsFollow changes keys grants.old (WriteStage.Quarantining count txn) heard → PartsFollow changes keys grants.new result (Reply.Quar told ∷ heard) }
 {
     match told {
         QAnswer::Granted { grant, old: _ } => {
             given.push_reserved(Note::of(&grant));
             grants.add(grant);
-            with_one_more(stage)
+            WriteStage::Quarantining {
+                count: count + 1,
+                txn,
+            }
         }
-        QAnswer::Held => with_one_more(stage),
+        QAnswer::Held => WriteStage::Quarantining {
+            count: count + 1,
+            txn,
+        },
         QAnswer::Refused { holder, mode } => WriteStage::Ending {
             outcome: Outcome::Refused { holder, mode },
         },
+    }
+}
+
+/// Where a writer stands that has quarantined so many keys, after the reply to the next quarantine.
+fn stage_after_quarantine(
+    given: &mut Vec<Note>,
+    grants: &mut Grants,
+    count: usize,
+    txn: Txn,
+    reply: Reply,
+) -> WriteStage
+    requires given { length given.old.items ≤ count }
+    requires held { length grants.old.items ≤ count }
+    requires reserved { count < vec_capacity given.old }
+    requires room { count < grants.old.room }
+    requires quarantine { (who : Sid) × (key : QKey) × QuarantineAwaits who (Some key) reply }
+    ensures ready { WriteIsReady result }
+    ensures capacity { vec_capacity given.new ≡ vec_capacity given.old }
+    ensures room { (keys : List QKey) → grants.old.room ≡ length keys → HasRoom keys given.new.items grants.new result }
+    ensures given { (heard : List Reply) → given.old.items ≡ granted heard → given.new.items ≡ granted (reply ∷ heard) }
+    ensures follows { (changes : List Change) (keys : List QKey) (heard : List Reply) → PartsFollow changes keys grants.old (WriteStage.Quarantining count txn) heard → PartsFollow changes keys grants.new result (reply ∷ heard) }
+{
+    match reply {
+        Reply::Quar { told } => quarantined(given, grants, count, txn, told),
+        Reply::Fault { fault } => WriteStage::Ending {
+            outcome: Outcome::Failed { fault },
+        },
+        other => {
+            other.let_go();
+            WriteStage::Quarantining { count, txn }
+        }
     }
 }
