@@ -9,6 +9,7 @@ use Rattle.session_client.specs.Grants.{GrantsView}
 use Rattle.session_client.specs.Plans.{changes_of}
 use Rattle.session_client.specs.Belongs.{IsShardFault, IsStoreFault, IsQuarantineOf, AreBack}
 use Rattle.session_client.specs.Wants.{agains, set_after, read_wants, is_had, granted, released, was_committed, quarantine_next, release_of, write_wants, wants, read_outcome, write_outcome, outcome_of}
+use Rattle.session_client.specs.Outcomes.{is_committed}
 use Rattle.session_client.specs.Writers.{WriterView}
 use Rattle.session_client.specs.declared.plans.Plan.{Plan}
 use Rattle.session_client.specs.declared.plans.Plan.TheVariants.{Read, Write, Skip}
@@ -17,8 +18,6 @@ use Rattle.session_client.specs.declared.replies.Reply.{Reply}
 use Rattle.session_client.specs.declared.replies.Reply.TheVariants as reply
 use Rattle.session_client.specs.declared.replies.Wanted.{Wanted}
 use Rattle.session_client.specs.declared.replies.Wanted.TheVariants as wanted
-use Rattle.session_client.specs.declared.replies.Outcome.{Outcome}
-use Rattle.session_client.specs.declared.replies.Outcome.TheVariants as outcome
 use Rattle.session_client.specs.declared.readers.Reader.{Reader}
 use Rattle.session_client.specs.declared.readers.ReadStage.{ReadStage}
 use Rattle.session_client.specs.declared.readers.ReadStage.TheVariants as reads
@@ -64,11 +63,6 @@ ReadAwaits key reads.Storing (reply.Set told) = Unit {0}
 ReadAwaits key reads.Storing (reply.Fault fault) = fault ≡ faults.Memory
 ReadAwaits key (reads.Done ended) reply.Nothing = Unit {0}
 ReadAwaits key stage told = ⊥
-
--- Whether a writer ended with its commit.
-abbrev pub is_committed : Outcome → Bool
-is_committed (outcome.Committed number) = true
-is_committed other = false
 
 -- A writer of this transaction and these keys that stands here, with these grants in hand, may have heard this, the latest first.
 abbrev pub PartsFollow : List Change → List QKey → GrantsView → WriteStage → List Reply → Type 0

@@ -7,6 +7,7 @@ pub use plans::{Plan, Shape, Turn};
 pub use replies::{Fault, Outcome, Reply, Wanted};
 pub use sessions::Session;
 
+mod changes;
 pub mod desks;
 pub mod grant_lists;
 mod notes;

@@ -55,9 +55,9 @@ impl Note {
 pub fn are_of(notes: &[Note], grants: &[Grant]) -> bool
     ensures { IsTrue result ↔ (grants.now ≡ notes.now) }
 {
-    notes.len() == grants.len()
-        && notes
-            .iter()
-            .zip(grants)
-            .all(|(note, grant)| note.is_of(grant))
+    match (notes, grants) {
+        ([], []) => true,
+        ([note, notes @ ..], [grant, grants @ ..]) => note.is_of(grant) && are_of(notes, grants),
+        _ => false,
+    }
 }

@@ -1,4 +1,4 @@
-ghost use Rattle.std.specs.Prelude.{◌≡◌, ◌≤◌, ◌<◌, ◌↔◌, List, [], ◌∷◌, length, IsTrue, IfOk, IfSome, vec_capacity};
+ghost use Rattle.std.specs.Prelude.{◌≡◌, ◌≤◌, ◌<◌, ◌↔◌, List, [], ◌∷◌, ◌+◌, length, IsTrue, IfOk, IfSome, vec_capacity};
 ghost use Rattle.rows_model.specs.declared.changes.Change.{Change};
 ghost use Rattle.rows_model.specs.declared.keys.QKey.{QKey};
 ghost use Rattle.rows_model.specs.declared.keys.Sid.{Sid};
@@ -6,10 +6,11 @@ ghost use Rattle.session_client.specs.Belongs.{Belongs};
 ghost use Rattle.session_client.specs.Wants.{write_wants};
 ghost use Rattle.session_client.specs.declared.replies.Reply.{Reply};
 
+use crate::changes::are_same;
 use crate::grant_lists::Grants;
 use crate::notes::{Note, are_of};
 use crate::replies::{Outcome, Reply, Wanted};
-use key_shard::QAnswer;
+use key_shard::{Grant, QAnswer};
 use lease_table::Mode;
 use rows_model::{Change, Memory, QKey, Sid, Txn};
 use std::alloc::Global;
@@ -102,7 +103,7 @@ impl Writer {
             }
             WriteStage::Releasing { outcome } => {
                 self.stage = WriteStage::Returning { outcome };
-                release_of(outcome, &mut self.grants)
+                release_of(outcome, self.grants.take(0))
             }
             WriteStage::Done { outcome } => {
                 self.stage = WriteStage::Done { outcome };
@@ -123,15 +124,21 @@ impl Writer {
             },
             (WriteStage::Committing, Reply::Committed { number: _, txn, grants })
             | (WriteStage::Committing, Reply::NotCommitted { fault: _, txn, grants }) => {
-                txn.changes() == changes
-                    && are_of(self.given.as_slice(), grants.items())
-                    && self.keys.len() <= grants.room() as usize
+                are_same(txn.changes(), changes) && self.are_back(grants)
             }
             (WriteStage::Ending { .. }, Reply::End { .. }) => true,
             (WriteStage::Returning { .. }, Reply::Rel { .. }) => true,
             (WriteStage::Done { .. }, Reply::Nothing) => true,
             _ => false,
         }
+    }
+
+    /// Whether these are the grants that the writer was given, with no less room.
+    fn are_back(&self, grants: &Grants) -> bool
+        ensures { IsTrue result ↔ AreBack (record { items = self.now.given; room = length self.now.keys }) grants.now }
+    {
+        self.keys.len() <= grants.room() as usize
+            && are_of(self.given.as_slice(), grants.items())
     }
 
     /// Takes in the reply to the request that is out.
@@ -142,18 +149,7 @@ impl Writer {
         ensures follows { (changes : List Change) (heard : List Reply) → WriteFollows changes self.old heard → WriteFollows changes self.new (reply ∷ heard) }
     {
         let stage = mem::replace(&mut self.stage, WriteStage::Committing);
-        self.stage = match stage {
-            WriteStage::Quarantining { count, txn } => {
-                stage_after_quarantine(&mut self.given, &mut self.grants, count, txn, reply)
-            }
-            WriteStage::Committing => stage_after_commit(&mut self.grants, reply),
-            WriteStage::Ending { outcome } => stage_after_end(&self.grants, outcome, reply),
-            WriteStage::Returning { outcome } => stage_after_release(&self.grants, outcome, reply),
-            other => {
-                reply.let_go();
-                other
-            }
-        };
+        self.stage = next_stage(&mut self.given, &mut self.grants, stage, reply);
     }
 
     /// Whether the writer is at its end.
@@ -205,7 +201,8 @@ fn answers_quarantine(who: Sid, key: &QKey, reply: &Reply) -> bool
     }
 }
 
-ghost use Rattle.session_client.specs.Follows.{CommitAwaits, PartsFollow, QuarantineAwaits, StageAwaits, WriteIsReady, is_committed, write_is_over};
+ghost use Rattle.session_client.specs.Follows.{CommitAwaits, PartsFollow, QuarantineAwaits, StageAwaits, WriteIsReady, write_is_over};
+ghost use Rattle.session_client.specs.Outcomes.{is_committed};
 ghost use Rattle.session_client.specs.Grants.{GrantsView};
 ghost use Rattle.session_client.specs.Wants.{granted, released, was_committed, release_of, write_outcome, is_nothing};
 ghost use Rattle.session_client.specs.Writers.{HasRoom};
@@ -214,16 +211,15 @@ ghost use Rattle.std.specs.Prelude.{ℕ, Some, None, slice_get, drop, if◌then�
 ghost use Rattle.std.specs.List.{remove};
 ghost use Rattle.key_shard.specs.Permit.{Permit};
 
-/// The release of the first grant: after the commit its value is dropped, and else it is left.
-fn release_of(outcome: Outcome, grants: &mut Grants) -> Wanted
-    requires { 1 ≤ length grants.old.items }
-    ensures wanted { result ≡ release_of (is_committed outcome) (slice_get grants.old.items 0) }
-    ensures rest { grants.new.items ≡ drop 1 grants.old.items }
+/// The release of a grant: after the commit its value is dropped, and else it is left.
+fn release_of(outcome: Outcome, grant: Grant) -> Wanted
+    ensures wanted { result ≡ release_of (is_committed outcome) (Some grant) }
+    ensures awaits { (who : Sid) (changes : List Change) (keys : List QKey) (given : List Permit) (told : Reply) → StageAwaits who changes keys given (WriteStage.Returning outcome) told ↔ Belongs who result told }
 {
-    let grant = grants.take(0);
-    match outcome {
-        Outcome::Committed { .. } => Wanted::Dar { grant },
-        _ => Wanted::Abort { grant },
+    if outcome.is_committed() {
+        Wanted::Dar { grant }
+    } else {
+        Wanted::Abort { grant }
     }
 }
 
@@ -245,7 +241,7 @@ fn stage_after_end(grants: &Grants, outcome: Outcome, reply: Reply) -> WriteStag
     ensures ready { WriteIsReady result }
     ensures room { (keys : List QKey) (given : List Permit) → HasRoom keys given grants.now result }
     ensures given { (who : Sid) (changes : List Change) (keys : List QKey) (given : List Permit) (heard : List Reply) → StageAwaits who changes keys given (WriteStage.Ending outcome) reply → granted (reply ∷ heard) ≡ granted heard }
-    ensures follows { (who : Sid) (changes : List Change) (keys : List QKey) (given : List Permit) (heard : List Reply) → StageAwaits who changes keys given (WriteStage.Ending outcome) reply → PartsFollow changes keys grants.now (WriteStage.Ending outcome) heard → PartsFollow changes keys grants.now result (reply ∷ heard) }
+    ensures follows { (who : Sid) (owed : List Change) (lent : List QKey) (given : List Permit) (changes : List Change) (keys : List QKey) (heard : List Reply) → StageAwaits who owed lent given (WriteStage.Ending outcome) reply → PartsFollow changes keys grants.now (WriteStage.Ending outcome) heard → PartsFollow changes keys grants.now result (reply ∷ heard) }
 {
     match reply {
         Reply::End { was: _ } => releasing(grants, outcome),
@@ -261,7 +257,7 @@ fn stage_after_release(grants: &Grants, outcome: Outcome, reply: Reply) -> Write
     ensures ready { WriteIsReady result }
     ensures room { (keys : List QKey) (given : List Permit) → HasRoom keys given grants.now result }
     ensures given { (who : Sid) (changes : List Change) (keys : List QKey) (given : List Permit) (heard : List Reply) → StageAwaits who changes keys given (WriteStage.Returning outcome) reply → granted (reply ∷ heard) ≡ granted heard }
-    ensures follows { (who : Sid) (changes : List Change) (keys : List QKey) (given : List Permit) (heard : List Reply) → StageAwaits who changes keys given (WriteStage.Returning outcome) reply → PartsFollow changes keys grants.now (WriteStage.Returning outcome) heard → PartsFollow changes keys grants.now result (reply ∷ heard) }
+    ensures follows { (who : Sid) (owed : List Change) (lent : List QKey) (given : List Permit) (changes : List Change) (keys : List QKey) (heard : List Reply) → StageAwaits who owed lent given (WriteStage.Returning outcome) reply → PartsFollow changes keys grants.now (WriteStage.Returning outcome) heard → PartsFollow changes keys grants.now result (reply ∷ heard) }
 {
     match reply {
         Reply::Rel { told: _ } => releasing(grants, outcome),
@@ -274,11 +270,10 @@ fn stage_after_release(grants: &Grants, outcome: Outcome, reply: Reply) -> Write
 
 /// Where a writer stands after the answer to its commit, which brings its grants back.
 fn stage_after_commit(grants: &mut Grants, reply: Reply) -> WriteStage
-    requires awaited { (changes : List Change) × (lent : GrantsView) × CommitAwaits changes lent reply }
-    ensures ready { WriteIsReady result }
+    ensures ready { (changes : List Change) (lent : GrantsView) → CommitAwaits changes lent reply → WriteIsReady result }
     ensures room { (keys : List QKey) (given : List Permit) → HasRoom keys given grants.new result }
-    ensures given { (heard : List Reply) → granted (reply ∷ heard) ≡ granted heard }
-    ensures follows { (changes : List Change) (keys : List QKey) (lent : GrantsView) (heard : List Reply) → CommitAwaits changes lent reply → lent.items ≡ granted heard → PartsFollow changes keys grants.old WriteStage.Committing heard → PartsFollow changes keys grants.new result (reply ∷ heard) }
+    ensures given { (changes : List Change) (lent : GrantsView) (heard : List Reply) → CommitAwaits changes lent reply → granted (reply ∷ heard) ≡ granted heard }
+    ensures follows { (owed : List Change) (lent : GrantsView) (changes : List Change) (keys : List QKey) (heard : List Reply) → CommitAwaits owed lent reply → lent.items ≡ granted heard → PartsFollow changes keys grants.old WriteStage.Committing heard → PartsFollow changes keys grants.new result (reply ∷ heard) }
 {
     match reply {
         Reply::Committed {
@@ -371,6 +366,34 @@ fn stage_after_quarantine(
         other => {
             other.let_go();
             WriteStage::Quarantining { count, txn }
+        }
+    }
+}
+
+/// Where a writer that stands here stands after the reply to its request.
+fn next_stage(
+    given: &mut Vec<Note>,
+    grants: &mut Grants,
+    stage: WriteStage,
+    reply: Reply,
+) -> WriteStage
+    requires { (who : Sid) × (changes : List Change) × (keys : List QKey) × StageAwaits who changes keys given.old.items stage reply × HasRoom keys given.old.items grants.old stage × (length keys ≤ vec_capacity given.old) }
+    ensures ready { WriteIsReady result }
+    ensures capacity { vec_capacity given.new ≡ vec_capacity given.old }
+    ensures room { (keys : List QKey) → HasRoom keys given.old.items grants.old stage → HasRoom keys given.new.items grants.new result }
+    ensures given { (heard : List Reply) → given.old.items ≡ granted heard → given.new.items ≡ granted (reply ∷ heard) }
+    ensures follows { (changes : List Change) (keys : List QKey) (heard : List Reply) → given.old.items ≡ granted heard → PartsFollow changes keys grants.old stage heard → PartsFollow changes keys grants.new result (reply ∷ heard) }
+{
+    match stage {
+        WriteStage::Quarantining { count, txn } => {
+            stage_after_quarantine(given, grants, count, txn, reply)
+        }
+        WriteStage::Committing => stage_after_commit(grants, reply),
+        WriteStage::Ending { outcome } => stage_after_end(grants, outcome, reply),
+        WriteStage::Returning { outcome } => stage_after_release(grants, outcome, reply),
+        other => {
+            reply.let_go();
+            other
         }
     }
 }
