@@ -15,4 +15,6 @@ pub mod plans;
 mod readers;
 pub mod replies;
 pub mod sessions;
+#[cfg(test)]
+mod tests;
 mod writers;

@@ -33,6 +33,29 @@ pub enum Wanted {
     Nothing,
 }
 
+impl Wanted {
+    /// Lets go of the request and of the grants that it hands over. Their quarantines are not ended by
+    /// that, and stand until others end them. It takes no memory.
+    pub fn let_go(self) {
+        match self {
+            Wanted::Commit { txn: _, grants } => grants.let_go(),
+            Wanted::Dar { grant } => grant.let_go(),
+            Wanted::Abort { grant } => grant.let_go(),
+            Wanted::Get { key: _, floor: _ } => {}
+            Wanted::Ask { key: _ } => {}
+            Wanted::Set {
+                key: _,
+                token: _,
+                value: _,
+                stamp: _,
+            } => {}
+            Wanted::QaReg { key: _ } => {}
+            Wanted::End => {}
+            Wanted::Nothing => {}
+        }
+    }
+}
+
 /// Why a request was not made.
 #[derive(Clone, Copy, Debug, PartialEq, Eq)]
 pub enum Fault {
@@ -104,7 +127,7 @@ pub enum Reply {
 
 impl Reply {
     /// Lets go of the reply and of the grants that it brings. Their quarantines are not ended by that,
-    /// and stand until others end them.
+    /// and stand until others end them. It takes no memory.
     pub fn let_go(self) {
         match self {
             Reply::Quar { told } => match told {
