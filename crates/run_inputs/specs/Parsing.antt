@@ -1,6 +1,7 @@
 -- What the parts of the parser answer.
 use Rattle.std.specs.Prelude.{ℕ, ◌≡◌, ◌≤◌, List, [], ◌∷◌, Option, Some, None, codes}
 use Rattle.rows_model.specs.declared.changes.Change.{Change}
+use Rattle.rows_model.specs.declared.changes.Change.TheVariants.{Invite, Accept, Reject, Thaw, Rename}
 use Rattle.run_inputs.specs.declared.lines.Task.{Task}
 use Rattle.run_inputs.specs.declared.lines.Verb.{Verb}
 use Rattle.run_inputs.specs.declared.lines.Job.{Job}
@@ -32,6 +33,14 @@ pub record BeginsWith (change : Change) (words rest : List (List ℕ)) : Type 0 
 -- The words begin with no change.
 abbrev pub BeginsWithNone : List (List ℕ) → Type 0
 BeginsWithNone words = (change : Change) (changes : List Change) → AreChanges (change ∷ changes) (codes "+" ∷ words) → ⊥
+
+-- The change is one between these two members.
+abbrev pub IsPair : Change → ℕ → ℕ → Type 0
+IsPair (Invite a b) first second = (a ≡ first) × (b ≡ second)
+IsPair (Accept a b) first second = (a ≡ first) × (b ≡ second)
+IsPair (Reject a b) first second = (a ≡ first) × (b ≡ second)
+IsPair (Thaw a b) first second = (a ≡ first) × (b ≡ second)
+IsPair (Rename a name) first second = ⊥
 
 -- The words are those of a job for this task.
 pub record IsJobOf (task : Task) (words : List (List ℕ)) (job : Job) : Type 0 where

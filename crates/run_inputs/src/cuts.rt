@@ -112,9 +112,9 @@ pub(crate) fn count_of(args: Option<&[u8]>) -> Option<Option<u32>>
     ensures found { IfSome result (λ count. AreCount count (words_behind (option_copied args.entry))) }
     ensures none { IfNone result ((count : Option ℕ) → AreCount count (words_behind (option_copied args.entry)) → ⊥) }
 {
-    if args.is_none() {
+    let Some(_) = args else {
         return Some(None);
-    }
+    };
     let count = only_number(args)?;
     if count < 1 || count > MOST_AT_ONCE {
         return None;

@@ -1,11 +1,11 @@
 // What the words behind a session's number say.
-ghost use Rattle.std.specs.Prelude.{◌≡◌, ℕ, ◌≤◌, List, [], ◌∷◌, ◌++◌, length, All, Option, Some, IfSome, IfNone, IfOk, codes};
+ghost use Rattle.std.specs.Prelude.{◌≡◌, ◌≢◌, ℕ, ◌≤◌, List, [], ◌∷◌, ◌++◌, length, All, Option, Some, IfSome, IfNone, IfOk, codes};
 ghost use Rattle.std.specs.Option.{option_copied};
 ghost use Rattle.lease_table.specs.declared.records.Mode.{Mode};
 ghost use Rattle.rows_model.specs.declared.changes.Change.{Change};
 ghost use Rattle.run_inputs.specs.Texts.{words_in};
 ghost use Rattle.run_inputs.specs.Lines.{IsId, AreSides, AreChanges, AreTxnWords, AreFloor, AreJobWords, change_word, mode_word};
-ghost use Rattle.run_inputs.specs.Parsing.{words_behind, BeginsWith, BeginsWithNone, IsJobOf, IsNoJob};
+ghost use Rattle.run_inputs.specs.Parsing.{words_behind, BeginsWith, BeginsWithNone, IsPair, IsJobOf, IsNoJob};
 ghost use Rattle.run_inputs.specs.declared.lines.Task.TheVariants as task;
 
 use crate::cuts::{cut, number_of, only_number};
@@ -202,7 +202,15 @@ fn change_of(word: &[u8], first: &[u8], second: &[u8]) -> Option<Change>
         let name = Name::of(second)?;
         return Some(Change::Rename { a, name });
     }
-    let b = id_of(second)?;
+    pair_of(word, a, id_of(second)?)
+}
+
+// The change between two members of which this is the word.
+fn pair_of(word: &[u8], a: u32, b: u32) -> Option<Change>
+    ensures word { IfSome result (λ change. word.now ≡ change_word change) }
+    ensures pair { IfSome result (λ change. IsPair change a b) }
+    ensures none { IfNone result ((change : Change) → word.now ≡ change_word change → change_word change ≢ codes "rename" → ⊥) }
+{
     match word {
         b"invite" => Some(Change::Invite { a, b }),
         b"accept" => Some(Change::Accept { a, b }),
