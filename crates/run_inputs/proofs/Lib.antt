@@ -1,2 +1,4 @@
 pub mod CutLemmas
 pub mod WordLemmas
+pub mod ChangeLemmas
+pub mod LineLemmas

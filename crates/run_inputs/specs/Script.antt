@@ -7,6 +7,8 @@ use Rattle.session_client.specs.declared.plans.Turn.TheVariants as turn
 use Rattle.session_client.specs.declared.plans.Shape.{Shape}
 use Rattle.run_inputs.specs.declared.lines.Part.{Part}
 use Rattle.run_inputs.specs.declared.lines.Part.TheVariants.{Members, Shards, Room, Life}
+use Rattle.run_inputs.specs.declared.lines.Verb.{Verb}
+use Rattle.run_inputs.specs.declared.lines.Verb.TheVariants as verb
 use Rattle.run_inputs.specs.declared.lines.Job.TheVariants.{Read, Write, Look, Skip}
 use Rattle.run_inputs.specs.declared.lines.Line.{Line}
 use Rattle.run_inputs.specs.declared.lines.Line.TheVariants.{Head, Session, Turn, Tick, Sweep, End}
@@ -20,7 +22,7 @@ use Rattle.run_inputs.specs.declared.faults.ScriptFault.TheVariants.{Bad, Memory
 use Rattle.run_inputs.specs.declared.scripts.Act.{Act}
 use Rattle.run_inputs.specs.declared.scripts.Act.TheVariants.{Add, Run}
 use Rattle.run_inputs.specs.Texts.{lines_in, words_in}
-use Rattle.run_inputs.specs.Lines.{AreWords}
+use Rattle.run_inputs.specs.Lines.{AreWords, verb_of}
 
 -- The place of a line in the head.
 abbrev pub place_of : Part → ℕ
@@ -29,13 +31,13 @@ place_of Shards = 2
 place_of Room = 3
 place_of Life = 4
 
--- Whether a line may stand next: `members` first, then the other lines of the head in their order, each once at most, and then all others.
-abbrev pub is_in_place : Stage → Line → Bool
-is_in_place stage.Start (Head Members number) = true
-is_in_place (stage.Head last) (Head part number) = nat_lt (place_of last) (place_of part)
-is_in_place stage (Head part number) = false
-is_in_place stage.Start line = false
-is_in_place stage line = true
+-- Whether a line with this verb may stand next: `members` first, then the other lines of the head in their order, each once at most, and then all others.
+abbrev pub is_in_place : Stage → Verb → Bool
+is_in_place stage.Start (verb.Head Members) = true
+is_in_place (stage.Head last) (verb.Head part) = nat_lt (place_of last) (place_of part)
+is_in_place stage (verb.Head part) = false
+is_in_place stage.Start other = false
+is_in_place stage other = true
 
 -- How many sessions a line begins.
 abbrev pub sessions_in : Line → ℕ
@@ -125,7 +127,7 @@ fault_of progress line =
 -- The line has the words of what it says, and may stand next.
 pub record Says (progress : Progress) (line : List ℕ) (said : Line) : Type 0 where
   pub words : AreWords said (words_in line)
-  pub in_place : is_in_place progress.stage said ≡ true
+  pub in_place : is_in_place progress.stage (verb_of said) ≡ true
 
 -- A line that is short enough, and that doesn't stand behind the last one.
 pub record MayStand (progress : Progress) (line : List ℕ) : Type 0 where

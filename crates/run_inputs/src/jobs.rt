@@ -14,6 +14,9 @@ use lease_table::Mode;
 use rows_model::{Change, Memory, Name, QKey, Txn, TxnFault};
 use std::alloc::Global;
 
+// The most changes of a transaction.
+const MOST_CHANGES: usize = 8;
+
 /// The job for the task that the words behind a session's number say.
 pub(crate) fn job_of(alloc: Global, task: Task, args: Option<&[u8]>) -> Result<Option<Job>, Memory>
     ensures found { IfOk result (λ read. IfSome read (λ job. IsJobOf task (words_behind (option_copied args.entry)) job)) }
@@ -154,7 +157,7 @@ fn changes_of(alloc: Global, words: &[u8]) -> Result<Option<Vec<Change>>, Memory
 {
     let mut changes = Vec::new(alloc);
     let mut rest = words;
-    for _ in 0..8 {
+    for _ in 0..MOST_CHANGES {
         let Some((change, behind)) = first_change(rest) else {
             return Ok(None);
         };

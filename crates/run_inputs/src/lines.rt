@@ -1,7 +1,6 @@
 // What a line of a script says, by its words.
 ghost use Rattle.std.specs.Prelude.{◌≡◌, ◌≤◌, IfSome, IfNone, IfOk};
 ghost use Rattle.std.specs.Option.{option_copied};
-ghost use Rattle.run_inputs.specs.declared.lines.LineFault.TheVariants as LineFault;
 ghost use Rattle.run_inputs.specs.declared.lines.Verb.TheVariants as verb;
 ghost use Rattle.run_inputs.specs.Texts.{words_in};
 ghost use Rattle.run_inputs.specs.Lines.{most, verb_word, AreWords};
@@ -98,14 +97,6 @@ pub enum LineFault {
     Bad { kind: ScriptKind },
     /// Memory ran out.
     Memory,
-}
-
-impl From<Memory> for LineFault {
-    fn from(_: Memory) -> LineFault
-        ensures { result ≡ LineFault.Memory }
-    {
-        LineFault::Memory
-    }
 }
 
 impl Part {

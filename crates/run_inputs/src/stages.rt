@@ -3,7 +3,7 @@ ghost use Rattle.std.specs.Prelude.{◌≡◌, ◌+◌, ◌≤◌, ◌<◌, ◌^
 ghost use Rattle.run_inputs.specs.declared.stages.Stage.TheVariants as stage;
 ghost use Rattle.run_inputs.specs.declared.lines.Line.{Line};
 ghost use Rattle.run_inputs.specs.Texts.{words_in};
-ghost use Rattle.run_inputs.specs.Lines.{most, AreWords};
+ghost use Rattle.run_inputs.specs.Lines.{most, verb_of, AreWords};
 ghost use Rattle.run_inputs.specs.Script.{is_in_place, sessions_in, turns_in, shape_with, shape_after, stage_after, after, start, is_numbered, has_key, is_known, fault_of, Says, IsSound};
 ghost use Rattle.run_inputs.specs.Parsing.{IsWithin, IsLineFault};
 
@@ -47,7 +47,7 @@ pub struct Progress {
 impl Stage {
     // Whether the line may stand next.
     fn has_place_for(self, line: &Line) -> bool
-        ensures { result ≡ is_in_place self line.now }
+        ensures { result ≡ is_in_place self (verb_of line.now) }
     {
         match (self, line) {
             (Stage::Start, Line::Head { part, .. }) => *part == Part::Members,
@@ -255,10 +255,14 @@ impl Progress {
                 kind: ScriptKind::AfterEnd,
             });
         }
-        let Some(said) = self.said_by(alloc, line)? else {
-            return Err(LineFault::Bad {
-                kind: ScriptKind::Form,
-            });
+        let said = match self.said_by(alloc, line) {
+            Ok(Some(said)) => said,
+            Ok(None) => {
+                return Err(LineFault::Bad {
+                    kind: ScriptKind::Form,
+                });
+            }
+            Err(Memory) => return Err(LineFault::Memory),
         };
         match self.fault_of(&said) {
             Some(kind) => Err(LineFault::Bad { kind }),
@@ -271,9 +275,13 @@ impl Progress {
         ensures said { IfOk result (λ read. IfSome read (λ said. Says self.now line.now said)) }
         ensures none { IfOk result (λ read. IfNone read ((said : Line) → Says self.now line.now said → ⊥)) }
     {
-        match line_of(alloc, line)? {
-            Some(said) if self.stage.has_place_for(&said) => Ok(Some(said)),
-            _ => Ok(None),
+        let Some(said) = line_of(alloc, line)? else {
+            return Ok(None);
+        };
+        if self.stage.has_place_for(&said) {
+            Ok(Some(said))
+        } else {
+            Ok(None)
         }
     }
 }

@@ -1,3 +1,4 @@
+use Rattle.std.proofs.Common.{sym}
 use Rattle.run_inputs.proofs.WordLemmas.{if_none, one_alone, no_plus}
 use Rattle.run_inputs.proofs.jobs.behind_plus.Goals as goal
 
@@ -7,4 +8,4 @@ returns-then-eq-clause-none c =
 
 pub returns-else-eq-clause-none : goal.returns-else-eq-clause-none
 returns-else-eq-clause-none c =
-    rw c.cut.ensures.parts (no_plus c.cut.result.0.now _ (λ e. ?))
+    rw c.cut.ensures.parts (no_plus c.cut.result.0.now _ (λ e. (let f = rw (c.as_slice.ensures, e) at c.eq.ensures in cc (c.if-eq.false))))
