@@ -100,3 +100,7 @@ faulty progress line said kind.NoEnd h w e = (h, said, w, e)
 faulty progress line said kind.LongLine h w e = absurd (false≢true (of_saying _ _ _ _ kind.LongLine e))
 faulty progress line said kind.AfterEnd h w e = absurd (false≢true (of_saying _ _ _ _ kind.AfterEnd e))
 faulty progress line said kind.Form h w e = absurd (false≢true (of_saying _ _ _ _ kind.Form e))
+
+-- it is none of the text as a whole
+pub never_of_text : (progress : Progress) (said : Line) (k : ScriptKind) → is_of_saying k ≡ false → fault_of progress said ≡ Some k → ⊥
+never_of_text progress said k off e = false≢true (sym off ∙ of_saying _ _ _ _ k e)

@@ -85,4 +85,3 @@ no_sweep words none line h = let e = h.verb_is in cc
 pub no_end : (words : List (List ℕ)) → (words ≡ [] → ⊥) → IsNoLine verb.End words
 no_end words none End h = none h.args
 no_end words none line h = let e = h.verb_is in cc
-

@@ -1,7 +1,8 @@
 -- Scripts: which text says which acts, and which fault a text has.
-use Rattle.std.specs.Prelude.{ℕ, ◌≡◌, ◌≢◌, ◌+◌, ◌≤◌, ◌<◌, Bool, true, false, ◌==◌, ◌&&◌, not, nat_le, nat_lt, if◌then◌else◌, List, [], ◌∷◌, ◌++◌, length, flat_map, codes, Option, Some, None, unwrap_or}
+use Rattle.std.specs.Prelude.{ℕ, ◌≡◌, ◌≢◌, ◌+◌, ◌≤◌, ◌<◌, Bool, true, false, ◌==◌, ◌&&◌, not, nat_le, nat_lt, if◌then◌else◌, List, [], ◌∷◌, ◌++◌, length, map, flat_map, codes, Option, Some, None, unwrap_or}
 use Rattle.lease_table.specs.declared.records.Mode.TheVariants.{Invalidate}
 use Rattle.rows_model.specs.Changes.{touches}
+use Rattle.session_client.specs.declared.plans.Plan.{Plan}
 use Rattle.session_client.specs.declared.plans.Plan.TheVariants as plan
 use Rattle.session_client.specs.declared.plans.Turn.TheVariants as turn
 use Rattle.session_client.specs.declared.plans.Shape.{Shape}
@@ -9,6 +10,7 @@ use Rattle.run_inputs.specs.declared.lines.Part.{Part}
 use Rattle.run_inputs.specs.declared.lines.Part.TheVariants.{Members, Shards, Room, Life}
 use Rattle.run_inputs.specs.declared.lines.Verb.{Verb}
 use Rattle.run_inputs.specs.declared.lines.Verb.TheVariants as verb
+use Rattle.run_inputs.specs.declared.lines.Job.{Job}
 use Rattle.run_inputs.specs.declared.lines.Job.TheVariants.{Read, Write, Look, Skip}
 use Rattle.run_inputs.specs.declared.lines.Line.{Line}
 use Rattle.run_inputs.specs.declared.lines.Line.TheVariants.{Head, Session, Turn, Tick, Sweep, End}
@@ -154,11 +156,16 @@ AreSound progress [] [] = Unit {0}
 AreSound progress (line ∷ lines) (said ∷ more) = IsSound progress line said × AreSound (after progress said) lines more
 AreSound progress lines other = ⊥
 
+-- The plan of a job, for those that can be run so far.
+abbrev pub plans_in : Job → List Plan
+plans_in (Read key floor) = plan.Read key (unwrap_or floor 0) ∷ []
+plans_in (Write mode txn) = plan.Write mode txn ∷ []
+plans_in (Skip key txn) = plan.Skip key txn ∷ []
+plans_in other = []
+
 -- The acts of a line.
 abbrev pub acts_in : Line → List Act
-acts_in (Session number (Read key floor)) = Add (plan.Read key (unwrap_or floor 0)) ∷ []
-acts_in (Session number (Write mode txn)) = Add (plan.Write mode txn) ∷ []
-acts_in (Session number (Skip key txn)) = Add (plan.Skip key txn) ∷ []
+acts_in (Session number job) = map Add (plans_in job)
 acts_in (Turn (Some number) count) = Run (turn.Session (record { number = number })) (unwrap_or count 1) ∷ []
 acts_in line = []
 
