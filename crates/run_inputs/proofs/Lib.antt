@@ -1,0 +1,6 @@
+pub mod CutLemmas
+pub mod WordLemmas
+pub mod ChangeLemmas
+pub mod LineLemmas
+pub mod ScriptLemmas
+pub mod FitLemmas

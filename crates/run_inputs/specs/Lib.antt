@@ -1,0 +1,5 @@
+pub mod Texts
+pub mod Lines
+pub mod Script
+pub mod Fit
+pub mod Parsing
