@@ -58,7 +58,7 @@ impl From<ApplyFault> for AfterFault {
 }
 
 /// Why a store doesn't commit a transaction. Of several causes the first in this order is told, but
-/// that of memory, which comes last.
+/// a keeper that failed comes before a change that doesn't apply. Memory may run out instead.
 #[derive(Clone, Copy, Debug, PartialEq, Eq)]
 pub enum CommitFault {
     /// The session isn't open: it never began to write, has committed, or was ended.
