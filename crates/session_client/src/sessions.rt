@@ -160,7 +160,9 @@ fn without_key(alloc: Global, key: &QKey, keys: &[QKey]) -> Result<Vec<QKey>, Me
 }
 
 /// The course of a plan.
+#[tactic(auto, using(crate::proofs::RoomLemmas::footprint_few, crate::proofs::RoomLemmas::without_few))]
 fn course_of(alloc: Global, plan: &Plan) -> Result<Course, Memory>
+    requires { IsPlan plan.now }
     ensures ready { IfOk result CourseIsReady }
     ensures goes { IfOk result (λ course. Goes plan.now course []) }
 {

@@ -1,4 +1,4 @@
-ghost use Rattle.std.specs.Prelude.{◌≡◌, ◌≤◌, ◌<◌, ◌↔◌, List, [], ◌∷◌, ◌+◌, length, IsTrue, IfOk, IfSome, vec_capacity};
+ghost use Rattle.std.specs.Prelude.{◌≡◌, ◌≤◌, ◌<◌, ◌↔◌, List, [], ◌∷◌, ◌+◌, ◌^◌, length, IsTrue, IfOk, IfSome, vec_capacity};
 ghost use Rattle.rows_model.specs.declared.changes.Change.{Change};
 ghost use Rattle.rows_model.specs.declared.keys.QKey.{QKey};
 ghost use Rattle.rows_model.specs.declared.keys.Sid.{Sid};
@@ -62,13 +62,12 @@ impl Writer {
 
     /// A writer that was told nothing so far. It takes all the memory that it will need.
     pub fn new(alloc: Global, keys: Vec<QKey>, txn: Txn) -> Result<Writer, Memory>
+        requires { length keys.items < 2 ^ 32 }
         ensures keys { IfOk result (λ writer. writer.keys ≡ keys.items) }
         ensures ready { IfOk result (λ writer. WriteIsReady writer.stage) }
         ensures follows { IfOk result (λ writer. WriteFollows txn writer []) }
     {
-        let Ok(room) = u32::try_from(keys.len()) else {
-            return Err(Memory);
-        };
+        let room = keys.len() as u32;
         Ok(Writer {
             alloc,
             given: Vec::with_capacity(alloc, keys.len())?,
