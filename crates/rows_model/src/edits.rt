@@ -15,12 +15,17 @@ use crate::rows::{Link, LinkState, Member};
 const MOST_LINKS: usize = 1_000_000;
 
 // What undoes a change.
-#[derive(Clone, Copy, Debug)]
+#[derive(Clone, Copy)]
 pub(crate) enum Undo {
     // A link was put at this place.
-    Put { place: usize },
+    Put {
+        place: usize,
+    },
     // This link was taken from this place.
-    Taken { place: usize, link: Link },
+    Taken {
+        place: usize,
+        link: Link,
+    },
     // This link was taken from its place, and then another put at its own.
     Moved {
         place: usize,
@@ -28,7 +33,10 @@ pub(crate) enum Undo {
         put: usize,
     },
     // The member at this place was this one, with its former name.
-    Named { place: usize, member: Member },
+    Named {
+        place: usize,
+        member: Member,
+    },
 }
 
 // Makes the changes in turn, all or none, or answers the place of the first that doesn't apply,
@@ -111,6 +119,7 @@ fn put_at(links: &mut Vec<Link>, place: usize, link: Link)
     ensures items { links.new.items ≡ insert links.old.items place link }
     ensures room { vec_capacity links.new ≡ vec_capacity links.old }
 {
+    // There is room, so it is done.
     let _ = links.insert(place, link);
 }
 

@@ -1,5 +1,5 @@
 // Numbers in decimal, as keys and answers write them.
-ghost use Rattle.std.specs.Prelude.{◌≡◌, ◌≤◌, ◌++◌, decimal, OnOk, IfSome, IfNone};
+ghost use Rattle.std.specs.Prelude.{◌≡◌, ◌++◌, decimal, OnOk, IfSome, IfNone};
 ghost use Rattle.rows_model.specs.Number.{IsIdText, IsNoIdText};
 ghost use Rattle.rows_model.specs.Shift.{number_in};
 

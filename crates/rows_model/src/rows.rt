@@ -1,9 +1,8 @@
-ghost use Rattle.std.specs.Prelude.{◌≡◌, ◌≤◌, ◌&&◌, ◌==◌, true, not, length, count_by, map, IfOk, IfErr, OnOk, OnErr};
+ghost use Rattle.std.specs.Prelude.{◌≡◌, ◌≤◌, ◌&&◌, ◌==◌, IfOk, IfErr, OnOk, OnErr};
 ghost use Rattle.std.specs.Option.{option_copied};
 ghost use Rattle.rows_model.specs.Rows.{Fit, start_tables, member_of, joins, is_pending, is_friend};
-ghost use Rattle.rows_model.specs.Changes.{is_before, friendship, with_link, without_link, renamed, applies, changed, apply_all, is_member, is_linked, is_invited, are_friends};
+ghost use Rattle.rows_model.specs.Changes.{is_before, friendship, apply_all};
 ghost use Rattle.rows_model.specs.ApplyFaults.{IsRejection};
-ghost use Rattle.rows_model.specs.declared.changes.Change.{Change};
 ghost use Rattle.rows_model.specs.Query.{invites, befriends, other_end, friend_count, pending_count};
 
 use crate::changes::Txn;
