@@ -1,5 +1,5 @@
 -- A transaction touches few keys.
-use Rattle.std.proofs.Common.{◌≡◌, ◌+◌, ◌*◌, ◌≤◌, ◌<◌, ◌^◌, ℕ, Bool, true, false, List, [], ◌∷◌, ◌++◌, length, fold, refl, sym, ap, ◌∙◌, arith, length-append}
+use Rattle.std.proofs.Common.{◌+◌, ◌*◌, ◌≤◌, ◌<◌, ◌^◌, Bool, true, false, List, [], ◌∷◌, length, fold, arith, length-append}
 use Rattle.std.specs.Prelude.{count_by, not, if◌then◌else◌}
 use Rattle.std.specs.List.{flat_map, insert}
 use Rattle.std.proofs.lemmas.List.Edits.{length-insert}
@@ -20,7 +20,7 @@ foot_few (Rename a name) = omega arith
 
 feet_few : (changes : List Change) → length (flat_map foot_of changes) ≤ 8 * length changes
 feet_few [] = omega arith
-feet_few (change ∷ changes) = 
+feet_few (change ∷ changes) =
     let one = foot_few change in
     let rest = feet_few changes in
     let both = length-append (foot_of change) (flat_map foot_of changes) in

@@ -1,4 +1,4 @@
-use Rattle.std.specs.Prelude.{ℕ, ◌≡◌, ◌≤◌, List, length, Vec}
+use Rattle.std.specs.Prelude.{◌≡◌, ◌≤◌, List, length}
 use Rattle.rows_model.specs.declared.keys.QKey.{QKey}
 use Rattle.key_shard.specs.Permit.{Permit}
 use Rattle.session_client.specs.Grants.{GrantsView}

@@ -9,9 +9,14 @@ use sql_keeper::{Answer, CommitFault};
 #[derive(Debug)]
 pub enum Wanted {
     /// The key's entry, with a stamp of at least the floor.
-    Get { key: QKey, floor: u64 },
+    Get {
+        key: QKey,
+        floor: u64,
+    },
     /// The store's answer for the key.
-    Ask { key: QKey },
+    Ask {
+        key: QKey,
+    },
     /// To store the value under the I lease of this token.
     Set {
         key: QKey,
@@ -20,15 +25,24 @@ pub enum Wanted {
         stamp: u64,
     },
     /// A quarantine of the key, to invalidate it.
-    QaReg { key: QKey },
+    QaReg {
+        key: QKey,
+    },
     /// To commit the transaction, with these grants on the keys that it touches.
-    Commit { txn: Txn, grants: Grants },
+    Commit {
+        txn: Txn,
+        grants: Grants,
+    },
     /// To be ended at the store: it won't commit.
     End,
     /// To drop the key's value and end the quarantine.
-    Dar { grant: Grant },
+    Dar {
+        grant: Grant,
+    },
     /// To end the quarantine and leave the key's value.
-    Abort { grant: Grant },
+    Abort {
+        grant: Grant,
+    },
     /// Nothing: the session is done.
     Nothing,
 }
@@ -96,13 +110,21 @@ impl Fault {
 #[derive(Debug)]
 pub enum Reply {
     /// The answer to a get.
-    Got { got: Got },
+    Got {
+        got: Got,
+    },
     /// The store's answer.
-    Answer { answer: Answer },
+    Answer {
+        answer: Answer,
+    },
     /// The answer to a set.
-    Set { told: SetAnswer },
+    Set {
+        told: SetAnswer,
+    },
     /// The answer to a quarantine.
-    Quar { told: QAnswer },
+    Quar {
+        told: QAnswer,
+    },
     /// The transaction is the commit of this number, from 1.
     Committed {
         number: u64,
@@ -116,11 +138,17 @@ pub enum Reply {
         grants: Grants,
     },
     /// Whether the session was open at the store. It isn't now.
-    End { was: bool },
+    End {
+        was: bool,
+    },
     /// The answer to a release.
-    Rel { told: Rel },
+    Rel {
+        told: Rel,
+    },
     /// The request was not made.
-    Fault { fault: Fault },
+    Fault {
+        fault: Fault,
+    },
     /// The session is done.
     Nothing,
 }

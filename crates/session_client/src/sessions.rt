@@ -152,11 +152,12 @@ ghost use Rattle.session_client.specs.Follows.{Goes, CourseIsReady, is_over};
 fn without_key(alloc: Global, key: &QKey, keys: &[QKey]) -> Result<Vec<QKey>, Memory>
     ensures { IfOk result (λ rest. rest.items ≡ without_key key.now keys.now) }
 {
-    Ok(keys
-        .iter()
-        .filter(|other| key != *other)
-        .copied()
-        .collect(alloc)?)
+    Ok(
+        keys.iter()
+            .filter(|other| key != *other)
+            .copied()
+            .collect(alloc)?,
+    )
 }
 
 /// The course of a plan.

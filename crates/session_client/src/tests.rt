@@ -290,7 +290,14 @@ fn takes_no_answer_of_another_key(rt: HostRuntime) -> Result<(), Fail> {
     get(&rt, &mut session, &mut shard);
     session.wants().let_go();
     assert!(rt; !takes(&session, Reply::Answer { answer }));
-    assert!(rt; !takes(&session, Reply::Fault { fault: Fault::Spent }));
+    assert!(rt;
+        !takes(
+            &session,
+            Reply::Fault {
+                fault: Fault::Spent
+            }
+        )
+    );
     assert!(rt; !takes(&session, Reply::Nothing));
     tell(&rt, &mut session, Reply::Fault { fault: Fault::Keep });
     check_end(&rt, &mut session, Outcome::Failed { fault: Fault::Keep });
@@ -327,7 +334,11 @@ fn writes_and_releases_in_order(rt: HostRuntime) -> Result<(), Fail> {
     let (txn, mut grants) = commit(&rt, &mut session);
     assert_eq!(rt; grants.len(), 3);
     turn(&mut grants);
-    let out_of_order = Reply::Committed { number: 1, txn, grants };
+    let out_of_order = Reply::Committed {
+        number: 1,
+        txn,
+        grants,
+    };
     assert!(rt; !session.takes(&out_of_order));
     let (txn, mut grants) = match out_of_order {
         Reply::Committed {
@@ -343,7 +354,15 @@ fn writes_and_releases_in_order(rt: HostRuntime) -> Result<(), Fail> {
     turn(&mut grants);
     turn(&mut grants);
     let number = 1;
-    tell(&rt, &mut session, Reply::Committed { number, txn, grants });
+    tell(
+        &rt,
+        &mut session,
+        Reply::Committed {
+            number,
+            txn,
+            grants,
+        },
+    );
     assert_eq!(rt; session.done(), None);
     release(&rt, &mut session, true, PROFILE);
     release(&rt, &mut session, true, PENDING);

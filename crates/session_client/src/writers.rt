@@ -121,10 +121,22 @@ impl Writer {
                 Some(key) => answers_quarantine(who, key, reply),
                 None => false,
             },
-            (WriteStage::Committing, Reply::Committed { number: _, txn, grants })
-            | (WriteStage::Committing, Reply::NotCommitted { fault: _, txn, grants }) => {
-                are_same(txn.changes(), changes) && self.are_back(grants)
-            }
+            (
+                WriteStage::Committing,
+                Reply::Committed {
+                    number: _,
+                    txn,
+                    grants,
+                },
+            )
+            | (
+                WriteStage::Committing,
+                Reply::NotCommitted {
+                    fault: _,
+                    txn,
+                    grants,
+                },
+            ) => { are_same(txn.changes(), changes) && self.are_back(grants) }
             (WriteStage::Ending { .. }, Reply::End { .. }) => true,
             (WriteStage::Returning { .. }, Reply::Rel { .. }) => true,
             (WriteStage::Done { .. }, Reply::Nothing) => true,
@@ -136,8 +148,7 @@ impl Writer {
     fn are_back(&self, grants: &Grants) -> bool
         ensures { IsTrue result ↔ AreBack (record { items = self.now.given; room = length self.now.keys }) grants.now }
     {
-        self.keys.len() <= grants.room() as usize
-            && are_of(self.given.as_slice(), grants.items())
+        self.keys.len() <= grants.room() as usize && are_of(self.given.as_slice(), grants.items())
     }
 
     /// Takes in the reply to the request that is out.
@@ -188,7 +199,9 @@ fn answers_quarantine(who: Sid, key: &QKey, reply: &Reply) -> bool
     ensures { IsTrue result ↔ QuarantineAwaits who (Some key.now) reply.now }
 {
     match reply {
-        Reply::Quar { told: QAnswer::Granted { grant, old } } => {
+        Reply::Quar {
+            told: QAnswer::Granted { grant, old },
+        } => {
             grant.key() == *key
                 && grant.sid() == who
                 && grant.mode() == Mode::Invalidate
