@@ -12,3 +12,5 @@ pub mod laws;
 mod lines;
 pub mod scripts;
 mod stages;
+#[cfg(test)]
+mod tests;
