@@ -4,3 +4,5 @@ pub mod ChangeLemmas
 pub mod LineLemmas
 pub mod ScriptLemmas
 pub mod FitLemmas
+pub mod OnceLemmas
+pub mod TellLemmas

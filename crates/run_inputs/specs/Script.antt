@@ -220,3 +220,9 @@ kind_word kind.Turns = codes "turns"
 kind_word kind.NoEnd = codes "noend"
 kind_word kind.AfterEnd = codes "afterend"
 kind_word kind.NotYet = codes "notyet"
+
+-- A text says one script at most and has one fault at most, and never both.
+pub record TextsTellScripts : Type 0 where
+  pub one_script : (text : List ℕ) (shape shape' : Shape) (acts acts' : List Act) → IsScript text shape acts → IsScript text shape' acts' → (shape ≡ shape') × (acts ≡ acts')
+  pub one_fault : (text : List ℕ) (number number' : ℕ) (fault fault' : ScriptKind) → IsFault text number fault → IsFault text number' fault' → (number ≡ number') × (fault ≡ fault')
+  pub never_both : (text : List ℕ) (shape : Shape) (acts : List Act) (number : ℕ) (fault : ScriptKind) → IsScript text shape acts → IsFault text number fault → ⊥
