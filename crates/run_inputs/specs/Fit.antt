@@ -1,0 +1,53 @@
+-- Scripts that can be run.
+use Rattle.std.specs.Prelude.{ℕ, ◌+◌, ◌≤◌, List, [], ◌∷◌, sum_by}
+use Rattle.session_client.specs.declared.plans.Shape.{Shape}
+use Rattle.session_client.specs.declared.plans.Turn.{Turn}
+use Rattle.session_client.specs.declared.plans.Turn.TheVariants.{Session}
+use Rattle.session_client.specs.Plans.{IsPlan}
+use Rattle.run_inputs.specs.declared.scripts.Act.{Act}
+use Rattle.run_inputs.specs.declared.scripts.Act.TheVariants.{Add, Run}
+
+-- What contracts see of a script: with what it is to be run, and its acts.
+pub record ScriptView : Type 0 where
+  pub shape : Shape
+  pub acts : List Act
+
+-- How many sessions an act begins.
+abbrev pub sessions_of : Act → ℕ
+sessions_of (Add plan) = 1
+sessions_of (Run turn count) = 0
+
+-- How many turns an act is.
+abbrev pub turns_of : Act → ℕ
+turns_of (Add plan) = 0
+turns_of (Run turn count) = count
+
+-- The turn is of one of so many sessions.
+abbrev pub IsTurnOf : ℕ → Turn → Type 0
+IsTurnOf begun (Session who) = (1 ≤ who.number) × (who.number ≤ begun)
+
+-- After so many sessions began, the act begins one of a plan that a session takes, or is turns of one that has begun.
+abbrev pub IsFit : ℕ → Act → Type 0
+IsFit begun (Add plan) = IsPlan plan
+IsFit begun (Run turn count) = IsTurnOf begun turn
+
+-- Each act is fit, after those before it.
+abbrev pub AreFit : ℕ → List Act → Type 0
+AreFit begun [] = Unit {0}
+AreFit begun (act ∷ acts) = IsFit begun act × AreFit (begun + sessions_of act) acts
+
+-- A core can be made of the shape.
+pub record IsShape (shape : Shape) : Type 0 where
+  pub some_members : 1 ≤ shape.members
+  pub few_members : shape.members ≤ 100000
+  pub some_shards : 1 ≤ shape.shards
+  pub few_shards : shape.shards ≤ 64
+  pub some_room : 1 ≤ shape.room
+  pub small_room : shape.room ≤ 65536
+  pub some_life : 1 ≤ shape.life
+
+-- The acts can be run in a core of the shape.
+pub record IsPlayable (shape : Shape) (acts : List Act) : Type 0 where
+  pub shape_fits : IsShape shape
+  pub fit : AreFit 0 acts
+  pub short : sum_by turns_of acts ≤ 1000000

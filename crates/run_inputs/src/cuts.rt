@@ -1,0 +1,1 @@
+// Lines, words and numbers, cut off the front of a text.

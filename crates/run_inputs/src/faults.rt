@@ -1,0 +1,58 @@
+ghost use Rattle.std.specs.Prelude.{◌≡◌};
+ghost use Rattle.run_inputs.specs.Script.{kind_word};
+
+use rows_model::Memory;
+
+/// What is wrong with a line of a text, or with the text as a whole.
+#[derive(Clone, Copy, Debug, PartialEq, Eq)]
+pub enum ScriptKind {
+    /// The text has more than 16,777,216 bytes. The line is then 0.
+    LongText,
+    /// The line has more than 2,048 bytes.
+    LongLine,
+    /// The line is of no form, or stands at a wrong place in the head, or has a number out of its
+    /// range.
+    Form,
+    /// A session line's number isn't the next one, or a turn is of a session that no line before
+    /// began.
+    Number,
+    /// The key of a `look` or `skip` line isn't one that its transaction touches.
+    Key,
+    /// With this line the turns, ticks and sweeps are more than 1,000,000.
+    Turns,
+    /// The text ends without the line `end`. The line is one more than the number of lines.
+    NoEnd,
+    /// The line stands behind the line `end`.
+    AfterEnd,
+    /// The line is of a form that there isn't yet.
+    NotYet,
+}
+
+/// Why a text was not read as a script.
+#[derive(Clone, Copy, Debug, PartialEq, Eq)]
+pub enum ScriptFault {
+    /// This line, from 1, is the first that has a fault, and this is the first kind of fault that
+    /// it has.
+    Bad { line: u64, kind: ScriptKind },
+    /// Memory ran out.
+    Memory,
+}
+
+impl ScriptKind {
+    /// The kind's name in lower case, as messages have it.
+    pub fn word(self) -> &'static str
+        ensures { result.now ≡ kind_word self }
+    {
+        match self {
+            ScriptKind::LongText => "longtext",
+            ScriptKind::LongLine => "longline",
+            ScriptKind::Form => "form",
+            ScriptKind::Number => "number",
+            ScriptKind::Key => "key",
+            ScriptKind::Turns => "turns",
+            ScriptKind::NoEnd => "noend",
+            ScriptKind::AfterEnd => "afterend",
+            ScriptKind::NotYet => "notyet",
+        }
+    }
+}

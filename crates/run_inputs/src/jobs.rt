@@ -1,0 +1,1 @@
+// What the words behind a session's number say.
