@@ -3,7 +3,11 @@ pub use Rattle.rows_model.specs.Rows
 pub use Rattle.rows_model.specs.Query
 pub use Rattle.rows_model.specs.Changes
 pub use Rattle.rows_model.specs.Placement
+pub mod Faults
 pub mod Keepers
 pub mod Log
+pub mod Sessions
+pub mod Stores
+pub mod MapKeepers
 pub mod Commits
 pub mod Fresh

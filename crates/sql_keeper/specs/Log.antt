@@ -1,6 +1,5 @@
 -- The log: what was committed, the earliest first, and the rows after so many of its transactions.
 use Rattle.std.specs.Prelude.{ℕ, List, take, fold, Result, Ok, Err}
-use Rattle.rows_model.specs.declared.changes.Change.{Change}
 use Rattle.rows_model.specs.Rows.{Tables}
 use Rattle.rows_model.specs.Changes.{apply_all}
 use Rattle.sql_keeper.specs.declared.stores.Commit.{Commit}

@@ -1,4 +1,5 @@
-use rows_model::{Memory, QKey};
+use rows_model::{ApplyFault, Memory, QKey};
+use std::alloc::AllocError;
 
 /// Why a keeper gives no rows and no answer.
 #[derive(Clone, Copy, Debug, PartialEq, Eq)]
@@ -31,6 +32,31 @@ pub enum AfterFault {
     Memory,
 }
 
+impl From<Memory> for AfterFault {
+    ghost use Rattle.std.specs.Prelude.{◌≡◌};
+    ghost use Rattle.sql_keeper.specs.declared.faults.AfterFault.TheVariants as faults;
+
+    ghost from_gives = { λ _ fault. fault ≡ faults.Memory };
+
+    fn from(_memory: Memory) -> AfterFault {
+        AfterFault::Memory
+    }
+}
+
+impl From<ApplyFault> for AfterFault {
+    ghost use Rattle.std.specs.Prelude.{◌≡◌};
+    ghost use Rattle.sql_keeper.specs.Faults.{after_apply};
+
+    ghost from_gives = { λ cause fault. fault ≡ after_apply cause };
+
+    fn from(cause: ApplyFault) -> AfterFault {
+        match cause {
+            ApplyFault::Rejected { index } => AfterFault::Rejected { index },
+            ApplyFault::Memory => AfterFault::Memory,
+        }
+    }
+}
+
 /// Why a store doesn't commit a transaction. Of several causes the first in this order is told, but
 /// that of memory, which comes last.
 #[derive(Clone, Copy, Debug, PartialEq, Eq)]
@@ -47,4 +73,41 @@ pub enum CommitFault {
     Rejected { index: u32 },
     /// The keeper failed.
     KeepFault,
+}
+
+impl From<Memory> for CommitFault {
+    ghost use Rattle.std.specs.Prelude.{◌≡◌};
+    ghost use Rattle.sql_keeper.specs.declared.faults.CommitFault.TheVariants as faults;
+
+    ghost from_gives = { λ _ fault. fault ≡ faults.Memory };
+
+    fn from(_memory: Memory) -> CommitFault {
+        CommitFault::Memory
+    }
+}
+
+impl From<AllocError> for CommitFault {
+    ghost use Rattle.std.specs.Prelude.{◌≡◌};
+    ghost use Rattle.sql_keeper.specs.declared.faults.CommitFault.TheVariants as faults;
+
+    ghost from_gives = { λ _ fault. fault ≡ faults.Memory };
+
+    fn from(_error: AllocError) -> CommitFault {
+        CommitFault::Memory
+    }
+}
+
+impl From<AfterFault> for CommitFault {
+    ghost use Rattle.std.specs.Prelude.{◌≡◌};
+    ghost use Rattle.sql_keeper.specs.Faults.{after_keeper};
+
+    ghost from_gives = { λ cause fault. fault ≡ after_keeper cause };
+
+    fn from(cause: AfterFault) -> CommitFault {
+        match cause {
+            AfterFault::Rejected { index } => CommitFault::Rejected { index },
+            AfterFault::Failed => CommitFault::KeepFault,
+            AfterFault::Memory => CommitFault::Memory,
+        }
+    }
 }

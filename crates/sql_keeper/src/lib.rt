@@ -3,9 +3,15 @@
 
 pub use faults::{AfterFault, CommitFault, KeepFault};
 pub use keepers::{Keeper, Place};
+pub use map_keeper::MapKeeper;
+pub use store::{NoStore, Store};
 pub use stores::{Answer, Commit, Phase};
 
 pub mod faults;
 pub mod keepers;
 pub mod laws;
+pub mod map_keeper;
+mod requests;
+mod sessions;
+pub mod store;
 pub mod stores;

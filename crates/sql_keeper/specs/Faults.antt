@@ -1,0 +1,43 @@
+-- What the faults of rows, of a keeper and of a store have to do with one another.
+use Rattle.std.specs.Prelude.{Bool, true, false, Result, Ok, Err}
+use Rattle.rows_model.specs.declared.refusals.ApplyFault.{ApplyFault}
+use Rattle.rows_model.specs.declared.refusals.ApplyFault.TheVariants as causes
+use Rattle.sql_keeper.specs.declared.faults.KeepFault.{KeepFault}
+use Rattle.sql_keeper.specs.declared.faults.KeepFault.TheVariants as keep
+use Rattle.sql_keeper.specs.declared.faults.AfterFault.{AfterFault}
+use Rattle.sql_keeper.specs.declared.faults.AfterFault.TheVariants as staged
+use Rattle.sql_keeper.specs.declared.faults.CommitFault.{CommitFault}
+use Rattle.sql_keeper.specs.declared.faults.CommitFault.TheVariants as faults
+
+-- why a keeper doesn't make a transaction that its rows don't take
+abbrev pub after_apply : ApplyFault → AfterFault
+after_apply (causes.Rejected index) = staged.Rejected index
+after_apply causes.Memory = staged.Memory
+
+-- why a store doesn't commit a transaction that its keeper doesn't make
+abbrev pub after_keeper : AfterFault → CommitFault
+after_keeper (staged.Rejected index) = faults.Rejected index
+after_keeper staged.Failed = faults.KeepFault
+after_keeper staged.Memory = faults.Memory
+
+-- whether the keeper failed, by what it answered
+abbrev pub keep_failed : {A : Type 0} → Result A KeepFault → Bool
+keep_failed (Ok answer) = false
+keep_failed (Err keep.Failed) = true
+keep_failed (Err keep.Memory) = false
+
+-- whether the keeper failed, by what it answered on the rows after a transaction
+abbrev pub staged_failed : {A : Type 0} → Result A AfterFault → Bool
+staged_failed (Ok answer) = false
+staged_failed (Err (staged.Rejected index)) = false
+staged_failed (Err staged.Failed) = true
+staged_failed (Err staged.Memory) = false
+
+-- whether a fault of a commit is that of a keeper that failed
+abbrev pub is_failure : CommitFault → Bool
+is_failure faults.Ended = false
+is_failure (faults.Uncovered key) = false
+is_failure (faults.LogFull count) = false
+is_failure faults.Memory = false
+is_failure (faults.Rejected index) = false
+is_failure faults.KeepFault = true

@@ -1,0 +1,251 @@
+ghost use Rattle.std.specs.Prelude.{◌≡◌, ◌≢◌, ◌+◌, ◌≤◌, ℕ, Option, Some, None, Ok, Err, All, AllPairs, length, MatchResult, IfOk, IfErr, OnOk, OnErr, IsSome, IsTrue};
+ghost use Rattle.std.specs.Bool.{IsFalse};
+ghost use Rattle.std.specs.Option.{ForSome};
+ghost use Rattle.iq_outside.specs.Outside.{Rose};
+ghost use Rattle.rows_model.specs.Rows.{Tables, start_tables};
+ghost use Rattle.rows_model.specs.Query.{answer};
+ghost use Rattle.rows_model.specs.Changes.{apply_all};
+ghost use Rattle.sql_keeper.specs.Keepers.{AnswersAfter};
+ghost use Rattle.sql_keeper.specs.Log.{rows_after};
+ghost use Rattle.sql_keeper.specs.Sessions.{is_open};
+ghost use Rattle.sql_keeper.specs.Commits.{commit_fault};
+ghost use Rattle.sql_keeper.specs.Faults.{keep_failed, staged_failed, is_failure};
+ghost use Rattle.sql_keeper.specs.Stores.{opened, with_session, with_end, with_commit, with_call, RoseIf, IsRefusal, IsTrueFault};
+
+use crate::faults::{AfterFault, CommitFault, KeepFault};
+use crate::keepers::{Keeper, Place};
+use crate::requests::admit;
+use crate::sessions::Sessions;
+use crate::stores::{Answer, Commit, Phase};
+use key_shard::Grant;
+use rows_model::{Memory, QKey, Rows, Sid, Txn, Value};
+use std::alloc::Global;
+use std::marker::Model;
+
+/// The rows of a keeper, what was committed on them, and the sessions. Contracts see the ledger, and
+/// of the keeper its rows, where it tells them, and its count of faults.
+///
+/// Where the keeper tells its rows, they are those after the log. Where they are told after a call,
+/// they were told before it.
+pub struct Store<K: Keeper> {
+    keeper: K,
+    opening: Rows,
+    log: Vec<Commit>,
+    sessions: Sessions,
+    cap: u64,
+    failed: u64,
+}
+
+impl<K: Keeper> Model for Store<K> {
+    ghost use Rattle.std.specs.Prelude.{◌≡◌};
+    ghost use Rattle.std.specs.Option.{ForSome};
+    ghost use Rattle.sql_keeper.specs.Log.{rows_after};
+    ghost use Rattle.sql_keeper.specs.Stores.{StoreView, IsLedger};
+
+    ghost Value = { StoreView };
+
+    ghost view = { λ s. record {
+      ledger = record { opening = s.opening; log = s.log.items; sessions = s.sessions; cap = s.cap; failed = s.failed };
+      told = K.rows s.keeper;
+      faults = K.faults s.keeper;
+    } };
+
+    ghost invariant = { λ s. K.is_started s.keeper
+        × IsLedger (record { opening = s.opening; log = s.log.items; sessions = s.sessions; cap = s.cap; failed = s.failed })
+        × ForSome (K.rows s.keeper) (λ told. told ≡ rows_after s.opening s.log.items) };
+}
+
+/// A keeper that didn't start, and why. Its rows are as before.
+pub struct NoStore<K: Keeper> {
+    pub keeper: K,
+    pub cause: KeepFault,
+}
+
+impl<K: Keeper> Store<K> {
+    /// Starts the keeper, with so many members at a fresh place. The rows that it has are the opening
+    /// rows. The log is empty, and takes at most `cap` commits.
+    pub fn new(
+        alloc: Global,
+        keeper: K,
+        place: &Place,
+        members: u32,
+        cap: u64,
+    ) -> Result<Store<K>, NoStore<K>>
+        requires some { 1 ≤ members }
+        requires few { members ≤ 100000 }
+        requires cap { cap ≤ 8000000 }
+        ensures opened { IfOk result (λ store. store.ledger ≡ opened store.ledger.opening cap) }
+        ensures told { IfOk result (λ store. ForSome store.told (λ told. told ≡ store.ledger.opening)) }
+        ensures fresh { place.now ≡ Place.Fresh → IfOk result (λ store. IsSome store.told → store.ledger.opening ≡ start_tables members) }
+        ensures never_falls { MatchResult result (λ store. K.faults keeper ≤ store.faults) (λ none. K.faults keeper ≤ K.faults none.keeper) }
+        ensures kept { IfErr result (λ none. K.rows none.keeper ≡ K.rows keeper) }
+        ensures failed_rose { IfErr result (λ none. none.cause ≡ KeepFault.Failed → Rose (K.faults keeper) (K.faults none.keeper)) }
+    {
+        let mut keeper = keeper;
+        match keeper.start(alloc, place, members) {
+            Ok(opening) => Ok(Store {
+                keeper,
+                opening,
+                log: Vec::new(alloc),
+                sessions: Sessions::new(alloc),
+                cap,
+                failed: 0,
+            }),
+            Err(cause) => Err(NoStore { keeper, cause }),
+        }
+    }
+
+    /// A session begins, to write or to read. Its number is the next one, from 1. One that writes is
+    /// open. For want of memory everything is as before.
+    pub fn begin(&mut self, writes: bool) -> Result<Sid, Memory>
+        ensures ledger { OnOk result (self.new.ledger ≡ with_session writes self.old.ledger) }
+        ensures number { IfOk result (λ sid. sid.number ≡ length self.new.ledger.sessions) }
+        ensures err { OnErr result (self.new.ledger ≡ self.old.ledger) }
+        ensures keeper { (self.new.told ≡ self.old.told) × (self.new.faults ≡ self.old.faults) }
+    {
+        self.sessions.begin(writes)
+    }
+
+    /// The answer to a key on the rows, stamped with the number of commits so far. `Failed` comes
+    /// only where the keeper's count of faults rose, and is counted.
+    pub fn ask(&mut self, key: &QKey) -> Result<Answer, KeepFault>
+        ensures ledger { self.new.ledger ≡ with_call (keep_failed result) self.old.ledger }
+        ensures answer { IfOk result (λ given. (given.key ≡ key.now) × (given.stamp ≡ length self.old.ledger.log)) }
+        ensures tells { IsSome self.new.told → (IsSome self.old.told) × IfOk result (λ given. given.value ≡ answer key.now (rows_after self.old.ledger.opening self.old.ledger.log)) }
+        ensures failed_rose { RoseIf (keep_failed result) self.old.faults self.new.faults }
+        ensures never_falls { self.old.faults ≤ self.new.faults }
+    {
+        let stamp = self.log.len() as u64;
+        match self.keeper.ask(*self.log.allocator(), key) {
+            Ok(value) => Ok(Answer {
+                key: *key,
+                value,
+                stamp,
+            }),
+            Err(KeepFault::Failed) => {
+                self.failed = self.failed.saturating_add(1);
+                Err(KeepFault::Failed)
+            }
+            Err(KeepFault::Memory) => Err(KeepFault::Memory),
+        }
+    }
+
+    /// The answer to a key on the rows as they were after a transaction, which isn't made. `Failed`
+    /// comes only where the keeper's count of faults rose, and is counted.
+    pub fn ask_staged(&mut self, txn: &Txn, key: &QKey) -> Result<Value, AfterFault>
+        ensures ledger { self.new.ledger ≡ with_call (staged_failed result) self.old.ledger }
+        ensures tells { IsSome self.new.told → (IsSome self.old.told) × AnswersAfter txn.now key.now (rows_after self.old.ledger.opening self.old.ledger.log) result }
+        ensures failed_rose { RoseIf (staged_failed result) self.old.faults self.new.faults }
+        ensures never_falls { self.old.faults ≤ self.new.faults }
+    {
+        match self.keeper.ask_after(*self.log.allocator(), txn, key) {
+            Ok(value) => Ok(value),
+            Err(AfterFault::Failed) => {
+                self.failed = self.failed.saturating_add(1);
+                Err(AfterFault::Failed)
+            }
+            Err(fault) => Err(fault),
+        }
+    }
+
+    /// Commits the transaction of an open session, under the grants that cover each key it touches:
+    /// the rows take it, the log gains it, the session is open no more, and the answer is the new
+    /// number of commits. Else the first cause in the order of `CommitFault` is told, the
+    /// transaction comes back, and rows, log and sessions are as before. A keeper that fails is
+    /// told before it is known whether the transaction applies.
+    pub fn commit(
+        &mut self,
+        sid: Sid,
+        txn: Txn,
+        grants: &[Grant],
+    ) -> Result<u64, (CommitFault, Txn)>
+        ensures admitted { OnOk result (commit_fault (is_open sid self.old.ledger.sessions) sid grants.now txn (length self.old.ledger.log) self.old.ledger.cap ≡ None) }
+        ensures refusal { IfErr result (λ back. IsRefusal (commit_fault (is_open sid self.old.ledger.sessions) sid grants.now txn (length self.old.ledger.log) self.old.ledger.cap) back.0) }
+        ensures ledger { OnOk result (self.new.ledger ≡ with_commit sid txn self.old.ledger) }
+        ensures number { IfOk result (λ number. number ≡ length self.old.ledger.log + 1) }
+        ensures err { IfErr result (λ back. self.new.ledger ≡ with_call (is_failure back.0) self.old.ledger) }
+        ensures back { IfErr result (λ back. back.1 ≡ txn) }
+        ensures tells { IsSome self.new.told → IsSome self.old.told }
+        ensures applied { IsSome self.new.told → OnOk result ((after : Tables) × (apply_all txn (rows_after self.old.ledger.opening self.old.ledger.log) ≡ Ok after)) }
+        ensures rejected { IsSome self.new.told → IfErr result (λ back. IsTrueFault txn (rows_after self.old.ledger.opening self.old.ledger.log) back.0) }
+        ensures failed_rose { IfErr result (λ back. RoseIf (is_failure back.0) self.old.faults self.new.faults) }
+        ensures never_falls { self.old.faults ≤ self.new.faults }
+    {
+        if let Err(fault) = admit(&self.sessions, &mut self.log, self.cap, sid, &txn, grants) {
+            return Err((fault, txn));
+        }
+        if let Err(fault) = self.keeper.commit(*self.log.allocator(), &txn) {
+            if fault == AfterFault::Failed {
+                self.failed = self.failed.saturating_add(1);
+            }
+            return Err((CommitFault::from(fault), txn));
+        }
+        self.log.push_reserved(Commit { sid, txn });
+        self.sessions.close(sid, Phase::Committed);
+        Ok(self.log.len() as u64)
+    }
+
+    /// Ends the session, if it is open, and tells whether it was. It isn't open afterwards. It takes no
+    /// memory.
+    pub fn end(&mut self, sid: Sid) -> bool
+        ensures was { result ≡ is_open sid self.old.ledger.sessions }
+        ensures ledger { self.new.ledger ≡ with_end sid self.old.ledger }
+        ensures ended { IsFalse (is_open sid self.new.ledger.sessions) }
+        ensures keeper { (self.new.told ≡ self.old.told) × (self.new.faults ≡ self.old.faults) }
+    {
+        self.sessions.end(sid)
+    }
+
+    /// Whether the session may still commit.
+    pub fn is_open(&self, sid: Sid) -> bool
+        ensures { result ≡ is_open sid self.now.ledger.sessions }
+    {
+        self.sessions.is_open(sid)
+    }
+
+    /// The rows that the keeper started with.
+    pub fn opening(&self) -> &Rows
+        ensures { result.now ≡ self.now.ledger.opening }
+    {
+        &self.opening
+    }
+
+    /// The commits, the earliest first. Each session committed at most once, and isn't open. Where the
+    /// keeper tells its rows, they are the opening rows after these commits.
+    pub fn log(&self) -> &[Commit]
+        ensures items { result.now ≡ self.now.ledger.log }
+        ensures few { length result.now ≤ self.now.ledger.cap }
+        ensures once { AllPairs (λ commit later. commit.sid.number ≢ later.sid.number) result.now }
+        ensures closed { All (λ commit. IsFalse (is_open commit.sid self.now.ledger.sessions)) result.now }
+        ensures told { ForSome self.now.told (λ told. told ≡ rows_after self.now.ledger.opening result.now) }
+    {
+        self.log.as_slice()
+    }
+
+    /// How many calls of the keeper have failed since it was started. The count stops at 2^64 - 1.
+    pub fn failed(&self) -> u64
+        ensures { result ≡ self.now.ledger.failed }
+    {
+        self.failed
+    }
+
+    /// The keeper, the opening rows and the log.
+    pub fn into_parts(self) -> (K, Rows, Vec<Commit>)
+        ensures rows { K.rows result.0 ≡ self.told }
+        ensures faults { K.faults result.0 ≡ self.faults }
+        ensures started { K.is_started result.0 }
+        ensures opening { result.1 ≡ self.ledger.opening }
+        ensures log { result.2.items ≡ self.ledger.log }
+        ensures told { ForSome self.told (λ told. told ≡ rows_after self.ledger.opening self.ledger.log) }
+    {
+        let Store {
+            keeper,
+            opening,
+            log,
+            sessions: _,
+            cap: _,
+            failed: _,
+        } = self;
+        (keeper, opening, log)
+    }
+}
