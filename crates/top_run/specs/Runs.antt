@@ -12,9 +12,8 @@ use Rattle.session_client.specs.declared.plans.Shape.{Shape}
 use Rattle.session_client.specs.declared.plans.Turn.{Turn}
 use Rattle.run_inputs.specs.declared.scripts.Act.{Act}
 use Rattle.run_inputs.specs.declared.scripts.Act.TheVariants as act
-use Rattle.run_inputs.specs.declared.scripts.ScriptKind.{ScriptKind}
-use Rattle.run_inputs.specs.Script.{IsScript}
-use Rattle.run_inputs.specs.Faults.{IsFault}
+use Rattle.run_inputs.specs.declared.faults.ScriptKind.{ScriptKind}
+use Rattle.run_inputs.specs.Script.{IsScript, IsFault}
 use Rattle.core_history.specs.Events.{Event, log_of}
 use Rattle.core_history.specs.Lines.{lines_of, end_line, is_fault}
 use Rattle.core_history.specs.Machine.{Move, Begin, Take, world_of, terms_of}
@@ -30,12 +29,12 @@ AreReplay words = words ≡ codes "replay" ∷ []
 -- What a script says, one by one: to begin a session of this plan, or to take this turn.
 pub data Call : Type 0 where
   Adds : (plan : Plan) → Call
-  Takes_ : (turn : Turn) → Call
+  Turns : (turn : Turn) → Call
 
 -- What an act says.
 abbrev pub calls_in : Act → List Call
 calls_in (act.Add plan) = Adds plan ∷ []
-calls_in (act.Run turn count) = replicate count (Takes_ turn)
+calls_in (act.Run turn count) = replicate count (Turns turn)
 
 -- What the acts say, in order.
 abbrev pub calls_of : List Act → List Call
@@ -44,7 +43,7 @@ calls_of acts = flat_map calls_in acts
 -- What a move does, without what the keeper said in it.
 abbrev pub call_of : Move → Call
 call_of (Begin plan) = Adds plan
-call_of (Take turn said) = Takes_ turn
+call_of (Take turn said) = Turns turn
 
 -- The moves, the latest first, do what the acts say.
 abbrev pub AreMoves : List Act → List Move → Type 0
@@ -102,9 +101,10 @@ pub record Prints (taken_old taken_new : Option (List ℕ)) (printed : List ℕ)
   pub gains : Gains taken_old taken_new printed
   pub counted : written ≡ min (length printed) (2 ^ 64 - 1)
 
--- There are no more FAULT lines than the keeper's count of faults rose by, unless it stands at the end of its type.
+-- There are no more FAULT lines than the keeper's count of faults rose by, unless it came to the end of its type.
 abbrev pub FewFaults : ℕ → ℕ → ℕ → Type 0
-FewFaults faults failed_old failed_new = (failed_old + faults ≤ failed_new) ⊎ (failed_new ≡ 2 ^ 64 - 1)
+FewFaults faults failed_old failed_new =
+    (failed_old + faults ≤ failed_new) ⊎ ((failed_old ≤ 2 ^ 64 - 1) × (2 ^ 64 - 1 ≤ failed_new))
 
 -- The log and the histories are those after these moves over these opening rows. Each history is legal, each commit was quarantined when it was made and is covered. Where the keeper tells its rows, its word was true, and each hit is fresh.
 pub record Keeps (shape : Shape) (opening : Tables) (moves : List Move) (rows : Option Tables) (log : List Commit) (histories : List (List Step)) : Type 0 where
@@ -154,10 +154,18 @@ pub record IsNotStarted (before after : Tells) (left : Left) (written : ℕ) : T
   pub no_log : left.log ≡ []
   pub no_histories : left.histories ≡ []
 
--- The keeper wasn't called.
+-- The keeper is as before.
 pub record IsUnasked (before after : Tells) : Type 0 where
   pub rows : after.rows ≡ before.rows
   pub count : after.keeps_failed ≡ before.keeps_failed
+
+-- A script was read, but the keeper didn't start: its rows are as before.
+pub record IsFailedStart (before after : Tells) (left : Left) (written : ℕ) : Type 0 where
+  pub shape : Shape
+  pub acts : List Act
+  pub read : IsRead before.left after.left shape acts
+  pub rows : after.rows ≡ before.rows
+  pub nothing : IsNotStarted before after left written
 
 -- What is so at an end of a run.
 abbrev pub Ended : Status → Tells → Tells → Left → ℕ → Type 0
@@ -171,7 +179,6 @@ Ended status.WriteFault before after left written =
     Rose before.writes_failed after.writes_failed × IsCutOff before after left written
 Ended status.KeepFault before after left written =
     Rose before.keeps_failed after.keeps_failed
-    × ((((shape : Shape) × (acts : List Act) × IsRead before.left after.left shape acts) × IsNotStarted before after left written)
-    ⊎ ((faults : ℕ) × (1 ≤ faults) × IsWhole before after left written faults))
+    × (IsFailedStart before after left written ⊎ ((faults : ℕ) × (1 ≤ faults) × IsWhole before after left written faults))
 Ended status.Memory before after left written =
     (TakesSome before.left after.left × IsNotStarted before after left written) ⊎ IsCutOff before after left written
