@@ -1,3 +1,5 @@
 pub mod PrintLemmas
 pub mod PlayLemmas
 pub mod PlayStates
+pub mod KeepLemmas
+pub mod RunLemmas

@@ -1,4 +1,4 @@
-use Rattle.std.proofs.Common.{ℕ, ◌≡◌, ◌+◌, ◌-◌, ◌^◌, ◌<◌, ◌≤◌, min, List, [], ◌∷◌, ◌++◌, length, take, drop, decimal, arith, refl, sym, ap, ◌∙◌, append_assoc, append-nil, take-append-drop, reverse, flat_map}
+use Rattle.std.proofs.Common.{ℕ, ◌≡◌, ◌+◌, ◌-◌, ◌*◌, ◌^◌, ◌<◌, ◌≤◌, min, List, [], ◌∷◌, ◌++◌, length, take, drop, decimal, arith, refl, sym, ap, ◌∙◌, append_assoc, append-nil, take-append-drop, reverse, flat_map}
 use Rattle.std.specs.Prelude.{Bool, Option, Some, codes, cond, count_by, slice_get}
 use Rattle.std.proofs.lemmas.List.{length-append, length-take-le, reverse-append, take_more}
 use Rattle.std.proofs.lemmas.List.Sums.{sum_by-append, sum_by-cons, count_by-le-length}
@@ -58,7 +58,7 @@ unfolding lines_of
 lines_none = refl
 
 -- one history more is counted
-pub count_more : (test : Step → Bool) (histories : List (List Step)) (i : ℕ) (history : List Step) → slice_get histories i ≡ Some history
+count_more : (test : Step → Bool) (histories : List (List Step)) (i : ℕ) (history : List Step) → slice_get histories i ≡ Some history
     → count_in test (take (i + 1) histories) ≡ count_in test (take i histories) + count_by test history
 count_more test histories i history is =
     let below = slice_get_within histories i history is in
@@ -67,6 +67,14 @@ count_more test histories i history is =
     ap (count_in test) here
     ∙ ap (count_by test) (flat_map-append (λ (h : List Step). h) (take i histories) (history ∷ []) ∙ ap (λ (h : List Step). flat_map (λ (x : List Step). x) (take i histories) ++ h) (append-nil history))
     ∙ sum_by-append (λ step. cond (test step) 1 0) (flat_map (λ (x : List Step). x) (take i histories)) history
+
+pub counted_more : (test : Step → Bool) (histories : List (List Step)) (i : ℕ) (history : List Step) (a n : ℕ) → slice_get histories i ≡ Some history
+    → a ≡ count_in test (take i histories) → n ≡ count_by test history → a + n ≡ count_in test (take (i + 1) histories)
+counted_more test histories i history a n is before here =
+    ap (λ (m : ℕ). m + n) before ∙ ap (λ (m : ℕ). count_in test (take i histories) + m) here ∙ sym (count_more test histories i history is)
+
+pub bound_more : (a n i : ℕ) → a ≤ i * 18446744073709551615 → n < 18446744073709551616 → a + n ≤ (i + 1) * 18446744073709551615
+bound_more a n i below small = omega arith
 
 regroup : (a b c d e f g h t : List ℕ) → (((((((a ++ b) ++ c) ++ d) ++ e) ++ f) ++ g) ++ h) ++ t ≡ (a ++ (b ++ (c ++ (d ++ (e ++ (f ++ (g ++ h))))))) ++ t
 regroup a b c d e f g h t = simp append_assoc
