@@ -1,7 +1,8 @@
-use Rattle.std.proofs.Common.{get_or, ℕ, ◌≡◌, ◌+◌, ◌^◌, ◌<◌, ◌≤◌, List, [], ◌∷◌, ◌++◌, length, map, arith, refl, sym, ap, ◌∙◌, subst, inl, inr, append_assoc, append-nil}
-use Rattle.std.specs.Prelude.{Bool, true, false, Option, Some, None, Result, OnErr, OnOk, Ok, Err, sum_by}
+use Rattle.std.proofs.Common.{get_or, ℕ, ◌≡◌, ◌+◌, ◌-◌, ◌^◌, ◌<◌, ◌≤◌, List, [], ◌∷◌, ◌++◌, length, map, arith, refl, sym, ap, ◌∙◌, subst, inl, inr, append_assoc, append-nil}
+use Rattle.std.specs.Prelude.{Bool, true, false, Option, Some, None, Result, OnErr, OnOk, Ok, Err, IsSome, sum_by}
 use Rattle.iq_outside.specs.Outside.{Rose}
 use Rattle.iq_outside.proofs.OutsideLemmas.{Gains-none}
+use Rattle.rows_model.specs.Rows.{start_tables}
 use Rattle.session_client.specs.declared.plans.Shape.{Shape}
 use Rattle.run_inputs.specs.declared.scripts.Act.{Act}
 use Rattle.run_inputs.specs.Fit.{IsPlayable, turns_of}
@@ -13,6 +14,8 @@ use Rattle.core_history.specs.Machine.{Move}
 use Rattle.top_run.specs.declared.plays.Stop.{Stop}
 use Rattle.top_run.specs.declared.plays.Stop.TheVariants as stop
 use Rattle.top_run.specs.declared.plays.Tally.{Tally}
+use Rattle.top_run.specs.declared.runs.Status.{Status}
+use Rattle.top_run.specs.declared.runs.Status.TheVariants as status
 use Rattle.top_run.specs.Runs.{Call, calls_of, past_of, out, faults_in, Prints, IsRead, Tells, Left, IsWhole, IsCutOff, Keeps, FewFaults, Ended}
 use Rattle.top_run.specs.Plays.{CanPlay, Stands, Stops, IsNoted, IsNew, IsFinished, IsStopped, origin_of, status_of}
 use Rattle.top_run.proofs.PrintLemmas.{lines_none}
@@ -206,3 +209,43 @@ pub few_shards : (core : CoreView) (origin : Origin) (calls : List Call) (acts :
     → Stands core origin calls taken_old taken_new tally → IsPlayable origin.shape acts → length core.shards ≤ 64
 few_shards core origin calls acts taken_old taken_new tally h playable =
     subst (λ (n : ℕ). n ≤ 64) (sym h.at.kept.shards.count) playable.shape_fits.few_shards
+
+-- a keeper whose count of faults stands didn't fail, unless the count stands at the end of its type
+not_rose : (before after : ℕ) → Rose before after → after ≡ before → before < 2 ^ 64 - 1 → ⊥
+not_rose before after (inl up) same below = omega (arith, up, same)
+not_rose before after (inr end) same below = omega (arith, end, same, below)
+
+pub not_failed : (ended : Status) (before after : Tells) (left : Left) (written : ℕ) → Ended ended before after left written
+    → after.keeps_failed ≡ before.keeps_failed → before.keeps_failed < 2 ^ 64 - 1 → ended ≡ status.KeepFault → ⊥
+not_failed ended before after left written h same below is =
+    let failed = subst (λ (e : Status). Ended e before after left written) is h in
+    not_rose before.keeps_failed after.keeps_failed failed.0 same below
+
+-- however a run ended, there is room for its histories
+pub room_at_end : (ended : Result (Unit {0}) Stop) (core : CoreView) (origin : Origin) (acts : List Act) (taken_old taken_new : Option (List ℕ)) (tally : Tally) (room : ℕ)
+    → OnOk ended (IsFinished core origin acts taken_old taken_new tally)
+    → OnErr ended (IsStopped core origin acts taken_old taken_new tally)
+    → origin.shape.shards ≤ room → length core.shards ≤ room
+room_at_end ended core origin acts taken_old taken_new tally room all some fits =
+    let kept = kept_at_end ended core origin acts taken_old taken_new tally all some in
+    subst (λ (n : ℕ). n ≤ room) (sym kept.1.shards.count) fits
+
+-- the end of a run that began is none for want of a command
+pub other_end : (ended : Result (Unit {0}) Stop) (faulted : Bool) → status_of ended faulted ≡ status.Usage → ⊥
+other_end (Ok done) true is = cc
+other_end (Ok done) false is = cc
+other_end (Err stop.WriteFault) faulted is = cc
+other_end (Err stop.Memory) faulted is = cc
+
+-- a keeper's count doesn't fall in a run
+pub faults_at_end : (ended : Result (Unit {0}) Stop) (core : CoreView) (origin : Origin) (acts : List Act) (taken_old taken_new : Option (List ℕ)) (tally : Tally)
+    → OnOk ended (IsFinished core origin acts taken_old taken_new tally)
+    → OnErr ended (IsStopped core origin acts taken_old taken_new tally)
+    → origin.faults ≤ core.store.faults
+faults_at_end ended core origin acts taken_old taken_new tally all some =
+    let kept = kept_at_end ended core origin acts taken_old taken_new tally all some in
+    never_fell (faults_in origin.shape kept.0) origin.faults origin.faults core.store.faults (omega arith) kept.1.store.faults
+
+-- a core that was just made is new
+pub new_core : (core : CoreView) (made shape : Shape) → made ≡ shape → IsAt core (origin_of made core) [] → (IsSome core.store.told → core.store.ledger.opening ≡ start_tables made.members) → IsNew core shape
+new_core core made shape is at fresh = subst (IsNew core) is (record { at = at; fresh = fresh })
