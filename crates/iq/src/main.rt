@@ -1,7 +1,10 @@
-//! The program: the words behind its name, standard input, standard output, and an exit status.
+//! The program: the words behind its name, standard input, standard output, and an exit status. The
+//! rows of its store are in memory.
 #![tactic(auto)]
 
 use iq_outside::{ReaderSource, WriterSink};
+use run_inputs::ScriptKind;
+use sql_keeper::MapKeeper;
 use std::process::ExitCode;
 use std::{env, io};
 use top_run::{Status, run};
@@ -11,10 +14,7 @@ fn main(rt: HostRuntime) -> ExitCode {
         Ok(words) => run_on(&rt, words.as_slice()),
         Err(status) => status,
     };
-    if let Some(message) = message_of(status) {
-        // There is nowhere left to tell that this write failed.
-        let _ = eprintln!(rt; "{message}");
-    }
+    tell(&rt, status);
     ExitCode::from(exit_code(status))
 }
 
@@ -42,33 +42,56 @@ fn ended_by(error: &io::Error) -> Status {
     }
 }
 
-/// Runs on standard input and standard output, neither with a buffer.
+/// Runs on standard input and standard output, neither with a buffer, over a keeper in memory.
 fn run_on(rt: &HostRuntime, words: &[Vec<u8>]) -> Status {
     let mut source = ReaderSource::new(rt.stdin());
     let mut sink = WriterSink::new(rt.stdout());
-    run(rt.alloc(), words, &mut source, &mut sink).status
+    let keeper = MapKeeper::new(Vec::new(rt.alloc()));
+    run(rt.alloc(), words, &mut source, &mut sink, keeper).status
 }
 
-/// The one line that a fault writes to standard error.
-fn message_of(status: Status) -> Option<&'static str> {
+/// Writes the one line of a fault to standard error.
+fn tell(rt: &HostRuntime, status: Status) {
+    // There is nowhere left to tell that this write failed.
+    let _ = match status {
+        Status::Script { line, kind } if kind != ScriptKind::NotYet => {
+            eprintln!(rt; "script line {line} {}", kind.word())
+        }
+        Status::Done => Ok(()),
+        other => eprintln!(rt; "{}", message_of(other)),
+    };
+}
+
+/// What a fault is called, but for a faulty script's place.
+fn message_of(status: Status) -> &'static str {
     match status {
-        Status::Done => None,
-        Status::Usage => Some("usage"),
-        Status::NotYet => Some("not yet"),
-        Status::ReadFault => Some("read fault"),
-        Status::WriteFault => Some("write fault"),
-        Status::Memory => Some("memory"),
+        Status::Done => "done",
+        Status::Usage => "usage",
+        Status::Script {
+            kind: ScriptKind::NotYet,
+            ..
+        } => "not yet",
+        Status::Script { .. } => "script",
+        Status::ReadFault => "read fault",
+        Status::WriteFault => "write fault",
+        Status::KeepFault => "store fault",
+        Status::Memory => "memory",
     }
 }
 
-/// The exit status, one for each way to end.
+/// The exit status, one for each way to end. A line that isn't run yet has its own.
 fn exit_code(status: Status) -> u8 {
     match status {
         Status::Done => 0,
         Status::Usage => 1,
+        Status::Script {
+            kind: ScriptKind::NotYet,
+            ..
+        } => 9,
+        Status::Script { .. } => 2,
         Status::ReadFault => 3,
         Status::WriteFault => 4,
-        Status::NotYet => 9,
+        Status::KeepFault => 6,
         Status::Memory => 10,
     }
 }

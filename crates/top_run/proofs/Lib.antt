@@ -1,7 +1,5 @@
-pub mod CutLemmas
-pub mod ParseLemmas
-pub mod ActsLemmas
 pub mod PrintLemmas
 pub mod PlayLemmas
 pub mod PlayStates
+pub mod KeepLemmas
 pub mod RunLemmas

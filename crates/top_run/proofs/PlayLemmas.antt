@@ -1,25 +1,24 @@
-use Rattle.std.proofs.Common.{take, drop, get_or, take-append-drop, ℕ, zero, suc, ◌≡◌, ◌+◌, ◌-◌, ◌^◌, ◌<◌, List, [], ◌∷◌, ◌++◌, length, arith, refl, sym, ap, ◌∙◌, subst, inl, inr, append_assoc, append-nil}
-use Rattle.std.specs.Prelude.{◌⊎◌, Option, Result, OnErr, Ok, Err, replicate, sum_by}
-use Rattle.core_history.specs.declared.cores.Core.{Core}
-use Rattle.core_history.specs.declared.plans.Shape.{Shape}
-use Rattle.core_history.specs.declared.plans.Turn.{Turn}
-use Rattle.core_history.specs.declared.plans.Plan.{Plan}
-use Rattle.core_history.specs.Lines.{line_of, lines_of}
-use Rattle.core_history.specs.Cores.{IsAt, HasHistories}
-use Rattle.core_history.specs.Machine.{World, Move, Begin, Take, turn_event, taken, begun, moved, world_after}
-use Rattle.top_run.specs.Runs.{Prints}
-use Rattle.core_history.specs.declared.plans.Turn.TheVariants.{Session}
-use Rattle.core_history.specs.Follows.{plan_of}
-use Rattle.core_history.specs.Cores.{IsRunning, HasBegun}
-use Rattle.top_run.specs.declared.scripts.Act.{Act}
-use Rattle.top_run.specs.declared.scripts.Act.TheVariants as act
-use Rattle.top_run.specs.Script.{moves_in, moves_of, sessions_of, turns_of}
-use Rattle.top_run.specs.Plays.{IsTurnOf, AreFit, CanPlay, Stands, Stops}
-use Rattle.rows_model.specs.declared.keys.Kind.TheVariants.{Profile}
-use Rattle.core_history.specs.declared.plans.Plan.TheVariants.{Read}
-use Rattle.std.proofs.lemmas.List.{take_more, drop_more, length-append, length-map, replicate-append-replicate}
+use Rattle.std.proofs.Common.{take, drop, get_or, take-append-drop, ℕ, zero, suc, ◌≡◌, ◌+◌, ◌-◌, ◌^◌, ◌<◌, ◌≤◌, List, [], ◌∷◌, ◌++◌, length, map, reverse, arith, refl, sym, ap, ◌∙◌, subst, inl, inr, append_assoc, append-nil}
+use Rattle.std.specs.Prelude.{Bool, true, false, ◌||◌, cond, ◌⊎◌, Option, Result, OnErr, Ok, Err, replicate, sum_by, count_by}
+use Rattle.std.proofs.lemmas.List.{take_more, drop_more, length-append, length-map, map-append, reverse-append, replicate-append-replicate}
 use Rattle.std.proofs.lemmas.List.Concat.{flat_map-append}
-use Rattle.std.proofs.lemmas.List.Sums.{sum_by-cons}
+use Rattle.std.proofs.lemmas.List.Sums.{sum_by-cons, sum_by-append}
+use Rattle.rows_model.specs.declared.keys.Kind.TheVariants.{Profile}
+use Rattle.session_client.specs.declared.plans.Shape.{Shape}
+use Rattle.session_client.specs.declared.plans.Turn.{Turn}
+use Rattle.session_client.specs.declared.plans.Turn.TheVariants.{Session}
+use Rattle.session_client.specs.declared.plans.Plan.{Plan}
+use Rattle.session_client.specs.declared.plans.Plan.TheVariants.{Read}
+use Rattle.run_inputs.specs.declared.scripts.Act.{Act}
+use Rattle.run_inputs.specs.declared.scripts.Act.TheVariants as act
+use Rattle.run_inputs.specs.Fit.{IsTurnOf, AreFit, sessions_of, turns_of}
+use Rattle.core_history.specs.Events.{Event}
+use Rattle.core_history.specs.Lines.{line_of, lines_of, is_fault}
+use Rattle.core_history.specs.Cores.{CoreView, Origin, IsAt, HasKept, IsRunning, HasBegun}
+use Rattle.core_history.specs.Machine.{Said, Move, Begin, Take, turn_event, world_of}
+use Rattle.top_run.specs.declared.plays.Tally.{Tally}
+use Rattle.top_run.specs.Runs.{Call, Adds, Turns, call_of, calls_in, calls_of, past_of, faults_in, Prints}
+use Rattle.top_run.specs.Plays.{begun_in, taken_in, is_add, is_turn, IsNoted, CanPlay, Stands, Stops}
 use Rattle.top_run.proofs.PrintLemmas.{lines_more}
 
 -- what holds anyway holds at an error
@@ -27,268 +26,307 @@ pub on_err : {T E P : Type 0} (r : Result T E) → P → OnErr r P
 on_err (Ok x) p = tt
 on_err (Err e) p = p
 
--- a core that stands somewhere has the histories of there
-pub histories_at : (core : Core) (shape : Shape) (world : World) → IsAt core shape world → HasHistories core shape world.past
-histories_at core shape world h = (h.ends, h.shards)
+-- what some moves do
+pub calls_after : List Move → List Call
+calls_after moves = map call_of (reverse moves)
+
+-- a move more does one call more
+pub calls_more : (move : Move) (moves : List Move) → map call_of (reverse (move ∷ moves)) ≡ map call_of (reverse moves) ++ call_of move ∷ []
+calls_more move moves = ap (map call_of) (reverse-append (move ∷ []) moves) ∙ map-append call_of (reverse moves) (move ∷ [])
+
+made_more : (move : Move) (moves : List Move) (calls : List Call) → map call_of (reverse moves) ≡ calls → map call_of (reverse (move ∷ moves)) ≡ calls ++ call_of move ∷ []
+made_more move moves calls e = calls_more move moves ∙ ap (λ (xs : List Call). xs ++ call_of move ∷ []) e
+
+-- counts of calls
+count_push : (test : Call → Bool) (calls : List Call) (call : Call) → count_by test (calls ++ call ∷ []) ≡ count_by test calls + cond (test call) 1 0
+count_push test calls call = sum_by-append (λ c. cond (test c) 1 0) calls (call ∷ []) ∙ ap (λ n. count_by test calls + n) (sum_by-cons (λ c. cond (test c) 1 0) call [] ∙ omega arith)
+
+count_append : (test : Call → Bool) (xs ys : List Call) → count_by test (xs ++ ys) ≡ count_by test xs + count_by test ys
+count_append test xs ys = sum_by-append (λ c. cond (test c) 1 0) xs ys
+
+-- as many sessions began and as many turns were taken as the calls say
+pub begun_are : (shape : Shape) (moves : List Move) → length (world_of shape moves).plans ≡ begun_in (map call_of (reverse moves))
+begun_are shape [] = refl
+begun_are shape (Begin plan ∷ moves) =
+    length-append (world_of shape moves).plans (plan ∷ [])
+    ∙ ap (λ n. n + 1) (begun_are shape moves)
+    ∙ sym (ap begun_in (calls_more (Begin plan) moves) ∙ count_push is_add (map call_of (reverse moves)) (Adds plan))
+begun_are shape (Take turn said ∷ moves) =
+    begun_are shape moves
+    ∙ omega arith
+    ∙ sym (ap begun_in (calls_more (Take turn said) moves) ∙ count_push is_add (map call_of (reverse moves)) (Turns turn))
+
+pub taken_are : (shape : Shape) (moves : List Move) → length (world_of shape moves).past ≡ taken_in (map call_of (reverse moves))
+taken_are shape [] = refl
+taken_are shape (Begin plan ∷ moves) =
+    taken_are shape moves
+    ∙ omega arith
+    ∙ sym (ap taken_in (calls_more (Begin plan) moves) ∙ count_push is_turn (map call_of (reverse moves)) (Adds plan))
+taken_are shape (Take turn said ∷ moves) =
+    ap suc (taken_are shape moves)
+    ∙ omega arith
+    ∙ sym (ap taken_in (calls_more (Take turn said) moves) ∙ count_push is_turn (map call_of (reverse moves)) (Turns turn))
+
+-- it is noted whether one line more said FAULT
+count_fault : (event : Event) (past : List Event) → count_by is_fault (event ∷ past) ≡ cond (is_fault event) 1 0 + count_by is_fault past
+count_fault event past = sum_by-cons (λ e. cond (is_fault e) 1 0) event past
+
+noted : (was now : Bool) (n : ℕ) → IsNoted was n → IsNoted (was || now) (cond now 1 0 + n)
+noted true now n h = omega (arith, h)
+noted false true n h = omega arith
+noted false false n h = omega (arith, h)
+
+pub noted_more : (was fault : Bool) (event : Event) (past : List Event) → fault ≡ is_fault event → IsNoted was (count_by is_fault past) → IsNoted (was || fault) (count_by is_fault (event ∷ past))
+noted_more was fault event past is h =
+    subst (λ (n : ℕ). IsNoted (was || fault) n) (ap (λ (b : Bool). cond b 1 0 + count_by is_fault past) is ∙ sym (count_fault event past)) (noted was fault (count_by is_fault past) h)
 
 -- a turn that wasn't told
-pub stopped_at_turn : (old new : Core) (shape : Shape) (world : World) (turn : Turn) (taken_old taken_new : Option (List ℕ)) (written : ℕ)
-    → Stands old shape world taken_old taken_new written
-    → HasHistories new shape world.past ⊎ HasHistories new shape (turn_event shape world turn ∷ world.past)
-    → Stops new shape world (Take turn ∷ []) taken_old taken_new written
-stopped_at_turn old new shape world turn taken_old taken_new written h (inl kept) = record {
-  made = [];
-  others = Take turn ∷ [];
-  moves_are = refl;
+pub stopped_at_turn : (core new : CoreView) (origin : Origin) (calls : List Call) (turn : Turn) (taken_old taken_new : Option (List ℕ)) (tally : Tally)
+    → (h : Stands core origin calls taken_old taken_new tally)
+    → HasKept new origin h.moves ⊎ ((said : Said) × HasKept new origin (Take turn said ∷ h.moves))
+    → Stops new origin (calls ++ Turns turn ∷ []) taken_old taken_new tally
+stopped_at_turn core new origin calls turn taken_old taken_new tally h (inl kept) = record {
+  moves = h.moves;
+  others = Turns turn ∷ [];
+  made = ap (λ (xs : List Call). xs ++ Turns turn ∷ []) h.made;
   kept = kept;
-  printed = lines_of world.past;
-  more = line_of (turn_event shape world turn);
-  parts = sym (lines_more (turn_event shape world turn) world.past);
+  printed = lines_of (past_of origin.shape h.moves);
+  more = [];
+  parts = append-nil (lines_of (past_of origin.shape h.moves));
   prints = h.prints;
 }
-stopped_at_turn old new shape world turn taken_old taken_new written h (inr kept) = record {
-  made = Take turn ∷ [];
-  others = [];
-  moves_are = refl;
-  kept = kept;
-  printed = lines_of world.past;
-  more = line_of (turn_event shape world turn);
-  parts = sym (lines_more (turn_event shape world turn) world.past);
-  prints = h.prints;
-}
-
--- a turn whose line wasn't taken whole
-pub stopped_at_line : (core : Core) (shape : Shape) (world : World) (turn : Turn) (taken_old taken_new : Option (List ℕ)) (written : ℕ) (line : List ℕ)
-    → line ≡ line_of (turn_event shape world turn) → IsAt core shape (taken shape world turn)
-    → (front : List ℕ) × (rest : List ℕ) × (front ++ rest ≡ line) × Prints taken_old taken_new (lines_of world.past ++ front) written
-    → Stops core shape world (Take turn ∷ []) taken_old taken_new written
-stopped_at_line core shape world turn taken_old taken_new written line is at cut = record {
-  made = Take turn ∷ [];
-  others = [];
-  moves_are = refl;
-  kept = histories_at core shape (taken shape world turn) at;
-  printed = lines_of world.past ++ cut.0;
-  more = cut.1;
-  parts = append_assoc (lines_of world.past) cut.0 cut.1
-      ∙ ap (λ (bytes : List ℕ). lines_of world.past ++ bytes) (cut.2 ∙ is)
-      ∙ sym (lines_more (turn_event shape world turn) world.past);
-  prints = cut.3;
-}
-
--- a turn whose line was taken
-pub stands_after_turn : (core : Core) (shape : Shape) (world : World) (turn : Turn) (taken_old taken_new : Option (List ℕ)) (written : ℕ) (line : List ℕ)
-    → line ≡ line_of (turn_event shape world turn) → IsAt core shape (taken shape world turn)
-    → Prints taken_old taken_new (lines_of world.past ++ line) written
-    → Stands core shape (taken shape world turn) taken_old taken_new written
-stands_after_turn core shape world turn taken_old taken_new written line is at prints = record {
-  at = at;
-  prints =
-      subst (λ (bytes : List ℕ). Prints taken_old taken_new bytes written)
-      (ap (λ (bytes : List ℕ). lines_of world.past ++ bytes) is ∙ sym (lines_more (turn_event shape world turn) world.past)) prints;
-}
-
--- moves in two parts
-pub world_after-append : (shape : Shape) (world : World) (xs ys : List Move) → world_after shape world (xs ++ ys) ≡ world_after shape (world_after shape world xs) ys
-world_after-append shape world [] ys = refl
-world_after-append shape world (x ∷ xs) ys = world_after-append shape (moved shape world x) xs ys
-
--- more moves print more
-pub lines_longer : (shape : Shape) (world : World) (moves : List Move) → (more : List ℕ) × (lines_of (world_after shape world moves).past ≡ lines_of world.past ++ more)
-lines_longer shape world [] = ([], sym (append-nil (lines_of world.past)))
-lines_longer shape world (Begin plan ∷ moves) = lines_longer shape (begun world plan) moves
-lines_longer shape world (Take turn ∷ moves) =
-    let later = lines_longer shape (taken shape world turn) moves in (
-      line_of (turn_event shape world turn) ++ later.0,
-      later.1 ∙ ap (λ (bytes : List ℕ). bytes ++ later.0) (lines_more (turn_event shape world turn) world.past)
-          ∙ append_assoc (lines_of world.past) (line_of (turn_event shape world turn)) later.0,
-    )
-
--- what stops in the midst of some moves stops in the midst of all
-pub stops_within : (core : Core) (shape : Shape) (world : World) (before moves after : List Move) (taken_old taken_new : Option (List ℕ)) (written : ℕ)
-    → Stops core shape (world_after shape world before) moves taken_old taken_new written
-    → Stops core shape world (before ++ (moves ++ after)) taken_old taken_new written
-stops_within core shape world before moves after taken_old taken_new written h =
-    let here = world_after shape world before in
-    let all : world_after shape world (before ++ (moves ++ after)) ≡ world_after shape (world_after shape here moves) after =
-    world_after-append shape world before (moves ++ after) ∙ world_after-append shape here moves after in
-    let later = lines_longer shape (world_after shape here moves) after in
+stopped_at_turn core new origin calls turn taken_old taken_new tally h (inr kept) =
+    let event = turn_event origin.shape (world_of origin.shape h.moves) turn kept.0 in
     record {
-      made = before ++ h.made;
-      others = h.others ++ after;
-      moves_are = append_assoc before h.made (h.others ++ after)
-          ∙ ap (λ (xs : List Move). before ++ xs) (sym (append_assoc h.made h.others after) ∙ ap (λ (xs : List Move). xs ++ after) h.moves_are);
-      kept = subst (λ (w : World). HasHistories core shape w.past) (sym (world_after-append shape world before h.made)) h.kept;
-      printed = h.printed;
-      more = h.more ++ later.0;
-      parts = sym (append_assoc h.printed h.more later.0) ∙ ap (λ (bytes : List ℕ). bytes ++ later.0) h.parts ∙ sym later.1
-          ∙ ap (λ (w : World). lines_of w.past) (sym all);
+      moves = Take turn kept.0 ∷ h.moves;
+      others = [];
+      made = append-nil (map call_of (reverse (Take turn kept.0 ∷ h.moves))) ∙ made_more (Take turn kept.0) h.moves calls h.made;
+      kept = kept.1;
+      printed = lines_of (past_of origin.shape h.moves);
+      more = line_of event;
+      parts = sym (lines_more event (past_of origin.shape h.moves));
       prints = h.prints;
     }
 
+-- a turn whose line wasn't taken whole
+pub stopped_at_line : (core new : CoreView) (origin : Origin) (calls : List Call) (turn : Turn) (said : Said) (taken_old taken_was taken_new : Option (List ℕ)) (was tally : Tally) (line : List ℕ)
+    → (h : Stands core origin calls taken_old taken_was was)
+    → line ≡ line_of (turn_event origin.shape (world_of origin.shape h.moves) turn said) → IsAt new origin (Take turn said ∷ h.moves)
+    → (front : List ℕ) × (rest : List ℕ) × (front ++ rest ≡ line) × Prints taken_old taken_new (lines_of (past_of origin.shape h.moves) ++ front) tally.written
+    → Stops new origin (calls ++ Turns turn ∷ []) taken_old taken_new tally
+stopped_at_line core new origin calls turn said taken_old taken_was taken_new was tally line h is at cut =
+    let past = past_of origin.shape h.moves in
+    record {
+      moves = Take turn said ∷ h.moves;
+      others = [];
+      made = append-nil (map call_of (reverse (Take turn said ∷ h.moves))) ∙ made_more (Take turn said) h.moves calls h.made;
+      kept = at.kept;
+      printed = lines_of past ++ cut.0;
+      more = cut.1;
+      parts = append_assoc (lines_of past) cut.0 cut.1
+          ∙ ap (λ (bytes : List ℕ). lines_of past ++ bytes) (cut.2 ∙ is)
+          ∙ sym (lines_more (turn_event origin.shape (world_of origin.shape h.moves) turn said) past);
+      prints = cut.3;
+    }
+
+-- a turn whose line was taken
+pub stands_after_turn : (core new : CoreView) (origin : Origin) (calls : List Call) (turn : Turn) (said : Said) (taken_old taken_was taken_new : Option (List ℕ)) (was tally : Tally) (line : List ℕ) (fault : Bool)
+    → (h : Stands core origin calls taken_old taken_was was)
+    → line ≡ line_of (turn_event origin.shape (world_of origin.shape h.moves) turn said)
+    → fault ≡ is_fault (turn_event origin.shape (world_of origin.shape h.moves) turn said)
+    → IsAt new origin (Take turn said ∷ h.moves)
+    → Prints taken_old taken_new (lines_of (past_of origin.shape h.moves) ++ line) tally.written
+    → tally.faulted ≡ (was.faulted || fault)
+    → Stands new origin (calls ++ Turns turn ∷ []) taken_old taken_new tally
+stands_after_turn core new origin calls turn said taken_old taken_was taken_new was tally line fault h is fails at prints flag =
+    let event = turn_event origin.shape (world_of origin.shape h.moves) turn said in
+    let past = past_of origin.shape h.moves in
+    record {
+      moves = Take turn said ∷ h.moves;
+      at = at;
+      made = made_more (Take turn said) h.moves calls h.made;
+      prints =
+          subst (λ (bytes : List ℕ). Prints taken_old taken_new bytes tally.written)
+          (ap (λ (bytes : List ℕ). lines_of past ++ bytes) is ∙ sym (lines_more event past)) prints;
+      noted = subst (λ (b : Bool). IsNoted b (count_by is_fault (event ∷ past))) (sym flag) (noted_more was.faulted fault event past fails h.noted);
+    }
+
+-- what stops in the midst of some calls stops in the midst of more
+pub stops_within : (core : CoreView) (origin : Origin) (calls after : List Call) (taken_old taken_new : Option (List ℕ)) (tally : Tally)
+    → Stops core origin calls taken_old taken_new tally → Stops core origin (calls ++ after) taken_old taken_new tally
+stops_within core origin calls after taken_old taken_new tally h = record {
+  moves = h.moves;
+  others = h.others ++ after;
+  made = sym (append_assoc (map call_of (reverse h.moves)) h.others after) ∙ ap (λ (xs : List Call). xs ++ after) h.made;
+  kept = h.kept;
+  printed = h.printed;
+  more = h.more;
+  parts = h.parts;
+  prints = h.prints;
+}
+
+-- a session begins
+pub stands_begun : (core new : CoreView) (origin : Origin) (calls : List Call) (plan : Plan) (taken_old taken_new : Option (List ℕ)) (tally : Tally)
+    → (h : Stands core origin calls taken_old taken_new tally) → IsAt new origin (Begin plan ∷ h.moves) → Stands new origin (calls ++ Adds plan ∷ []) taken_old taken_new tally
+stands_begun core new origin calls plan taken_old taken_new tally h at =
+    record { moves = Begin plan ∷ h.moves; at = at; made = made_more (Begin plan) h.moves calls h.made; prints = h.prints; noted = h.noted }
+
+-- what stops where it stands
+pub stops_here : (core : CoreView) (origin : Origin) (calls others : List Call) (taken_old taken_new : Option (List ℕ)) (tally : Tally)
+    → Stands core origin calls taken_old taken_new tally → Stops core origin (calls ++ others) taken_old taken_new tally
+stops_here core origin calls others taken_old taken_new tally h = record {
+  moves = h.moves;
+  others = others;
+  made = ap (λ (xs : List Call). xs ++ others) h.made;
+  kept = h.at.kept;
+  printed = lines_of (past_of origin.shape h.moves);
+  more = [];
+  parts = append-nil (lines_of (past_of origin.shape h.moves));
+  prints = h.prints;
+}
+
 -- a core that stands somewhere has as many sessions as began there
-sessions_at : (core : Core) (shape : Shape) (world : World) → IsAt core shape world → length core.sessions.items ≡ length world.plans
-sessions_at core shape world h = sym (length-map core.sessions.items plan_of) ∙ ap length h.plans
+sessions_at : (core : CoreView) (origin : Origin) (moves : List Move) → IsAt core origin moves → length core.sessions ≡ length (world_of origin.shape moves).plans
+sessions_at core origin moves h = sym (length-map core.sessions _) ∙ ap length h.sessions.plans
 
 -- the turn of a session that began there
-has_begun : (core : Core) (shape : Shape) (world : World) (turn : Turn) → IsAt core shape world → IsTurnOf (length world.plans) turn → HasBegun core turn
-has_begun core shape world (Session who) at of =
-    let same = sessions_at core shape world at in
+has_begun : (core : CoreView) (origin : Origin) (moves : List Move) (turn : Turn) → IsAt core origin moves → IsTurnOf (begun_in (map call_of (reverse moves))) turn → HasBegun core turn
+has_begun core origin moves (Session who) at of =
+    let same = sessions_at core origin moves at in
+    let count = begun_are origin.shape moves in
     let low = of.0 in
     let high = of.1 in
     (omega arith, omega arith)
 
 -- a core that can play a turn can take it
-pub can_take : (core : Core) (turn : Turn) (count : ℕ) (taken_new : Option (List ℕ)) (written : ℕ) → CanPlay core (act.Turns turn count ∷ []) taken_new written → IsRunning core × HasBegun core turn
-can_take core turn count taken_new written h =
+pub can_take : (core : CoreView) (turn : Turn) (count : ℕ) (taken_new : Option (List ℕ)) (tally : Tally) → CanPlay core (act.Run turn count ∷ []) taken_new tally → IsRunning core × HasBegun core turn
+can_take core turn count taken_new tally h =
     let few = h.few in
-    ((h.shape, h.world, h.stands.at, omega arith), has_begun core h.shape h.world turn h.stands.at h.fit.0)
+    let moves = h.stands.moves in
+    let past = taken_are h.origin.shape moves ∙ ap taken_in h.stands.made in
+    let fit = subst (λ (calls : List Call). IsTurnOf (begun_in calls) turn) (sym h.stands.made) h.fit.0 in
+    ((h.origin, moves, h.stands.at, omega arith), has_begun core h.origin moves turn h.stands.at fit)
 
--- what the moves of an act add to a world
-pub turns_add : (shape : Shape) (world : World) (turn : Turn) (count : ℕ)
-    → ((world_after shape world (replicate count (Take turn))).plans ≡ world.plans) × (length (world_after shape world (replicate count (Take turn))).past ≡ length world.past + count)
-turns_add shape world turn zero = (refl, omega arith)
-turns_add shape world turn (suc count) =
-    let later = turns_add shape (taken shape world turn) turn count in
-    (later.0, later.1 ∙ omega arith)
+-- counts of the calls of an act
+count_replicate : (turn : Turn) (count : ℕ) → (begun_in (replicate count (Turns turn)) ≡ 0) × (taken_in (replicate count (Turns turn)) ≡ count)
+count_replicate turn zero = (refl, refl)
+count_replicate turn (suc count) =
+    let rest = count_replicate turn count in
+    let a = sum_by-cons (λ c. cond (is_add c) 1 0) (Turns turn) (replicate count (Turns turn)) in
+    let t = sum_by-cons (λ c. cond (is_turn c) 1 0) (Turns turn) (replicate count (Turns turn)) in
+    (a ∙ ap (λ n. 0 + n) rest.0, t ∙ ap (λ n. 1 + n) rest.1 ∙ omega arith)
 
-pub act_adds : (shape : Shape) (world : World) (a : Act)
-    → (length (world_after shape world (moves_in a)).plans ≡ length world.plans + sessions_of a) × (length (world_after shape world (moves_in a)).past ≡ length world.past + turns_of a)
-act_adds shape world (act.Begin plan) = (length-append world.plans (plan ∷ []), omega arith)
-act_adds shape world (act.Turns turn count) =
-    let more = turns_add shape world turn count in
-    (ap length more.0 ∙ omega arith, more.1)
+pub act_adds : (calls : List Call) (a : Act) → (begun_in (calls ++ calls_in a) ≡ begun_in calls + sessions_of a) × (taken_in (calls ++ calls_in a) ≡ taken_in calls + turns_of a)
+act_adds calls (act.Add plan) = (count_push is_add calls (Adds plan), count_push is_turn calls (Adds plan))
+act_adds calls (act.Run turn count) =
+    let rest = count_replicate turn count in
+    (count_append is_add calls (replicate count (Turns turn)) ∙ ap (λ n. begun_in calls + n) rest.0, count_append is_turn calls (replicate count (Turns turn)) ∙ ap (λ n. taken_in calls + n) rest.1)
 
--- a core that can play acts can play the first, and after that the others
-pub can_first : (core : Core) (a : Act) (acts : List Act) (taken_new : Option (List ℕ)) (written : ℕ) → CanPlay core (a ∷ acts) taken_new written → CanPlay core (a ∷ []) taken_new written
-can_first core a acts taken_new written h =
-    let few : length h.world.past + sum_by turns_of (a ∷ acts) < 2 ^ 32 = h.few in
+-- what a core can play after an act
+pub can_rest : (core new : CoreView) (a : Act) (acts : List Act) (taken_new taken_new' : Option (List ℕ)) (tally tally' : Tally) → CanPlay core (a ∷ acts) taken_new tally
+    → ((origin : Origin) (calls : List Call) (taken : Option (List ℕ)) → Stands core origin calls taken taken_new tally → Stands new origin (calls ++ calls_in a) taken taken_new' tally')
+    → CanPlay new acts taken_new' tally'
+can_rest core new a acts taken_new taken_new' tally tally' h on =
+    let few : taken_in h.calls + sum_by turns_of (a ∷ acts) < 2 ^ 32 = h.few in
     let all = sum_by-cons turns_of a acts in
-    let one = sum_by-cons turns_of a [] in
-    record { shape = h.shape; world = h.world; taken_old = h.taken_old; stands = h.stands; fit = (h.fit.0, tt); few = omega arith }
-
-pub can_rest : (core new : Core) (a : Act) (acts : List Act) (taken_new taken_new' : Option (List ℕ)) (written written' : ℕ) → CanPlay core (a ∷ acts) taken_new written
-    → ((shape : Shape) (world : World) (taken_old : Option (List ℕ)) → Stands core shape world taken_old taken_new written → Stands new shape (world_after shape world (moves_in a)) taken_old taken_new' written')
-    → CanPlay new acts taken_new' written'
-can_rest core new a acts taken_new taken_new' written written' h on =
-    let few : length h.world.past + sum_by turns_of (a ∷ acts) < 2 ^ 32 = h.few in
-    let all = sum_by-cons turns_of a acts in
-    let adds = act_adds h.shape h.world a in
+    let adds = act_adds h.calls a in
     let grown = adds.1 in
     record {
-      shape = h.shape;
-      world = world_after h.shape h.world (moves_in a);
+      origin = h.origin;
+      calls = h.calls ++ calls_in a;
       taken_old = h.taken_old;
-      stands = on h.shape h.world h.taken_old h.stands;
+      stands = on h.origin h.calls h.taken_old h.stands;
       fit = subst (λ (n : ℕ). AreFit n acts) (sym adds.0) h.fit.1;
       few = omega arith;
     }
 
+-- the first of some acts can be played
+pub can_first : (core : CoreView) (a : Act) (acts : List Act) (taken_new : Option (List ℕ)) (tally : Tally) → CanPlay core (a ∷ acts) taken_new tally → CanPlay core (a ∷ []) taken_new tally
+can_first core a acts taken_new tally h =
+    let few : taken_in h.calls + sum_by turns_of (a ∷ acts) < 2 ^ 32 = h.few in
+    let all = sum_by-cons turns_of a acts in
+    let one = sum_by-cons turns_of a [] in
+    record { origin = h.origin; calls = h.calls; taken_old = h.taken_old; stands = h.stands; fit = (h.fit.0, tt); few = omega arith }
+
 -- and so for turns
-pub can_turn : (core new : Core) (turn : Turn) (count rest : ℕ) (taken_new taken_new' : Option (List ℕ)) (written written' : ℕ) → count ≡ rest + 1 → CanPlay core (act.Turns turn count ∷ []) taken_new written
-    → ((shape : Shape) (world : World) (taken_old : Option (List ℕ)) → Stands core shape world taken_old taken_new written → Stands new shape (world_after shape world (Take turn ∷ [])) taken_old taken_new' written')
-    → CanPlay new (act.Turns turn rest ∷ []) taken_new' written'
-can_turn core new turn count rest taken_new taken_new' written written' one h on =
-    let few : length h.world.past + sum_by turns_of (act.Turns turn count ∷ []) < 2 ^ 32 = h.few in
-    let whole = sum_by-cons turns_of (act.Turns turn count) [] in
-    let less = sum_by-cons turns_of (act.Turns turn rest) [] in
+pub can_turn : (core new : CoreView) (turn : Turn) (count rest : ℕ) (taken_new taken_new' : Option (List ℕ)) (tally tally' : Tally) → count ≡ rest + 1 → CanPlay core (act.Run turn count ∷ []) taken_new tally
+    → ((origin : Origin) (calls : List Call) (taken : Option (List ℕ)) → Stands core origin calls taken taken_new tally → Stands new origin (calls ++ Turns turn ∷ []) taken taken_new' tally')
+    → CanPlay new (act.Run turn rest ∷ []) taken_new' tally'
+can_turn core new turn count rest taken_new taken_new' tally tally' one h on =
+    let few : taken_in h.calls + sum_by turns_of (act.Run turn count ∷ []) < 2 ^ 32 = h.few in
+    let whole = sum_by-cons turns_of (act.Run turn count) [] in
+    let less = sum_by-cons turns_of (act.Run turn rest) [] in
+    let begun = count_push is_add h.calls (Turns turn) in
+    let taken = count_push is_turn h.calls (Turns turn) in
     record {
-      shape = h.shape;
-      world = taken h.shape h.world turn;
+      origin = h.origin;
+      calls = h.calls ++ Turns turn ∷ [];
       taken_old = h.taken_old;
-      stands = on h.shape h.world h.taken_old h.stands;
-      fit = h.fit;
+      stands = on h.origin h.calls h.taken_old h.stands;
+      fit = subst (λ (n : ℕ). AreFit n (act.Run turn rest ∷ [])) (sym (begun ∙ omega arith)) h.fit;
       few = omega arith;
     }
 
 -- one turn more
-turns_push : (turn : Turn) (done : ℕ) → replicate (done + 1) (Take turn) ≡ replicate done (Take turn) ++ Take turn ∷ []
-turns_push turn done = sym (replicate-append-replicate done 1 (Take turn))
+turns_push : (calls : List Call) (turn : Turn) (done : ℕ) → (calls ++ replicate done (Turns turn)) ++ Turns turn ∷ [] ≡ calls ++ replicate (done + 1) (Turns turn)
+turns_push calls turn done = append_assoc calls (replicate done (Turns turn)) (Turns turn ∷ []) ∙ ap (λ (xs : List Call). calls ++ xs) (replicate-append-replicate done 1 (Turns turn))
 
-pub stands_turn : (old core new : Core) (turn : Turn) (done : ℕ) (shape : Shape) (world : World) (taken_old taken_new taken_new' : Option (List ℕ)) (written written' : ℕ)
-    → Stands core shape (world_after shape world (replicate done (Take turn))) taken_old taken_new written
-    → ((s : Shape) (w : World) (t : Option (List ℕ)) → Stands core s w t taken_new written → Stands new s (world_after s w (Take turn ∷ [])) t taken_new' written')
-    → Stands new shape (world_after shape world (replicate (done + 1) (Take turn))) taken_old taken_new' written'
-stands_turn old core new turn done shape world taken_old taken_new taken_new' written written' h on =
-    let same : world_after shape world (replicate (done + 1) (Take turn)) ≡ world_after shape (world_after shape world (replicate done (Take turn))) (Take turn ∷ []) =
-    ap (world_after shape world) (turns_push turn done) ∙ world_after-append shape world (replicate done (Take turn)) (Take turn ∷ []) in
-    subst (λ (w : World). Stands new shape w taken_old taken_new' written') (sym same) (on shape (world_after shape world (replicate done (Take turn))) taken_old h)
+pub stands_turn : (core new : CoreView) (turn : Turn) (done : ℕ) (origin : Origin) (calls : List Call) (taken_old taken_new taken_new' : Option (List ℕ)) (tally tally' : Tally)
+    → Stands core origin (calls ++ replicate done (Turns turn)) taken_old taken_new tally
+    → ((o : Origin) (cs : List Call) (t : Option (List ℕ)) → Stands core o cs t taken_new tally → Stands new o (cs ++ Turns turn ∷ []) t taken_new' tally')
+    → Stands new origin (calls ++ replicate (done + 1) (Turns turn)) taken_old taken_new' tally'
+stands_turn core new turn done origin calls taken_old taken_new taken_new' tally tally' h on =
+    subst (λ (cs : List Call). Stands new origin cs taken_old taken_new' tally') (turns_push calls turn done) (on origin (calls ++ replicate done (Turns turn)) taken_old h)
 
 -- a stop at one of the turns
-pub stops_turn : (core : Core) (turn : Turn) (count done : ℕ) (shape : Shape) (world : World) (taken_old taken_new : Option (List ℕ)) (written : ℕ) → done < count
-    → Stops core shape (world_after shape world (replicate done (Take turn))) (Take turn ∷ []) taken_old taken_new written
-    → Stops core shape world (replicate count (Take turn)) taken_old taken_new written
-stops_turn core turn count done shape world taken_old taken_new written below h =
+pub stops_turn : (core : CoreView) (turn : Turn) (count done : ℕ) (origin : Origin) (calls : List Call) (taken_old taken_new : Option (List ℕ)) (tally : Tally) → done < count
+    → Stops core origin ((calls ++ replicate done (Turns turn)) ++ Turns turn ∷ []) taken_old taken_new tally
+    → Stops core origin (calls ++ replicate count (Turns turn)) taken_old taken_new tally
+stops_turn core turn count done origin calls taken_old taken_new tally below h =
     let rest : ℕ = count - (done + 1) in
-    let parts : replicate done (Take turn) ++ ((Take turn ∷ []) ++ replicate rest (Take turn)) ≡ replicate count (Take turn) =
-    ap (λ (xs : List Move). replicate done (Take turn) ++ xs) (replicate-append-replicate 1 rest (Take turn))
-    ∙ replicate-append-replicate done (1 + rest) (Take turn)
-    ∙ ap (λ (n : ℕ). replicate n (Take turn)) (omega arith) in
-    subst (λ (xs : List Move). Stops core shape world xs taken_old taken_new written) parts
-    (stops_within core shape world (replicate done (Take turn)) (Take turn ∷ []) (replicate rest (Take turn)) taken_old taken_new written h)
+    let parts : (calls ++ replicate (done + 1) (Turns turn)) ++ replicate rest (Turns turn) ≡ calls ++ replicate count (Turns turn) =
+    append_assoc calls (replicate (done + 1) (Turns turn)) (replicate rest (Turns turn))
+    ∙ ap (λ (xs : List Call). calls ++ xs) (replicate-append-replicate (done + 1) rest (Turns turn) ∙ ap (λ (n : ℕ). replicate n (Turns turn)) (omega arith)) in
+    subst (λ (cs : List Call). Stops core origin cs taken_old taken_new tally) parts
+    (stops_within core origin (calls ++ replicate (done + 1) (Turns turn)) (replicate rest (Turns turn)) taken_old taken_new tally
+    (subst (λ (cs : List Call). Stops core origin cs taken_old taken_new tally) (turns_push calls turn done) h))
 
 -- an act more
-pub moves_push : (done : List Act) (a : Act) → moves_of (done ++ a ∷ []) ≡ moves_of done ++ moves_in a
-moves_push done a = flat_map-append moves_in done (a ∷ []) ∙ ap (λ (xs : List Move). moves_of done ++ xs) (append-nil (moves_in a))
+calls_push : (calls : List Call) (done : List Act) (a : Act) → (calls ++ calls_of done) ++ calls_in a ≡ calls ++ calls_of (done ++ a ∷ [])
+calls_push calls done a =
+    append_assoc calls (calls_of done) (calls_in a)
+    ∙ ap (λ (xs : List Call). calls ++ xs) (sym (flat_map-append calls_in done (a ∷ []) ∙ ap (λ (xs : List Call). calls_of done ++ xs) (append-nil (calls_in a))))
 
-pub stands_act : (core new : Core) (a : Act) (done : List Act) (shape : Shape) (world : World) (taken_old taken_new taken_new' : Option (List ℕ)) (written written' : ℕ)
-    → Stands core shape (world_after shape world (moves_of done)) taken_old taken_new written
-    → ((s : Shape) (w : World) (t : Option (List ℕ)) → Stands core s w t taken_new written → Stands new s (world_after s w (moves_in a)) t taken_new' written')
-    → Stands new shape (world_after shape world (moves_of (done ++ a ∷ []))) taken_old taken_new' written'
-stands_act core new a done shape world taken_old taken_new taken_new' written written' h on =
-    let same : world_after shape world (moves_of (done ++ a ∷ [])) ≡ world_after shape (world_after shape world (moves_of done)) (moves_in a) =
-    ap (world_after shape world) (moves_push done a) ∙ world_after-append shape world (moves_of done) (moves_in a) in
-    subst (λ (w : World). Stands new shape w taken_old taken_new' written') (sym same) (on shape (world_after shape world (moves_of done)) taken_old h)
+-- the act at a place, behind those before it and before those after it
+dropped : (acts : List Act) (i : ℕ) (a : Act) → i < length acts → a ≡ get_or acts i a → drop i acts ≡ a ∷ drop (i + 1) acts
+dropped acts i a below is = drop_more acts i a below ∙ ap (λ (x : Act). x ∷ drop (i + 1) acts) (sym is)
 
--- a stop at one of the acts
-pub stops_act : (core : Core) (a : Act) (done rest all : List Act) (shape : Shape) (world : World) (taken_old taken_new : Option (List ℕ)) (written : ℕ) → all ≡ done ++ a ∷ rest
-    → Stops core shape (world_after shape world (moves_of done)) (moves_in a) taken_old taken_new written
-    → Stops core shape world (moves_of all) taken_old taken_new written
-stops_act core a done rest all shape world taken_old taken_new written parts h =
-    let moves : moves_of done ++ (moves_in a ++ moves_of rest) ≡ moves_of all = sym (ap moves_of parts ∙ flat_map-append moves_in done (a ∷ rest)) in
-    subst (λ (xs : List Move). Stops core shape world xs taken_old taken_new written) moves
-    (stops_within core shape world (moves_of done) (moves_in a) (moves_of rest) taken_old taken_new written h)
+took : (acts : List Act) (i : ℕ) (a : Act) → i < length acts → a ≡ get_or acts i a → take (i + 1) acts ≡ take i acts ++ a ∷ []
+took acts i a below is = take_more acts i a below ∙ ap (λ (x : Act). take i acts ++ x ∷ []) (sym is)
 
--- a session begins
-pub stands_begun : (core new : Core) (shape : Shape) (world : World) (plan : Plan) (taken_old taken_new : Option (List ℕ)) (written : ℕ)
-    → Stands core shape world taken_old taken_new written → IsAt new shape (begun world plan) → Stands new shape (begun world plan) taken_old taken_new written
-stands_begun core new shape world plan taken_old taken_new written h at = record { at = at; prints = h.prints }
+pub can_act : (core : CoreView) (acts : List Act) (i : ℕ) (a : Act) (taken_new : Option (List ℕ)) (tally : Tally) → i < length acts → a ≡ get_or acts i a → CanPlay core (drop i acts) taken_new tally
+    → CanPlay core (a ∷ drop (i + 1) acts) taken_new tally
+can_act core acts i a taken_new tally below is h = subst (λ (xs : List Act). CanPlay core xs taken_new tally) (dropped acts i a below is) h
 
--- a session that couldn't begin
-pub stops_begun : (core new : Core) (shape : Shape) (world : World) (plan : Plan) (taken_old taken_new : Option (List ℕ)) (written : ℕ)
-    → Stands core shape world taken_old taken_new written → IsAt new shape world → Stops new shape world (Begin plan ∷ []) taken_old taken_new written
-stops_begun core new shape world plan taken_old taken_new written h at = record {
-  made = [];
-  others = Begin plan ∷ [];
-  moves_are = refl;
-  kept = histories_at new shape world at;
-  printed = lines_of world.past;
-  more = [];
-  parts = append-nil (lines_of world.past);
-  prints = h.prints;
-}
+pub stands_at : (core new : CoreView) (acts : List Act) (i : ℕ) (a : Act) (origin : Origin) (calls : List Call) (taken_old taken_new taken_new' : Option (List ℕ)) (tally tally' : Tally) → i < length acts → a ≡ get_or acts i a
+    → Stands core origin (calls ++ calls_of (take i acts)) taken_old taken_new tally
+    → ((o : Origin) (cs : List Call) (t : Option (List ℕ)) → Stands core o cs t taken_new tally → Stands new o (cs ++ calls_in a) t taken_new' tally')
+    → Stands new origin (calls ++ calls_of (take (i + 1) acts)) taken_old taken_new' tally'
+stands_at core new acts i a origin calls taken_old taken_new taken_new' tally tally' below is h on =
+    subst (λ (cs : List Call). Stands new origin cs taken_old taken_new' tally')
+    (calls_push calls (take i acts) a ∙ ap (λ (xs : List Act). calls ++ calls_of xs) (sym (took acts i a below is)))
+    (on origin (calls ++ calls_of (take i acts)) taken_old h)
 
--- where no act is
-abbrev pub no_act : Act
-no_act = act.Begin (Read (record { kind = Profile; id = 0 }) 0)
-
--- the act at a place, between those before and after it
-act_at : (acts : List Act) (i : ℕ) (a : Act) → i < length acts → acts ≡ take i acts ++ get_or acts i a ∷ drop (i + 1) acts
-act_at acts i a below = sym (take-append-drop i acts) ∙ ap (λ (xs : List Act). take i acts ++ xs) (drop_more acts i a below)
-
-pub can_act : (core : Core) (acts : List Act) (i : ℕ) (taken_new : Option (List ℕ)) (written : ℕ) → i < length acts → CanPlay core (drop i acts) taken_new written
-    → CanPlay core (get_or acts i no_act ∷ drop (i + 1) acts) taken_new written
-can_act core acts i taken_new written below h = subst (λ (xs : List Act). CanPlay core xs taken_new written) (drop_more acts i no_act below) h
-
-pub stands_at : (core new : Core) (acts : List Act) (i : ℕ) (shape : Shape) (world : World) (taken_old taken_new taken_new' : Option (List ℕ)) (written written' : ℕ) → i < length acts
-    → Stands core shape (world_after shape world (moves_of (take i acts))) taken_old taken_new written
-    → ((s : Shape) (w : World) (t : Option (List ℕ)) → Stands core s w t taken_new written → Stands new s (world_after s w (moves_in (get_or acts i no_act))) t taken_new' written')
-    → Stands new shape (world_after shape world (moves_of (take (i + 1) acts))) taken_old taken_new' written'
-stands_at core new acts i shape world taken_old taken_new taken_new' written written' below h on =
-    subst (λ (xs : List Act). Stands new shape (world_after shape world (moves_of xs)) taken_old taken_new' written') (sym (take_more acts i no_act below))
-    (stands_act core new (get_or acts i no_act) (take i acts) shape world taken_old taken_new taken_new' written written' h on)
-
-pub stops_at : (core : Core) (acts : List Act) (i : ℕ) (shape : Shape) (world : World) (taken_old taken_new : Option (List ℕ)) (written : ℕ) → i < length acts
-    → Stops core shape (world_after shape world (moves_of (take i acts))) (moves_in (get_or acts i no_act)) taken_old taken_new written
-    → Stops core shape world (moves_of acts) taken_old taken_new written
-stops_at core acts i shape world taken_old taken_new written below h =
-    stops_act core (get_or acts i no_act) (take i acts) (drop (i + 1) acts) acts shape world taken_old taken_new written (act_at acts i no_act below) h
+pub stops_at : (core : CoreView) (acts : List Act) (i : ℕ) (a : Act) (origin : Origin) (calls : List Call) (taken_old taken_new : Option (List ℕ)) (tally : Tally) → i < length acts → a ≡ get_or acts i a
+    → Stops core origin ((calls ++ calls_of (take i acts)) ++ calls_in a) taken_old taken_new tally
+    → Stops core origin (calls ++ calls_of acts) taken_old taken_new tally
+stops_at core acts i a origin calls taken_old taken_new tally below is h =
+    let rest = drop (i + 1) acts in
+    let parts : (calls ++ calls_of (take i acts ++ a ∷ [])) ++ calls_of rest ≡ calls ++ calls_of acts =
+    append_assoc calls (calls_of (take i acts ++ a ∷ [])) (calls_of rest)
+    ∙ ap (λ (xs : List Call). calls ++ xs)
+      (sym (flat_map-append calls_in (take i acts ++ a ∷ []) rest)
+      ∙ ap calls_of (ap (λ (xs : List Act). xs ++ rest) (sym (took acts i a below is)) ∙ take-append-drop (i + 1) acts)) in
+    subst (λ (cs : List Call). Stops core origin cs taken_old taken_new tally) parts
+    (stops_within core origin (calls ++ calls_of (take i acts ++ a ∷ [])) (calls_of rest) taken_old taken_new tally
+    (subst (λ (cs : List Call). Stops core origin cs taken_old taken_new tally) (calls_push calls (take i acts) a) h))

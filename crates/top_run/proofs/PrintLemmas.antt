@@ -1,10 +1,13 @@
-use Rattle.std.proofs.Common.{ℕ, ◌≡◌, ◌+◌, ◌-◌, ◌^◌, ◌<◌, ◌≤◌, min, List, [], ◌∷◌, ◌++◌, length, take, drop, decimal, arith, refl, sym, ap, ◌∙◌, append_assoc, append-nil, take-append-drop, reverse, flat_map}
-use Rattle.std.specs.Prelude.{Bool, Option, codes, count_by}
-use Rattle.std.proofs.lemmas.List.{length-append, length-take-le, reverse-append}
+use Rattle.std.proofs.Common.{ℕ, ◌≡◌, ◌+◌, ◌-◌, ◌*◌, ◌^◌, ◌<◌, ◌≤◌, min, List, [], ◌∷◌, ◌++◌, length, take, drop, decimal, arith, refl, sym, ap, ◌∙◌, append_assoc, append-nil, take-append-drop, reverse, flat_map}
+use Rattle.std.specs.Prelude.{Bool, Option, Some, codes, cond, count_by, slice_get}
+use Rattle.std.proofs.lemmas.List.{length-append, length-take-le, reverse-append, take_more}
+use Rattle.std.proofs.lemmas.List.Sums.{sum_by-append, sum_by-cons, count_by-le-length}
+use Rattle.std.proofs.lemmas.Option.{get_or_from_slice_get, slice_get_within}
 use Rattle.std.proofs.lemmas.List.Concat.{flat_map-append}
 use Rattle.iq_outside.specs.Outside.{Gains}
 use Rattle.iq_outside.proofs.OutsideLemmas.{Gains-append, Gains-none}
 use Rattle.key_shard.specs.declared.steps.Step.{Step}
+use Rattle.sql_keeper.specs.declared.stores.Commit.{Commit}
 use Rattle.core_history.specs.Events.{Event}
 use Rattle.core_history.specs.Lines.{line_of, lines_of, end_line, count_in, is_hit, is_stored, is_again}
 use Rattle.top_run.specs.Runs.{Prints}
@@ -54,17 +57,31 @@ pub lines_none : lines_of [] ≡ []
 unfolding lines_of
 lines_none = refl
 
--- what is counted in one history
-counted : (test : Step → Bool) (history : List Step) → count_in test (history ∷ []) ≡ count_by test history
-counted test history = ap (count_by test) (append-nil history)
+-- one history more is counted
+count_more : (test : Step → Bool) (histories : List (List Step)) (i : ℕ) (history : List Step) → slice_get histories i ≡ Some history
+    → count_in test (take (i + 1) histories) ≡ count_in test (take i histories) + count_by test history
+count_more test histories i history is =
+    let below = slice_get_within histories i history is in
+    let here : take (i + 1) histories ≡ take i histories ++ history ∷ [] =
+    take_more histories i [] below ∙ ap (λ (h : List Step). take i histories ++ h ∷ []) (get_or_from_slice_get histories i history [] is) in
+    ap (count_in test) here
+    ∙ ap (count_by test) (flat_map-append (λ (h : List Step). h) (take i histories) (history ∷ []) ∙ ap (λ (h : List Step). flat_map (λ (x : List Step). x) (take i histories) ++ h) (append-nil history))
+    ∙ sum_by-append (λ step. cond (test step) 1 0) (flat_map (λ (x : List Step). x) (take i histories)) history
 
-regroup : (a b c d e f : List ℕ) → ((((a ++ b) ++ c) ++ d) ++ e) ++ f ≡ a ++ (b ++ (c ++ (d ++ (e ++ f))))
-regroup a b c d e f = simp append_assoc
+pub counted_more : (test : Step → Bool) (histories : List (List Step)) (i : ℕ) (history : List Step) (a n : ℕ) → slice_get histories i ≡ Some history
+    → a ≡ count_in test (take i histories) → n ≡ count_by test history → a + n ≡ count_in test (take (i + 1) histories)
+counted_more test histories i history a n is before here =
+    ap (λ (m : ℕ). m + n) before ∙ ap (λ (m : ℕ). count_in test (take i histories) + m) here ∙ sym (count_more test histories i history is)
+
+pub bound_more : (a n i : ℕ) → a ≤ i * 18446744073709551615 → n < 18446744073709551616 → a + n ≤ (i + 1) * 18446744073709551615
+bound_more a n i below small = omega arith
+
+regroup : (a b c d e f g h t : List ℕ) → (((((((a ++ b) ++ c) ++ d) ++ e) ++ f) ++ g) ++ h) ++ t ≡ (a ++ (b ++ (c ++ (d ++ (e ++ (f ++ (g ++ h))))))) ++ t
+regroup a b c d e f g h t = simp append_assoc
 
 -- the last line, word by word
-pub end_line_is : (history : List Step)
-    → end_line (history ∷ []) ≡ ((((codes "end commits 0 hits " ++ decimal (count_by is_hit history)) ++ codes " stores ") ++ decimal (count_by is_stored history)) ++ codes " agains ") ++ decimal (count_by is_again history) ++ 10 ∷ []
+pub end_line_is : (log : List Commit) (histories : List (List Step))
+    → end_line log histories ≡ (((((((codes "end commits " ++ decimal (length log)) ++ codes " hits ") ++ decimal (count_in is_hit histories)) ++ codes " stores ") ++ decimal (count_in is_stored histories)) ++ codes " agains ") ++ decimal (count_in is_again histories)) ++ 10 ∷ []
 unfolding end_line
-end_line_is history =
-    rw (counted is_hit history, counted is_stored history, counted is_again history)
-    (sym (ap (λ (text : List ℕ). text ++ 10 ∷ []) (regroup (codes "end commits 0 hits ") (decimal (count_by is_hit history)) (codes " stores ") (decimal (count_by is_stored history)) (codes " agains ") (decimal (count_by is_again history)))))
+end_line_is log histories =
+    sym (regroup (codes "end commits ") (decimal (length log)) (codes " hits ") (decimal (count_in is_hit histories)) (codes " stores ") (decimal (count_in is_stored histories)) (codes " agains ") (decimal (count_in is_again histories)) (10 ∷ []))

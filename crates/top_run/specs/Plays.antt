@@ -1,95 +1,114 @@
 -- Where a run stands while it goes on.
-use Rattle.std.specs.Prelude.{ℕ, ◌≡◌, ◌+◌, ◌^◌, ◌≤◌, ◌<◌, List, [], ◌∷◌, ◌++◌, length, sum_by, Option, ◌⊎◌, Result, Ok, Err}
-use Rattle.core_history.specs.declared.cores.Core.{Core}
-use Rattle.core_history.specs.declared.plans.Shape.{Shape}
-use Rattle.core_history.specs.declared.plans.Turn.{Turn}
-use Rattle.core_history.specs.declared.plans.Turn.TheVariants.{Session}
-use Rattle.core_history.specs.Cores.{IsAt, HasHistories}
+use Rattle.std.specs.Prelude.{ℕ, Bool, true, false, ◌≡◌, ◌+◌, ◌^◌, ◌≤◌, ◌<◌, ◌⊎◌, List, [], ◌++◌, map, reverse, count_by, sum_by, Option, Result, Ok, Err, IsSome}
+use Rattle.iq_outside.specs.Outside.{Rose, TakesSome}
+use Rattle.rows_model.specs.Rows.{start_tables}
+use Rattle.session_client.specs.declared.plans.Shape.{Shape}
+use Rattle.sql_keeper.specs.declared.faults.KeepFault.{KeepFault}
+use Rattle.sql_keeper.specs.declared.faults.KeepFault.TheVariants as keep
+use Rattle.run_inputs.specs.declared.scripts.Act.{Act}
+use Rattle.run_inputs.specs.Fit.{AreFit, turns_of}
+use Rattle.core_history.specs.Cores.{CoreView, Origin, IsAt, HasKept}
 use Rattle.core_history.specs.Lines.{lines_of}
-use Rattle.core_history.specs.Machine.{World, Move, world_after}
-use Rattle.top_run.specs.declared.scripts.Act.{Act}
-use Rattle.top_run.specs.declared.scripts.Act.TheVariants as act
-use Rattle.top_run.specs.Script.{turns_of, sessions_of, moves_of}
-use Rattle.top_run.specs.Runs.{shape_of, past_of, out, Prints, PrintsAll, PrintsFront, KeepsFront, IsNotStarted}
-use Rattle.iq_outside.specs.Outside.{Rose}
-use Rattle.key_shard.specs.declared.steps.Step.{Step}
+use Rattle.core_history.specs.Machine.{Move}
+use Rattle.top_run.specs.Runs.{Call, Adds, Turns, call_of, AreMoves, AreFirstMoves, past_of, out, faults_in, Prints, IsReadInVain}
 use Rattle.top_run.specs.declared.plays.Stop.{Stop}
 use Rattle.top_run.specs.declared.plays.Stop.TheVariants as stop
+use Rattle.top_run.specs.declared.plays.Tally.{Tally}
 use Rattle.top_run.specs.declared.runs.Status.{Status}
 use Rattle.top_run.specs.declared.runs.Status.TheVariants as status
 
--- The turn's session is one of so many.
-abbrev pub IsTurnOf : ℕ → Turn → Type 0
-IsTurnOf begun (Session who) = (1 ≤ who.number) × (who.number ≤ begun)
+-- How many sessions these calls begin.
+abbrev pub is_add : Call → Bool
+is_add (Adds plan) = true
+is_add (Turns turn) = false
 
--- The turns of an act, after so many sessions began, are of such sessions.
-abbrev pub IsFit : ℕ → Act → Type 0
-IsFit begun (act.Begin plan) = Unit {0}
-IsFit begun (act.Turns turn count) = IsTurnOf begun turn
+abbrev pub begun_in : List Call → ℕ
+begun_in calls = count_by is_add calls
 
--- Each turn of the acts is of a session that has begun.
-abbrev pub AreFit : ℕ → List Act → Type 0
-AreFit begun [] = Unit {0}
-AreFit begun (act ∷ acts) = IsFit begun act × AreFit (begun + sessions_of act) acts
+-- How many turns these calls take.
+abbrev pub is_turn : Call → Bool
+is_turn (Adds plan) = false
+is_turn (Turns turn) = true
 
--- The acts of a script that can be run.
-pub record IsPlayable (members : ℕ) (acts : List Act) : Type 0 where
-  pub some : 1 ≤ members
-  pub few : members ≤ 100000
-  pub fit : AreFit 0 acts
-  pub short : sum_by turns_of acts ≤ 1000000
+abbrev pub taken_in : List Call → ℕ
+taken_in calls = count_by is_turn calls
 
--- The core stands after this world, whose lines the sink has taken.
-pub record Stands (core : Core) (shape : Shape) (world : World) (taken_old taken_new : Option (List ℕ)) (written : ℕ) : Type 0 where
-  pub at : IsAt core shape world
-  pub prints : Prints taken_old taken_new (lines_of world.past) written
+-- It was noted whether there was a FAULT among so many.
+abbrev pub IsNoted : Bool → ℕ → Type 0
+IsNoted true faults = 1 ≤ faults
+IsNoted false faults = faults ≡ 0
+
+-- The core stands after moves that do these calls, and the sink has taken their lines.
+pub record Stands (core : CoreView) (origin : Origin) (calls : List Call) (taken_old taken_new : Option (List ℕ)) (tally : Tally) : Type 0 where
+  pub moves : List Move
+  pub at : IsAt core origin moves
+  pub made : map call_of (reverse moves) ≡ calls
+  pub prints : Prints taken_old taken_new (lines_of (past_of origin.shape moves)) tally.written
+  pub noted : IsNoted tally.faulted (faults_in origin.shape moves)
 
 -- The core stands somewhere from where it can play these acts.
-pub record CanPlay (core : Core) (acts : List Act) (taken_new : Option (List ℕ)) (written : ℕ) : Type 0 where
-  pub shape : Shape
-  pub world : World
+pub record CanPlay (core : CoreView) (acts : List Act) (taken_new : Option (List ℕ)) (tally : Tally) : Type 0 where
+  pub origin : Origin
+  pub calls : List Call
   pub taken_old : Option (List ℕ)
-  pub stands : Stands core shape world taken_old taken_new written
-  pub fit : AreFit (length world.plans) acts
-  pub few : length world.past + sum_by turns_of acts < 2 ^ 32
+  pub stands : Stands core origin calls taken_old taken_new tally
+  pub fit : AreFit (begun_in calls) acts
+  pub few : taken_in calls + sum_by turns_of acts < 2 ^ 32
 
--- The core stopped after some of these moves, and the sink took the first bytes of the lines.
-pub record Stops (core : Core) (shape : Shape) (world : World) (moves : List Move) (taken_old taken_new : Option (List ℕ)) (written : ℕ) : Type 0 where
-  pub made : List Move
-  pub others : List Move
-  pub moves_are : made ++ others ≡ moves
-  pub kept : HasHistories core shape (world_after shape world made).past
+-- The core stopped after moves that do the first of these calls, and the sink took the first bytes of their lines.
+pub record Stops (core : CoreView) (origin : Origin) (calls : List Call) (taken_old taken_new : Option (List ℕ)) (tally : Tally) : Type 0 where
+  pub moves : List Move
+  pub others : List Call
+  pub made : map call_of (reverse moves) ++ others ≡ calls
+  pub kept : HasKept core origin moves
   pub printed : List ℕ
   pub more : List ℕ
-  pub parts : printed ++ more ≡ lines_of (world_after shape world moves).past
-  pub prints : Prints taken_old taken_new printed written
+  pub parts : printed ++ more ≡ lines_of (past_of origin.shape moves)
+  pub prints : Prints taken_old taken_new printed tally.written
 
--- The core stopped after some of the script's moves, and the sink took the first bytes of what it prints.
-pub record IsStopped (members : ℕ) (acts : List Act) (core : Core) (taken_old taken_new : Option (List ℕ)) (written : ℕ) : Type 0 where
-  pub front : PrintsFront members acts taken_old taken_new written
-  pub made : List Move
-  pub others : List Move
-  pub moves_are : made ++ others ≡ moves_of acts
-  pub kept : HasHistories core (shape_of members) (past_of members made)
+-- What a core of this shape was made with, that is new.
+abbrev pub origin_of : Shape → CoreView → Origin
+origin_of shape core =
+    record { shape = shape; opening = core.store.ledger.opening; told = core.store.told; faults = core.store.faults }
+
+-- The core is new, and of this shape. Where its keeper tells its rows, they are those of a start with so many members.
+pub record IsNew (core : CoreView) (shape : Shape) : Type 0 where
+  pub at : IsAt core (origin_of shape core) []
+  pub fresh : IsSome core.store.told → core.store.ledger.opening ≡ start_tables shape.members
 
 -- The core made all moves of the script, and the sink took all that it prints.
-pub record IsFinished (members : ℕ) (acts : List Act) (core : Core) (taken_old taken_new : Option (List ℕ)) (written : ℕ) : Type 0 where
-  pub prints : Prints taken_old taken_new (out members acts) written
-  pub kept : HasHistories core (shape_of members) (past_of members (moves_of acts))
+pub record IsFinished (core : CoreView) (origin : Origin) (acts : List Act) (taken_old taken_new : Option (List ℕ)) (tally : Tally) : Type 0 where
+  pub moves : List Move
+  pub made : AreMoves acts moves
+  pub kept : HasKept core origin moves
+  pub prints : Prints taken_old taken_new (out origin.shape moves) tally.written
+  pub noted : IsNoted tally.faulted (faults_in origin.shape moves)
 
--- How a replay ends, by what ended it.
-abbrev pub status_of : Result (Unit {0}) Stop → Status
-status_of (Ok done) = status.Done
-status_of (Err stop.WriteFault) = status.WriteFault
-status_of (Err stop.Memory) = status.Memory
+-- The core stopped after some of the script's moves, and the sink took the first bytes of what they print.
+pub record IsStopped (core : CoreView) (origin : Origin) (acts : List Act) (taken_old taken_new : Option (List ℕ)) (tally : Tally) : Type 0 where
+  pub moves : List Move
+  pub made : AreFirstMoves acts moves
+  pub kept : HasKept core origin moves
+  pub printed : List ℕ
+  pub more : List ℕ
+  pub parts : (printed ++ more ≡ lines_of (past_of origin.shape moves)) ⊎ (AreMoves acts moves × (printed ++ more ≡ out origin.shape moves))
+  pub prints : Prints taken_old taken_new printed tally.written
 
--- What is so at an end of a script's run.
-abbrev pub Replayed : Status → ℕ → List Act → Option (List ℕ) → Option (List ℕ) → ℕ → ℕ → List (List Step) → ℕ → Type 0
-Replayed status.Done members acts taken_old taken_new faults_old faults_new histories written =
-    PrintsAll members acts taken_old taken_new histories written
-Replayed status.WriteFault members acts taken_old taken_new faults_old faults_new histories written =
-    Rose faults_old faults_new × PrintsFront members acts taken_old taken_new written × KeepsFront members acts histories
-Replayed status.Memory members acts taken_old taken_new faults_old faults_new histories written =
-    IsNotStarted taken_old taken_new histories written
-    ⊎ (PrintsFront members acts taken_old taken_new written × KeepsFront members acts histories)
-Replayed other members acts taken_old taken_new faults_old faults_new histories written = ⊥
+-- How a script ends, by what ended it and whether there was a FAULT.
+abbrev pub status_of : Result (Unit {0}) Stop → Bool → Status
+status_of (Ok done) false = status.Done
+status_of (Ok done) true = status.KeepFault
+status_of (Err stop.WriteFault) faulted = status.WriteFault
+status_of (Err stop.Memory) faulted = status.Memory
+
+-- How a run ends whose keeper didn't start.
+abbrev pub start_status : KeepFault → Status
+start_status keep.Failed = status.KeepFault
+start_status keep.Memory = status.Memory
+
+-- Why no script was read.
+abbrev pub IsUnread : Status → Option (List ℕ) → Option (List ℕ) → ℕ → ℕ → Type 0
+IsUnread (status.Script line kind) left_old left_new faults_old faults_new = IsReadInVain left_old left_new line kind
+IsUnread status.ReadFault left_old left_new faults_old faults_new = Rose faults_old faults_new × TakesSome left_old left_new
+IsUnread status.Memory left_old left_new faults_old faults_new = TakesSome left_old left_new
+IsUnread other left_old left_new faults_old faults_new = ⊥

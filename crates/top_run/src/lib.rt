@@ -1,11 +1,9 @@
-//! The top call: a script from a source, run on the core, and its lines to a sink.
+//! The top call: a script from a source, run on the core over a keeper, and its lines to a sink.
 #![tactic(auto)]
 
 pub use runs::{RunEnd, Status, run};
 
-mod cuts;
-pub mod laws;
+mod endings;
 mod plays;
 mod printing;
 pub mod runs;
-mod scripts;

@@ -1,18 +1,19 @@
 // A script's acts, one after the other, and the line of each turn as it comes.
-ghost use Rattle.std.specs.Prelude.{◌≡◌, ◌≤◌, ◌<◌, ◌^◌, ◌+◌, ◌∷◌, [], ℕ, List, Option, OnOk, OnErr, Err, replicate, length};
+ghost use Rattle.std.specs.Prelude.{◌≡◌, ◌≤◌, ◌<◌, ◌^◌, ◌+◌, ◌∷◌, ◌++◌, ◌||◌, [], ℕ, List, Option, OnOk, OnErr, IfOk, Err, replicate, length};
 ghost use Rattle.iq_outside.specs.Outside.{Rose};
-ghost use Rattle.core_history.specs.declared.plans.Shape.{Shape};
-ghost use Rattle.core_history.specs.Machine.{World, Move, Take, world_after};
-ghost use Rattle.core_history.specs.Cores.{IsRunning, HasBegun};
-ghost use Rattle.top_run.specs.Script.{moves_in, moves_of};
+ghost use Rattle.session_client.specs.Plans.{IsPlan};
+ghost use Rattle.run_inputs.specs.declared.scripts.Act.TheVariants as act;
+ghost use Rattle.core_history.specs.Cores.{Origin, IsRunning, HasBegun};
+ghost use Rattle.top_run.specs.Runs.{Call, Turns, calls_in, calls_of};
 ghost use Rattle.top_run.specs.Plays.{CanPlay, Stands, Stops};
-ghost use Rattle.top_run.specs.declared.scripts.Act.TheVariants as act;
 
 use crate::printing::print;
-use crate::scripts::Act;
-use core_history::{Core, Plan, Turn};
+use core_history::Core;
 use iq_outside::{Short, Sink};
 use rows_model::Memory;
+use run_inputs::Act;
+use session_client::{Plan, Turn};
+use sql_keeper::Keeper;
 
 /// Why a run stopped before its end.
 #[derive(Clone, Copy)]
@@ -45,93 +46,122 @@ impl From<Memory> for Stop {
     }
 }
 
+/// What was printed so far.
+#[derive(Clone, Copy)]
+pub(crate) struct Tally {
+    /// How many bytes the sink took. It stands still at its type's end.
+    pub(crate) written: u64,
+    /// Whether some line said FAULT.
+    pub(crate) faulted: bool,
+}
+
+impl Tally {
+    /// Notes whether one line more said FAULT.
+    fn note(&mut self, fault: bool)
+        ensures { self.new ≡ record { written = self.old.written; faulted = self.old.faulted || fault } }
+    {
+        self.faulted = self.faulted || fault;
+    }
+}
+
 /// Plays the acts in order.
-pub(crate) fn play<W: Sink>(
-    core: &mut Core,
+pub(crate) fn play<W: Sink, K: Keeper>(
+    core: &mut Core<K>,
     acts: &[Act],
     sink: &mut W,
-    written: &mut u64,
+    tally: &mut Tally,
 ) -> Result<(), Stop>
-    requires { CanPlay core.old acts.now (W.taken sink.old) written.old }
-    ensures all { (shape : Shape) (world : World) (taken : Option (List ℕ)) → Stands core.old shape world taken (W.taken sink.old) written.old → OnOk result (Stands core.new shape (world_after shape world (moves_of acts.now)) taken (W.taken sink.new) written.new) }
-    ensures some { (shape : Shape) (world : World) (taken : Option (List ℕ)) → Stands core.old shape world taken (W.taken sink.old) written.old → OnErr result (Stops core.new shape world (moves_of acts.now) taken (W.taken sink.new) written.new) }
+    requires { CanPlay core.old acts.now (W.taken sink.old) tally.old }
+    ensures all { (origin : Origin) (calls : List Call) (taken : Option (List ℕ)) → Stands core.old origin calls taken (W.taken sink.old) tally.old → OnOk result (Stands core.new origin (calls ++ calls_of acts.now) taken (W.taken sink.new) tally.new) }
+    ensures some { (origin : Origin) (calls : List Call) (taken : Option (List ℕ)) → Stands core.old origin calls taken (W.taken sink.old) tally.old → OnErr result (Stops core.new origin (calls ++ calls_of acts.now) taken (W.taken sink.new) tally.new) }
     ensures failed_rose { result ≡ Err Stop.WriteFault → Rose (W.faults sink.old) (W.faults sink.new) }
     ensures never_falls { W.faults sink.old ≤ W.faults sink.new }
 {
     for act in acts {
-        play_act(core, act, sink, written)?;
+        play_act(core, act, sink, tally)?;
     }
     Ok(())
 }
 
 /// Begins a session, or takes turns.
-fn play_act<W: Sink>(
-    core: &mut Core,
+fn play_act<W: Sink, K: Keeper>(
+    core: &mut Core<K>,
     act: &Act,
     sink: &mut W,
-    written: &mut u64,
+    tally: &mut Tally,
 ) -> Result<(), Stop>
-    requires { CanPlay core.old (act.now ∷ []) (W.taken sink.old) written.old }
-    ensures all { (shape : Shape) (world : World) (taken : Option (List ℕ)) → Stands core.old shape world taken (W.taken sink.old) written.old → OnOk result (Stands core.new shape (world_after shape world (moves_in act.now)) taken (W.taken sink.new) written.new) }
-    ensures some { (shape : Shape) (world : World) (taken : Option (List ℕ)) → Stands core.old shape world taken (W.taken sink.old) written.old → OnErr result (Stops core.new shape world (moves_in act.now) taken (W.taken sink.new) written.new) }
+    requires { CanPlay core.old (act.now ∷ []) (W.taken sink.old) tally.old }
+    ensures all { (origin : Origin) (calls : List Call) (taken : Option (List ℕ)) → Stands core.old origin calls taken (W.taken sink.old) tally.old → OnOk result (Stands core.new origin (calls ++ calls_in act.now) taken (W.taken sink.new) tally.new) }
+    ensures some { (origin : Origin) (calls : List Call) (taken : Option (List ℕ)) → Stands core.old origin calls taken (W.taken sink.old) tally.old → OnErr result (Stops core.new origin (calls ++ calls_in act.now) taken (W.taken sink.new) tally.new) }
     ensures failed_rose { result ≡ Err Stop.WriteFault → Rose (W.faults sink.old) (W.faults sink.new) }
     ensures never_falls { W.faults sink.old ≤ W.faults sink.new }
 {
     match act {
-        Act::Begin { plan } => {
-            core.add(copy_of(plan))?;
+        Act::Add { plan } => {
+            let plan = copy_of(plan)?;
+            core.add(plan)?;
             Ok(())
         }
-        Act::Turns { turn, count } => take_turns(core, *turn, *count, sink, written),
+        Act::Run { turn, count } => take_turns(core, *turn, *count, sink, tally),
     }
 }
 
 /// The same plan once more.
-fn copy_of(plan: &Plan) -> Plan
-    ensures { result ≡ plan.now }
+fn copy_of(plan: &Plan) -> Result<Plan, Memory>
+    ensures { IfOk result (λ copy. copy ≡ plan.now) }
 {
-    let Plan::Read { key, floor } = plan;
-    Plan::Read {
-        key: *key,
-        floor: *floor,
-    }
+    Ok(match plan {
+        Plan::Read { key, floor } => Plan::Read {
+            key: *key,
+            floor: *floor,
+        },
+        Plan::Write { mode, txn } => Plan::Write {
+            mode: *mode,
+            txn: txn.copy()?,
+        },
+        Plan::Skip { key, txn } => Plan::Skip {
+            key: *key,
+            txn: txn.copy()?,
+        },
+    })
 }
 
 /// Takes so many turns.
-fn take_turns<W: Sink>(
-    core: &mut Core,
+fn take_turns<W: Sink, K: Keeper>(
+    core: &mut Core<K>,
     turn: Turn,
     count: u32,
     sink: &mut W,
-    written: &mut u64,
+    tally: &mut Tally,
 ) -> Result<(), Stop>
-    requires { CanPlay core.old (act.Turns turn count ∷ []) (W.taken sink.old) written.old }
-    ensures all { (shape : Shape) (world : World) (taken : Option (List ℕ)) → Stands core.old shape world taken (W.taken sink.old) written.old → OnOk result (Stands core.new shape (world_after shape world (replicate count (Take turn))) taken (W.taken sink.new) written.new) }
-    ensures some { (shape : Shape) (world : World) (taken : Option (List ℕ)) → Stands core.old shape world taken (W.taken sink.old) written.old → OnErr result (Stops core.new shape world (replicate count (Take turn)) taken (W.taken sink.new) written.new) }
+    requires { CanPlay core.old (act.Run turn count ∷ []) (W.taken sink.old) tally.old }
+    ensures all { (origin : Origin) (calls : List Call) (taken : Option (List ℕ)) → Stands core.old origin calls taken (W.taken sink.old) tally.old → OnOk result (Stands core.new origin (calls ++ replicate count (Turns turn)) taken (W.taken sink.new) tally.new) }
+    ensures some { (origin : Origin) (calls : List Call) (taken : Option (List ℕ)) → Stands core.old origin calls taken (W.taken sink.old) tally.old → OnErr result (Stops core.new origin (calls ++ replicate count (Turns turn)) taken (W.taken sink.new) tally.new) }
     ensures failed_rose { result ≡ Err Stop.WriteFault → Rose (W.faults sink.old) (W.faults sink.new) }
     ensures never_falls { W.faults sink.old ≤ W.faults sink.new }
 {
     for _taken in 0..count {
-        take_turn(core, turn, sink, written)?;
+        take_turn(core, turn, sink, tally)?;
     }
     Ok(())
 }
 
 /// Takes one turn and prints its line.
-fn take_turn<W: Sink>(
-    core: &mut Core,
+fn take_turn<W: Sink, K: Keeper>(
+    core: &mut Core<K>,
     turn: Turn,
     sink: &mut W,
-    written: &mut u64,
+    tally: &mut Tally,
 ) -> Result<(), Stop>
     requires running { IsRunning core.old }
     requires begun { HasBegun core.old turn }
-    ensures all { (shape : Shape) (world : World) (taken : Option (List ℕ)) → Stands core.old shape world taken (W.taken sink.old) written.old → OnOk result (Stands core.new shape (world_after shape world (Take turn ∷ [])) taken (W.taken sink.new) written.new) }
-    ensures some { (shape : Shape) (world : World) (taken : Option (List ℕ)) → Stands core.old shape world taken (W.taken sink.old) written.old → OnErr result (Stops core.new shape world (Take turn ∷ []) taken (W.taken sink.new) written.new) }
+    ensures all { (origin : Origin) (calls : List Call) (taken : Option (List ℕ)) → Stands core.old origin calls taken (W.taken sink.old) tally.old → OnOk result (Stands core.new origin (calls ++ Turns turn ∷ []) taken (W.taken sink.new) tally.new) }
+    ensures some { (origin : Origin) (calls : List Call) (taken : Option (List ℕ)) → Stands core.old origin calls taken (W.taken sink.old) tally.old → OnErr result (Stops core.new origin (calls ++ Turns turn ∷ []) taken (W.taken sink.new) tally.new) }
     ensures failed_rose { result ≡ Err Stop.WriteFault → Rose (W.faults sink.old) (W.faults sink.new) }
     ensures never_falls { W.faults sink.old ≤ W.faults sink.new }
 {
     let told = core.step(turn)?;
-    print(sink, written, told.line())?;
+    tally.note(told.fault());
+    print(sink, &mut tally.written, told.line())?;
     Ok(())
 }

@@ -1,75 +1,89 @@
-ghost use Rattle.std.specs.Prelude.{◌≡◌, ◌≤◌, ◌↔◌, ◌∷◌, [], ℕ, List, ◌++◌, Option, OnOk, Result, IsTrue, codes, map, IfOk, IfSome, IfNone, OnErr, Err, min, vec_len};
-ghost use Rattle.iq_outside.specs.Outside.{Rose, TakesSome};
+ghost use Rattle.std.specs.Prelude.{◌≡◌, ◌≢◌, false, ◌≤◌, ◌<◌, ◌-◌, ◌^◌, ◌↔◌, ◌∷◌, [], ℕ, List, Option, OnOk, Result, IsTrue, IsSome, codes, map, IfOk, IfErr, OnErr, Err, vec_capacity};
+ghost use Rattle.iq_outside.specs.Outside.{Rose};
+ghost use Rattle.rows_model.specs.Rows.{Tables};
+ghost use Rattle.run_inputs.specs.Fit.{IsPlayable};
+ghost use Rattle.core_history.specs.Cores.{shards_in};
+ghost use Rattle.top_run.specs.declared.runs.Status.{Status};
+ghost use Rattle.top_run.specs.Runs.{AreReplay, Ended, Tells, IsRead};
+ghost use Rattle.top_run.specs.Plays.{IsNew, IsFinished, IsStopped, IsUnread, origin_of};
 
-use crate::plays::{Stop, play};
+use crate::endings::{ended_run, not_started, start_status};
+use crate::plays::{Stop, Tally, play};
 use crate::printing::{last_line, print};
-use crate::scripts::{LONGEST_TEXT, Script, parse};
-use core_history::{Core, Shape};
+use core_history::Core;
 use iq_outside::{ReadStop, Sink, Source, read_up_to};
 use key_shard::Step;
-use rows_model::Memory;
+use rows_model::Rows;
+use run_inputs::{Script, ScriptFault, ScriptKind};
+use sql_keeper::{Commit, Keeper, NoStore, Place};
 use std::alloc::Global;
+
+/// The longest script, in bytes.
+const LONGEST_TEXT: usize = 16_777_216;
 
 /// How a run ended.
 #[derive(Clone, Copy, Debug, PartialEq, Eq)]
 pub enum Status {
-    /// All was read, run and written.
+    /// All was read, run and printed, and no line said FAULT.
     Done,
     /// The words aren't those of a command.
     Usage,
-    /// The text isn't a script of the kinds of lines that there are so far.
-    NotYet,
+    /// The text isn't a script: this line, from 1, is the first that has a fault, and this is the
+    /// first kind of fault that it has.
+    Script { line: u64, kind: ScriptKind },
     /// A read failed.
     ReadFault,
     /// A write failed.
     WriteFault,
+    /// The store's keeper didn't start, or it failed later: then all was run and printed, and some
+    /// line said FAULT.
+    KeepFault,
     /// Memory ran out.
     Memory,
 }
 
 /// How a run ended, and what it leaves.
 #[derive(Debug, Drop)]
-pub struct RunEnd {
+pub struct RunEnd<K> {
     pub status: Status,
+    /// The keeper of the store.
+    pub keeper: K,
+    /// The rows that the run began with, or `None` where it never began.
+    pub opening: Option<Rows>,
+    /// The transactions that were committed, the earliest first.
+    pub log: Vec<Commit>,
     /// Each shard's history, or none where nothing was run.
     pub histories: Vec<Vec<Step>>,
     /// How many bytes the sink took. It stands still at its type's end.
     pub written: u64,
 }
 
-ghost use Rattle.top_run.specs.Plays.{IsPlayable, IsFinished, IsStopped, Replayed, status_of};
-ghost use Rattle.core_history.specs.Cores.{IsAt};
-ghost use Rattle.core_history.specs.Machine.{start};
-ghost use Rattle.top_run.specs.declared.runs.Status.{Status};
-ghost use Rattle.top_run.specs.Runs.{shape_of, AreReplay, Ended, Tells, IsRead, IsReadInVain};
-
-/// Runs a script: the words are the one word `replay`, the script comes from the source, and a line a
-/// turn and a last line go to the sink.
+/// Runs a script over a store with this keeper, at a fresh place: the words are the one word `replay`,
+/// the script comes from the source, and a line a turn and a last line go to the sink.
 ///
-/// The script is read whole before anything is written; of a text that is too long 16,777,217 bytes
-/// are taken. The bytes written are always the first of what the whole run prints.
-pub fn run<S: Source, W: Sink>(
+/// The script is read whole before anything is printed; of a text that is too long 16,777,217 bytes
+/// are taken. The bytes printed are always the first of what the whole run prints. A keeper that fails
+/// in a turn is told as FAULT, and the run goes on.
+pub fn run<S: Source, W: Sink, K: Keeper>(
     alloc: Global,
     words: &[Vec<u8>],
     source: &mut S,
     sink: &mut W,
-) -> RunEnd
+    keeper: K,
+) -> RunEnd<K>
     ensures usage { (result.status ≡ Status.Usage) ↔ (AreReplay (map (λ word. word.items) words.now) → ⊥) }
-    ensures ended { Ended result.status (record { left = S.left source.old; reads_failed = S.faults source.old; taken = W.taken sink.old; writes_failed = W.faults sink.old }) (record { left = S.left source.new; reads_failed = S.faults source.new; taken = W.taken sink.new; writes_failed = W.faults sink.new }) (map (λ history. history.items) result.histories.items) result.written }
+    ensures ended { Ended result.status (record { left = S.left source.old; reads_failed = S.faults source.old; taken = W.taken sink.old; writes_failed = W.faults sink.old; rows = K.rows keeper; keeps_failed = K.faults keeper }) (record { left = S.left source.new; reads_failed = S.faults source.new; taken = W.taken sink.new; writes_failed = W.faults sink.new; rows = K.rows result.keeper; keeps_failed = K.faults result.keeper }) (record { opening = result.opening; log = result.log.items; histories = map (λ history. history.items) result.histories.items }) result.written }
+    ensures faultless { K.faults result.keeper ≡ K.faults keeper → K.faults keeper < 2 ^ 64 - 1 → result.status ≢ Status.KeepFault }
     ensures source_never_falls { S.faults source.old ≤ S.faults source.new }
     ensures sink_never_falls { W.faults sink.old ≤ W.faults sink.new }
+    ensures keeper_never_falls { K.faults keeper ≤ K.faults result.keeper }
 {
     if !are_replay(words) {
-        return not_started(alloc, Status::Usage);
+        return not_started(alloc, Status::Usage, keeper);
     }
-    let read = match script_of(alloc, source) {
-        Ok(read) => read,
-        Err(ReadStop::Failed) => return not_started(alloc, Status::ReadFault),
-        Err(ReadStop::Memory) => return not_started(alloc, Status::Memory),
-    };
-    match read {
-        Some(script) => replay(alloc, script, sink),
-        None => not_started(alloc, Status::NotYet),
+    match read_script(alloc, source) {
+        Ok(script) => replay(alloc, &script, sink, keeper),
+        Err(status) => not_started(alloc, status, keeper),
     }
 }
 
@@ -86,96 +100,92 @@ fn is_replay(word: &[u8]) -> bool
     word == b"replay".as_slice()
 }
 
-/// The end of a run before it began.
-fn not_started(alloc: Global, status: Status) -> RunEnd
-    ensures status { result.status ≡ status }
-    ensures histories { result.histories.items ≡ [] }
-    ensures written { result.written ≡ 0 }
-{
-    RunEnd {
-        status,
-        histories: Vec::new(alloc),
-        written: 0,
-    }
-}
-
-/// Reads the script that the source gives, or finds that its text is none.
-fn script_of<S: Source>(alloc: Global, source: &mut S) -> Result<Option<Script>, ReadStop>
-    ensures found { IfOk result (λ read. IfSome read (λ script. IsRead (S.left source.old) (S.left source.new) script.members script.acts.items)) }
-    ensures none { IfOk result (λ read. IfNone read (IsReadInVain (S.left source.old) (S.left source.new))) }
-    ensures lost { OnErr result (TakesSome (S.left source.old) (S.left source.new)) }
-    ensures failed_rose { result ≡ Err ReadStop.Failed → Rose (S.faults source.old) (S.faults source.new) }
+/// Reads the script that the source gives, or tells how the run ends without one.
+fn read_script<S: Source>(alloc: Global, source: &mut S) -> Result<Script, Status>
+    ensures read { IfOk result (λ script. IsRead (S.left source.old) (S.left source.new) script.shape script.acts) }
+    ensures playable { IfOk result (λ script. IsPlayable script.shape script.acts) }
+    ensures unread { IfErr result (λ status. IsUnread status (S.left source.old) (S.left source.new) (S.faults source.old) (S.faults source.new)) }
     ensures never_falls { S.faults source.old ≤ S.faults source.new }
 {
-    let read = read_up_to(alloc, source, LONGEST_TEXT + 1)?;
-    if !read.at_end {
-        return Ok(None);
-    }
-    match parse(alloc, read.text.as_slice()) {
-        Ok(script) => Ok(script),
-        Err(Memory) => Err(ReadStop::Memory),
-    }
-}
-
-/// Runs a script and prints its lines.
-fn replay<W: Sink>(alloc: Global, script: Script, sink: &mut W) -> RunEnd
-    requires { IsPlayable script.members script.acts.items }
-    ensures ended { Replayed result.status script.members script.acts.items (W.taken sink.old) (W.taken sink.new) (W.faults sink.old) (W.faults sink.new) (map (λ history. history.items) result.histories.items) result.written }
-    ensures never_falls { W.faults sink.old ≤ W.faults sink.new }
-{
-    let Ok(mut core) = Core::new(alloc, shape_of(script.members)) else {
-        return not_started(alloc, Status::Memory);
+    let read = match read_up_to(alloc, source, LONGEST_TEXT + 1) {
+        Ok(read) => read,
+        Err(ReadStop::Failed) => return Err(Status::ReadFault),
+        Err(ReadStop::Memory) => return Err(Status::Memory),
     };
-    let mut written = 0;
-    let ended = play_whole(alloc, &mut core, &script, sink, &mut written);
-    RunEnd {
-        status: end_status(ended),
-        histories: core.into_histories(),
-        written,
+    match Script::parse(alloc, read.text.as_slice()) {
+        Ok(script) => Ok(script),
+        Err(ScriptFault::Bad { line, kind }) => Err(Status::Script { line, kind }),
+        Err(ScriptFault::Memory) => Err(Status::Memory),
     }
 }
 
-/// What a run of so many members is made with.
-fn shape_of(members: u32) -> Shape
-    ensures { result ≡ shape_of members }
+/// Runs a script and prints its lines. Room for the histories is there before the keeper starts, so
+/// that nothing that the run did is lost for want of memory.
+fn replay<W: Sink, K: Keeper>(
+    alloc: Global,
+    script: &Script,
+    sink: &mut W,
+    keeper: K,
+) -> RunEnd<K>
+    requires { IsPlayable script.now.shape script.now.acts }
+    ensures ended { (left_old left_new : Option (List ℕ)) (reads_old reads_new : ℕ) → IsRead left_old left_new script.now.shape script.now.acts → Ended result.status (record { left = left_old; reads_failed = reads_old; taken = W.taken sink.old; writes_failed = W.faults sink.old; rows = K.rows keeper; keeps_failed = K.faults keeper }) (record { left = left_new; reads_failed = reads_new; taken = W.taken sink.new; writes_failed = W.faults sink.new; rows = K.rows result.keeper; keeps_failed = K.faults result.keeper }) (record { opening = result.opening; log = result.log.items; histories = map (λ history. history.items) result.histories.items }) result.written }
+    ensures other { result.status ≢ Status.Usage }
+    ensures sink_never_falls { W.faults sink.old ≤ W.faults sink.new }
+    ensures keeper_never_falls { K.faults keeper ≤ K.faults result.keeper }
 {
-    Shape {
-        members,
-        shards: 1,
-        room: 16,
-        life: 100,
+    let Ok(histories) = Vec::with_capacity(alloc, script.shape().shards as usize) else {
+        return not_started(alloc, Status::Memory, keeper);
+    };
+    match Core::new(alloc, keeper, &Place::Fresh, script.shape()) {
+        Ok(core) => play_on(alloc, core, script, sink, histories),
+        Err(NoStore { keeper, cause }) => not_started(alloc, start_status(cause), keeper),
     }
+}
+
+/// Plays a script on a new core, and takes the core apart.
+fn play_on<W: Sink, K: Keeper>(
+    alloc: Global,
+    core: Core<K>,
+    script: &Script,
+    sink: &mut W,
+    histories: Vec<Vec<Step>>,
+) -> RunEnd<K>
+    requires playable { IsPlayable script.now.shape script.now.acts }
+    requires new { IsNew core script.now.shape }
+    requires none { histories.items ≡ [] }
+    requires room { script.now.shape.shards ≤ vec_capacity histories }
+    ensures ended { (left_old left_new : Option (List ℕ)) (reads_old reads_new : ℕ) (rows : Option Tables) (faults : ℕ) → IsRead left_old left_new script.now.shape script.now.acts → faults ≤ core.store.faults → Ended result.status (record { left = left_old; reads_failed = reads_old; taken = W.taken sink.old; writes_failed = W.faults sink.old; rows = rows; keeps_failed = faults }) (record { left = left_new; reads_failed = reads_new; taken = W.taken sink.new; writes_failed = W.faults sink.new; rows = K.rows result.keeper; keeps_failed = K.faults result.keeper }) (record { opening = result.opening; log = result.log.items; histories = map (λ history. history.items) result.histories.items }) result.written }
+    ensures other { result.status ≢ Status.Usage }
+    ensures sink_never_falls { W.faults sink.old ≤ W.faults sink.new }
+    ensures keeper_never_falls { core.store.faults ≤ K.faults result.keeper }
+{
+    let mut core = core;
+    let mut tally = Tally {
+        written: 0,
+        faulted: false,
+    };
+    let ended = play_whole(alloc, &mut core, script, sink, &mut tally);
+    ended_run(core, ended, tally, histories)
 }
 
 /// Plays a script on a new core, and prints the last line.
-fn play_whole<W: Sink>(
+fn play_whole<W: Sink, K: Keeper>(
     alloc: Global,
-    core: &mut Core,
+    core: &mut Core<K>,
     script: &Script,
     sink: &mut W,
-    written: &mut u64,
+    tally: &mut Tally,
 ) -> Result<(), Stop>
-    requires playable { IsPlayable script.now.members script.now.acts.items }
-    requires start { IsAt core.old (shape_of script.now.members) start }
-    requires nothing { written.old ≡ 0 }
-    ensures all { OnOk result (IsFinished script.now.members script.now.acts.items core.new (W.taken sink.old) (W.taken sink.new) written.new) }
-    ensures some { OnErr result (IsStopped script.now.members script.now.acts.items core.new (W.taken sink.old) (W.taken sink.new) written.new) }
+    requires playable { IsPlayable script.now.shape script.now.acts }
+    requires new { IsNew core.old script.now.shape }
+    requires nothing { tally.old ≡ record { written = 0; faulted = false } }
+    ensures all { OnOk result (IsFinished core.new (origin_of script.now.shape core.old) script.now.acts (W.taken sink.old) (W.taken sink.new) tally.new) }
+    ensures some { OnErr result (IsStopped core.new (origin_of script.now.shape core.old) script.now.acts (W.taken sink.old) (W.taken sink.new) tally.new) }
     ensures failed_rose { result ≡ Err Stop.WriteFault → Rose (W.faults sink.old) (W.faults sink.new) }
     ensures never_falls { W.faults sink.old ≤ W.faults sink.new }
 {
-    play(core, script.acts.as_slice(), sink, written)?;
-    let line = last_line(alloc, core.history(0))?;
-    print(sink, written, line.as_slice())?;
+    play(core, script.acts(), sink, tally)?;
+    let line = last_line(alloc, core)?;
+    print(sink, &mut tally.written, line.as_slice())?;
     Ok(())
-}
-
-/// The status of a replay that ended so.
-fn end_status(ended: Result<(), Stop>) -> Status
-    ensures { result ≡ status_of ended }
-{
-    match ended {
-        Ok(()) => Status::Done,
-        Err(Stop::WriteFault) => Status::WriteFault,
-        Err(Stop::Memory) => Status::Memory,
-    }
 }

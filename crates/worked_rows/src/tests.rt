@@ -1,10 +1,12 @@
 use iq_outside::{MemSink, MemSource, read_up_to};
+use run_inputs::ScriptKind;
+use sql_keeper::MapKeeper;
 use std::alloc::Global;
 use std::test::Fail;
 use top_run::{Status, run};
 
 /// What each script prints.
-const PRINTS: [(&str, &[u8], &[u8]); 8] = [
+const PRINTS: [(&str, &[u8], &[u8]); 17] = [
     (
         "a reader stores what the store answers",
         b"members 3\nread 1 profile:2\nturn 1 3\nend\n",
@@ -45,42 +47,136 @@ const PRINTS: [(&str, &[u8], &[u8]); 8] = [
         b"members 3\nread 1 friends:2\nread 2 pending:2\nread 3 nfriends:2\nread 4 npending:2\nturn 1 2\nturn 2 2\nturn 3 2\nturn 4 2\nend\n",
         b"1 get friends:2 LEASE 1\n1 ask friends:2 0 .\n2 get pending:2 LEASE 2\n2 ask pending:2 0 .\n3 get nfriends:2 LEASE 3\n3 ask nfriends:2 0 0\n4 get npending:2 LEASE 4\n4 ask npending:2 0 0\nend commits 0 hits 0 stores 0 agains 0\n",
     ),
+    (
+        "a set whose lease was voided stores nothing",
+        b"members 3\nread 1 profile:2\nwrite 2 invalidate invite 1 2\nread 3 profile:2\nturn 1 2\nturn 2\nturn 1\nturn 3\nend\n",
+        b"1 get profile:2 LEASE 1\n1 ask profile:2 0 m2 0 0\n2 qareg profile:2 GRANTED 2\n1 set profile:2 VOID\n3 get profile:2 AGAIN Q\nend commits 0 hits 0 stores 0 agains 1\n",
+    ),
+    (
+        "a reader hits the old value between a commit and its drop",
+        b"members 3\nread 1 profile:2\nwrite 2 invalidate invite 1 2\nread 3 profile:2\nread 4 profile:2\nturn 1 3\nturn 2 4\nturn 3\nturn 2\nturn 4 3\nend\n",
+        b"1 get profile:2 LEASE 1\n1 ask profile:2 0 m2 0 0\n1 set profile:2 STORED\n2 qareg profile:2 GRANTED 2\n2 qareg pending:2 GRANTED 3\n2 qareg npending:2 GRANTED 4\n2 commit COMMITTED 1\n3 get profile:2 HIT 0 m2 0 0\n2 dar profile:2 RELEASED\n4 get profile:2 LEASE 5\n4 ask profile:2 1 m2 0 1\n4 set profile:2 STORED\nend commits 1 hits 1 stores 2 agains 0\n",
+    ),
+    (
+        "two writers invalidate one key",
+        b"members 3\nwrite 1 invalidate invite 1 2\nwrite 2 invalidate invite 3 2\nread 3 pending:2\nturn 1 3\nturn 2 3\nturn 1 4\nturn 3\nturn 2 4\nturn 3 3\nend\n",
+        b"1 qareg profile:2 GRANTED 1\n1 qareg pending:2 GRANTED 2\n1 qareg npending:2 GRANTED 3\n2 qareg profile:2 GRANTED 4\n2 qareg pending:2 GRANTED 5\n2 qareg npending:2 GRANTED 6\n1 commit COMMITTED 1\n1 dar profile:2 RELEASED\n1 dar pending:2 RELEASED\n1 dar npending:2 RELEASED\n3 get pending:2 AGAIN Q\n2 commit COMMITTED 2\n2 dar profile:2 RELEASED\n2 dar pending:2 RELEASED\n2 dar npending:2 RELEASED\n3 get pending:2 LEASE 7\n3 ask pending:2 2 1,3\n3 set pending:2 STORED\nend commits 2 hits 0 stores 1 agains 1\n",
+    ),
+    (
+        "a rejected transaction leaves the entry",
+        b"members 3\nread 1 profile:2\nwrite 2 invalidate accept 1 2\nread 3 profile:2\nturn 1 3\nturn 2 18\nturn 3\nend\n",
+        b"1 get profile:2 LEASE 1\n1 ask profile:2 0 m2 0 0\n1 set profile:2 STORED\n2 qareg profile:1 GRANTED 2\n2 qareg profile:2 GRANTED 3\n2 qareg friends:1 GRANTED 4\n2 qareg friends:2 GRANTED 5\n2 qareg pending:2 GRANTED 6\n2 qareg nfriends:1 GRANTED 7\n2 qareg nfriends:2 GRANTED 8\n2 qareg npending:2 GRANTED 9\n2 commit REJECTED 0\n2 end YES\n2 abort profile:1 RELEASED\n2 abort profile:2 RELEASED\n2 abort friends:1 RELEASED\n2 abort friends:2 RELEASED\n2 abort pending:2 RELEASED\n2 abort nfriends:1 RELEASED\n2 abort nfriends:2 RELEASED\n2 abort npending:2 RELEASED\n3 get profile:2 HIT 0 m2 0 0\nend commits 0 hits 1 stores 1 agains 0\n",
+    ),
+    (
+        "a transaction with an uncovered key is not committed",
+        b"members 3\nskip 1 profile:1 accept 1 2\nturn 1 16\nend\n",
+        b"1 qareg profile:2 GRANTED 1\n1 qareg friends:1 GRANTED 2\n1 qareg friends:2 GRANTED 3\n1 qareg pending:2 GRANTED 4\n1 qareg nfriends:1 GRANTED 5\n1 qareg nfriends:2 GRANTED 6\n1 qareg npending:2 GRANTED 7\n1 commit UNCOVERED profile:1\n1 end YES\n1 abort profile:2 RELEASED\n1 abort friends:1 RELEASED\n1 abort friends:2 RELEASED\n1 abort pending:2 RELEASED\n1 abort nfriends:1 RELEASED\n1 abort nfriends:2 RELEASED\n1 abort npending:2 RELEASED\nend commits 0 hits 0 stores 0 agains 0\n",
+    ),
+    (
+        "an entry below the floor counts as a miss",
+        b"members 3\nread 1 profile:2\nread 2 profile:2 floor 1\nturn 1 3\nturn 2 3\nend\n",
+        b"1 get profile:2 LEASE 1\n1 ask profile:2 0 m2 0 0\n1 set profile:2 STORED\n2 get profile:2 LEASE 2\n2 ask profile:2 0 m2 0 0\n2 set profile:2 STORED\nend commits 0 hits 0 stores 2 agains 0\n",
+    ),
+    (
+        "a full shard drops its last entry",
+        b"members 3\nroom 1\nread 1 profile:1\nread 2 profile:2\nturn 1 3\nturn 2 3\nend\n",
+        b"1 get profile:1 LEASE 1\n1 ask profile:1 0 m1 0 0\n1 set profile:1 STORED\n2 get profile:2 LEASE 2\n2 ask profile:2 0 m2 0 0\n2 set profile:2 STORED EVICTS profile:1\nend commits 0 hits 0 stores 2 agains 0\n",
+    ),
+    (
+        "a session that skips its only key commits at once, in vain",
+        b"members 3\nskip 1 profile:1 rename 1 al\nturn 1 3\nend\n",
+        b"1 commit UNCOVERED profile:1\n1 end YES\n1 done\nend commits 0 hits 0 stores 0 agains 0\n",
+    ),
+    (
+        "an entry below the floor is dropped, also while its key is quarantined",
+        b"members 3\nlife 7\nwrite 1 invalidate rename 2 bob\nread 2 profile:2\nread 3 profile:2 floor 1\nturn 2 3\nturn 1 2\nturn 3\nturn 1\nturn 3\nread 4 profile:2 floor 2\nturn 3 2\nturn 4 2\nend\n",
+        b"2 get profile:2 LEASE 1\n2 ask profile:2 0 m2 0 0\n2 set profile:2 STORED\n1 qareg profile:2 GRANTED 2\n1 commit COMMITTED 1\n3 get profile:2 AGAIN Q\n1 dar profile:2 RELEASED\n3 get profile:2 LEASE 3\n3 ask profile:2 1 bob 0 0\n3 set profile:2 STORED\n4 get profile:2 LEASE 4\n4 ask profile:2 1 bob 0 0\nend commits 1 hits 0 stores 2 agains 1\n",
+    ),
 ];
 
-/// Texts that are no scripts.
-const NO_SCRIPTS: [(&str, &[u8]); 21] = [
-    ("an empty text", b""),
-    ("no line `end`", b"members 3\nread 1 profile:2\n"),
-    ("a line behind the last", b"members 3\nend\nend\n"),
-    ("an empty line behind the last", b"members 3\nend\n\n"),
-    ("a leading zero", b"members 03\nend\n"),
-    ("a sign", b"members +3\nend\n"),
-    ("no members", b"members 0\nend\n"),
-    ("too many members", b"members 100001\nend\n"),
-    ("the members twice", b"members 3\nmembers 3\nend\n"),
-    ("two spaces", b"members  3\nend\n"),
-    ("a space at the end", b"members 3 \nend\n"),
-    ("an empty line", b"members 3\n\nend\n"),
-    ("a carriage return", b"members 3\r\nend\r\n"),
+/// Scripts over two shards, of which each draws its own tokens. `profile:2` is on the first, `profile:1`
+/// on the second.
+const TWO_SHARDS: [(&str, &[u8], &[u8]); 2] = [
     (
-        "a session number left out",
-        b"members 3\nread 2 profile:2\nend\n",
-    ),
-    ("a floor", b"members 3\nread 1 profile:2 floor 1\nend\n"),
-    ("a key with the id 0", b"members 3\nread 1 profile:0\nend\n"),
-    ("a turn of no session", b"members 3\nturn 1\nend\n"),
-    (
-        "a turn of session 0",
-        b"members 3\nread 1 profile:2\nturn 0\nend\n",
-    ),
-    ("no turns", b"members 3\nread 1 profile:2\nturn 1 0\nend\n"),
-    (
-        "too many turns in a line",
-        b"members 3\nread 1 profile:2\nturn 1 1001\nend\n",
+        "two readers are given the first token each",
+        b"members 3\nshards 2\nread 1 profile:2\nread 2 profile:1\nturn 1 3\nturn 2 3\nend\n",
+        b"1 get profile:2 LEASE 1\n1 ask profile:2 0 m2 0 0\n1 set profile:2 STORED\n2 get profile:1 LEASE 1\n2 ask profile:1 0 m1 0 0\n2 set profile:1 STORED\nend commits 0 hits 0 stores 2 agains 0\n",
     ),
     (
-        "seventeen sessions",
-        b"members 3\nread 1 profile:2\nread 2 profile:2\nread 3 profile:2\nread 4 profile:2\nread 5 profile:2\nread 6 profile:2\nread 7 profile:2\nread 8 profile:2\nread 9 profile:2\nread 10 profile:2\nread 11 profile:2\nread 12 profile:2\nread 13 profile:2\nread 14 profile:2\nread 15 profile:2\nread 16 profile:2\nread 17 profile:2\nend\n",
+        "a writer releases two grants that have one token",
+        b"members 3\nshards 2\nwrite 1 invalidate rename 1 al + rename 2 bob\nread 2 profile:1\nturn 1 3\nturn 2\nturn 1\nturn 2 3\nturn 1\nend\n",
+        b"1 qareg profile:1 GRANTED 1\n1 qareg profile:2 GRANTED 1\n1 commit COMMITTED 1\n2 get profile:1 AGAIN Q\n1 dar profile:1 RELEASED\n2 get profile:1 LEASE 2\n2 ask profile:1 1 al 0 0\n2 set profile:1 STORED\n1 dar profile:2 RELEASED\nend commits 1 hits 0 stores 1 agains 1\n",
+    ),
+];
+
+/// Texts that are no scripts, and the line and kind of their first fault.
+const NO_SCRIPTS: [(&str, &[u8], u64, ScriptKind); 9] = [
+    ("an empty text", b"", 1, ScriptKind::NoEnd),
+    (
+        "a turn of no session",
+        b"members 3\nturn 1\nend\n",
+        2,
+        ScriptKind::Number,
+    ),
+    ("no line `end`", b"members 3", 2, ScriptKind::NoEnd),
+    ("no members", b"members 0\nend\n", 1, ScriptKind::Form),
+    (
+        "a skipped key that isn't touched",
+        b"members 3\nskip 1 profile:1 rename 2 bob\nend\n",
+        2,
+        ScriptKind::Key,
+    ),
+    (
+        "a line behind the last",
+        b"members 3\nend\nend\n",
+        3,
+        ScriptKind::AfterEnd,
+    ),
+    (
+        "a turn number past all numbers of sessions",
+        b"members 3\nturn 18446744073709551616\nend\n",
+        2,
+        ScriptKind::Number,
+    ),
+    (
+        "a line that isn't run yet",
+        b"members 3\ntick 5\nend\n",
+        2,
+        ScriptKind::NotYet,
+    ),
+    (
+        "a mode that isn't run yet",
+        b"members 3\nwrite 1 refresh rename 2 bob\nend\n",
+        2,
+        ScriptKind::NotYet,
+    ),
+];
+
+/// Scripts whose keeper fails at some calls, counted from 1 and with its start, and what they print.
+const FAULTS: [(&str, &[u8], &[u64], &[u8]); 4] = [
+    (
+        "a commit that the keeper fails leaves the entry",
+        b"members 3\nread 1 profile:2\nwrite 2 invalidate rename 2 bob\nread 3 profile:2\nturn 1 3\nturn 2 4\nturn 3\nend\n",
+        &[3],
+        b"1 get profile:2 LEASE 1\n1 ask profile:2 0 m2 0 0\n1 set profile:2 STORED\n2 qareg profile:2 GRANTED 2\n2 commit FAULT\n2 end YES\n2 abort profile:2 RELEASED\n3 get profile:2 HIT 0 m2 0 0\nend commits 0 hits 1 stores 1 agains 0\n",
+    ),
+    (
+        "a keeper that fails comes before a transaction that doesn't apply",
+        b"members 3\nwrite 1 invalidate reject 1 2\nturn 1 4\nend\n",
+        &[2],
+        b"1 qareg profile:2 GRANTED 1\n1 qareg pending:2 GRANTED 2\n1 qareg npending:2 GRANTED 3\n1 commit FAULT\nend commits 0 hits 0 stores 0 agains 0\n",
+    ),
+    (
+        "a reader whose keeper fails is done, and its lease stands",
+        b"members 3\nread 1 profile:2\nread 2 profile:2\nturn 1 3\nturn 2\nend\n",
+        &[2],
+        b"1 get profile:2 LEASE 1\n1 ask profile:2 FAULT\n1 done\n2 get profile:2 AGAIN I\nend commits 0 hits 0 stores 0 agains 1\n",
+    ),
+    (
+        "the run goes on after two faults",
+        b"members 3\nread 1 profile:1\nread 2 profile:2\nread 3 profile:3\nturn 1 2\nturn 2 2\nturn 3 2\nend\n",
+        &[2, 3],
+        b"1 get profile:1 LEASE 1\n1 ask profile:1 FAULT\n2 get profile:2 LEASE 2\n2 ask profile:2 FAULT\n3 get profile:3 LEASE 3\n3 ask profile:3 0 m3 0 0\nend commits 0 hits 0 stores 0 agains 0\n",
     ),
 ];
 
@@ -90,12 +186,16 @@ struct Ran {
     status: Status,
     printed: Vec<u8>,
     written: u64,
+    /// Whether the keeper was started.
+    started: bool,
+    commits: usize,
     histories: usize,
     /// How many bytes of the text weren't read.
     unread: usize,
 }
 
-/// Runs a text of which so many bytes are read or taken at a call, with these calls failing.
+/// Runs a text of which so many bytes are read or taken at a call, with these calls of the source, the
+/// sink and the keeper failing.
 fn run_over(
     alloc: Global,
     words: &[&str],
@@ -103,6 +203,7 @@ fn run_over(
     piece: usize,
     reads_fail: &[u64],
     writes_fail: &[u64],
+    keeps_fail: &[u64],
     room: usize,
 ) -> Result<Ran, Fail> {
     let mut said = Vec::new(alloc);
@@ -117,39 +218,88 @@ fn run_over(
         piece.max(1),
         Vec::from_slice(alloc, writes_fail)?,
     )?;
-    let end = run(alloc, said.as_slice(), &mut source, &mut sink);
+    let keeper = MapKeeper::new(Vec::from_slice(alloc, keeps_fail)?);
+    let end = run(alloc, said.as_slice(), &mut source, &mut sink, keeper);
     let unread = read_up_to(alloc, &mut source, usize::MAX)?.text.len();
     Ok(Ran {
         status: end.status,
         printed: Vec::from_slice(alloc, sink.taken())?,
         written: end.written,
+        started: end.opening.is_some(),
+        commits: end.log.len(),
         histories: end.histories.len(),
         unread,
     })
 }
 
-#[test]
-fn scripts_print_their_lines(rt: HostRuntime) -> Result<(), Fail> {
-    for (name, text, out) in PRINTS {
-        for piece in [1, 5, 4096] {
-            let ran = run_over(rt.alloc(), &["replay"], text, piece, &[], &[], 4096)?;
-            assert_eq!(rt; ran.status, Status::Done, "{name}, in pieces of {piece}");
-            assert_eq!(rt; ran.printed.as_slice(), out, "{name}, in pieces of {piece}");
-            assert_eq!(rt; ran.written, out.len() as u64);
-            assert_eq!(rt; (ran.histories, ran.unread), (1, 0));
-        }
+/// Runs a script without a fault, in pieces of three sizes, and looks at what it prints.
+fn prints(
+    rt: &HostRuntime,
+    name: &str,
+    text: &[u8],
+    out: &[u8],
+    histories: usize,
+) -> Result<(), Fail> {
+    for piece in [1, 5, 4096] {
+        let ran = run_over(rt.alloc(), &["replay"], text, piece, &[], &[], &[], 4096)?;
+        assert_eq!(rt; ran.status, Status::Done, "{name}, in pieces of {piece}");
+        assert_eq!(rt; ran.printed.as_slice(), out, "{name}, in pieces of {piece}");
+        assert_eq!(rt; ran.written, out.len() as u64);
+        assert_eq!(rt; (ran.started, ran.histories, ran.unread), (true, histories, 0));
     }
     Ok(())
 }
 
 #[test]
+fn scripts_print_their_lines(rt: HostRuntime) -> Result<(), Fail> {
+    for (name, text, out) in PRINTS {
+        prints(&rt, name, text, out, 1)?;
+    }
+    for (name, text, out) in TWO_SHARDS {
+        prints(&rt, name, text, out, 2)?;
+    }
+    Ok(())
+}
+
+#[test]
+fn a_run_keeps_its_log(rt: HostRuntime) -> Result<(), Fail> {
+    let text = b"members 3\nwrite 1 invalidate rename 2 bob\nwrite 2 invalidate rename 1 al\nturn 1 3\nturn 2 2\nend\n";
+    let ran = run_over(rt.alloc(), &["replay"], text, 5, &[], &[], &[], 4096)?;
+    assert_eq!(rt; (ran.status, ran.commits), (Status::Done, 2));
+    Ok(())
+}
+
+#[test]
+fn a_keepers_fault_is_printed_and_the_run_goes_on(rt: HostRuntime) -> Result<(), Fail> {
+    for (name, text, fails, out) in FAULTS {
+        let ran = run_over(rt.alloc(), &["replay"], text, 5, &[], &[], fails, 4096)?;
+        assert_eq!(rt; ran.status, Status::KeepFault, "{name}");
+        assert_eq!(rt; ran.printed.as_slice(), out, "{name}");
+        assert_eq!(rt; (ran.started, ran.commits, ran.histories), (true, 0, 1), "{name}");
+    }
+    Ok(())
+}
+
+#[test]
+fn a_keeper_that_does_not_start_ends_the_run_before_it_begins(
+    rt: HostRuntime,
+) -> Result<(), Fail> {
+    let text = b"members 3\nread 1 profile:2\nturn 1 3\nend\n";
+    let ran = run_over(rt.alloc(), &["replay"], text, 5, &[], &[], &[1], 4096)?;
+    assert_eq!(rt; ran.status, Status::KeepFault);
+    assert_eq!(rt; (ran.started, ran.commits, ran.histories, ran.unread), (false, 0, 0, 0));
+    assert!(rt; ran.printed.is_empty());
+    Ok(())
+}
+
+#[test]
 fn other_texts_print_nothing(rt: HostRuntime) -> Result<(), Fail> {
-    for (name, text) in NO_SCRIPTS {
-        let ran = run_over(rt.alloc(), &["replay"], text, 5, &[], &[], 4096)?;
-        assert_eq!(rt; ran.status, Status::NotYet, "{name}");
+    for (name, text, line, kind) in NO_SCRIPTS {
+        let ran = run_over(rt.alloc(), &["replay"], text, 5, &[], &[], &[], 4096)?;
+        assert_eq!(rt; ran.status, Status::Script { line, kind }, "{name}");
         assert_eq!(rt;
-            (ran.written, ran.histories, ran.unread),
-            (0, 0, 0),
+            (ran.written, ran.started, ran.histories, ran.unread),
+            (0, false, 0, 0),
             "{name}"
         );
         assert!(rt; ran.printed.is_empty(), "{name}");
@@ -167,9 +317,14 @@ fn of_a_text_that_is_too_long_no_more_is_read(rt: HostRuntime) -> Result<(), Fai
         4096,
         &[],
         &[],
+        &[],
         4096,
     )?;
-    assert_eq!(rt; ran.status, Status::NotYet);
+    let long = Status::Script {
+        line: 0,
+        kind: ScriptKind::LongText,
+    };
+    assert_eq!(rt; ran.status, long);
     assert_eq!(rt; ran.unread, 3);
     assert!(rt; ran.printed.is_empty());
     Ok(())
@@ -178,11 +333,18 @@ fn of_a_text_that_is_too_long_no_more_is_read(rt: HostRuntime) -> Result<(), Fai
 #[test]
 fn other_words_are_refused_and_nothing_is_read(rt: HostRuntime) -> Result<(), Fail> {
     let text = b"members 3\nend\n";
-    let cases: [&[&str]; 5] = [&[], &[""], &["work"], &["replay", "replay"], &["Replay"]];
+    let cases: [&[&str]; 6] = [
+        &[],
+        &[""],
+        &["work"],
+        &["replay", "replay"],
+        &["replay", "x"],
+        &["Replay"],
+    ];
     for words in cases {
-        let ran = run_over(rt.alloc(), words, text, 5, &[], &[], 4096)?;
+        let ran = run_over(rt.alloc(), words, text, 5, &[], &[], &[], 4096)?;
         assert_eq!(rt; ran.status, Status::Usage);
-        assert_eq!(rt; (ran.written, ran.histories, ran.unread), (0, 0, 14));
+        assert_eq!(rt; (ran.written, ran.started, ran.unread), (0, false, 14));
         assert!(rt; ran.printed.is_empty());
     }
     Ok(())
@@ -192,9 +354,9 @@ fn other_words_are_refused_and_nothing_is_read(rt: HostRuntime) -> Result<(), Fa
 fn a_read_that_fails_ends_the_run_before_it_begins(rt: HostRuntime) -> Result<(), Fail> {
     let text = b"members 3\nend\n";
     for at in [1, 2, 3, 4] {
-        let ran = run_over(rt.alloc(), &["replay"], text, 5, &[at], &[], 4096)?;
+        let ran = run_over(rt.alloc(), &["replay"], text, 5, &[at], &[], &[], 4096)?;
         assert_eq!(rt; ran.status, Status::ReadFault, "at read {at}");
-        assert_eq!(rt; (ran.written, ran.histories), (0, 0));
+        assert_eq!(rt; (ran.written, ran.started, ran.histories), (0, false, 0));
         assert!(rt; ran.printed.is_empty());
     }
     Ok(())
@@ -211,7 +373,7 @@ fn a_write_that_fails_ends_the_run_there(rt: HostRuntime) -> Result<(), Fail> {
         (none, 95, 95),
     ];
     for (writes_fail, room, taken) in cases {
-        let ran = run_over(rt.alloc(), &["replay"], text, 5, &[], writes_fail, room)?;
+        let ran = run_over(rt.alloc(), &["replay"], text, 5, &[], writes_fail, &[], room)?;
         assert_eq!(rt; ran.status, Status::WriteFault, "after {taken} bytes");
         assert_eq!(rt; ran.printed.len(), taken);
         assert!(rt; out.starts_with(ran.printed.as_slice()));

@@ -9,9 +9,9 @@ pub take_turn-requires-clause-begun : goal.take_turn-requires-clause-begun
 take_turn-requires-clause-begun g c = (can_take c.loop-taken.core c.args.turn (c.args.count - c.loop-taken._taken) _ _ c.loop-taken.invariant.can).1
 
 pub returns-in_err-take_turn-clause-some : goal.returns-in_err-take_turn-clause-some
-returns-in_err-take_turn-clause-some g c = λ shape world taken h.
-    on_err _ (stops_turn c.take_turn.new.core c.args.turn c.args.count c.loop-taken._taken shape world taken (g.W.Sink.taken c.take_turn.new.sink) c.take_turn.new.written (omega arith)
-    (c.in_err-take_turn.ensures.some shape _ taken (c.loop-taken.invariant.so_far shape world taken h)))
+returns-in_err-take_turn-clause-some g c = λ origin calls taken h.
+    on_err _ (stops_turn c.take_turn.new.core c.args.turn c.args.count c.loop-taken._taken origin calls taken (g.W.Sink.taken c.take_turn.new.sink) c.take_turn.new.tally (omega arith)
+    (c.in_err-take_turn.ensures.some origin _ taken (c.loop-taken.invariant.so_far origin calls taken h)))
 
 pub loop-taken-preserved : goal.loop-taken-preserved
 loop-taken-preserved g c =
@@ -19,12 +19,12 @@ loop-taken-preserved g c =
     let up' = c.take_turn.ensures.never_falls in
     record {
       can = can_turn c.loop-taken.core c.take_turn.new.core c.args.turn (c.args.count - c.loop-taken._taken) (c.args.count - (c.loop-taken._taken + 1)) _ _ _ _ (omega arith) c.loop-taken.invariant.can c.in_ok-take_turn.ensures.all;
-      so_far = λ shape world taken h.
-          stands_turn c.args.core.now c.loop-taken.core c.take_turn.new.core c.args.turn c.loop-taken._taken shape world taken _ _ _ _ (c.loop-taken.invariant.so_far shape world taken h) c.in_ok-take_turn.ensures.all;
+      so_far = λ origin calls taken h.
+          stands_turn c.loop-taken.core c.take_turn.new.core c.args.turn c.loop-taken._taken origin calls taken _ _ _ _ (c.loop-taken.invariant.so_far origin calls taken h) c.in_ok-take_turn.ensures.all;
       up = omega arith;
     }
 
 pub returns-clause-all : goal.returns-clause-all
-returns-clause-all g c = λ shape world taken h.
+returns-clause-all g c = λ origin calls taken h.
     let all : c.loop-taken._taken ≡ c.args.count = omega arith in
-    rw (← all) (c.loop-taken.invariant.so_far shape world taken h)
+    rw (← all) (c.loop-taken.invariant.so_far origin calls taken h)
