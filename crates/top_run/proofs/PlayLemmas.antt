@@ -17,7 +17,8 @@ use Rattle.core_history.specs.Lines.{line_of, lines_of, is_fault}
 use Rattle.core_history.specs.Cores.{CoreView, Origin, IsAt, HasKept, IsRunning, HasBegun}
 use Rattle.core_history.specs.Machine.{Said, Move, Begin, Take, turn_event, world_of}
 use Rattle.top_run.specs.declared.plays.Tally.{Tally}
-use Rattle.top_run.specs.Runs.{Call, Adds, Turns, call_of, calls_in, calls_of, past_of, faults_in, Prints}
+use Rattle.core_history.specs.Determined.{Call, Adds, Turns, call_of}
+use Rattle.top_run.specs.Runs.{calls_in, calls_of, past_of, faults_in, Prints}
 use Rattle.top_run.specs.Plays.{begun_in, taken_in, is_add, is_turn, IsNoted, CanPlay, Stands, Stops}
 use Rattle.top_run.proofs.PrintLemmas.{lines_more}
 

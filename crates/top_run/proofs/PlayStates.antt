@@ -5,7 +5,8 @@ use Rattle.run_inputs.specs.declared.scripts.Act.{Act}
 use Rattle.run_inputs.specs.declared.scripts.Act.TheVariants as act
 use Rattle.core_history.specs.Cores.{CoreView, Origin}
 use Rattle.top_run.specs.declared.plays.Tally.{Tally}
-use Rattle.top_run.specs.Runs.{Call, Turns, calls_of}
+use Rattle.core_history.specs.Determined.{Call, Turns}
+use Rattle.top_run.specs.Runs.{calls_of}
 use Rattle.top_run.specs.Plays.{CanPlay, Stands}
 
 -- so many turns were taken

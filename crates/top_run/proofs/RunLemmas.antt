@@ -16,7 +16,8 @@ use Rattle.top_run.specs.declared.plays.Stop.TheVariants as stop
 use Rattle.top_run.specs.declared.plays.Tally.{Tally}
 use Rattle.top_run.specs.declared.runs.Status.{Status}
 use Rattle.top_run.specs.declared.runs.Status.TheVariants as status
-use Rattle.top_run.specs.Runs.{Call, calls_of, past_of, out, faults_in, Prints, IsRead, Tells, Left, IsWhole, IsCutOff, Keeps, FewFaults, Ended}
+use Rattle.core_history.specs.Determined.{Call}
+use Rattle.top_run.specs.Runs.{calls_of, past_of, out, faults_in, Prints, IsRead, Tells, Left, IsWhole, IsCutOff, Keeps, FewFaults, Ended}
 use Rattle.top_run.specs.Plays.{CanPlay, Stands, Stops, IsNoted, IsNew, IsFinished, IsStopped, origin_of, status_of}
 use Rattle.top_run.proofs.PrintLemmas.{lines_none}
 use Rattle.top_run.proofs.KeepLemmas.{end_line_of, keeps, rose_since, rose_of, never_fell}

@@ -10,7 +10,8 @@ use Rattle.run_inputs.specs.Fit.{AreFit, turns_of}
 use Rattle.core_history.specs.Cores.{CoreView, Origin, IsAt, HasKept}
 use Rattle.core_history.specs.Lines.{lines_of}
 use Rattle.core_history.specs.Machine.{Move}
-use Rattle.top_run.specs.Runs.{Call, Adds, Turns, call_of, AreMoves, AreFirstMoves, past_of, out, faults_in, Prints, IsReadInVain}
+use Rattle.core_history.specs.Determined.{Call, Adds, Turns, call_of}
+use Rattle.top_run.specs.Runs.{AreMoves, AreFirstMoves, past_of, out, faults_in, Prints, IsReadInVain}
 use Rattle.top_run.specs.declared.plays.Stop.{Stop}
 use Rattle.top_run.specs.declared.plays.Stop.TheVariants as stop
 use Rattle.top_run.specs.declared.plays.Tally.{Tally}

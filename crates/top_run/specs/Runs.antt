@@ -14,6 +14,7 @@ use Rattle.run_inputs.specs.declared.scripts.Act.{Act}
 use Rattle.run_inputs.specs.declared.scripts.Act.TheVariants as act
 use Rattle.run_inputs.specs.declared.faults.ScriptKind.{ScriptKind}
 use Rattle.run_inputs.specs.Script.{IsScript, IsFault}
+use Rattle.core_history.specs.Determined.{Call, Adds, Turns, call_of}
 use Rattle.core_history.specs.Events.{Event, log_of}
 use Rattle.core_history.specs.Lines.{lines_of, end_line, is_fault}
 use Rattle.core_history.specs.Machine.{Move, Begin, Take, world_of, terms_of}
@@ -26,11 +27,6 @@ use Rattle.top_run.specs.declared.runs.Status.TheVariants as status
 abbrev pub AreReplay : List (List ℕ) → Type 0
 AreReplay words = words ≡ codes "replay" ∷ []
 
--- What a script says, one by one: to begin a session of this plan, or to take this turn.
-pub data Call : Type 0 where
-  Adds : (plan : Plan) → Call
-  Turns : (turn : Turn) → Call
-
 -- What an act says.
 abbrev pub calls_in : Act → List Call
 calls_in (act.Add plan) = Adds plan ∷ []
@@ -39,11 +35,6 @@ calls_in (act.Run turn count) = replicate count (Turns turn)
 -- What the acts say, in order.
 abbrev pub calls_of : List Act → List Call
 calls_of acts = flat_map calls_in acts
-
--- What a move does, without what the keeper said in it.
-abbrev pub call_of : Move → Call
-call_of (Begin plan) = Adds plan
-call_of (Take turn said) = Turns turn
 
 -- The moves, the latest first, do what the acts say.
 abbrev pub AreMoves : List Act → List Move → Type 0

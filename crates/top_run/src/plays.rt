@@ -4,7 +4,8 @@ ghost use Rattle.iq_outside.specs.Outside.{Rose};
 ghost use Rattle.session_client.specs.Plans.{IsPlan};
 ghost use Rattle.run_inputs.specs.declared.scripts.Act.TheVariants as act;
 ghost use Rattle.core_history.specs.Cores.{Origin, IsRunning, HasBegun};
-ghost use Rattle.top_run.specs.Runs.{Call, Turns, calls_in, calls_of};
+ghost use Rattle.core_history.specs.Determined.{Call, Turns};
+ghost use Rattle.top_run.specs.Runs.{calls_in, calls_of};
 ghost use Rattle.top_run.specs.Plays.{CanPlay, Stands, Stops};
 
 use crate::printing::print;
