@@ -52,31 +52,21 @@ fn run_on(rt: &HostRuntime, words: &[Vec<u8>]) -> Status {
 
 /// Writes the one line of a fault to standard error.
 fn tell(rt: &HostRuntime, status: Status) {
-    // There is nowhere left to tell that this write failed.
-    let _ = match status {
-        Status::Script { line, kind } if kind != ScriptKind::NotYet => {
-            eprintln!(rt; "script line {line} {}", kind.word())
-        }
+    let written = match status {
         Status::Done => Ok(()),
-        other => eprintln!(rt; "{}", message_of(other)),
-    };
-}
-
-/// What a fault is called, but for a faulty script's place.
-fn message_of(status: Status) -> &'static str {
-    match status {
-        Status::Done => "done",
-        Status::Usage => "usage",
+        Status::Usage => eprintln!(rt; "usage"),
         Status::Script {
             kind: ScriptKind::NotYet,
             ..
-        } => "not yet",
-        Status::Script { .. } => "script",
-        Status::ReadFault => "read fault",
-        Status::WriteFault => "write fault",
-        Status::KeepFault => "store fault",
-        Status::Memory => "memory",
-    }
+        } => eprintln!(rt; "not yet"),
+        Status::Script { line, kind } => eprintln!(rt; "script line {line} {}", kind.word()),
+        Status::ReadFault => eprintln!(rt; "read fault"),
+        Status::WriteFault => eprintln!(rt; "write fault"),
+        Status::KeepFault => eprintln!(rt; "store fault"),
+        Status::Memory => eprintln!(rt; "memory"),
+    };
+    // There is nowhere left to tell that a write failed.
+    let _ = written;
 }
 
 /// The exit status, one for each way to end. A line that isn't run yet has its own.
