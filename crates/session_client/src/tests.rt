@@ -435,3 +435,15 @@ fn skips_its_only_key(rt: HostRuntime) -> Result<(), Fail> {
     session.let_go();
     Ok(())
 }
+
+#[test]
+fn leaves_its_quarantines_when_it_is_let_go(rt: HostRuntime) -> Result<(), Fail> {
+    let alloc = rt.alloc();
+    let mut shard = new_shard(alloc)?;
+    let mut session = writer(alloc)?;
+    quarantine(&rt, &mut session, &mut shard, PROFILE);
+    session.let_go();
+    let got = shard.get(PROFILE, WHO, 0, 0);
+    assert!(rt; matches!(got, Ok(Got::Own)));
+    Ok(())
+}
