@@ -1,11 +1,10 @@
 -- The changes that words say.
-use Rattle.std.proofs.Common.{ℕ, ◌+◌, ◌*◌, ◌≡◌, ◌<◌, ◌≤◌, ◌^◌, Bool, true, false, List, [], ◌∷◌, ◌++◌, length, Option, Some, None, arith, refl, sym, ap, ◌∙◌, get_or, append_assoc, append-nil, length-append, subst}
-use Rattle.std.specs.Prelude.{◌≢◌, codes, All}
+use Rattle.std.proofs.Common.{ℕ, ◌+◌, ◌*◌, ◌≡◌, ◌<◌, ◌≤◌, List, [], ◌∷◌, ◌++◌, length, Some, arith, refl, sym, ap, ◌∙◌, get_or, append_assoc, append-nil, length-append, subst}
+use Rattle.std.specs.Prelude.{codes, All}
 use Rattle.std.proofs.lemmas.List.Elements.{All-nil, All-cons}
 use Rattle.rows_model.specs.declared.changes.Change.{Change}
 use Rattle.rows_model.specs.declared.changes.Change.TheVariants.{Invite, Accept, Reject, Thaw, Rename}
-use Rattle.rows_model.specs.Changes.{HasIds, IsTxn}
-use Rattle.rows_model.specs.Shift.{number_in}
+use Rattle.rows_model.specs.Changes.{HasIds}
 use Rattle.run_inputs.specs.Lines.{IsId, change_word, AreSides, AreChanges, AreTxnWords}
 use Rattle.run_inputs.specs.Parsing.{BeginsWith, BeginsWithNone}
 

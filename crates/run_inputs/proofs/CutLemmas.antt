@@ -1,5 +1,4 @@
-use Rattle.std.proofs.Common.{◌==◌, ◌+◌, ℕ, suc, ◌≡◌, ◌<◌, ◌≤◌, Bool, false, cond, ltb, List, [], ◌∷◌, length, take, drop, get_or, position, Option, Some, None, arith, refl, sym, ap, ◌∙◌}
-use Rattle.std.specs.Prelude.{option_to_list, IfSome, IfNone, Result, MatchOption}
+use Rattle.std.proofs.Common.{◌==◌, ◌+◌, ℕ, ◌≡◌, ◌<◌, ◌≤◌, Bool, false, cond, ltb, List, [], ◌∷◌, length, take, drop, position, Some, None, arith, refl, ap, ◌∙◌}
 use Rattle.std.specs.List.{position_or_len, All}
 use Rattle.std.proofs.lemmas.Bool.Decides.{nat_tests}
 use Rattle.std.proofs.lemmas.List.Elements.{All-from_get_or}

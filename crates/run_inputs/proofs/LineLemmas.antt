@@ -1,20 +1,19 @@
 -- What a line says is told by its words.
-use Rattle.std.proofs.Common.{ℕ, ◌+◌, ◌*◌, ◌==◌, ◌≡◌, Bool, true, false, List, [], ◌∷◌, Option, Some, None, refl, sym, ap, ◌∙◌, get_or}
-use Rattle.std.specs.Prelude.{if◌then◌else◌, codes}
+use Rattle.std.proofs.Common.{ℕ, ◌+◌, ◌*◌, ◌==◌, ◌≡◌, Bool, true, false, List, [], ◌∷◌, Some, None, refl, sym, ap, ◌∙◌, get_or}
+use Rattle.std.specs.Prelude.{if◌then◌else◌}
 use Rattle.std.proofs.lemmas.Bool.{false≢true}
 use Rattle.run_inputs.specs.declared.lines.Part.TheVariants.{Members, Shards, Room, Life}
 use Rattle.run_inputs.specs.declared.lines.Task.TheVariants as task
 use Rattle.run_inputs.specs.declared.lines.Verb.{Verb}
 use Rattle.run_inputs.specs.declared.lines.Verb.TheVariants as verb
 use Rattle.run_inputs.specs.declared.lines.Line.{Line}
-use Rattle.run_inputs.specs.declared.stages.Stage.{Stage}
 use Rattle.run_inputs.specs.declared.stages.Progress.{Progress}
 use Rattle.run_inputs.specs.declared.faults.ScriptKind.{ScriptKind}
 use Rattle.run_inputs.specs.declared.faults.ScriptKind.TheVariants as kind
 use Rattle.run_inputs.specs.Texts.{words_in}
-use Rattle.run_inputs.specs.Lines.{verb_word, verb_of, AreArgs, AreWords}
+use Rattle.run_inputs.specs.Lines.{verb_word, verb_of, AreWords}
 use Rattle.run_inputs.specs.Script.{is_in_place, Says, MayStand, IsFaulty, fault_of}
-use Rattle.run_inputs.specs.Parsing.{IsLineOf, IsNoLine}
+use Rattle.run_inputs.specs.Parsing.{IsNoLine}
 
 -- the first two letters of a word, as one number
 abbrev letters : List ℕ → ℕ

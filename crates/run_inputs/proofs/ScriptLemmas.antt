@@ -1,8 +1,6 @@
 -- What lines come to, one after another.
-use Rattle.std.proofs.Common.{ℕ, suc, ◌+◌, ◌≡◌, ◌<◌, ◌≤◌, Bool, true, false, List, [], ◌∷◌, ◌++◌, length, Option, Some, None, arith, refl, sym, ap, ◌∙◌, append_assoc, append-nil, length-append, subst}
+use Rattle.std.proofs.Common.{ℕ, ◌+◌, ◌≡◌, ◌<◌, ◌≤◌, Bool, true, false, List, [], ◌∷◌, ◌++◌, length, Some, None, arith, refl, sym, ap, ◌∙◌, append_assoc, append-nil, length-append, subst}
 use Rattle.std.specs.Prelude.{◌≢◌, nat_lt, if◌then◌else◌, flat_map, not}
-use borrow.Author.Tests.{ltb-true}
-use Rattle.std.proofs.lemmas.Bool.{false≢true}
 use Rattle.std.proofs.lemmas.Bool.Decides.{nat_tests}
 use Rattle.std.proofs.lemmas.Grind.{flat_map-append}
 use Rattle.run_inputs.specs.declared.lines.Line.{Line}
@@ -12,7 +10,7 @@ use Rattle.run_inputs.specs.declared.stages.Progress.{Progress}
 use Rattle.run_inputs.specs.declared.faults.ScriptKind.{ScriptKind}
 use Rattle.run_inputs.specs.declared.faults.ScriptKind.TheVariants as kind
 use Rattle.run_inputs.specs.declared.scripts.Act.{Act}
-use Rattle.run_inputs.specs.Texts.{lines_in, words_in}
+use Rattle.run_inputs.specs.Texts.{lines_in}
 use Rattle.run_inputs.specs.Lines.{AreArgs, AreWords}
 use Rattle.run_inputs.specs.Script.{start, after, after_all, sessions_in, turns_in, acts_in, is_numbered, has_key, is_known, fault_of, IsSound, AreSound, IsFaulty, IsScript, HasFault, HasNoEnd, IsFault}
 use Rattle.run_inputs.specs.Parsing.{IsWithin}

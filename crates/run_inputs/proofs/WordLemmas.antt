@@ -1,21 +1,16 @@
 -- Which words are those of no line.
-use Rattle.std.proofs.Common.{ℕ, ◌==◌, ◌≡◌, ◌<◌, ◌≤◌, List, [], ◌∷◌, length, Option, Some, None, arith, refl, sym, ap, ◌∙◌, get_or}
-use Rattle.std.specs.Prelude.{◌≢◌, codes, IfNone}
+use Rattle.std.proofs.Common.{ℕ, ◌==◌, ◌≡◌, List, [], ◌∷◌, length, Option, Some, None, arith, refl, ap}
+use Rattle.std.specs.Prelude.{codes, IfNone}
 use Rattle.std.proofs.lemmas.List.Splits.{length-slice_split}
 use Rattle.rows_model.specs.declared.changes.Change.{Change}
-use Rattle.rows_model.specs.declared.changes.Change.TheVariants.{Invite, Accept, Reject, Thaw, Rename}
 use Rattle.run_inputs.specs.declared.lines.Part.{Part}
-use Rattle.run_inputs.specs.declared.lines.Part.TheVariants.{Members, Shards, Room, Life}
 use Rattle.run_inputs.specs.declared.lines.Task.{Task}
-use Rattle.run_inputs.specs.declared.lines.Task.TheVariants as task
-use Rattle.run_inputs.specs.declared.lines.Verb.{Verb}
 use Rattle.run_inputs.specs.declared.lines.Verb.TheVariants as verb
 use Rattle.run_inputs.specs.declared.lines.Job.{Job}
-use Rattle.run_inputs.specs.declared.lines.Line.{Line}
 use Rattle.run_inputs.specs.declared.lines.Line.TheVariants.{Head, Session, Turn, Tick, Sweep, End}
 use Rattle.run_inputs.specs.Texts.{parts_at}
-use Rattle.run_inputs.specs.Lines.{most, change_word, verb_word, verb_of, AreNumber, AreCount, AreFloor, AreSides, AreChanges, AreArgs, AreWords}
-use Rattle.run_inputs.specs.Parsing.{IsLineOf, IsNoLine}
+use Rattle.run_inputs.specs.Lines.{verb_of, AreNumber, AreCount, AreFloor, AreChanges, AreArgs}
+use Rattle.run_inputs.specs.Parsing.{IsNoLine}
 
 -- what an option's absence gives
 pub if_none : {A : Type 0} (o : Option A) (P : Type 0) → (o ≡ None → P) → IfNone o P
