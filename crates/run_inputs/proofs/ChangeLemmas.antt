@@ -1,11 +1,10 @@
 -- The changes that words say.
-use Rattle.std.proofs.Common.{ℕ, ◌+◌, ◌*◌, ◌≡◌, ◌<◌, ◌≤◌, ◌^◌, Bool, true, false, List, [], ◌∷◌, ◌++◌, length, Option, Some, None, arith, refl, sym, ap, ◌∙◌, get_or, append_assoc, append-nil, length-append, subst}
-use Rattle.std.specs.Prelude.{◌≢◌, codes, All}
+use Rattle.std.proofs.Common.{ℕ, ◌+◌, ◌*◌, ◌≡◌, ◌<◌, List, [], ◌∷◌, ◌++◌, length, Some, arith, refl, sym, ap, ◌∙◌, get_or, append_assoc, append-nil, length-append, subst}
+use Rattle.std.specs.Prelude.{codes, All}
 use Rattle.std.proofs.lemmas.List.Elements.{All-nil, All-cons}
 use Rattle.rows_model.specs.declared.changes.Change.{Change}
 use Rattle.rows_model.specs.declared.changes.Change.TheVariants.{Invite, Accept, Reject, Thaw, Rename}
-use Rattle.rows_model.specs.Changes.{HasIds, IsTxn}
-use Rattle.rows_model.specs.Shift.{number_in}
+use Rattle.rows_model.specs.Changes.{HasIds}
 use Rattle.run_inputs.specs.Lines.{IsId, change_word, AreSides, AreChanges, AreTxnWords}
 use Rattle.run_inputs.specs.Parsing.{BeginsWith, BeginsWithNone}
 
@@ -47,9 +46,6 @@ all_have_ids (change ∷ changes) (plus ∷ word ∷ first ∷ second ∷ words)
 pub record HasTaken (words : List (List ℕ)) (changes : List Change) (rest : List (List ℕ)) : Type 0 where
   pub on : (more : List Change) → AreChanges more (codes "+" ∷ rest) → AreChanges (changes ++ more) (codes "+" ∷ words)
   pub back : (all : List Change) → AreChanges all (codes "+" ∷ words) → (more : List Change) × (all ≡ changes ++ more) × AreChanges more (codes "+" ∷ rest)
-
-pub taken_none : (words : List (List ℕ)) → HasTaken words [] words
-taken_none words = record { on = λ more h. h; back = λ all h. (all, refl, h) }
 
 -- what stands behind the first change of such words
 behind_first : (change : Change) (rest left : List (List ℕ)) → BeginsWith change rest left → (all : List Change) → AreChanges all (codes "+" ∷ rest) → (more : List Change) × (all ≡ change ∷ more) × AreChanges more left
@@ -108,17 +104,3 @@ pub no_more : (words : List (List ℕ)) (changes : List Change) (rest left : Lis
 no_more words changes rest left change h b none txn k =
     let was = back_more words changes rest left change h b txn k.1 in
     none was.0 was.2
-
--- or with a ninth change
-pub too_many : (words : List (List ℕ)) (changes : List Change) (rest : List (List ℕ)) → 8 ≤ length changes → HasTaken words changes rest
-    → (txn : List Change) → AreTxnWords txn words → ⊥
-too_many words changes rest many h txn k =
-    let was = h.back txn k.1 in
-    let lengths = length-append changes was.0 in
-    let whole = ap (λ (cs : List Change). length cs) was.1 in
-    let few = k.0.few in
-    ends was.0 was.2 (omega arith)
-  where
-    ends : (more : List Change) → AreChanges more (codes "+" ∷ rest) → length more ≤ 0 → ⊥
-    ends [] e none = let sizes = ap (λ (ws : List (List ℕ)). length ws) e in absurd (omega arith)
-    ends (change ∷ others) e none = absurd (omega arith)

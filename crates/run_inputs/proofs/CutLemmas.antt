@@ -1,5 +1,4 @@
-use Rattle.std.proofs.Common.{◌==◌, ◌+◌, ℕ, suc, ◌≡◌, ◌<◌, ◌≤◌, Bool, false, cond, ltb, List, [], ◌∷◌, length, take, drop, get_or, position, Option, Some, None, arith, refl, sym, ap, ◌∙◌}
-use Rattle.std.specs.Prelude.{option_to_list, IfSome, IfNone, Result, MatchOption}
+use Rattle.std.proofs.Common.{◌==◌, ◌+◌, ℕ, ◌≡◌, ◌<◌, ◌≤◌, Bool, false, cond, ltb, List, [], ◌∷◌, length, take, drop, position, Some, None, arith, refl, ap, ◌∙◌}
 use Rattle.std.specs.List.{position_or_len, All}
 use Rattle.std.proofs.lemmas.Bool.Decides.{nat_tests}
 use Rattle.std.proofs.lemmas.List.Elements.{All-from_get_or}
@@ -40,13 +39,3 @@ in_front part (next ∷ parts) h = refl
 pub lines_cut : (text line rest : List ℕ) → parts_at 10 text ≡ line ∷ parts_at 10 rest → lines_in text ≡ line ∷ lines_in rest
 lines_cut text line rest e =
     ap without_empty_last e ∙ in_front line (parts_at 10 rest) (omega (arith, length-slice_split (is 10) rest))
-
--- the one line of a text with no line feed
-pub one_line : (line : List ℕ) → 0 < length line → without_empty_last (line ∷ []) ≡ line ∷ []
-one_line [] h = absurd (omega arith)
-one_line (byte ∷ line) h =
-    let some : (length (byte ∷ line) == 0) ≡ false = grind (arith, nat_tests) in rw some refl
-
-pub lines_whole : (text line : List ℕ) → 0 < length text → line ≡ text → parts_at 10 text ≡ line ∷ [] → lines_in text ≡ line ∷ lines_in []
-lines_whole text line some whole e =
-    ap without_empty_last e ∙ one_line line (rw whole some)

@@ -1,16 +1,14 @@
 -- A script's acts can be run.
-use Rattle.std.proofs.Common.{ℕ, ◌+◌, ◌==◌, ◌≡◌, ◌<◌, ◌≤◌, Bool, true, false, List, [], ◌∷◌, ◌++◌, length, Option, Some, None, arith, refl, sym, ap, ◌∙◌, subst}
-use Rattle.std.specs.Prelude.{◌≢◌, nat_lt, nat_le, ◌&&◌, if◌then◌else◌, flat_map, not, sum_by, unwrap_or}
-use borrow.Author.Tests.{ltb-true}
+use Rattle.std.proofs.Common.{ℕ, ◌+◌, ◌≡◌, ◌≤◌, Bool, true, false, List, [], ◌∷◌, ◌++◌, Some, None, arith, refl, sym, ◌∙◌, subst}
+use Rattle.std.specs.Prelude.{◌≢◌, nat_lt, flat_map, not, sum_by}
 use Rattle.std.proofs.lemmas.Bool.{false≢true}
 use Rattle.std.proofs.lemmas.Bool.Decides.{nat_tests}
-use Rattle.std.proofs.lemmas.List.Sums.{sum_by-append, sum_by-cons}
+use Rattle.std.proofs.lemmas.List.Sums.{sum_by-append}
 use Rattle.lease_table.specs.declared.records.Mode.TheVariants.{Invalidate, Refresh, Delta}
 use Rattle.session_client.specs.declared.plans.Shape.{Shape}
 use Rattle.run_inputs.specs.declared.lines.Part.TheVariants.{Members, Shards, Room, Life}
 use Rattle.run_inputs.specs.declared.lines.Verb.{Verb}
 use Rattle.run_inputs.specs.declared.lines.Verb.TheVariants as verb
-use Rattle.run_inputs.specs.declared.lines.Job.{Job}
 use Rattle.run_inputs.specs.declared.lines.Job.TheVariants.{Read, Write, Look, Quit, Skip}
 use Rattle.run_inputs.specs.declared.lines.Line.{Line}
 use Rattle.run_inputs.specs.declared.lines.Line.TheVariants.{Head, Session, Turn, Tick, Sweep, End}
@@ -19,9 +17,9 @@ use Rattle.run_inputs.specs.declared.stages.Stage.TheVariants as stage
 use Rattle.run_inputs.specs.declared.stages.Progress.{Progress}
 use Rattle.run_inputs.specs.declared.scripts.Act.{Act}
 use Rattle.run_inputs.specs.Texts.{words_in}
-use Rattle.run_inputs.specs.Lines.{AreArgs, AreWords, AreJobWords, verb_of}
-use Rattle.run_inputs.specs.Script.{start, after, after_all, is_in_place, stage_after, shape_after, sessions_in, turns_in, acts_in, is_numbered, has_key, is_known, fault_of, IsSound, AreSound, IsScript}
-use Rattle.run_inputs.specs.Fit.{sessions_of, turns_of, IsFit, AreFit, IsShape, IsPlayable}
+use Rattle.run_inputs.specs.Lines.{AreArgs, AreWords, verb_of}
+use Rattle.run_inputs.specs.Script.{start, after, after_all, is_in_place, stage_after, shape_after, sessions_in, turns_in, acts_in, is_numbered, has_key, is_known, fault_of, AreSound, IsScript}
+use Rattle.run_inputs.specs.Fit.{turns_of, AreFit, IsShape, IsPlayable}
 use Rattle.run_inputs.proofs.ScriptLemmas.{Passes, passes, few_turns}
 
 -- a shape whose numbers are within their ranges; that of the members is told by the first line

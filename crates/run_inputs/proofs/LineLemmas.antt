@@ -1,20 +1,18 @@
 -- What a line says is told by its words.
-use Rattle.std.proofs.Common.{ℕ, ◌+◌, ◌*◌, ◌==◌, ◌≡◌, Bool, true, false, List, [], ◌∷◌, Option, Some, None, refl, sym, ap, ◌∙◌, get_or}
-use Rattle.std.specs.Prelude.{if◌then◌else◌, codes}
+use Rattle.std.proofs.Common.{ℕ, ◌+◌, ◌*◌, ◌==◌, ◌≡◌, Bool, true, false, List, [], ◌∷◌, Some, None, refl, sym, ap, ◌∙◌, get_or}
+use Rattle.std.specs.Prelude.{if◌then◌else◌}
 use Rattle.std.proofs.lemmas.Bool.{false≢true}
 use Rattle.run_inputs.specs.declared.lines.Part.TheVariants.{Members, Shards, Room, Life}
 use Rattle.run_inputs.specs.declared.lines.Task.TheVariants as task
 use Rattle.run_inputs.specs.declared.lines.Verb.{Verb}
 use Rattle.run_inputs.specs.declared.lines.Verb.TheVariants as verb
 use Rattle.run_inputs.specs.declared.lines.Line.{Line}
-use Rattle.run_inputs.specs.declared.stages.Stage.{Stage}
 use Rattle.run_inputs.specs.declared.stages.Progress.{Progress}
 use Rattle.run_inputs.specs.declared.faults.ScriptKind.{ScriptKind}
 use Rattle.run_inputs.specs.declared.faults.ScriptKind.TheVariants as kind
 use Rattle.run_inputs.specs.Texts.{words_in}
-use Rattle.run_inputs.specs.Lines.{verb_word, verb_of, AreArgs, AreWords}
+use Rattle.run_inputs.specs.Lines.{verb_word, verb_of, AreWords}
 use Rattle.run_inputs.specs.Script.{is_in_place, Says, MayStand, IsFaulty, fault_of}
-use Rattle.run_inputs.specs.Parsing.{IsLineOf, IsNoLine}
 
 -- the first two letters of a word, as one number
 abbrev letters : List ℕ → ℕ
@@ -61,11 +59,6 @@ pub verb_once : (words : List (List ℕ)) (a b : Line) → AreWords a words → 
 verb_once [] a b h k = absurd h
 verb_once (word ∷ words) a b h k = verb_word_injective (verb_of a) (verb_of b) (sym h.0 ∙ k.0)
 
--- a verb's word with words that are behind it in no line
-pub no_words : (v : Verb) (word : List ℕ) (words : List (List ℕ)) → word ≡ verb_word v → IsNoLine v words → (line : Line) → AreWords line (word ∷ words) → ⊥
-no_words v word words e none line h =
-    none line (record { verb_is = verb_word_injective (verb_of line) v (sym h.0 ∙ e); args = h.1 })
-
 -- where one reading of a line has no place, none has one
 pub no_place : (progress : Progress) (line : List ℕ) (a : Line) → AreWords a (words_in line) → is_in_place progress.stage (verb_of a) ≡ false
     → (said : Line) → Says progress line said → ⊥
@@ -100,7 +93,3 @@ faulty progress line said kind.NoEnd h w e = (h, said, w, e)
 faulty progress line said kind.LongLine h w e = absurd (false≢true (of_saying _ _ _ _ kind.LongLine e))
 faulty progress line said kind.AfterEnd h w e = absurd (false≢true (of_saying _ _ _ _ kind.AfterEnd e))
 faulty progress line said kind.Form h w e = absurd (false≢true (of_saying _ _ _ _ kind.Form e))
-
--- it is none of the text as a whole
-pub never_of_text : (progress : Progress) (said : Line) (k : ScriptKind) → is_of_saying k ≡ false → fault_of progress said ≡ Some k → ⊥
-never_of_text progress said k off e = false≢true (sym off ∙ of_saying _ _ _ _ k e)

@@ -1,19 +1,17 @@
 -- Words say one thing at most.
-use Rattle.std.proofs.Common.{ℕ, ◌+◌, ◌*◌, ◌==◌, ◌^◌, ◌≡◌, ◌<◌, ◌≤◌, Bool, true, false, List, [], ◌∷◌, ◌++◌, length, Option, Some, None, arith, refl, sym, ap, ◌∙◌, get_or, subst}
-use Rattle.std.specs.Prelude.{◌≢◌, codes, if◌then◌else◌}
+use Rattle.std.proofs.Common.{ℕ, ◌==◌, ◌≡◌, List, [], ◌∷◌, length, Option, Some, None, arith, refl, sym, ap, ◌∙◌, get_or}
+use Rattle.std.specs.Prelude.{codes, if◌then◌else◌}
 use Rattle.lease_table.specs.declared.records.Mode.{Mode}
 use Rattle.lease_table.specs.declared.records.Mode.TheVariants.{Invalidate, Refresh, Delta}
 use Rattle.rows_model.specs.declared.changes.Change.{Change}
 use Rattle.rows_model.specs.declared.keys.QKey.{QKey}
-use Rattle.rows_model.specs.Key.{key_text, IsKeyText}
+use Rattle.rows_model.specs.Key.{IsKeyText}
 use Rattle.rows_model.proofs.KeyLemmas.{key_text_injective}
-use Rattle.run_inputs.specs.declared.lines.Task.TheVariants as task
-use Rattle.run_inputs.specs.declared.lines.Verb.TheVariants as verb
 use Rattle.run_inputs.specs.declared.lines.Job.{Job}
 use Rattle.run_inputs.specs.declared.lines.Job.TheVariants.{Read, Write, Look, Quit, Skip}
 use Rattle.run_inputs.specs.declared.lines.Line.{Line}
 use Rattle.run_inputs.specs.declared.lines.Line.TheVariants.{Head, Session, Turn, Tick, Sweep, End}
-use Rattle.run_inputs.specs.Lines.{IsSessionNumber, AreNumber, AreCount, AreFloor, mode_word, AreChanges, AreTxnWords, AreJobWords, AreArgs, AreWords, task_of, verb_of}
+use Rattle.run_inputs.specs.Lines.{AreNumber, AreCount, AreFloor, mode_word, AreChanges, AreTxnWords, AreJobWords, AreArgs, AreWords, task_of, verb_of}
 use Rattle.run_inputs.proofs.ChangeLemmas.{change_once}
 use Rattle.run_inputs.proofs.LineLemmas.{verb_once}
 

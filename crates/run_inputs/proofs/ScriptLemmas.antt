@@ -1,22 +1,16 @@
 -- What lines come to, one after another.
-use Rattle.std.proofs.Common.{ℕ, suc, ◌+◌, ◌≡◌, ◌<◌, ◌≤◌, Bool, true, false, List, [], ◌∷◌, ◌++◌, length, Option, Some, None, arith, refl, sym, ap, ◌∙◌, append_assoc, append-nil, length-append, subst}
-use Rattle.std.specs.Prelude.{◌≢◌, nat_lt, if◌then◌else◌, flat_map, not}
-use borrow.Author.Tests.{ltb-true}
-use Rattle.std.proofs.lemmas.Bool.{false≢true}
+use Rattle.std.proofs.Common.{ℕ, ◌+◌, ◌≡◌, ◌<◌, ◌≤◌, Bool, true, false, List, [], ◌∷◌, ◌++◌, length, Some, None, arith, refl, sym, ap, ◌∙◌, append_assoc, append-nil, length-append, subst}
+use Rattle.std.specs.Prelude.{nat_lt, if◌then◌else◌, flat_map, not}
 use Rattle.std.proofs.lemmas.Bool.Decides.{nat_tests}
 use Rattle.std.proofs.lemmas.Grind.{flat_map-append}
 use Rattle.run_inputs.specs.declared.lines.Line.{Line}
 use Rattle.run_inputs.specs.declared.lines.Line.TheVariants.{Head, Session, Turn, Tick, Sweep, End}
 use Rattle.run_inputs.specs.declared.stages.Stage.TheVariants as stage
 use Rattle.run_inputs.specs.declared.stages.Progress.{Progress}
-use Rattle.run_inputs.specs.declared.faults.ScriptKind.{ScriptKind}
 use Rattle.run_inputs.specs.declared.faults.ScriptKind.TheVariants as kind
 use Rattle.run_inputs.specs.declared.scripts.Act.{Act}
-use Rattle.run_inputs.specs.Texts.{lines_in, words_in}
-use Rattle.run_inputs.specs.Lines.{AreArgs, AreWords}
-use Rattle.run_inputs.specs.Script.{start, after, after_all, sessions_in, turns_in, acts_in, is_numbered, has_key, is_known, fault_of, IsSound, AreSound, IsFaulty, IsScript, HasFault, HasNoEnd, IsFault}
-use Rattle.run_inputs.specs.Parsing.{IsWithin}
-use Rattle.run_inputs.proofs.LineLemmas.{never_of_text}
+use Rattle.run_inputs.specs.Texts.{lines_in}
+use Rattle.run_inputs.specs.Script.{start, after, after_all, sessions_in, turns_in, acts_in, is_numbered, has_key, is_known, fault_of, IsSound, AreSound, IsScript}
 
 -- the four tests that a line without a fault passes
 pub record Passes (a b c d : Bool) : Type 0 where
@@ -38,19 +32,6 @@ few_turns progress said e =
     let p = passes (not (is_numbered progress.begun said)) (not (has_key said)) (nat_lt 1000000 (progress.turns + turns_in said)) (not (is_known said)) e in
     let small : nat_lt 1000000 (progress.turns + turns_in said) ≡ false = p.third in
     grind (arith, nat_tests)
-
--- the number of a line of the head is within its range
-within_by : (said : Line) (words : List (List ℕ)) → AreArgs said words → IsWithin said
-within_by (Head part number) words h = h.1
-within_by (Session number job) words h = tt
-within_by (Turn number count) words h = tt
-within_by (Tick ticks) words h = tt
-within_by (Sweep count) words h = tt
-within_by End words h = tt
-
-pub within : (said : Line) (words : List (List ℕ)) → AreWords said words → IsWithin said
-within said [] h = absurd h
-within said (word ∷ words) h = within_by said words h.1
 
 -- one line more without a fault
 sound_more : (progress : Progress) (front : List (List ℕ)) (said : List Line) (line : List ℕ) (last : Line)
@@ -119,27 +100,6 @@ read_more text acts progress number rest line behind said h cut less is =
       short = h.short;
     }
 
--- the fault of the next line is that of the text
-has_fault : (text : List ℕ) (acts : List Act) (progress : Progress) (number : ℕ) (rest line behind : List ℕ) (fault : ScriptKind)
-    → HasRead text acts progress number rest → lines_in rest ≡ line ∷ lines_in behind → IsFaulty progress line fault → HasFault text (number + 1) fault
-has_fault text acts progress number rest line behind fault h cut is = record {
-  short = h.short;
-  front = h.front;
-  line = line;
-  behind = lines_in behind;
-  lines_are = h.lines_are ∙ ap (λ (ls : List (List ℕ)). h.front ++ ls) cut;
-  said = h.said;
-  sound = h.sound;
-  faulty = subst (λ (p : Progress). IsFaulty p line fault) (sym h.progress_is) is;
-  number_is = ap (λ (n : ℕ). n + 1) h.number_is;
-}
-
-pub faulty_at : (text : List ℕ) (acts : List Act) (progress : Progress) (number : ℕ) (rest line behind : List ℕ) (fault : ScriptKind)
-    → HasRead text acts progress number rest → lines_in rest ≡ line ∷ lines_in behind → IsFaulty progress line fault → IsFault text (number + 1) fault
-faulty_at text acts progress number rest line behind kind.LongText h cut is = absurd (never_of_text progress is.1 kind.LongText refl is.3)
-faulty_at text acts progress number rest line behind kind.NoEnd h cut is = absurd (never_of_text progress is.1 kind.NoEnd refl is.3)
-faulty_at text acts progress number rest line behind other h cut is = has_fault text acts progress number rest line behind other h cut is
-
 empty : (xs : List ℕ) → length xs ≡ 0 → xs ≡ []
 empty [] e = refl
 empty (x ∷ xs) e = absurd (omega arith)
@@ -148,18 +108,6 @@ empty (x ∷ xs) e = absurd (omega arith)
 all_lines : (text : List ℕ) (acts : List Act) (progress : Progress) (number : ℕ) (rest : List ℕ) (h : HasRead text acts progress number rest) → length rest ≡ 0 → h.front ≡ lines_in text
 all_lines text acts progress number rest h none =
     sym (h.lines_are ∙ (ap (λ (r : List ℕ). h.front ++ lines_in r) (empty rest none) ∙ append-nil h.front))
-
-pub no_end_at : (text : List ℕ) (acts : List Act) (progress : Progress) (number : ℕ) (rest : List ℕ)
-    → HasRead text acts progress number rest → length rest ≡ 0 → progress.stage ≢ stage.End → HasNoEnd text (number + 1)
-no_end_at text acts progress number rest h none goes_on =
-    let whole = all_lines text acts progress number rest h none in
-    record {
-      short = h.short;
-      said = h.said;
-      sound = subst (λ (ls : List (List ℕ)). AreSound start ls h.said) whole h.sound;
-      goes_on = λ e. goes_on (ap (λ (p : Progress). p.stage) (sym h.progress_is) ∙ e);
-      number_is = ap (λ (n : ℕ). n + 1) (h.number_is ∙ ap (λ (ls : List (List ℕ)). length ls) whole);
-    }
 
 pub script_at : (text : List ℕ) (acts : List Act) (progress : Progress) (number : ℕ) (rest : List ℕ)
     → HasRead text acts progress number rest → length rest ≡ 0 → progress.stage ≡ stage.End → IsScript text progress.shape acts

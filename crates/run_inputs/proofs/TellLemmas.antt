@@ -1,6 +1,6 @@
 -- A text says one script at most and has one fault at most, and never both.
-use Rattle.std.proofs.Common.{ℕ, suc, ◌+◌, ◌≡◌, ◌<◌, ◌≤◌, Bool, true, false, List, [], ◌∷◌, ◌++◌, length, Option, Some, None, arith, refl, sym, ap, ◌∙◌, subst}
-use Rattle.std.specs.Prelude.{◌≢◌, flat_map}
+use Rattle.std.proofs.Common.{ℕ, suc, ◌+◌, ◌≡◌, ◌<◌, ◌≤◌, List, [], ◌∷◌, ◌++◌, length, Some, None, arith, refl, sym, ap, ◌∙◌, subst}
+use Rattle.std.specs.Prelude.{flat_map}
 use Rattle.session_client.specs.declared.plans.Shape.{Shape}
 use Rattle.run_inputs.specs.declared.lines.Line.{Line}
 use Rattle.run_inputs.specs.declared.stages.Stage.TheVariants as stage

@@ -1,21 +1,14 @@
 -- Which words are those of no line.
-use Rattle.std.proofs.Common.{ℕ, ◌==◌, ◌≡◌, ◌<◌, ◌≤◌, List, [], ◌∷◌, length, Option, Some, None, arith, refl, sym, ap, ◌∙◌, get_or}
-use Rattle.std.specs.Prelude.{◌≢◌, codes, IfNone}
+use Rattle.std.proofs.Common.{ℕ, ◌==◌, ◌≡◌, List, [], ◌∷◌, length, Option, Some, None, arith, refl, ap}
+use Rattle.std.specs.Prelude.{codes, IfNone}
 use Rattle.std.proofs.lemmas.List.Splits.{length-slice_split}
 use Rattle.rows_model.specs.declared.changes.Change.{Change}
-use Rattle.rows_model.specs.declared.changes.Change.TheVariants.{Invite, Accept, Reject, Thaw, Rename}
 use Rattle.run_inputs.specs.declared.lines.Part.{Part}
-use Rattle.run_inputs.specs.declared.lines.Part.TheVariants.{Members, Shards, Room, Life}
-use Rattle.run_inputs.specs.declared.lines.Task.{Task}
-use Rattle.run_inputs.specs.declared.lines.Task.TheVariants as task
-use Rattle.run_inputs.specs.declared.lines.Verb.{Verb}
 use Rattle.run_inputs.specs.declared.lines.Verb.TheVariants as verb
-use Rattle.run_inputs.specs.declared.lines.Job.{Job}
-use Rattle.run_inputs.specs.declared.lines.Line.{Line}
-use Rattle.run_inputs.specs.declared.lines.Line.TheVariants.{Head, Session, Turn, Tick, Sweep, End}
+use Rattle.run_inputs.specs.declared.lines.Line.TheVariants.{Head, Tick, End}
 use Rattle.run_inputs.specs.Texts.{parts_at}
-use Rattle.run_inputs.specs.Lines.{most, change_word, verb_word, verb_of, AreNumber, AreCount, AreFloor, AreSides, AreChanges, AreArgs, AreWords}
-use Rattle.run_inputs.specs.Parsing.{IsLineOf, IsNoLine}
+use Rattle.run_inputs.specs.Lines.{AreNumber, AreCount, AreFloor, AreChanges, AreArgs}
+use Rattle.run_inputs.specs.Parsing.{IsNoLine}
 
 -- what an option's absence gives
 pub if_none : {A : Type 0} (o : Option A) (P : Type 0) → (o ≡ None → P) → IfNone o P
@@ -66,21 +59,9 @@ no_head part words none (Head other number) h =
     none number (rw same at h.args)
 no_head part words none line h = let e = h.verb_is in cc
 
-pub no_session : (kind : Task) (words : List (List ℕ)) → ((number : Option ℕ) (job : Job) → verb_of (Session number job) ≡ verb.Session kind → AreArgs (Session number job) words → ⊥) → IsNoLine (verb.Session kind) words
-no_session kind words none (Session number job) h = none number job h.verb_is h.args
-no_session kind words none line h = let e = h.verb_is in cc
-
-pub no_turn : (words : List (List ℕ)) → ((number count : Option ℕ) → AreArgs (Turn number count) words → ⊥) → IsNoLine verb.Turn words
-no_turn words none (Turn number count) h = none number count h.args
-no_turn words none line h = let e = h.verb_is in cc
-
 pub no_tick : (words : List (List ℕ)) → ((ticks : ℕ) → AreArgs (Tick ticks) words → ⊥) → IsNoLine verb.Tick words
 no_tick words none (Tick ticks) h = none ticks h.args
 no_tick words none line h = let e = h.verb_is in cc
-
-pub no_sweep : (words : List (List ℕ)) → ((count : Option ℕ) → AreArgs (Sweep count) words → ⊥) → IsNoLine verb.Sweep words
-no_sweep words none (Sweep count) h = none count h.args
-no_sweep words none line h = let e = h.verb_is in cc
 
 pub no_end : (words : List (List ℕ)) → (words ≡ [] → ⊥) → IsNoLine verb.End words
 no_end words none End h = none h.args

@@ -15,7 +15,7 @@ use rows_model::{Memory, QKey, Txn};
 use std::alloc::Global;
 
 /// A line of the head.
-#[derive(Clone, Copy, Debug, PartialEq, Eq)]
+#[derive(Clone, Copy, PartialEq, Eq)]
 pub enum Part {
     Members,
     Shards,
@@ -24,7 +24,7 @@ pub enum Part {
 }
 
 /// What a session line is for.
-#[derive(Clone, Copy, Debug, PartialEq, Eq)]
+#[derive(Clone, Copy)]
 pub enum Task {
     Read,
     Write,
@@ -34,7 +34,7 @@ pub enum Task {
 }
 
 /// The first word of a line.
-#[derive(Clone, Copy, Debug, PartialEq, Eq)]
+#[derive(Clone, Copy)]
 pub enum Verb {
     Head { part: Part },
     Session { task: Task },
@@ -45,7 +45,7 @@ pub enum Verb {
 }
 
 /// What the words behind a session's number say.
-#[derive(Debug, Drop)]
+#[derive(Drop)]
 pub enum Job {
     /// Read a key, with a floor if there is one.
     Read { key: QKey, floor: Option<u64> },
@@ -61,7 +61,7 @@ pub enum Job {
 
 /// What a line says. The number of a session is told if it is below 2^64; no session has a greater
 /// one.
-#[derive(Debug, Drop)]
+#[derive(Drop)]
 pub enum Line {
     /// A line of the head, and its number.
     Head {
@@ -91,7 +91,7 @@ pub enum Line {
 }
 
 /// Why a line was not taken.
-#[derive(Clone, Copy, Debug, PartialEq, Eq)]
+#[derive(Clone, Copy)]
 pub enum LineFault {
     /// This is its first fault.
     Bad { kind: ScriptKind },

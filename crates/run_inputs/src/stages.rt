@@ -21,7 +21,7 @@ const LONGEST_LINE: usize = 2048;
 const MOST_TURNS: u32 = 1_000_000;
 
 /// Which line was the last one.
-#[derive(Clone, Copy, Debug, PartialEq, Eq)]
+#[derive(Clone, Copy, PartialEq, Eq)]
 pub enum Stage {
     /// There was none.
     Start,

@@ -1,4 +1,3 @@
-use Rattle.std.proofs.Common.{sym}
 use Rattle.run_inputs.proofs.WordLemmas.{if_none, one_alone, no_plus}
 use Rattle.run_inputs.proofs.jobs.behind_plus.Goals as goal
 
