@@ -1,3 +1,4 @@
+use super::ScriptKind::*;
 use super::*;
 use rows_model::{Change, QKey, Txn};
 use session_client::{Plan, Shape, Turn};
@@ -16,141 +17,143 @@ fn bad(line: u64, kind: ScriptKind) -> Option<ScriptFault> {
     Some(ScriptFault::Bad { line, kind })
 }
 
+/// Faulty texts, and the line and kind of the first fault of each.
+const FAULTY: [(&str, u64, ScriptKind); 79] = [
+    ("members 3\nturn 1\nend", 2, Number),
+    ("members 3", 2, NoEnd),
+    ("members 0\nend", 1, Form),
+    ("members 3\nskip 1 profile:1 rename 2 bob\nend", 2, Key),
+    ("members 3\nend\nend", 3, AfterEnd),
+    // Whole texts.
+    ("", 1, NoEnd),
+    ("members 3\n", 2, NoEnd),
+    ("members 3\nread 1 profile:1\nturn 1", 4, NoEnd),
+    ("\n", 1, Form),
+    ("members 3\n\nend", 2, Form),
+    ("members 3\r\nend", 1, Form),
+    ("members 3\nend \nend", 2, Form),
+    ("members 3\nend\n\n", 3, AfterEnd),
+    // The head.
+    ("end", 1, Form),
+    ("read 1 profile:1\nmembers 3\nend", 1, Form),
+    ("shards 2\nmembers 3\nend", 1, Form),
+    ("members 3\nmembers 3\nend", 2, Form),
+    ("members 3\nroom 1\nshards 2\nend", 3, Form),
+    ("members 3\nread 1 profile:1\nlife 5\nend", 3, Form),
+    ("members\nend", 1, Form),
+    ("members 3 3\nend", 1, Form),
+    ("members 03\nend", 1, Form),
+    ("members +3\nend", 1, Form),
+    ("members  3\nend", 1, Form),
+    ("members 3 \nend", 1, Form),
+    (" members 3\nend", 1, Form),
+    ("Members 3\nend", 1, Form),
+    ("members 100001\nend", 1, Form),
+    ("members 3\nshards 65\nend", 2, Form),
+    ("members 3\nroom 65537\nend", 2, Form),
+    ("members 3\nlife 0\nend", 2, Form),
+    ("members 3\nlife 18446744073709551616\nend", 2, Form),
+    // Sessions.
+    ("members 3\nread 0 profile:1\nend", 2, Number),
+    ("members 3\nread 2 profile:1\nend", 2, Number),
+    (
+        "members 3\nread 1 profile:1\nread 1 profile:1\nend",
+        3,
+        Number,
+    ),
+    ("members 3\nread 01 profile:1\nend", 2, Form),
+    ("members 3\nread 1 profile:0\nend", 2, Form),
+    ("members 3\nread 1 profile:4294967296\nend", 2, Form),
+    ("members 3\nread 1 profile:1 floor\nend", 2, Form),
+    ("members 3\nread 1 profile:1 floor 01\nend", 2, Form),
+    (
+        "members 3\nread 1 profile:1 floor 18446744073709551616\nend",
+        2,
+        Form,
+    ),
+    ("members 3\nread 1 profile:1 above 1\nend", 2, Form),
+    ("members 3\nwrite 1 invalidate\nend", 2, Form),
+    ("members 3\nwrite 1 drop thaw 1 2\nend", 2, Form),
+    ("members 3\nwrite 1 invalidate thaw 1 2 +\nend", 2, Form),
+    (
+        "members 3\nwrite 1 invalidate thaw 1 2 thaw 1 2\nend",
+        2,
+        Form,
+    ),
+    (
+        "members 3\nwrite 1 invalidate thaw 1 2  + thaw 1 2\nend",
+        2,
+        Form,
+    ),
+    ("members 3\nwrite 1 invalidate thaw 1\nend", 2, Form),
+    ("members 3\nwrite 1 invalidate invite 0 1\nend", 2, Form),
+    (
+        "members 3\nwrite 1 invalidate accept 1 4294967296\nend",
+        2,
+        Form,
+    ),
+    ("members 3\nwrite 1 invalidate rename 1 \nend", 2, Form),
+    (
+        "members 3\nwrite 1 invalidate rename 1 01234567890123456789012345678901234567890\nend",
+        2,
+        Form,
+    ),
+    (
+        "members 3\nwrite 1 invalidate thaw 1 2 + thaw 1 2 + thaw 1 2 + thaw 1 2 + thaw 1 2 + thaw 1 2 + thaw 1 2 + thaw 1 2 + thaw 1 2\nend",
+        2,
+        Form,
+    ),
+    ("members 3\nskip 1 friends:2 rename 2 bob\nend", 2, Key),
+    ("members 3\nskip 1 pending:1 accept 1 2\nend", 2, Key),
+    // Turns.
+    ("members 3\nturn 0\nend", 2, Number),
+    ("members 3\nturn 18446744073709551616\nend", 2, Number),
+    (
+        "members 3\nturn 123456789012345678901234567890\nend",
+        2,
+        Number,
+    ),
+    ("members 3\nread 1 profile:1\nturn 1 0\nend", 3, Form),
+    ("members 3\nread 1 profile:1\nturn 1 1001\nend", 3, Form),
+    ("members 3\nread 1 profile:1\nturn 1 1 1\nend", 3, Form),
+    ("members 3\ntick 18446744073709551616\nend", 2, Form),
+    ("members 3\nsweep 1001\nend", 2, Form),
+    // What there isn't yet.
+    (
+        "members 3\nlook 1 delta profile:2 rename 2 bob\nend",
+        2,
+        NotYet,
+    ),
+    ("members 3\nquit 1 invalidate rename 2 bob\nend", 2, NotYet),
+    ("members 3\nwrite 1 refresh rename 2 bob\nend", 2, NotYet),
+    ("members 3\nwrite 1 delta rename 2 bob\nend", 2, NotYet),
+    ("members 3\ntick 18446744073709551615\nend", 2, NotYet),
+    ("members 3\nsweep\nend", 2, NotYet),
+    ("members 3\nsweep 1000\nend", 2, NotYet),
+    // Two faults in a line.
+    ("members 3\nread 2 profile:0\nend", 2, Form),
+    ("members 3\nread 1 profile:1\nturn 2 1001\nend", 3, Form),
+    ("members 3\nskip 2 profile:1 rename 2 bob\nend", 2, Number),
+    ("members 3\nquit 2 delta rename 2 bob\nend", 2, Number),
+    (
+        "members 3\nlook 1 invalidate profile:1 rename 2 bob\nend",
+        2,
+        Key,
+    ),
+    ("members 3\nend\nturn 1 ", 3, AfterEnd),
+    // Faults in two lines.
+    ("members 3\nturn 1\nmembers 0\nend", 2, Number),
+    ("members 3\ntick 1\nturn 1\nend", 2, NotYet),
+    (
+        "members 3\nread 1 profile\nread 3 profile:1\nend\nend",
+        2,
+        Form,
+    ),
+];
+
 #[test]
 fn tells_the_first_fault(rt: HostRuntime) -> Result<(), Fail> {
-    use ScriptKind::*;
-    for (text, line, kind) in [
-        ("members 3\nturn 1\nend", 2, Number),
-        ("members 3", 2, NoEnd),
-        ("members 0\nend", 1, Form),
-        ("members 3\nskip 1 profile:1 rename 2 bob\nend", 2, Key),
-        ("members 3\nend\nend", 3, AfterEnd),
-        // Whole texts.
-        ("", 1, NoEnd),
-        ("members 3\n", 2, NoEnd),
-        ("members 3\nread 1 profile:1\nturn 1", 4, NoEnd),
-        ("\n", 1, Form),
-        ("members 3\n\nend", 2, Form),
-        ("members 3\r\nend", 1, Form),
-        ("members 3\nend \nend", 2, Form),
-        ("members 3\nend\n\n", 3, AfterEnd),
-        // The head.
-        ("end", 1, Form),
-        ("read 1 profile:1\nmembers 3\nend", 1, Form),
-        ("shards 2\nmembers 3\nend", 1, Form),
-        ("members 3\nmembers 3\nend", 2, Form),
-        ("members 3\nroom 1\nshards 2\nend", 3, Form),
-        ("members 3\nread 1 profile:1\nlife 5\nend", 3, Form),
-        ("members\nend", 1, Form),
-        ("members 3 3\nend", 1, Form),
-        ("members 03\nend", 1, Form),
-        ("members +3\nend", 1, Form),
-        ("members  3\nend", 1, Form),
-        ("members 3 \nend", 1, Form),
-        (" members 3\nend", 1, Form),
-        ("Members 3\nend", 1, Form),
-        ("members 100001\nend", 1, Form),
-        ("members 3\nshards 65\nend", 2, Form),
-        ("members 3\nroom 65537\nend", 2, Form),
-        ("members 3\nlife 0\nend", 2, Form),
-        ("members 3\nlife 18446744073709551616\nend", 2, Form),
-        // Sessions.
-        ("members 3\nread 0 profile:1\nend", 2, Number),
-        ("members 3\nread 2 profile:1\nend", 2, Number),
-        (
-            "members 3\nread 1 profile:1\nread 1 profile:1\nend",
-            3,
-            Number,
-        ),
-        ("members 3\nread 01 profile:1\nend", 2, Form),
-        ("members 3\nread 1 profile:0\nend", 2, Form),
-        ("members 3\nread 1 profile:4294967296\nend", 2, Form),
-        ("members 3\nread 1 profile:1 floor\nend", 2, Form),
-        ("members 3\nread 1 profile:1 floor 01\nend", 2, Form),
-        (
-            "members 3\nread 1 profile:1 floor 18446744073709551616\nend",
-            2,
-            Form,
-        ),
-        ("members 3\nread 1 profile:1 above 1\nend", 2, Form),
-        ("members 3\nwrite 1 invalidate\nend", 2, Form),
-        ("members 3\nwrite 1 drop thaw 1 2\nend", 2, Form),
-        ("members 3\nwrite 1 invalidate thaw 1 2 +\nend", 2, Form),
-        (
-            "members 3\nwrite 1 invalidate thaw 1 2 thaw 1 2\nend",
-            2,
-            Form,
-        ),
-        (
-            "members 3\nwrite 1 invalidate thaw 1 2  + thaw 1 2\nend",
-            2,
-            Form,
-        ),
-        ("members 3\nwrite 1 invalidate thaw 1\nend", 2, Form),
-        ("members 3\nwrite 1 invalidate invite 0 1\nend", 2, Form),
-        (
-            "members 3\nwrite 1 invalidate accept 1 4294967296\nend",
-            2,
-            Form,
-        ),
-        ("members 3\nwrite 1 invalidate rename 1 \nend", 2, Form),
-        (
-            "members 3\nwrite 1 invalidate rename 1 01234567890123456789012345678901234567890\nend",
-            2,
-            Form,
-        ),
-        (
-            "members 3\nwrite 1 invalidate thaw 1 2 + thaw 1 2 + thaw 1 2 + thaw 1 2 + thaw 1 2 + thaw 1 2 + thaw 1 2 + thaw 1 2 + thaw 1 2\nend",
-            2,
-            Form,
-        ),
-        ("members 3\nskip 1 friends:2 rename 2 bob\nend", 2, Key),
-        ("members 3\nskip 1 pending:1 accept 1 2\nend", 2, Key),
-        // Turns.
-        ("members 3\nturn 0\nend", 2, Number),
-        ("members 3\nturn 18446744073709551616\nend", 2, Number),
-        (
-            "members 3\nturn 123456789012345678901234567890\nend",
-            2,
-            Number,
-        ),
-        ("members 3\nread 1 profile:1\nturn 1 0\nend", 3, Form),
-        ("members 3\nread 1 profile:1\nturn 1 1001\nend", 3, Form),
-        ("members 3\nread 1 profile:1\nturn 1 1 1\nend", 3, Form),
-        ("members 3\ntick 18446744073709551616\nend", 2, Form),
-        ("members 3\nsweep 1001\nend", 2, Form),
-        // What there isn't yet.
-        (
-            "members 3\nlook 1 delta profile:2 rename 2 bob\nend",
-            2,
-            NotYet,
-        ),
-        ("members 3\nquit 1 invalidate rename 2 bob\nend", 2, NotYet),
-        ("members 3\nwrite 1 refresh rename 2 bob\nend", 2, NotYet),
-        ("members 3\nwrite 1 delta rename 2 bob\nend", 2, NotYet),
-        ("members 3\ntick 18446744073709551615\nend", 2, NotYet),
-        ("members 3\nsweep\nend", 2, NotYet),
-        ("members 3\nsweep 1000\nend", 2, NotYet),
-        // Two faults in a line.
-        ("members 3\nread 2 profile:0\nend", 2, Form),
-        ("members 3\nread 1 profile:1\nturn 2 1001\nend", 3, Form),
-        ("members 3\nskip 2 profile:1 rename 2 bob\nend", 2, Number),
-        ("members 3\nquit 2 delta rename 2 bob\nend", 2, Number),
-        (
-            "members 3\nlook 1 invalidate profile:1 rename 2 bob\nend",
-            2,
-            Key,
-        ),
-        ("members 3\nend\nturn 1 ", 3, AfterEnd),
-        // Faults in two lines.
-        ("members 3\nturn 1\nmembers 0\nend", 2, Number),
-        ("members 3\ntick 1\nturn 1\nend", 2, NotYet),
-        (
-            "members 3\nread 1 profile\nread 3 profile:1\nend\nend",
-            2,
-            Form,
-        ),
-    ] {
+    for (text, line, kind) in FAULTY {
         assert_eq!(rt;
             fault_of(rt.alloc(), text.as_bytes()),
             bad(line, kind),
@@ -176,7 +179,6 @@ fn with_long_line(
 
 #[test]
 fn lines_and_texts_are_bounded(rt: HostRuntime) -> Result<(), Fail> {
-    use ScriptKind::*;
     for (head, length, behind, line, kind) in [
         ("members 3\n", 2048, "\nend", 2, Form),
         ("members 3\n", 2049, "\nend", 2, LongLine),
@@ -266,45 +268,48 @@ fn act_told(alloc: Global, act: &Act) -> Result<String, AllocError> {
     }
 }
 
+/// Scripts, and for each its members, shards, room and life, and its acts.
+const SCRIPTS: [(&str, u32, u32, u32, u64, &str); 7] = [
+    ("members 1\nend", 1, 1, 16, 100, ""),
+    (
+        "members 100000\nshards 64\nroom 65536\nlife 18446744073709551615\nend\n",
+        100_000,
+        64,
+        65_536,
+        u64::MAX,
+        "",
+    ),
+    ("members 3\nroom 1\nend", 3, 1, 1, 100, ""),
+    ("members 3\nshards 2\nlife 1\nend", 3, 2, 16, 1, ""),
+    (
+        "members 7\nread 1 nfriends:7 floor 18446744073709551615\nread 2 profile:4294967295\nturn 1\nturn 2 1000\nend\n",
+        7,
+        1,
+        16,
+        100,
+        "read NFriends:7 floor 18446744073709551615; read Profile:4294967295 floor 0; run 1 1; run 2 1000; ",
+    ),
+    (
+        "members 7\nwrite 1 invalidate invite 1 2 + rename 3 + + accept 3 3\nskip 2 npending:2 accept 1 2\nturn 2\nend",
+        7,
+        1,
+        16,
+        100,
+        "write Invalidate + invite 1 2 + rename 3 + + accept 3 3; skip NPending:2 + accept 1 2; run 2 1; ",
+    ),
+    (
+        "members 7\nwrite 1 invalidate reject 1 2 + thaw 1 2 + thaw 1 2 + thaw 1 2 + thaw 1 2 + thaw 1 2 + thaw 1 2 + thaw 9 8\nend",
+        7,
+        1,
+        16,
+        100,
+        "write Invalidate + reject 1 2 + thaw 1 2 + thaw 1 2 + thaw 1 2 + thaw 1 2 + thaw 1 2 + thaw 1 2 + thaw 9 8; ",
+    ),
+];
+
 #[test]
 fn reads_scripts(rt: HostRuntime) -> Result<(), Fail> {
-    for (text, members, shards, room, life, acts) in [
-        ("members 1\nend", 1, 1, 16, 100, ""),
-        (
-            "members 100000\nshards 64\nroom 65536\nlife 18446744073709551615\nend\n",
-            100_000,
-            64,
-            65_536,
-            u64::MAX,
-            "",
-        ),
-        ("members 3\nroom 1\nend", 3, 1, 1, 100, ""),
-        ("members 3\nshards 2\nlife 1\nend", 3, 2, 16, 1, ""),
-        (
-            "members 7\nread 1 nfriends:7 floor 18446744073709551615\nread 2 profile:4294967295\nturn 1\nturn 2 1000\nend\n",
-            7,
-            1,
-            16,
-            100,
-            "read NFriends:7 floor 18446744073709551615; read Profile:4294967295 floor 0; run 1 1; run 2 1000; ",
-        ),
-        (
-            "members 7\nwrite 1 invalidate invite 1 2 + rename 3 + + accept 3 3\nskip 2 npending:2 accept 1 2\nturn 2\nend",
-            7,
-            1,
-            16,
-            100,
-            "write Invalidate + invite 1 2 + rename 3 + + accept 3 3; skip NPending:2 + accept 1 2; run 2 1; ",
-        ),
-        (
-            "members 7\nwrite 1 invalidate reject 1 2 + thaw 1 2 + thaw 1 2 + thaw 1 2 + thaw 1 2 + thaw 1 2 + thaw 1 2 + thaw 9 8\nend",
-            7,
-            1,
-            16,
-            100,
-            "write Invalidate + reject 1 2 + thaw 1 2 + thaw 1 2 + thaw 1 2 + thaw 1 2 + thaw 1 2 + thaw 1 2 + thaw 9 8; ",
-        ),
-    ] {
+    for (text, members, shards, room, life, acts) in SCRIPTS {
         let mut told = String::new(rt.alloc());
         let mut shape = Shape {
             members: 0,
