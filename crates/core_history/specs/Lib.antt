@@ -13,3 +13,4 @@ pub mod Words
 pub mod Cores
 pub mod Requests
 pub mod Told
+pub mod Voids
