@@ -21,3 +21,5 @@ pub mod GoodSteps
 pub mod KeepLemmas
 pub mod TurnLemmas
 pub mod FreshRuns
+pub mod ShardsLemmas
+pub mod RequestLemmas

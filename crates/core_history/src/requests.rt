@@ -1,5 +1,6 @@
 // A session's requests, each made on the shard of its key or at the store.
 ghost use Rattle.std.specs.Prelude.{◌≡◌, ◌≤◌, ◌<◌, ◌^◌, ◌-◌, length, pos, Ok, IfOk, OnOk, OnErr};
+ghost use Rattle.rows_model.specs.Placement.{shard_of};
 ghost use Rattle.key_shard.specs.Past.{next_token};
 ghost use Rattle.key_shard.specs.Answers.{IsAtHome, get_step, set_step, quarantine_step};
 ghost use Rattle.key_shard.specs.Replies.{ShowsGot, ShowsSet, ShowsQuarantine};
@@ -50,12 +51,21 @@ pub(crate) fn make<K: Keeper>(
     }
 }
 
+/// The place of a key's shard.
+fn home_of(shards: &Vec<Shard>, key: &QKey) -> usize
+    requires { HasHome shards.now.items key.now }
+    ensures is { result ≡ shard_of key.now (length shards.now.items) }
+    ensures within { result < length shards.now.items }
+{
+    shard_number(key, shards.len() as u32) as usize
+}
+
 fn make_get(shards: &mut Vec<Shard>, who: Sid, key: QKey, floor: u64) -> Result<Reply, Memory>
     requires { HasHome shards.old.items key }
     ensures makes { (shape : Shape) (world : World) → HasShards shards.old.items shape world.past → MakesStep shape world who (wanted.Get key floor) shards.new.items result }
     ensures belongs { IfOk result (Belongs who (wanted.Get key floor)) }
 {
-    let place = shard_number(&key, shards.len() as u32) as usize;
+    let place = home_of(shards, &key);
     match get_from(&mut shards[place], key, who, floor) {
         Ok(got) => Ok(Reply::Got { got }),
         Err(memory) => Err(memory),
@@ -73,7 +83,7 @@ fn make_set(
     ensures makes { (shape : Shape) (world : World) (who : Sid) → HasShards shards.old.items shape world.past → MakesStep shape world who (wanted.Set key token value stamp) shards.new.items result }
     ensures belongs { (who : Sid) → IfOk result (Belongs who (wanted.Set key token value stamp)) }
 {
-    let place = shard_number(&key, shards.len() as u32) as usize;
+    let place = home_of(shards, &key);
     match set_on(&mut shards[place], key, token, value, stamp) {
         Ok(told) => Ok(Reply::Set { told }),
         Err(memory) => Err(memory),
@@ -85,7 +95,7 @@ fn make_quarantine(shards: &mut Vec<Shard>, who: Sid, key: QKey) -> Result<Reply
     ensures makes { (shape : Shape) (world : World) → HasShards shards.old.items shape world.past → MakesStep shape world who (wanted.QaReg key) shards.new.items result }
     ensures belongs { IfOk result (Belongs who (wanted.QaReg key)) }
 {
-    let place = shard_number(&key, shards.len() as u32) as usize;
+    let place = home_of(shards, &key);
     match quarantine_on(&mut shards[place], key, who) {
         Ok(told) => Ok(Reply::Quar { told }),
         Err(memory) => Err(memory),
@@ -98,7 +108,7 @@ fn make_dar(shards: &mut Vec<Shard>, grant: Grant) -> Reply
     ensures makes { (shape : Shape) (world : World) (who : Sid) → HasShards shards.old.items shape world.past → MakesStep shape world who (wanted.Dar grant) shards.new.items (Ok result) }
     ensures belongs { (who : Sid) → Belongs who (wanted.Dar grant) result }
 {
-    let place = shard_number(&grant.key(), shards.len() as u32) as usize;
+    let place = home_of(shards, &grant.key());
     Reply::Rel {
         told: dar(&mut shards[place], grant),
     }
@@ -110,7 +120,7 @@ fn make_abort(shards: &mut Vec<Shard>, grant: Grant) -> Reply
     ensures makes { (shape : Shape) (world : World) (who : Sid) → HasShards shards.old.items shape world.past → MakesStep shape world who (wanted.Abort grant) shards.new.items (Ok result) }
     ensures belongs { (who : Sid) → Belongs who (wanted.Abort grant) result }
 {
-    let place = shard_number(&grant.key(), shards.len() as u32) as usize;
+    let place = home_of(shards, &grant.key());
     Reply::Rel {
         told: abort(&mut shards[place], grant),
     }
