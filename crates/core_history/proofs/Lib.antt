@@ -23,3 +23,6 @@ pub mod TurnLemmas
 pub mod FreshRuns
 pub mod ShardsLemmas
 pub mod RequestLemmas
+pub mod OpenLemmas
+pub mod StoreEvents
+pub mod MakeLemmas

@@ -1,5 +1,5 @@
 -- What a request that is made does to shards and store.
-use Rattle.std.specs.Prelude.{ℕ, ◌≡◌, List, ◌∷◌, Result, MatchResult, length, Some, slice_get, IsTrue, ◌⊎◌}
+use Rattle.std.specs.Prelude.{ℕ, ◌≡◌, ◌≢◌, List, ◌∷◌, Result, Ok, Err, MatchResult, length, Some, slice_get, IsTrue, ◌⊎◌}
 use Rattle.rows_model.specs.declared.keys.Sid.{Sid}
 use Rattle.rows_model.specs.declared.keys.QKey.{QKey}
 use Rattle.rows_model.specs.declared.refusals.Memory.{Memory}
@@ -9,6 +9,11 @@ use Rattle.key_shard.specs.Shards.{ShardView, is_out}
 use Rattle.sql_keeper.specs.Stores.{StoreView}
 use Rattle.session_client.specs.declared.plans.Shape.{Shape}
 use Rattle.session_client.specs.declared.replies.Reply.{Reply}
+use Rattle.session_client.specs.declared.replies.Reply.TheVariants as reply
+use Rattle.session_client.specs.Grants.{GrantsView}
+use Rattle.sql_keeper.specs.declared.faults.CommitFault.{CommitFault}
+use Rattle.sql_keeper.specs.declared.faults.CommitFault.TheVariants as faults
+use Rattle.rows_model.specs.declared.changes.Change.{Change}
 use Rattle.session_client.specs.declared.replies.Wanted.{Wanted}
 use Rattle.session_client.specs.declared.replies.Wanted.TheVariants as wanted
 use Rattle.session_client.specs.declared.sessions.Session.{Session}
@@ -68,6 +73,12 @@ abbrev pub Makes : Origin → World → Sid → Wanted → List ShardView → St
 Makes origin world who request shards store result =
     MatchResult result (λ told. (said : Said) × (told ≡ reply_in (event_of origin.shape world who request said)) × Stands shards store origin (after world (event_of origin.shape world who request said)))
     (λ _. Stands shards store origin world)
+
+-- A session is told what came of its commit, and that want of memory ends it.
+abbrev pub IsToldOfCommit : Result ℕ (CommitFault × List Change) → List Change → GrantsView → Result Reply Memory → Type 0
+IsToldOfCommit (Ok number) txn grants result = result ≡ Ok (reply.Committed number txn grants)
+IsToldOfCommit (Err back) txn grants result =
+    MatchResult result (λ told. (told ≡ reply.NotCommitted back.0 txn grants) × (back.0 ≢ faults.Memory)) (λ _. back.0 ≡ faults.Memory)
 
 -- A turn was taken in which this was wanted: shards, store and session stand after its event, whose line was told. For want of memory the event may have been made or not.
 abbrev pub TakesTurn : Origin → World → Sid → Wanted → List Reply → List ShardView → StoreView → Session → Result Told Memory → Type 0

@@ -11,7 +11,7 @@ ghost use Rattle.session_client.specs.declared.plans.Shape.{Shape};
 ghost use Rattle.session_client.specs.declared.replies.Wanted.TheVariants as wanted;
 ghost use Rattle.core_history.specs.Cores.{Origin, HasShards, HasHome, HasHomes};
 ghost use Rattle.core_history.specs.Machine.{World};
-ghost use Rattle.core_history.specs.Requests.{IsGrantOut, IsOutWhereReleased, Stands, StandsStore, MakesStep, MakesCall, Makes};
+ghost use Rattle.core_history.specs.Requests.{IsGrantOut, IsOutWhereReleased, IsToldOfCommit, Stands, StandsStore, MakesStep, MakesCall, Makes};
 
 use key_shard::{Got, Grant, QAnswer, SetAnswer, Shard, ShardFault};
 use rows_model::{Memory, QKey, Sid, Txn, Value, shard_number};
@@ -164,7 +164,19 @@ fn make_commit<K: Keeper>(
             return Err(memory);
         }
     };
-    match store.commit(who, copy, grants.items()) {
+    let made = store.commit(who, copy, grants.items());
+    told_of_commit(made, txn, grants)
+}
+
+/// What a session is told of a commit. Want of memory is not told: the grants are let go.
+fn told_of_commit(
+    made: Result<u64, (CommitFault, Txn)>,
+    txn: Txn,
+    grants: Grants,
+) -> Result<Reply, Memory>
+    ensures { IsToldOfCommit made txn grants result }
+{
+    match made {
         Ok(number) => Ok(Reply::Committed {
             number,
             txn,
