@@ -26,3 +26,5 @@ pub mod RequestLemmas
 pub mod OpenLemmas
 pub mod StoreEvents
 pub mod MakeLemmas
+pub mod TellLemmas
+pub mod CoresLemmas

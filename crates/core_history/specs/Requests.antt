@@ -1,5 +1,5 @@
 -- What a request that is made does to shards and store.
-use Rattle.std.specs.Prelude.{ℕ, ◌≡◌, ◌≢◌, List, ◌∷◌, Result, Ok, Err, MatchResult, length, Some, slice_get, IsTrue, ◌⊎◌}
+use Rattle.std.specs.Prelude.{ℕ, ◌≡◌, ◌≢◌, ◌-◌, List, ◌∷◌, Result, Ok, Err, MatchResult, length, Some, slice_get, slice_set, OnOk, IsTrue, ◌⊎◌}
 use Rattle.rows_model.specs.declared.keys.Sid.{Sid}
 use Rattle.rows_model.specs.declared.keys.QKey.{QKey}
 use Rattle.rows_model.specs.declared.refusals.Memory.{Memory}
@@ -85,3 +85,11 @@ abbrev pub TakesTurn : Origin → World → Sid → Wanted → List Reply → Li
 TakesTurn origin world who request heard shards store session result =
     MatchResult result (λ told. (said : Said) × IsToldOf (event_of origin.shape world who request said) told × Stands shards store origin (after world (event_of origin.shape world who request said)) × Follows session (reply_in (event_of origin.shape world who request said) ∷ heard))
     (λ _. Stands shards store origin world ⊎ ((said : Said) × Stands shards store origin (after world (event_of origin.shape world who request said))))
+
+-- A turn of one of these sessions was taken: it alone has changed, and not its plan and number, and it took its turn.
+abbrev pub TakesOne : List ShardView → StoreView → List Session → Sid → List ShardView → StoreView → List Session → Result Told Memory → Type 0
+TakesOne shards store sessions who shards_new store_new sessions_new result =
+    (session : Session) → slice_get sessions (who.number - 1) ≡ Some session
+    → (new : Session) × (sessions_new ≡ slice_set sessions (who.number - 1) new) × (plan_of new ≡ plan_of session) × (sid_of new ≡ sid_of session) × OnOk result (IsReady new)
+    × ((origin : Origin) (world : World) (heard : List Reply) → Stands shards store origin world → Follows session heard
+    → TakesTurn origin world who (wants (plan_of session) heard) heard shards_new store_new new result)

@@ -1,12 +1,12 @@
 // A session's turn: its next request is made, its line written, and the reply told.
-ghost use Rattle.std.specs.Prelude.{◌≡◌, ◌≤◌, ◌-◌, ◌∷◌, ◌⊎◌, List, Some, length, slice_get, slice_set, Ok, OnOk, IfOk};
+ghost use Rattle.std.specs.Prelude.{◌≡◌, ◌≤◌, ◌-◌, ◌∷◌, ◌⊎◌, List, Some, length, slice_get, Ok, OnOk, IfOk};
 ghost use Rattle.session_client.specs.declared.replies.Reply.{Reply};
 ghost use Rattle.session_client.specs.declared.sessions.Session.{Session};
 ghost use Rattle.session_client.specs.Follows.{plan_of, sid_of, IsReady, Follows};
 ghost use Rattle.session_client.specs.Wants.{wants};
 ghost use Rattle.core_history.specs.Cores.{Origin, HasHomes};
 ghost use Rattle.core_history.specs.Machine.{World};
-ghost use Rattle.core_history.specs.Requests.{IsWaiting, Stands, TakesTurn};
+ghost use Rattle.core_history.specs.Requests.{IsWaiting, Stands, TakesTurn, TakesOne};
 
 use crate::lines::{Asked, line_of, tells_fault};
 use crate::requests::make;
@@ -29,10 +29,7 @@ pub(crate) fn session_turn<K: Keeper>(
     requires some { 1 ≤ who.number }
     requires begun { who.number ≤ length sessions.old.items }
     requires waits { (session : Session) → slice_get sessions.old.items (who.number - 1) ≡ Some session → IsWaiting shards.old.items who session }
-    ensures one { (session : Session) → slice_get sessions.old.items (who.number - 1) ≡ Some session →
-        (after : Session) × (sessions.new.items ≡ slice_set sessions.old.items (who.number - 1) after) × (plan_of after ≡ plan_of session) × (sid_of after ≡ sid_of session) × OnOk result (IsReady after)
-        × ((origin : Origin) (world : World) (heard : List Reply) → Stands shards.old.items store.old origin world → Follows session heard →
-        TakesTurn origin world who (wants (plan_of session) heard) heard shards.new.items store.new after result) }
+    ensures { TakesOne shards.old.items store.old sessions.old.items who shards.new.items store.new sessions.new.items result }
 {
     let place = (who.number - 1) as usize;
     take_turn(alloc, store, shards, &mut sessions[place], who)
