@@ -28,3 +28,4 @@ pub mod StoreEvents
 pub mod MakeLemmas
 pub mod TellLemmas
 pub mod CoresLemmas
+pub mod BeginLemmas

@@ -49,7 +49,7 @@ phases_same phases world event has no_commit no_end =
     }
 
 -- the phase of a session that is there, and its place
-phase_there : (number : ℕ) (phases : List Phase) → 1 ≤ number → (if number == 0 then None else slice_get phases (number - 1)) ≡ slice_get phases (number - 1)
+pub phase_there : (number : ℕ) (phases : List Phase) → 1 ≤ number → (if number == 0 then None else slice_get phases (number - 1)) ≡ slice_get phases (number - 1)
 phase_there number phases h =
     let apart : (number == 0) ≡ false = grind (arith, rules) in
     ap (λ (b : Bool). cond b None (slice_get phases (number - 1))) apart

@@ -5,7 +5,7 @@ ghost use Rattle.session_client.specs.declared.plans.Turn.{Turn};
 ghost use Rattle.session_client.specs.Plans.{IsPlan, writes};
 ghost use Rattle.core_history.specs.Cores.{Origin, IsShape, HasShards, HasKept, IsAt, IsSound, IsRunning, HasBegun, shards_in, histories_in};
 ghost use Rattle.core_history.specs.Machine.{Said, Move, Begin, Take, world_of, turn_event, log_cap};
-ghost use Rattle.sql_keeper.specs.Stores.{opened, with_session};
+ghost use Rattle.sql_keeper.specs.Stores.{opened};
 ghost use Rattle.core_history.specs.Told.{IsToldOf};
 
 use crate::told::Told;
@@ -95,9 +95,10 @@ impl<K: Keeper> Core<K> {
         let sid = Sid {
             number: self.sessions.len() as u64 + 1,
         };
+        self.sessions.reserve(1)?;
         let session = Session::new(self.alloc, sid, plan)?;
-        match self.begin(writes) {
-            Ok(()) => {
+        match self.store.begin(writes) {
+            Ok(_) => {
                 self.sessions.push_reserved(session);
                 Ok(sid)
             }
@@ -106,19 +107,6 @@ impl<K: Keeper> Core<K> {
                 Err(memory)
             }
         }
-    }
-
-    /// Begins a session at the store, and reserves its place here.
-    fn begin(&mut self, writes: bool) -> Result<(), Memory>
-        ensures sessions { self.new.sessions ≡ self.old.sessions }
-        ensures shards { self.new.shards ≡ self.old.shards }
-        ensures keeper { (self.new.store.told ≡ self.old.store.told) × (self.new.store.faults ≡ self.old.store.faults) }
-        ensures begins { OnOk result (self.new.store.ledger ≡ with_session writes self.old.store.ledger) }
-        ensures err { OnErr result (self.new.store.ledger ≡ self.old.store.ledger) }
-    {
-        self.sessions.reserve(1)?;
-        let _ = self.store.begin(writes)?;
-        Ok(())
     }
 
     /// Takes a turn: one event, and its line. A keeper that fails is told as FAULT, and the core goes
