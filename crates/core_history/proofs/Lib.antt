@@ -29,3 +29,4 @@ pub mod MakeLemmas
 pub mod TellLemmas
 pub mod CoresLemmas
 pub mod BeginLemmas
+pub mod SoundLemmas

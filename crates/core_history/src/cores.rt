@@ -187,15 +187,20 @@ impl<K: Keeper> Core<K> {
             alloc: _,
             store,
             shards,
-            mut sessions,
+            sessions,
         } = self;
-        while let Some(session) = sessions.pop() {
-            session.let_go();
-        }
-        sessions.destroy_empty();
+        let_go(sessions);
         let (keeper, opening, log) = store.into_parts();
         (keeper, opening, log, shards)
     }
+}
+
+/// Puts all sessions away, with the grants that they have.
+fn let_go(mut sessions: Vec<Session>) {
+    while let Some(session) = sessions.pop() {
+        session.let_go();
+    }
+    sessions.destroy_empty();
 }
 
 /// Whether a session of this plan writes.
