@@ -22,3 +22,12 @@ pub mod KeepLemmas
 pub mod TurnLemmas
 pub mod FreshRuns
 pub mod DeterminedLemmas
+pub mod ShardsLemmas
+pub mod RequestLemmas
+pub mod OpenLemmas
+pub mod StoreEvents
+pub mod MakeLemmas
+pub mod TellLemmas
+pub mod CoresLemmas
+pub mod BeginLemmas
+pub mod SoundLemmas

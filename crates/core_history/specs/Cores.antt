@@ -78,7 +78,7 @@ pub record HasKept (core : CoreView) (origin : Origin) (moves : List Move) : Typ
 -- the store knows each session that began, and has it open as the machine does
 pub record HasPhases (phases : List Phase) (world : World) : Type 0 where
   pub count : length phases ≡ length world.plans
-  pub open : (who : Sid) → 1 ≤ who.number → may_commit who phases ≡ is_open world who
+  pub opens : (who : Sid) → 1 ≤ who.number → may_commit who phases ≡ is_open world who
 
 -- each session has its plan and its number, and follows what it was told
 abbrev pub AreFollowing : List Session → List Event → Type 0

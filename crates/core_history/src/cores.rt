@@ -1,10 +1,11 @@
-ghost use Rattle.std.specs.Prelude.{◌≡◌, ◌≢◌, ℕ, ◌+◌, ◌<◌, ◌≤◌, ◌^◌, ◌∷◌, ◌⊎◌, [], List, length, slice_get, Some, map, IfOk, IfErr, OnErr, MatchResult, IsSome};
+ghost use Rattle.std.specs.Prelude.{◌≡◌, ◌≢◌, ℕ, ◌+◌, ◌<◌, ◌≤◌, ◌^◌, ◌∷◌, ◌⊎◌, [], List, length, slice_get, Some, map, IfOk, IfErr, OnOk, OnErr, MatchResult, IsSome};
 ghost use Rattle.iq_outside.specs.Outside.{Rose};
 ghost use Rattle.rows_model.specs.Rows.{start_tables};
 ghost use Rattle.session_client.specs.declared.plans.Turn.{Turn};
 ghost use Rattle.session_client.specs.Plans.{IsPlan, writes};
 ghost use Rattle.core_history.specs.Cores.{Origin, IsShape, HasShards, HasKept, IsAt, IsSound, IsRunning, HasBegun, shards_in, histories_in};
-ghost use Rattle.core_history.specs.Machine.{Said, Move, Begin, Take, world_of, turn_event};
+ghost use Rattle.core_history.specs.Machine.{Said, Move, Begin, Take, world_of, turn_event, log_cap};
+ghost use Rattle.sql_keeper.specs.Stores.{opened};
 ghost use Rattle.core_history.specs.Told.{IsToldOf};
 
 use crate::told::Told;
@@ -58,7 +59,14 @@ impl<K: Keeper> Core<K> {
     }
 
     /// A core of this shape over a new store.
-    fn over(alloc: Global, store: Store<K>, shape: Shape) -> Result<Core<K>, NoStore<K>> {
+    fn over(alloc: Global, store: Store<K>, shape: Shape) -> Result<Core<K>, NoStore<K>>
+        requires shape { IsShape shape }
+        requires opened { store.ledger ≡ opened store.ledger.opening log_cap }
+        ensures store { IfOk result (λ core. core.store ≡ store) }
+        ensures begins { IfOk result (λ core. IsAt core (record { shape = shape; opening = store.ledger.opening; faults = store.faults }) []) }
+        ensures err { IfErr result (λ none. (none.cause ≡ KeepFault.Memory) × (K.faults none.keeper ≡ store.faults)) }
+    {
+        let _members = store.opening().members();
         match shards_of(alloc, shape) {
             Ok(shards) => Ok(Core {
                 alloc,
@@ -87,9 +95,10 @@ impl<K: Keeper> Core<K> {
         let sid = Sid {
             number: self.sessions.len() as u64 + 1,
         };
+        self.sessions.reserve(1)?;
         let session = Session::new(self.alloc, sid, plan)?;
-        match self.begin(writes) {
-            Ok(()) => {
+        match self.store.begin(writes) {
+            Ok(_) => {
                 self.sessions.push_reserved(session);
                 Ok(sid)
             }
@@ -98,13 +107,6 @@ impl<K: Keeper> Core<K> {
                 Err(memory)
             }
         }
-    }
-
-    /// Begins a session at the store, and reserves its place here.
-    fn begin(&mut self, writes: bool) -> Result<(), Memory> {
-        self.sessions.reserve(1)?;
-        let _ = self.store.begin(writes)?;
-        Ok(())
     }
 
     /// Takes a turn: one event, and its line. A keeper that fails is told as FAULT, and the core goes
@@ -123,6 +125,8 @@ impl<K: Keeper> Core<K> {
     fn step_of(&mut self, who: Sid) -> Result<Told, Memory>
         requires running { IsRunning self.old }
         requires begun { HasBegun self.old (Turn.Session who) }
+        ensures takes { (origin : Origin) (moves : List Move) → IsAt self.old origin moves → IfOk result (λ told. (said : Said) × IsAt self.new origin (Take (Turn.Session who) said ∷ moves) × IsToldOf (turn_event origin.shape (world_of origin.shape moves) (Turn.Session who) said) told) }
+        ensures err { (origin : Origin) (moves : List Move) → IsAt self.old origin moves → OnErr result (HasKept self.new origin moves ⊎ ((said : Said) × HasKept self.new origin (Take (Turn.Session who) said ∷ moves))) }
     {
         session_turn(
             self.alloc,
@@ -183,15 +187,20 @@ impl<K: Keeper> Core<K> {
             alloc: _,
             store,
             shards,
-            mut sessions,
+            sessions,
         } = self;
-        while let Some(session) = sessions.pop() {
-            session.let_go();
-        }
-        sessions.destroy_empty();
+        let_go(sessions);
         let (keeper, opening, log) = store.into_parts();
         (keeper, opening, log, shards)
     }
+}
+
+/// Puts all sessions away, with the grants that they have.
+fn let_go(mut sessions: Vec<Session>) {
+    while let Some(session) = sessions.pop() {
+        session.let_go();
+    }
+    sessions.destroy_empty();
 }
 
 /// Whether a session of this plan writes.

@@ -1,15 +1,17 @@
 // A session's requests, each made on the shard of its key or at the store.
-ghost use Rattle.std.specs.Prelude.{◌≡◌, ◌≤◌, ◌<◌, ◌^◌, ◌-◌, length, pos, IfOk, OnOk, OnErr, IsTrue};
+ghost use Rattle.std.specs.Prelude.{◌≡◌, ◌≤◌, ◌<◌, ◌^◌, ◌-◌, length, pos, Ok, IfOk, OnOk, OnErr};
+ghost use Rattle.rows_model.specs.Placement.{shard_of};
 ghost use Rattle.key_shard.specs.Past.{next_token};
 ghost use Rattle.key_shard.specs.Answers.{IsAtHome, get_step, set_step, quarantine_step};
 ghost use Rattle.key_shard.specs.Replies.{ShowsGot, ShowsSet, ShowsQuarantine};
 ghost use Rattle.key_shard.specs.Shards.{past_of, stepped};
 ghost use Rattle.lease_table.specs.declared.records.Mode.TheVariants as mode;
 ghost use Rattle.session_client.specs.Belongs.{Belongs};
+ghost use Rattle.session_client.specs.declared.plans.Shape.{Shape};
 ghost use Rattle.session_client.specs.declared.replies.Wanted.TheVariants as wanted;
-ghost use Rattle.core_history.specs.Cores.{Origin, HasHome, HasHomes};
+ghost use Rattle.core_history.specs.Cores.{Origin, HasShards, HasHome, HasHomes};
 ghost use Rattle.core_history.specs.Machine.{World};
-ghost use Rattle.core_history.specs.Requests.{IsGrantOut, IsOutWhereReleased, Stands, Makes};
+ghost use Rattle.core_history.specs.Requests.{IsGrantOut, IsOutWhereReleased, IsToldOfCommit, Stands, StandsStore, MakesStep, MakesCall, Makes};
 
 use key_shard::{Got, Grant, QAnswer, SetAnswer, Shard, ShardFault};
 use rows_model::{Memory, QKey, Sid, Txn, Value, shard_number};
@@ -42,19 +44,28 @@ pub(crate) fn make<K: Keeper>(
         } => make_set(shards, key, token, value, stamp),
         Wanted::QaReg { key } => make_quarantine(shards, who, key),
         Wanted::Commit { txn, grants } => make_commit(store, who, txn, grants),
-        Wanted::End => Ok(Reply::End {
-            was: store.end(who),
-        }),
+        Wanted::End => Ok(make_end(store, who)),
         Wanted::Dar { grant } => Ok(make_dar(shards, grant)),
         Wanted::Abort { grant } => Ok(make_abort(shards, grant)),
         Wanted::Nothing => Ok(Reply::Nothing),
     }
 }
 
+/// The place of a key's shard.
+fn home_of(shards: &Vec<Shard>, key: &QKey) -> usize
+    requires { HasHome shards.now.items key.now }
+    ensures is { result ≡ shard_of key.now (length shards.now.items) }
+    ensures within { result < length shards.now.items }
+{
+    shard_number(key, shards.len() as u32) as usize
+}
+
 fn make_get(shards: &mut Vec<Shard>, who: Sid, key: QKey, floor: u64) -> Result<Reply, Memory>
     requires { HasHome shards.old.items key }
+    ensures makes { (shape : Shape) (world : World) → HasShards shards.old.items shape world.past → MakesStep shape world who (wanted.Get key floor) shards.new.items result }
+    ensures belongs { IfOk result (Belongs who (wanted.Get key floor)) }
 {
-    let place = shard_number(&key, shards.len() as u32) as usize;
+    let place = home_of(shards, &key);
     match get_from(&mut shards[place], key, who, floor) {
         Ok(got) => Ok(Reply::Got { got }),
         Err(memory) => Err(memory),
@@ -69,8 +80,10 @@ fn make_set(
     stamp: u64,
 ) -> Result<Reply, Memory>
     requires { HasHome shards.old.items key }
+    ensures makes { (shape : Shape) (world : World) (who : Sid) → HasShards shards.old.items shape world.past → MakesStep shape world who (wanted.Set key token value stamp) shards.new.items result }
+    ensures belongs { (who : Sid) → IfOk result (Belongs who (wanted.Set key token value stamp)) }
 {
-    let place = shard_number(&key, shards.len() as u32) as usize;
+    let place = home_of(shards, &key);
     match set_on(&mut shards[place], key, token, value, stamp) {
         Ok(told) => Ok(Reply::Set { told }),
         Err(memory) => Err(memory),
@@ -79,8 +92,10 @@ fn make_set(
 
 fn make_quarantine(shards: &mut Vec<Shard>, who: Sid, key: QKey) -> Result<Reply, Memory>
     requires { HasHome shards.old.items key }
+    ensures makes { (shape : Shape) (world : World) → HasShards shards.old.items shape world.past → MakesStep shape world who (wanted.QaReg key) shards.new.items result }
+    ensures belongs { IfOk result (Belongs who (wanted.QaReg key)) }
 {
-    let place = shard_number(&key, shards.len() as u32) as usize;
+    let place = home_of(shards, &key);
     match quarantine_on(&mut shards[place], key, who) {
         Ok(told) => Ok(Reply::Quar { told }),
         Err(memory) => Err(memory),
@@ -89,8 +104,11 @@ fn make_quarantine(shards: &mut Vec<Shard>, who: Sid, key: QKey) -> Result<Reply
 
 fn make_dar(shards: &mut Vec<Shard>, grant: Grant) -> Reply
     requires home { HasHome shards.old.items grant.key }
+    requires out { IsGrantOut shards.old.items grant }
+    ensures makes { (shape : Shape) (world : World) (who : Sid) → HasShards shards.old.items shape world.past → MakesStep shape world who (wanted.Dar grant) shards.new.items (Ok result) }
+    ensures belongs { (who : Sid) → Belongs who (wanted.Dar grant) result }
 {
-    let place = shard_number(&grant.key(), shards.len() as u32) as usize;
+    let place = home_of(shards, &grant.key());
     Reply::Rel {
         told: dar(&mut shards[place], grant),
     }
@@ -98,18 +116,34 @@ fn make_dar(shards: &mut Vec<Shard>, grant: Grant) -> Reply
 
 fn make_abort(shards: &mut Vec<Shard>, grant: Grant) -> Reply
     requires home { HasHome shards.old.items grant.key }
+    requires out { IsGrantOut shards.old.items grant }
+    ensures makes { (shape : Shape) (world : World) (who : Sid) → HasShards shards.old.items shape world.past → MakesStep shape world who (wanted.Abort grant) shards.new.items (Ok result) }
+    ensures belongs { (who : Sid) → Belongs who (wanted.Abort grant) result }
 {
-    let place = shard_number(&grant.key(), shards.len() as u32) as usize;
+    let place = home_of(shards, &grant.key());
     Reply::Rel {
         told: abort(&mut shards[place], grant),
     }
 }
 
-fn make_ask<K: Keeper>(store: &mut Store<K>, key: QKey) -> Result<Reply, Memory> {
+fn make_ask<K: Keeper>(store: &mut Store<K>, key: QKey) -> Result<Reply, Memory>
+    ensures makes { (origin : Origin) (world : World) (who : Sid) → StandsStore store.old origin world → MakesCall origin world who (wanted.Ask key) store.new result }
+    ensures belongs { (who : Sid) → IfOk result (Belongs who (wanted.Ask key)) }
+{
     match store.ask(&key) {
         Ok(answer) => Ok(Reply::Answer { answer }),
         Err(KeepFault::Failed) => Ok(Reply::Fault { fault: Fault::Keep }),
         Err(KeepFault::Memory) => Err(Memory),
+    }
+}
+
+fn make_end<K: Keeper>(store: &mut Store<K>, who: Sid) -> Reply
+    requires { 1 ≤ who.number }
+    ensures makes { (origin : Origin) (world : World) → StandsStore store.old origin world → MakesCall origin world who wanted.End store.new (Ok result) }
+    ensures belongs { Belongs who wanted.End result }
+{
+    Reply::End {
+        was: store.end(who),
     }
 }
 
@@ -118,7 +152,11 @@ fn make_commit<K: Keeper>(
     who: Sid,
     txn: Txn,
     grants: Grants,
-) -> Result<Reply, Memory> {
+) -> Result<Reply, Memory>
+    requires { 1 ≤ who.number }
+    ensures makes { (origin : Origin) (world : World) → StandsStore store.old origin world → MakesCall origin world who (wanted.Commit txn grants) store.new result }
+    ensures belongs { IfOk result (Belongs who (wanted.Commit txn grants)) }
+{
     let copy = match txn.copy() {
         Ok(copy) => copy,
         Err(memory) => {
@@ -126,7 +164,19 @@ fn make_commit<K: Keeper>(
             return Err(memory);
         }
     };
-    match store.commit(who, copy, grants.items()) {
+    let made = store.commit(who, copy, grants.items());
+    told_of_commit(made, txn, grants)
+}
+
+/// What a session is told of a commit. Want of memory is not told: the grants are let go.
+fn told_of_commit(
+    made: Result<u64, (CommitFault, Txn)>,
+    txn: Txn,
+    grants: Grants,
+) -> Result<Reply, Memory>
+    ensures { IsToldOfCommit made txn grants result }
+{
+    match made {
         Ok(number) => Ok(Reply::Committed {
             number,
             txn,
