@@ -39,5 +39,5 @@ sound core origin moves kept =
       log = kept.store.log;
       histories = histories_are core.shards shape (world_of shape moves).past kept.shards;
       lawful = runs_are_lawful_is shape moves some kept.plans;
-      fresh = λ told. (runs_fresh shape origin.opening moves some kept.plans kept.fit (kept.store.truth told)).1;
+      fresh = λ told. (runs_fresh shape origin.opening moves some kept.plans (kept.store.truth told)).1;
     }
