@@ -11,3 +11,4 @@ pub mod SameKey
 pub mod ShiftLemmas
 pub mod UntouchedLemmas
 pub mod FootprintLemmas
+pub mod StayFitLemmas

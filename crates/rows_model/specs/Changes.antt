@@ -9,6 +9,7 @@ use Rattle.rows_model.specs.declared.rows.Member.{Member}
 use Rattle.rows_model.specs.declared.changes.Change.{Change}
 use Rattle.rows_model.specs.declared.changes.Change.TheVariants.{Invite, Accept, Reject, Thaw, Rename}
 use Rattle.rows_model.specs.Key.{kind_number, same_key}
+use Rattle.rows_model.specs.Name.{IsName}
 use Rattle.rows_model.specs.Rows.{Tables, is_pending, is_friend, joins}
 
 -- whether some member has this id
@@ -115,13 +116,13 @@ with_key keys key = if has_key key keys then keys else insert keys (count_by (is
 abbrev pub footprint : List Change → List QKey
 footprint changes = fold with_key [] (flat_map foot_of changes)
 
--- no id in a change is 0
+-- no id in a change is 0, and a new name is a name
 abbrev pub HasIds : Change → Type 0
 HasIds (Invite a b) = (1 ≤ a) × (1 ≤ b)
 HasIds (Accept a b) = (1 ≤ a) × (1 ≤ b)
 HasIds (Reject a b) = (1 ≤ a) × (1 ≤ b)
 HasIds (Thaw a b) = (1 ≤ a) × (1 ≤ b)
-HasIds (Rename a name) = 1 ≤ a
+HasIds (Rename a name) = (1 ≤ a) × IsName name
 
 -- the changes are those of a transaction: 1 to 8 of them
 pub record IsTxn (changes : List Change) : Type 0 where

@@ -10,3 +10,4 @@ pub mod TxnFaults
 pub mod ApplyFaults
 pub mod Untouched
 pub mod Footprint
+pub mod RowsStayFit

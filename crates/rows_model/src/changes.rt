@@ -1,8 +1,7 @@
-ghost use Rattle.std.specs.Prelude.{◌≡◌, ◌≤◌, ◌<◌, ◌⊎◌, ◌++◌, length, All, IfOk, IfErr};
-ghost use Rattle.rows_model.specs.Changes.{HasIds, keys_of, foot_of, has_key, touches};
+ghost use Rattle.std.specs.Prelude.{◌≡◌, ◌≤◌, length, All, IfOk, IfErr};
+ghost use Rattle.rows_model.specs.Changes.{HasIds};
 ghost use Rattle.rows_model.specs.TxnFaults.{ComesFrom};
 
-use crate::keys::{Kind, QKey};
 use crate::names::Name;
 use crate::refusals::{Memory, TxnFault};
 use std::alloc::Global;
@@ -42,8 +41,8 @@ impl Model for Txn {
 }
 
 impl Txn {
-    /// The transaction of these changes, none of which has an id 0. `Length` comes exactly where
-    /// there are none or more than 8.
+    /// The transaction of these changes, none of which has an id 0 or a new name that is none.
+    /// `Length` comes exactly where there are none or more than 8.
     pub fn of(alloc: Global, changes: &[Change]) -> Result<Txn, TxnFault>
         requires { All HasIds changes.now }
         ensures found { IfOk result (λ txn. txn ≡ changes.now) }

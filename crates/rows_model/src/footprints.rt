@@ -4,6 +4,7 @@ ghost use Rattle.rows_model.specs.Key.{same_key};
 ghost use Rattle.rows_model.specs.Changes.{keys_of, foot_of, has_key, touches, is_key_before, with_key, footprint};
 ghost use Rattle.rows_model.specs.Footprint.{FootprintsAreExact};
 ghost use Rattle.rows_model.specs.Untouched.{UntouchedKeepsItsAnswer};
+ghost use Rattle.rows_model.specs.RowsStayFit.{RowsStayFit};
 
 use crate::changes::{Change, Txn};
 use crate::keys::{Kind, QKey};
@@ -54,6 +55,11 @@ pub fn footprints_are_exact()
 /// it applies.
 pub fn untouched_keeps_its_answer()
     ensures { UntouchedKeepsItsAnswer }
+{}
+
+/// The rows are fit after changes that apply to fit ones.
+pub fn rows_stay_fit()
+    ensures { RowsStayFit }
 {}
 
 // The keys that a change touches: of its first member, and of its second.

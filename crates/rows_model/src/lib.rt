@@ -2,7 +2,9 @@
 #![tactic(auto)]
 
 pub use changes::{Change, Txn};
-pub use footprints::{footprint, footprints_are_exact, touches, untouched_keeps_its_answer};
+pub use footprints::{
+    footprint, footprints_are_exact, rows_stay_fit, touches, untouched_keeps_its_answer,
+};
 pub use keys::{Kind, QKey, Sid, texts_tell_keys};
 pub use names::Name;
 pub use placement::shard_number;

@@ -1,12 +1,16 @@
 -- Scripts: which text says which acts, and which fault a text has.
-use Rattle.std.specs.Prelude.{ℕ, ◌≡◌, ◌≢◌, ◌+◌, ◌≤◌, ◌<◌, Bool, true, false, ◌==◌, ◌&&◌, not, nat_le, nat_lt, if◌then◌else◌, List, [], ◌∷◌, ◌++◌, length, flat_map, codes, Option, Some, None, unwrap_or}
+use Rattle.std.specs.Prelude.{ℕ, ◌≡◌, ◌≢◌, ◌+◌, ◌≤◌, ◌<◌, Bool, true, false, ◌==◌, ◌&&◌, not, nat_le, nat_lt, if◌then◌else◌, List, [], ◌∷◌, ◌++◌, length, map, flat_map, codes, Option, Some, None, unwrap_or}
 use Rattle.lease_table.specs.declared.records.Mode.TheVariants.{Invalidate}
 use Rattle.rows_model.specs.Changes.{touches}
+use Rattle.session_client.specs.declared.plans.Plan.{Plan}
 use Rattle.session_client.specs.declared.plans.Plan.TheVariants as plan
 use Rattle.session_client.specs.declared.plans.Turn.TheVariants as turn
 use Rattle.session_client.specs.declared.plans.Shape.{Shape}
 use Rattle.run_inputs.specs.declared.lines.Part.{Part}
 use Rattle.run_inputs.specs.declared.lines.Part.TheVariants.{Members, Shards, Room, Life}
+use Rattle.run_inputs.specs.declared.lines.Verb.{Verb}
+use Rattle.run_inputs.specs.declared.lines.Verb.TheVariants as verb
+use Rattle.run_inputs.specs.declared.lines.Job.{Job}
 use Rattle.run_inputs.specs.declared.lines.Job.TheVariants.{Read, Write, Look, Skip}
 use Rattle.run_inputs.specs.declared.lines.Line.{Line}
 use Rattle.run_inputs.specs.declared.lines.Line.TheVariants.{Head, Session, Turn, Tick, Sweep, End}
@@ -20,7 +24,7 @@ use Rattle.run_inputs.specs.declared.faults.ScriptFault.TheVariants.{Bad, Memory
 use Rattle.run_inputs.specs.declared.scripts.Act.{Act}
 use Rattle.run_inputs.specs.declared.scripts.Act.TheVariants.{Add, Run}
 use Rattle.run_inputs.specs.Texts.{lines_in, words_in}
-use Rattle.run_inputs.specs.Lines.{AreWords}
+use Rattle.run_inputs.specs.Lines.{AreWords, verb_of}
 
 -- The place of a line in the head.
 abbrev pub place_of : Part → ℕ
@@ -29,13 +33,13 @@ place_of Shards = 2
 place_of Room = 3
 place_of Life = 4
 
--- Whether a line may stand next: `members` first, then the other lines of the head in their order, each once at most, and then all others.
-abbrev pub is_in_place : Stage → Line → Bool
-is_in_place stage.Start (Head Members number) = true
-is_in_place (stage.Head last) (Head part number) = nat_lt (place_of last) (place_of part)
-is_in_place stage (Head part number) = false
-is_in_place stage.Start line = false
-is_in_place stage line = true
+-- Whether a line with this verb may stand next: `members` first, then the other lines of the head in their order, each once at most, and then all others.
+abbrev pub is_in_place : Stage → Verb → Bool
+is_in_place stage.Start (verb.Head Members) = true
+is_in_place (stage.Head last) (verb.Head part) = nat_lt (place_of last) (place_of part)
+is_in_place stage (verb.Head part) = false
+is_in_place stage.Start other = false
+is_in_place stage other = true
 
 -- How many sessions a line begins.
 abbrev pub sessions_in : Line → ℕ
@@ -125,7 +129,7 @@ fault_of progress line =
 -- The line has the words of what it says, and may stand next.
 pub record Says (progress : Progress) (line : List ℕ) (said : Line) : Type 0 where
   pub words : AreWords said (words_in line)
-  pub in_place : is_in_place progress.stage said ≡ true
+  pub in_place : is_in_place progress.stage (verb_of said) ≡ true
 
 -- A line that is short enough, and that doesn't stand behind the last one.
 pub record MayStand (progress : Progress) (line : List ℕ) : Type 0 where
@@ -152,11 +156,16 @@ AreSound progress [] [] = Unit {0}
 AreSound progress (line ∷ lines) (said ∷ more) = IsSound progress line said × AreSound (after progress said) lines more
 AreSound progress lines other = ⊥
 
+-- The plan of a job, for those that can be run so far.
+abbrev pub plans_in : Job → List Plan
+plans_in (Read key floor) = plan.Read key (unwrap_or floor 0) ∷ []
+plans_in (Write mode txn) = plan.Write mode txn ∷ []
+plans_in (Skip key txn) = plan.Skip key txn ∷ []
+plans_in other = []
+
 -- The acts of a line.
 abbrev pub acts_in : Line → List Act
-acts_in (Session number (Read key floor)) = Add (plan.Read key (unwrap_or floor 0)) ∷ []
-acts_in (Session number (Write mode txn)) = Add (plan.Write mode txn) ∷ []
-acts_in (Session number (Skip key txn)) = Add (plan.Skip key txn) ∷ []
+acts_in (Session number job) = map Add (plans_in job)
 acts_in (Turn (Some number) count) = Run (turn.Session (record { number = number })) (unwrap_or count 1) ∷ []
 acts_in line = []
 
@@ -211,3 +220,9 @@ kind_word kind.Turns = codes "turns"
 kind_word kind.NoEnd = codes "noend"
 kind_word kind.AfterEnd = codes "afterend"
 kind_word kind.NotYet = codes "notyet"
+
+-- A text says one script at most and has one fault at most, and never both.
+pub record TextsTellScripts : Type 0 where
+  pub one_script : (text : List ℕ) (shape shape' : Shape) (acts acts' : List Act) → IsScript text shape acts → IsScript text shape' acts' → (shape ≡ shape') × (acts ≡ acts')
+  pub one_fault : (text : List ℕ) (number number' : ℕ) (fault fault' : ScriptKind) → IsFault text number fault → IsFault text number' fault' → (number ≡ number') × (fault ≡ fault')
+  pub never_both : (text : List ℕ) (shape : Shape) (acts : List Act) (number : ℕ) (fault : ScriptKind) → IsScript text shape acts → IsFault text number fault → ⊥

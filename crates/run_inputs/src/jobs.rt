@@ -1,1 +1,236 @@
 // What the words behind a session's number say.
+ghost use Rattle.std.specs.Prelude.{◌≡◌, ◌≢◌, ℕ, ◌≤◌, List, [], ◌∷◌, ◌++◌, length, All, Option, Some, IfSome, IfNone, IfOk, codes};
+ghost use Rattle.std.specs.Option.{option_copied};
+ghost use Rattle.lease_table.specs.declared.records.Mode.{Mode};
+ghost use Rattle.rows_model.specs.declared.changes.Change.{Change};
+ghost use Rattle.run_inputs.specs.Texts.{words_in};
+ghost use Rattle.run_inputs.specs.Lines.{IsId, AreSides, AreChanges, AreTxnWords, AreFloor, AreJobWords, change_word, mode_word};
+ghost use Rattle.run_inputs.specs.Parsing.{words_behind, BeginsWith, BeginsWithNone, IsPair, IsJobOf, IsNoJob};
+ghost use Rattle.run_inputs.specs.declared.lines.Task.TheVariants as task;
+
+use crate::cuts::{cut, number_of, only_number};
+use crate::lines::{Job, Task};
+use lease_table::Mode;
+use rows_model::{Change, Memory, Name, QKey, Txn, TxnFault};
+use std::alloc::Global;
+
+// The most changes of a transaction.
+const MOST_CHANGES: usize = 8;
+
+/// The job for the task that the words behind a session's number say.
+pub(crate) fn job_of(alloc: Global, task: Task, args: Option<&[u8]>) -> Result<Option<Job>, Memory>
+    ensures found { IfOk result (λ read. IfSome read (λ job. IsJobOf task (words_behind (option_copied args.entry)) job)) }
+    ensures none { IfOk result (λ read. IfNone read (IsNoJob task (words_behind (option_copied args.entry)))) }
+{
+    let Some(args) = args else {
+        return Ok(None);
+    };
+    let (word, more) = cut(args, b' ');
+    match task {
+        Task::Read => Ok(read_of(word, more)),
+        Task::Write => write_of(alloc, word, more),
+        Task::Look => look_of(alloc, word, more),
+        Task::Quit => quit_of(alloc, word, more),
+        Task::Skip => skip_of(alloc, word, more),
+    }
+}
+
+fn read_of(word: &[u8], more: Option<&[u8]>) -> Option<Job>
+    ensures found { IfSome result (λ job. IsJobOf task.Read (word.now ∷ words_behind (option_copied more.entry)) job) }
+    ensures none { IfNone result (IsNoJob task.Read (word.now ∷ words_behind (option_copied more.entry))) }
+{
+    let key = QKey::parse(word)?;
+    let floor = floor_of(more)?;
+    Some(Job::Read { key, floor })
+}
+
+fn write_of(alloc: Global, word: &[u8], more: Option<&[u8]>) -> Result<Option<Job>, Memory>
+    ensures found { IfOk result (λ read. IfSome read (λ job. IsJobOf task.Write (word.now ∷ words_behind (option_copied more.entry)) job)) }
+    ensures none { IfOk result (λ read. IfNone read (IsNoJob task.Write (word.now ∷ words_behind (option_copied more.entry)))) }
+{
+    let Some(mode) = mode_of(word) else {
+        return Ok(None);
+    };
+    match txn_of(alloc, more)? {
+        Some(txn) => Ok(Some(Job::Write { mode, txn })),
+        None => Ok(None),
+    }
+}
+
+fn look_of(alloc: Global, word: &[u8], more: Option<&[u8]>) -> Result<Option<Job>, Memory>
+    ensures found { IfOk result (λ read. IfSome read (λ job. IsJobOf task.Look (word.now ∷ words_behind (option_copied more.entry)) job)) }
+    ensures none { IfOk result (λ read. IfNone read (IsNoJob task.Look (word.now ∷ words_behind (option_copied more.entry)))) }
+{
+    let Some(mode) = mode_of(word) else {
+        return Ok(None);
+    };
+    let Some(more) = more else {
+        return Ok(None);
+    };
+    let (next, rest) = cut(more, b' ');
+    let Some(key) = QKey::parse(next) else {
+        return Ok(None);
+    };
+    match txn_of(alloc, rest)? {
+        Some(txn) => Ok(Some(Job::Look { mode, key, txn })),
+        None => Ok(None),
+    }
+}
+
+fn quit_of(alloc: Global, word: &[u8], more: Option<&[u8]>) -> Result<Option<Job>, Memory>
+    ensures found { IfOk result (λ read. IfSome read (λ job. IsJobOf task.Quit (word.now ∷ words_behind (option_copied more.entry)) job)) }
+    ensures none { IfOk result (λ read. IfNone read (IsNoJob task.Quit (word.now ∷ words_behind (option_copied more.entry)))) }
+{
+    let Some(mode) = mode_of(word) else {
+        return Ok(None);
+    };
+    match txn_of(alloc, more)? {
+        Some(txn) => Ok(Some(Job::Quit { mode, txn })),
+        None => Ok(None),
+    }
+}
+
+fn skip_of(alloc: Global, word: &[u8], more: Option<&[u8]>) -> Result<Option<Job>, Memory>
+    ensures found { IfOk result (λ read. IfSome read (λ job. IsJobOf task.Skip (word.now ∷ words_behind (option_copied more.entry)) job)) }
+    ensures none { IfOk result (λ read. IfNone read (IsNoJob task.Skip (word.now ∷ words_behind (option_copied more.entry)))) }
+{
+    let Some(key) = QKey::parse(word) else {
+        return Ok(None);
+    };
+    match txn_of(alloc, more)? {
+        Some(txn) => Ok(Some(Job::Skip { key, txn })),
+        None => Ok(None),
+    }
+}
+
+// The floor of a `read` line, or that there is none; `None` where there are other words.
+fn floor_of(args: Option<&[u8]>) -> Option<Option<u64>>
+    ensures found { IfSome result (λ floor. AreFloor floor (words_behind (option_copied args.entry))) }
+    ensures none { IfNone result ((floor : Option ℕ) → AreFloor floor (words_behind (option_copied args.entry)) → ⊥) }
+{
+    let Some(args) = args else {
+        return Some(None);
+    };
+    let (word, more) = cut(args, b' ');
+    if word != b"floor".as_slice() {
+        return None;
+    }
+    let floor = only_number(more)?;
+    Some(Some(floor))
+}
+
+// The mode of which this is the word.
+fn mode_of(word: &[u8]) -> Option<Mode>
+    ensures found { IfSome result (λ mode. word.now ≡ mode_word mode) }
+    ensures none { IfNone result ((mode : Mode) → word.now ≡ mode_word mode → ⊥) }
+{
+    match word {
+        b"invalidate" => Some(Mode::Invalidate),
+        b"refresh" => Some(Mode::Refresh),
+        b"delta" => Some(Mode::Delta),
+        _ => None,
+    }
+}
+
+// The transaction of which these are the words.
+fn txn_of(alloc: Global, args: Option<&[u8]>) -> Result<Option<Txn>, Memory>
+    ensures found { IfOk result (λ read. IfSome read (λ txn. AreTxnWords txn (words_behind (option_copied args.entry)))) }
+    ensures none { IfOk result (λ read. IfNone read ((txn : List Change) → AreTxnWords txn (words_behind (option_copied args.entry)) → ⊥)) }
+{
+    let Some(words) = args else {
+        return Ok(None);
+    };
+    let Some(changes) = changes_of(alloc, words)? else {
+        return Ok(None);
+    };
+    match Txn::of(alloc, changes.as_slice()) {
+        Ok(txn) => Ok(Some(txn)),
+        Err(TxnFault::Length { .. }) => Ok(None),
+        Err(TxnFault::Memory) => Err(Memory),
+    }
+}
+
+// The changes of which these are the words, joined by `+`: 1 to 8 of them.
+fn changes_of(alloc: Global, words: &[u8]) -> Result<Option<Vec<Change>>, Memory>
+    ensures found { IfOk result (λ read. IfSome read (λ changes. AreTxnWords changes.items (words_in words.now))) }
+    ensures none { IfOk result (λ read. IfNone read ((txn : List Change) → AreTxnWords txn (words_in words.now) → ⊥)) }
+{
+    let mut changes = Vec::new(alloc);
+    let mut rest = words;
+    for _ in 0..MOST_CHANGES {
+        let Some((change, behind)) = first_change(rest) else {
+            return Ok(None);
+        };
+        changes.push(change)?;
+        let Some(behind) = behind else {
+            return Ok(Some(changes));
+        };
+        let Some(more) = behind_plus(behind) else {
+            return Ok(None);
+        };
+        rest = more;
+    }
+    Ok(None)
+}
+
+// What stands behind the word `+`, if that is the first word and not the last.
+fn behind_plus(text: &[u8]) -> Option<&[u8]>
+    ensures found { IfSome result (λ rest. words_in text.now ≡ codes "+" ∷ words_in rest.now) }
+    ensures none { IfNone result ((changes : List Change) → AreChanges changes (words_in text.now) → ⊥) }
+{
+    let (word, more) = cut(text, b' ');
+    if word == b"+".as_slice() { more } else { None }
+}
+
+// The change that the first three words are, and what stands behind them if anything does.
+fn first_change(text: &[u8]) -> Option<(Change, Option<&[u8]>)>
+    ensures found { IfSome result (λ read. BeginsWith read.0 (words_in text.now) (words_behind (option_copied read.1))) }
+    ensures none { IfNone result (BeginsWithNone (words_in text.now)) }
+{
+    let (word, rest) = cut(text, b' ');
+    let (first, rest) = cut(rest?, b' ');
+    let (second, rest) = cut(rest?, b' ');
+    let change = change_of(word, first, second)?;
+    Some((change, rest))
+}
+
+// The change of these three words.
+fn change_of(word: &[u8], first: &[u8], second: &[u8]) -> Option<Change>
+    ensures word { IfSome result (λ change. word.now ≡ change_word change) }
+    ensures sides { IfSome result (λ change. AreSides change first.now second.now) }
+    ensures none { IfNone result ((change : Change) → word.now ≡ change_word change → AreSides change first.now second.now → ⊥) }
+{
+    let a = id_of(first)?;
+    if word == b"rename".as_slice() {
+        let name = Name::of(second)?;
+        return Some(Change::Rename { a, name });
+    }
+    pair_of(word, a, id_of(second)?)
+}
+
+// The change between two members of which this is the word.
+fn pair_of(word: &[u8], a: u32, b: u32) -> Option<Change>
+    ensures word { IfSome result (λ change. word.now ≡ change_word change) }
+    ensures pair { IfSome result (λ change. IsPair change a b) }
+    ensures none { IfNone result ((change : Change) → word.now ≡ change_word change → change_word change ≢ codes "rename" → ⊥) }
+{
+    match word {
+        b"invite" => Some(Change::Invite { a, b }),
+        b"accept" => Some(Change::Accept { a, b }),
+        b"reject" => Some(Change::Reject { a, b }),
+        b"thaw" => Some(Change::Thaw { a, b }),
+        _ => None,
+    }
+}
+
+// The id that the word is.
+fn id_of(word: &[u8]) -> Option<u32>
+    ensures found { IfSome result (λ id. IsId word.now id) }
+    ensures none { IfNone result ((id : ℕ) → IsId word.now id → ⊥) }
+{
+    let number = number_of(word)?;
+    if number < 1 || number > 4_294_967_295 {
+        return None;
+    }
+    Some(number as u32)
+}

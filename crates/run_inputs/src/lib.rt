@@ -2,11 +2,15 @@
 #![tactic(auto)]
 
 pub use faults::{ScriptFault, ScriptKind};
+pub use laws::texts_tell_scripts;
 pub use scripts::{Act, Script};
 
 mod cuts;
 pub mod faults;
 mod jobs;
+pub mod laws;
 mod lines;
 pub mod scripts;
 mod stages;
+#[cfg(test)]
+mod tests;

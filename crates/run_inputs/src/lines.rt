@@ -1,9 +1,21 @@
 // What a line of a script says, by its words.
+ghost use Rattle.std.specs.Prelude.{◌≡◌, ◌≤◌, IfSome, IfNone, IfOk};
+ghost use Rattle.std.specs.Option.{option_copied};
+ghost use Rattle.run_inputs.specs.declared.lines.Verb.TheVariants as verb;
+ghost use Rattle.run_inputs.specs.Texts.{words_in};
+ghost use Rattle.run_inputs.specs.Lines.{most, verb_word, AreWords};
+ghost use Rattle.run_inputs.specs.Script.{place_of};
+ghost use Rattle.run_inputs.specs.Parsing.{words_behind, IsLineOf, IsNoLine};
+
+use crate::cuts::{count_of, cut, only_number, session_number};
+use crate::faults::ScriptKind;
+use crate::jobs::job_of;
 use lease_table::Mode;
-use rows_model::{QKey, Txn};
+use rows_model::{Memory, QKey, Txn};
+use std::alloc::Global;
 
 /// A line of the head.
-#[derive(Clone, Copy, Debug, PartialEq, Eq)]
+#[derive(Clone, Copy, PartialEq, Eq)]
 pub enum Part {
     Members,
     Shards,
@@ -12,7 +24,7 @@ pub enum Part {
 }
 
 /// What a session line is for.
-#[derive(Clone, Copy, Debug, PartialEq, Eq)]
+#[derive(Clone, Copy)]
 pub enum Task {
     Read,
     Write,
@@ -22,7 +34,7 @@ pub enum Task {
 }
 
 /// The first word of a line.
-#[derive(Clone, Copy, Debug, PartialEq, Eq)]
+#[derive(Clone, Copy)]
 pub enum Verb {
     Head { part: Part },
     Session { task: Task },
@@ -33,7 +45,7 @@ pub enum Verb {
 }
 
 /// What the words behind a session's number say.
-#[derive(Debug, Drop)]
+#[derive(Drop)]
 pub enum Job {
     /// Read a key, with a floor if there is one.
     Read { key: QKey, floor: Option<u64> },
@@ -49,7 +61,7 @@ pub enum Job {
 
 /// What a line says. The number of a session is told if it is below 2^64; no session has a greater
 /// one.
-#[derive(Debug, Drop)]
+#[derive(Drop)]
 pub enum Line {
     /// A line of the head, and its number.
     Head {
@@ -76,4 +88,157 @@ pub enum Line {
     },
     /// The last line.
     End,
+}
+
+/// Why a line was not taken.
+#[derive(Clone, Copy)]
+pub enum LineFault {
+    /// This is its first fault.
+    Bad { kind: ScriptKind },
+    /// Memory ran out.
+    Memory,
+}
+
+impl Part {
+    /// The most that the number of such a line may be.
+    pub(crate) fn most(self) -> u64
+        ensures { result ≡ most self }
+    {
+        match self {
+            Part::Members => 100_000,
+            Part::Shards => 64,
+            Part::Room => 65_536,
+            Part::Life => u64::MAX,
+        }
+    }
+
+    /// The place of such a line in the head, from 1.
+    pub(crate) fn place(self) -> u32
+        ensures { result ≡ place_of self }
+    {
+        match self {
+            Part::Members => 1,
+            Part::Shards => 2,
+            Part::Room => 3,
+            Part::Life => 4,
+        }
+    }
+}
+
+impl Verb {
+    /// The verb of which this is the word.
+    fn of_word(word: &[u8]) -> Option<Verb>
+        ensures found { IfSome result (λ verb. word.now ≡ verb_word verb) }
+        ensures none { IfNone result ((verb : Verb) → word.now ≡ verb_word verb → ⊥) }
+    {
+        match word {
+            b"members" => Some(Verb::Head {
+                part: Part::Members,
+            }),
+            b"shards" => Some(Verb::Head { part: Part::Shards }),
+            b"room" => Some(Verb::Head { part: Part::Room }),
+            b"life" => Some(Verb::Head { part: Part::Life }),
+            b"read" => Some(Verb::Session { task: Task::Read }),
+            b"write" => Some(Verb::Session { task: Task::Write }),
+            b"look" => Some(Verb::Session { task: Task::Look }),
+            b"quit" => Some(Verb::Session { task: Task::Quit }),
+            b"skip" => Some(Verb::Session { task: Task::Skip }),
+            b"turn" => Some(Verb::Turn),
+            b"tick" => Some(Verb::Tick),
+            b"sweep" => Some(Verb::Sweep),
+            b"end" => Some(Verb::End),
+            _ => None,
+        }
+    }
+}
+
+/// What the line says, or `None` exactly where it has the words of no line.
+pub(crate) fn line_of(alloc: Global, line: &[u8]) -> Result<Option<Line>, Memory>
+    ensures found { IfOk result (λ read. IfSome read (λ said. AreWords said (words_in line.now))) }
+    ensures none { IfOk result (λ read. IfNone read ((said : Line) → AreWords said (words_in line.now) → ⊥)) }
+{
+    let (word, args) = cut(line, b' ');
+    match Verb::of_word(word) {
+        Some(verb) => with_verb(alloc, verb, args),
+        None => Ok(None),
+    }
+}
+
+// What the words behind the verb say.
+fn with_verb(alloc: Global, verb: Verb, args: Option<&[u8]>) -> Result<Option<Line>, Memory>
+    ensures found { IfOk result (λ read. IfSome read (λ said. IsLineOf verb (words_behind (option_copied args.entry)) said)) }
+    ensures none { IfOk result (λ read. IfNone read (IsNoLine verb (words_behind (option_copied args.entry)))) }
+{
+    match verb {
+        Verb::Head { part } => Ok(head_of(part, args)),
+        Verb::Session { task } => session_of(alloc, task, args),
+        Verb::Turn => Ok(turn_of(args)),
+        Verb::Tick => Ok(tick_of(args)),
+        Verb::Sweep => Ok(sweep_of(args)),
+        Verb::End => Ok(end_of(args)),
+    }
+}
+
+fn head_of(part: Part, args: Option<&[u8]>) -> Option<Line>
+    ensures found { IfSome result (λ said. IsLineOf (verb.Head part) (words_behind (option_copied args.entry)) said) }
+    ensures none { IfNone result (IsNoLine (verb.Head part) (words_behind (option_copied args.entry))) }
+{
+    let number = only_number(args)?;
+    if number < 1 || number > part.most() {
+        return None;
+    }
+    Some(Line::Head { part, number })
+}
+
+fn session_of(alloc: Global, task: Task, args: Option<&[u8]>) -> Result<Option<Line>, Memory>
+    ensures found { IfOk result (λ read. IfSome read (λ said. IsLineOf (verb.Session task) (words_behind (option_copied args.entry)) said)) }
+    ensures none { IfOk result (λ read. IfNone read (IsNoLine (verb.Session task) (words_behind (option_copied args.entry)))) }
+{
+    let Some(args) = args else {
+        return Ok(None);
+    };
+    let (word, more) = cut(args, b' ');
+    let Some(number) = session_number(word) else {
+        return Ok(None);
+    };
+    match job_of(alloc, task, more)? {
+        Some(job) => Ok(Some(Line::Session { number, job })),
+        None => Ok(None),
+    }
+}
+
+fn turn_of(args: Option<&[u8]>) -> Option<Line>
+    ensures found { IfSome result (λ said. IsLineOf verb.Turn (words_behind (option_copied args.entry)) said) }
+    ensures none { IfNone result (IsNoLine verb.Turn (words_behind (option_copied args.entry))) }
+{
+    let (word, more) = cut(args?, b' ');
+    let number = session_number(word)?;
+    let count = count_of(more)?;
+    Some(Line::Turn { number, count })
+}
+
+fn tick_of(args: Option<&[u8]>) -> Option<Line>
+    ensures found { IfSome result (λ said. IsLineOf verb.Tick (words_behind (option_copied args.entry)) said) }
+    ensures none { IfNone result (IsNoLine verb.Tick (words_behind (option_copied args.entry))) }
+{
+    let ticks = only_number(args)?;
+    Some(Line::Tick { ticks })
+}
+
+fn sweep_of(args: Option<&[u8]>) -> Option<Line>
+    ensures found { IfSome result (λ said. IsLineOf verb.Sweep (words_behind (option_copied args.entry)) said) }
+    ensures none { IfNone result (IsNoLine verb.Sweep (words_behind (option_copied args.entry))) }
+{
+    let count = count_of(args)?;
+    Some(Line::Sweep { count })
+}
+
+fn end_of(args: Option<&[u8]>) -> Option<Line>
+    ensures found { IfSome result (λ said. IsLineOf verb.End (words_behind (option_copied args.entry)) said) }
+    ensures none { IfNone result (IsNoLine verb.End (words_behind (option_copied args.entry))) }
+{
+    match args {
+        Some(_) => None,
+        None => Some(Line::End),
+    }
 }

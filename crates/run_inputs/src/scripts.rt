@@ -1,11 +1,18 @@
-ghost use Rattle.std.specs.Prelude.{◌≡◌, ◌≤◌, IfOk, IfErr};
-ghost use Rattle.run_inputs.specs.Script.{IsScript, ComesFrom};
+ghost use Rattle.std.specs.Prelude.{◌≡◌, ◌++◌, OnOk, IfOk, IfErr, option_to_list};
+ghost use Rattle.run_inputs.specs.Script.{plans_in, acts_in, IsScript, ComesFrom};
 ghost use Rattle.run_inputs.specs.Fit.{IsPlayable};
 
-use crate::faults::ScriptFault;
+use crate::cuts::first_line;
+use crate::faults::{ScriptFault, ScriptKind};
+use crate::lines::{Job, Line, LineFault};
+use crate::stages::Progress;
+use rows_model::{Memory, Sid};
 use session_client::{Plan, Shape, Turn};
 use std::alloc::Global;
 use std::marker::Model;
+
+// The longest text, in bytes.
+const LONGEST_TEXT: usize = 16_777_216;
 
 /// A step of a script.
 #[derive(Debug, Drop)]
@@ -39,7 +46,42 @@ impl Script {
         ensures playable { IfOk result (λ script. IsPlayable script.shape script.acts) }
         ensures fault { IfErr result (λ fault. ComesFrom text.now fault) }
     {
-        Err(ScriptFault::Memory)
+        if text.len() > LONGEST_TEXT {
+            return Err(ScriptFault::Bad {
+                line: 0,
+                kind: ScriptKind::LongText,
+            });
+        }
+        let mut acts = Vec::new(alloc);
+        let mut progress = Progress::start();
+        let mut number = 0;
+        let mut rest = text;
+        while !rest.is_empty() {
+            let (line, behind) = first_line(rest);
+            number += 1;
+            let said = match progress.read(alloc, line) {
+                Ok(said) => said,
+                Err(LineFault::Bad { kind }) => {
+                    return Err(ScriptFault::Bad { line: number, kind });
+                }
+                Err(LineFault::Memory) => return Err(ScriptFault::Memory),
+            };
+            progress = progress.after(&said);
+            let Ok(()) = push_acts(&mut acts, said) else {
+                return Err(ScriptFault::Memory);
+            };
+            rest = behind;
+        }
+        if !progress.has_ended() {
+            return Err(ScriptFault::Bad {
+                line: number + 1,
+                kind: ScriptKind::NoEnd,
+            });
+        }
+        Ok(Script {
+            shape: progress.shape,
+            acts,
+        })
     }
 
     /// What the script is to be run with.
@@ -61,5 +103,51 @@ impl Script {
         ensures { result.items ≡ self.acts }
     {
         self.acts
+    }
+}
+
+// Puts the acts of a line behind the others.
+fn push_acts(acts: &mut Vec<Act>, said: Line) -> Result<(), Memory>
+    ensures { OnOk result (acts.new.items ≡ acts.old.items ++ acts_in said) }
+{
+    if let Some(act) = act_of(said) {
+        acts.push(act)?;
+    }
+    Ok(())
+}
+
+// The act of a line, if it has one.
+fn act_of(said: Line) -> Option<Act>
+    ensures { option_to_list result ≡ acts_in said }
+{
+    match said {
+        Line::Session { job, .. } => Some(Act::Add {
+            plan: plan_of(job)?,
+        }),
+        Line::Turn {
+            number: Some(number),
+            count,
+        } => Some(Act::Run {
+            turn: Turn::Session {
+                sid: Sid { number },
+            },
+            count: count.unwrap_or(1),
+        }),
+        _ => None,
+    }
+}
+
+// The plan of a job, if sessions have such plans so far.
+fn plan_of(job: Job) -> Option<Plan>
+    ensures { option_to_list result ≡ plans_in job }
+{
+    match job {
+        Job::Read { key, floor } => Some(Plan::Read {
+            key,
+            floor: floor.unwrap_or(0),
+        }),
+        Job::Write { mode, txn } => Some(Plan::Write { mode, txn }),
+        Job::Skip { key, txn } => Some(Plan::Skip { key, txn }),
+        Job::Look { .. } | Job::Quit { .. } => None,
     }
 }

@@ -1,9 +1,27 @@
 // How far a script has come.
-use crate::lines::Part;
+ghost use Rattle.std.specs.Prelude.{◌≡◌, ◌+◌, ◌≤◌, ◌<◌, ◌^◌, IfOk, IfErr, IfSome, IfNone, IsTrue, ◌↔◌};
+ghost use Rattle.run_inputs.specs.declared.stages.Stage.TheVariants as stage;
+ghost use Rattle.run_inputs.specs.declared.lines.Line.{Line};
+ghost use Rattle.run_inputs.specs.Texts.{words_in};
+ghost use Rattle.run_inputs.specs.Lines.{most, verb_of, AreWords};
+ghost use Rattle.run_inputs.specs.Script.{is_in_place, sessions_in, turns_in, shape_with, shape_after, stage_after, after, start, is_numbered, has_key, is_known, fault_of, Says, IsSound};
+ghost use Rattle.run_inputs.specs.Parsing.{IsWithin, IsLineFault};
+
+use crate::faults::ScriptKind;
+use crate::lines::{Job, Line, LineFault, Part, line_of};
+use lease_table::Mode;
+use rows_model::{Memory, touches};
 use session_client::Shape;
+use std::alloc::Global;
+
+// The longest line, in bytes before its line feed.
+const LONGEST_LINE: usize = 2048;
+
+// The most turns, ticks and sweeps of a script.
+const MOST_TURNS: u32 = 1_000_000;
 
 /// Which line was the last one.
-#[derive(Clone, Copy, Debug, PartialEq, Eq)]
+#[derive(Clone, Copy, PartialEq, Eq)]
 pub enum Stage {
     /// There was none.
     Start,
@@ -24,4 +42,246 @@ pub struct Progress {
     pub begun: u64,
     /// How many turns, ticks and sweeps.
     pub turns: u32,
+}
+
+impl Stage {
+    // Whether the line may stand next.
+    fn has_place_for(self, line: &Line) -> bool
+        ensures { result ≡ is_in_place self (verb_of line.now) }
+    {
+        match (self, line) {
+            (Stage::Start, Line::Head { part, .. }) => *part == Part::Members,
+            (Stage::Head { last }, Line::Head { part, .. }) => last.place() < part.place(),
+            (_, Line::Head { .. }) | (Stage::Start, _) => false,
+            _ => true,
+        }
+    }
+
+    // Whether the line `end` was the last one.
+    fn is_end(self) -> bool
+        ensures { IsTrue result ↔ (self ≡ stage.End) }
+    {
+        self == Stage::End
+    }
+}
+
+impl Line {
+    // How many sessions the line begins.
+    fn sessions(&self) -> u64
+        ensures { result ≡ sessions_in self.now }
+    {
+        match self {
+            Line::Session { .. } => 1,
+            _ => 0,
+        }
+    }
+
+    // How many turns, ticks and sweeps the line is.
+    fn turns(&self) -> u32
+        ensures { result ≡ turns_in self.now }
+    {
+        match self {
+            Line::Turn { count, .. } | Line::Sweep { count } => count.unwrap_or(1),
+            Line::Tick { .. } => 1,
+            _ => 0,
+        }
+    }
+
+    // What the line makes the last one.
+    fn stage(&self) -> Stage
+        ensures { result ≡ stage_after self.now }
+    {
+        match self {
+            Line::Head { part, .. } => Stage::Head { last: *part },
+            Line::End => Stage::End,
+            _ => Stage::Body,
+        }
+    }
+
+    // Whether the session's number is the next one after so many, or the turn is of one of these.
+    fn is_numbered(&self, begun: u64) -> bool
+        requires { begun + 1 < 2 ^ 64 }
+        ensures { result ≡ is_numbered begun self.now }
+    {
+        match self {
+            Line::Session { number, .. } => *number == Some(begun + 1),
+            Line::Turn { number, .. } => number.is_some_and(|number| 1 <= number
+                && number <= begun),
+            _ => true,
+        }
+    }
+
+    // Whether the key is one that the transaction touches.
+    fn has_key(&self) -> bool
+        ensures { result ≡ has_key self.now }
+    {
+        match self {
+            Line::Session {
+                job: Job::Look { key, txn, .. } | Job::Skip { key, txn },
+                ..
+            } => touches(txn, key),
+            _ => true,
+        }
+    }
+
+    // Whether lines of this form can be run so far.
+    fn is_known(&self) -> bool
+        ensures { result ≡ is_known self.now }
+    {
+        match self {
+            Line::Session {
+                job: Job::Write { mode, .. },
+                ..
+            } => *mode == Mode::Invalidate,
+            Line::Session {
+                job: Job::Look { .. } | Job::Quit { .. },
+                ..
+            }
+            | Line::Tick { .. }
+            | Line::Sweep { .. } => false,
+            _ => true,
+        }
+    }
+}
+
+// The shape with this number of the head.
+fn shape_with(part: Part, number: u64, shape: Shape) -> Shape
+    requires { number ≤ most part }
+    ensures { result ≡ shape_with part number shape }
+{
+    match part {
+        Part::Members => Shape {
+            members: number as u32,
+            ..shape
+        },
+        Part::Shards => Shape {
+            shards: number as u32,
+            ..shape
+        },
+        Part::Room => Shape {
+            room: number as u32,
+            ..shape
+        },
+        Part::Life => Shape {
+            life: number,
+            ..shape
+        },
+    }
+}
+
+impl Progress {
+    /// No line yet.
+    pub(crate) fn start() -> Progress
+        ensures { result ≡ start }
+    {
+        Progress {
+            stage: Stage::Start,
+            shape: Shape {
+                members: 0,
+                shards: 1,
+                room: 16,
+                life: 100,
+            },
+            begun: 0,
+            turns: 0,
+        }
+    }
+
+    /// What the lines come to with this one more.
+    pub(crate) fn after(&self, line: &Line) -> Progress
+        requires within { IsWithin line.now }
+        requires few { self.now.begun + 1 < 2 ^ 64 }
+        requires short { self.now.turns + turns_in line.now ≤ 1000000 }
+        ensures { result ≡ after self.now line.now }
+    {
+        Progress {
+            stage: line.stage(),
+            shape: self.shape_after(line),
+            begun: self.begun + line.sessions(),
+            turns: self.turns + line.turns(),
+        }
+    }
+
+    fn shape_after(&self, line: &Line) -> Shape
+        requires { IsWithin line.now }
+        ensures { result ≡ shape_after line.now self.now.shape }
+    {
+        match line {
+            Line::Head { part, number } => shape_with(*part, *number, self.shape),
+            _ => self.shape,
+        }
+    }
+
+    /// Whether the line `end` was the last one.
+    pub(crate) fn has_ended(&self) -> bool
+        ensures { IsTrue result ↔ (self.now.stage ≡ stage.End) }
+    {
+        self.stage.is_end()
+    }
+
+    // The first fault of what a line says.
+    fn fault_of(&self, line: &Line) -> Option<ScriptKind>
+        requires { self.now.begun + 1 < 2 ^ 64 }
+        ensures { result ≡ fault_of self.now line.now }
+    {
+        if !line.is_numbered(self.begun) {
+            return Some(ScriptKind::Number);
+        }
+        if !line.has_key() {
+            return Some(ScriptKind::Key);
+        }
+        if self.turns.saturating_add(line.turns()) > MOST_TURNS {
+            return Some(ScriptKind::Turns);
+        }
+        if !line.is_known() {
+            return Some(ScriptKind::NotYet);
+        }
+        None
+    }
+
+    /// What the next line says, or its first fault.
+    pub(crate) fn read(&self, alloc: Global, line: &[u8]) -> Result<Line, LineFault>
+        requires { self.now.begun + 1 < 2 ^ 64 }
+        ensures said { IfOk result (λ said. IsSound self.now line.now said) }
+        ensures fault { IfErr result (λ fault. IsLineFault self.now line.now fault) }
+    {
+        if line.len() > LONGEST_LINE {
+            return Err(LineFault::Bad {
+                kind: ScriptKind::LongLine,
+            });
+        }
+        if self.has_ended() {
+            return Err(LineFault::Bad {
+                kind: ScriptKind::AfterEnd,
+            });
+        }
+        let said = match self.said_by(alloc, line) {
+            Ok(Some(said)) => said,
+            Ok(None) => {
+                return Err(LineFault::Bad {
+                    kind: ScriptKind::Form,
+                });
+            }
+            Err(Memory) => return Err(LineFault::Memory),
+        };
+        match self.fault_of(&said) {
+            Some(kind) => Err(LineFault::Bad { kind }),
+            None => Ok(said),
+        }
+    }
+
+    // What the line says, if it may stand next.
+    fn said_by(&self, alloc: Global, line: &[u8]) -> Result<Option<Line>, Memory>
+        ensures said { IfOk result (λ read. IfSome read (λ said. Says self.now line.now said)) }
+        ensures none { IfOk result (λ read. IfNone read ((said : Line) → Says self.now line.now said → ⊥)) }
+    {
+        let Some(said) = line_of(alloc, line)? else {
+            return Ok(None);
+        };
+        if self.stage.has_place_for(&said) {
+            Ok(Some(said))
+        } else {
+            Ok(None)
+        }
+    }
 }

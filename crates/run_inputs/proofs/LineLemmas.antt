@@ -1,0 +1,95 @@
+-- What a line says is told by its words.
+use Rattle.std.proofs.Common.{ℕ, ◌+◌, ◌*◌, ◌==◌, ◌≡◌, Bool, true, false, List, [], ◌∷◌, Some, None, refl, sym, ap, ◌∙◌, get_or}
+use Rattle.std.specs.Prelude.{if◌then◌else◌}
+use Rattle.std.proofs.lemmas.Bool.{false≢true}
+use Rattle.run_inputs.specs.declared.lines.Part.TheVariants.{Members, Shards, Room, Life}
+use Rattle.run_inputs.specs.declared.lines.Task.TheVariants as task
+use Rattle.run_inputs.specs.declared.lines.Verb.{Verb}
+use Rattle.run_inputs.specs.declared.lines.Verb.TheVariants as verb
+use Rattle.run_inputs.specs.declared.lines.Line.{Line}
+use Rattle.run_inputs.specs.declared.stages.Progress.{Progress}
+use Rattle.run_inputs.specs.declared.faults.ScriptKind.{ScriptKind}
+use Rattle.run_inputs.specs.declared.faults.ScriptKind.TheVariants as kind
+use Rattle.run_inputs.specs.Texts.{words_in}
+use Rattle.run_inputs.specs.Lines.{verb_word, verb_of, AreWords}
+use Rattle.run_inputs.specs.Script.{is_in_place, Says, MayStand, IsFaulty, fault_of}
+
+-- the first two letters of a word, as one number
+abbrev letters : List ℕ → ℕ
+letters word = 256 * get_or word 0 0 + get_or word 1 0
+
+-- the verb whose word begins with these letters
+verb_with : ℕ → Verb
+verb_with n =
+    if n == 28005 then verb.Head Members else
+    if n == 29544 then verb.Head Shards else
+    if n == 29295 then verb.Head Room else
+    if n == 27753 then verb.Head Life else
+    if n == 29285 then verb.Session task.Read else
+    if n == 30578 then verb.Session task.Write else
+    if n == 27759 then verb.Session task.Look else
+    if n == 29045 then verb.Session task.Quit else
+    if n == 29547 then verb.Session task.Skip else
+    if n == 29813 then verb.Turn else
+    if n == 29801 then verb.Tick else
+    if n == 29559 then verb.Sweep else verb.End
+
+verb_back : (v : Verb) → verb_with (letters (verb_word v)) ≡ v
+unfolding verb_with
+verb_back (verb.Head Members) = refl
+verb_back (verb.Head Shards) = refl
+verb_back (verb.Head Room) = refl
+verb_back (verb.Head Life) = refl
+verb_back (verb.Session task.Read) = refl
+verb_back (verb.Session task.Write) = refl
+verb_back (verb.Session task.Look) = refl
+verb_back (verb.Session task.Quit) = refl
+verb_back (verb.Session task.Skip) = refl
+verb_back verb.Turn = refl
+verb_back verb.Tick = refl
+verb_back verb.Sweep = refl
+verb_back verb.End = refl
+
+-- a verb is told by its word
+pub verb_word_injective : (a b : Verb) → verb_word a ≡ verb_word b → a ≡ b
+verb_word_injective a b e = sym (verb_back a) ∙ (ap (λ (word : List ℕ). verb_with (letters word)) e ∙ verb_back b)
+
+-- two lines with the same words have the same verb
+pub verb_once : (words : List (List ℕ)) (a b : Line) → AreWords a words → AreWords b words → verb_of a ≡ verb_of b
+verb_once [] a b h k = absurd h
+verb_once (word ∷ words) a b h k = verb_word_injective (verb_of a) (verb_of b) (sym h.0 ∙ k.0)
+
+-- where one reading of a line has no place, none has one
+pub no_place : (progress : Progress) (line : List ℕ) (a : Line) → AreWords a (words_in line) → is_in_place progress.stage (verb_of a) ≡ false
+    → (said : Line) → Says progress line said → ⊥
+no_place progress line a h e said k =
+    let same = verb_once (words_in line) a said h k.words in
+    let off : is_in_place progress.stage (verb_of said) ≡ false = ap (λ (v : Verb). is_in_place progress.stage v) (sym same) ∙ e in
+    false≢true (sym off ∙ k.in_place)
+
+-- whether a fault is one of what a line says
+abbrev is_of_saying : ScriptKind → Bool
+is_of_saying kind.Number = true
+is_of_saying kind.Key = true
+is_of_saying kind.Turns = true
+is_of_saying kind.NotYet = true
+is_of_saying other = false
+
+of_saying : (a b c d : Bool) (k : ScriptKind) → (if a then Some kind.Number else if b then Some kind.Key else if c then Some kind.Turns else if d then Some kind.NotYet else None) ≡ Some k → is_of_saying k ≡ true
+of_saying true b c d k e = let same : kind.Number ≡ k = cc in ap is_of_saying (sym same)
+of_saying false true c d k e = let same : kind.Key ≡ k = cc in ap is_of_saying (sym same)
+of_saying false false true d k e = let same : kind.Turns ≡ k = cc in ap is_of_saying (sym same)
+of_saying false false false true k e = let same : kind.NotYet ≡ k = cc in ap is_of_saying (sym same)
+of_saying false false false false k e = absurd cc
+
+-- the first fault of what a line says is the line's
+pub faulty : (progress : Progress) (line : List ℕ) (said : Line) (k : ScriptKind) → MayStand progress line → Says progress line said → fault_of progress said ≡ Some k → IsFaulty progress line k
+faulty progress line said kind.Number h w e = (h, said, w, e)
+faulty progress line said kind.Key h w e = (h, said, w, e)
+faulty progress line said kind.Turns h w e = (h, said, w, e)
+faulty progress line said kind.NotYet h w e = (h, said, w, e)
+faulty progress line said kind.LongText h w e = (h, said, w, e)
+faulty progress line said kind.NoEnd h w e = (h, said, w, e)
+faulty progress line said kind.LongLine h w e = absurd (false≢true (of_saying _ _ _ _ kind.LongLine e))
+faulty progress line said kind.AfterEnd h w e = absurd (false≢true (of_saying _ _ _ _ kind.AfterEnd e))
+faulty progress line said kind.Form h w e = absurd (false≢true (of_saying _ _ _ _ kind.Form e))
