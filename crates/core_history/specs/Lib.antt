@@ -8,3 +8,9 @@ pub mod Machine
 pub mod Truth
 pub mod Facts
 pub mod Freshness
+pub mod Lines
+pub mod Words
+pub mod Cores
+pub mod Requests
+pub mod Told
+pub mod Voids

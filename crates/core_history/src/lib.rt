@@ -1,4 +1,12 @@
 //! The core: sessions, shards and the store, moved on one turn at a time. Each turn is one event.
 #![tactic(auto)]
 
+pub use cores::Core;
+pub use told::Told;
+
+pub mod cores;
 pub mod laws;
+pub mod lines;
+mod requests;
+pub mod told;
+mod turns;

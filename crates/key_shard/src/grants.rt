@@ -63,6 +63,12 @@ impl Grant {
         self.token
     }
 
+    /// Lets go of the grant. Its quarantine is not ended by that, and stands until others end it. It
+    /// takes no memory.
+    pub fn let_go(self) {
+        let _ = self.spend();
+    }
+
     /// The grant that says this.
     pub(crate) fn of(
         alloc: Global,

@@ -1,5 +1,5 @@
 use lease_table::Mode;
-use rows_model::{QKey, Sid, Txn};
+use rows_model::{Change, QKey, Sid, Txn};
 
 /// What a session is to do.
 #[derive(Debug, Drop)]
@@ -12,6 +12,21 @@ pub enum Plan {
     /// Write in mode invalidate, and leave out the quarantine of this key, which the transaction
     /// touches. So the store refuses the commit.
     Skip { key: QKey, txn: Txn },
+}
+
+impl Plan {
+    ghost use Rattle.std.specs.Prelude.{◌≡◌};
+    ghost use Rattle.session_client.specs.Plans.{changes_of};
+
+    /// The changes that the session is to commit: none where it reads.
+    pub fn changes(&self) -> &[Change]
+        ensures { result.now ≡ changes_of self.now }
+    {
+        match self {
+            Plan::Read { .. } => &[],
+            Plan::Write { mode: _, txn } | Plan::Skip { key: _, txn } => txn.changes(),
+        }
+    }
 }
 
 /// One turn of the core.

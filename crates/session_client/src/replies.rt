@@ -33,6 +33,29 @@ pub enum Wanted {
     Nothing,
 }
 
+impl Wanted {
+    /// Lets go of the request and of the grants that it hands over. Their quarantines are not ended by
+    /// that, and stand until others end them. It takes no memory.
+    pub fn let_go(self) {
+        match self {
+            Wanted::Commit { txn: _, grants } => grants.let_go(),
+            Wanted::Dar { grant } => grant.let_go(),
+            Wanted::Abort { grant } => grant.let_go(),
+            Wanted::Get { key: _, floor: _ } => {}
+            Wanted::Ask { key: _ } => {}
+            Wanted::Set {
+                key: _,
+                token: _,
+                value: _,
+                stamp: _,
+            } => {}
+            Wanted::QaReg { key: _ } => {}
+            Wanted::End => {}
+            Wanted::Nothing => {}
+        }
+    }
+}
+
 /// Why a request was not made.
 #[derive(Clone, Copy, Debug, PartialEq, Eq)]
 pub enum Fault {
@@ -42,6 +65,31 @@ pub enum Fault {
     Keep,
     /// Memory ran out.
     Memory,
+}
+
+impl Fault {
+    ghost use Rattle.std.specs.Prelude.{◌↔◌, IsTrue};
+    ghost use Rattle.session_client.specs.Belongs.{IsShardFault, IsStoreFault};
+
+    /// Whether a shard answers this to a request that draws a token.
+    pub fn is_of_shard(self) -> bool
+        ensures { IsTrue result ↔ IsShardFault self }
+    {
+        match self {
+            Fault::Spent | Fault::Memory => true,
+            Fault::Keep => false,
+        }
+    }
+
+    /// Whether the store answers this to a question.
+    pub fn is_of_store(self) -> bool
+        ensures { IsTrue result ↔ IsStoreFault self }
+    {
+        match self {
+            Fault::Keep | Fault::Memory => true,
+            Fault::Spent => false,
+        }
+    }
 }
 
 /// What a session is told.
@@ -77,6 +125,37 @@ pub enum Reply {
     Nothing,
 }
 
+impl Reply {
+    /// Lets go of the reply and of the grants that it brings. Their quarantines are not ended by that,
+    /// and stand until others end them. It takes no memory.
+    pub fn let_go(self) {
+        match self {
+            Reply::Quar { told } => match told {
+                QAnswer::Granted { grant, old: _ } => grant.let_go(),
+                QAnswer::Held => {}
+                QAnswer::Refused { holder: _, mode: _ } => {}
+            },
+            Reply::Committed {
+                number: _,
+                txn: _,
+                grants,
+            } => grants.let_go(),
+            Reply::NotCommitted {
+                fault: _,
+                txn: _,
+                grants,
+            } => grants.let_go(),
+            Reply::Got { got: _ } => {}
+            Reply::Answer { answer: _ } => {}
+            Reply::Set { told: _ } => {}
+            Reply::End { was: _ } => {}
+            Reply::Rel { told: _ } => {}
+            Reply::Fault { fault: _ } => {}
+            Reply::Nothing => {}
+        }
+    }
+}
+
 /// How a session ended.
 #[derive(Clone, Copy, Debug, PartialEq, Eq)]
 pub enum Outcome {
@@ -96,4 +175,16 @@ pub enum Outcome {
     NotCommitted { fault: CommitFault },
     /// A request was not made.
     Failed { fault: Fault },
+}
+
+impl Outcome {
+    ghost use Rattle.std.specs.Prelude.{◌≡◌};
+    ghost use Rattle.session_client.specs.Outcomes.{is_committed};
+
+    /// Whether the session's transaction was committed.
+    pub fn is_committed(self) -> bool
+        ensures { result ≡ is_committed self }
+    {
+        matches!(self, Outcome::Committed { .. })
+    }
 }

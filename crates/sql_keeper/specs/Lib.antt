@@ -8,6 +8,7 @@ pub mod Keepers
 pub mod Log
 pub mod Sessions
 pub mod Stores
+pub mod Moves
 pub mod MapKeepers
 pub mod Commits
 pub mod Fresh

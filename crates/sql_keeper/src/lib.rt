@@ -15,3 +15,5 @@ mod requests;
 mod sessions;
 pub mod store;
 pub mod stores;
+#[cfg(test)]
+mod tests;

@@ -26,11 +26,11 @@ fn uncovered(alloc: Global, sid: Sid, txn: &Txn, grants: &[Grant]) -> Result<Opt
     ensures { IfOk result (λ key. key ≡ uncovered sid grants.now txn.now) }
 {
     let keys = footprint(alloc, txn)?;
-    Ok(
-        keys.iter()
-            .copied()
-            .find(|key| !is_covered(sid, grants, key)),
-    )
+    let first = keys
+        .iter()
+        .copied()
+        .find(|key| !is_covered(sid, grants, key));
+    Ok(first)
 }
 
 /// Finds why a commit is refused before the keeper is asked, if it is, and else keeps a place of the

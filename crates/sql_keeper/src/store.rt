@@ -27,6 +27,7 @@ use std::marker::Model;
 ///
 /// Where the keeper tells its rows, they are those after the log. Where they are told after a call,
 /// they were told before it.
+#[derive(Drop)]
 pub struct Store<K: Keeper> {
     keeper: K,
     opening: Rows,
@@ -56,6 +57,7 @@ impl<K: Keeper> Model for Store<K> {
 }
 
 /// A keeper that didn't start, and why. Its rows are as before.
+#[derive(Drop)]
 pub struct NoStore<K: Keeper> {
     pub keeper: K,
     pub cause: KeepFault,

@@ -1,0 +1,172 @@
+-- What an event adds to what sessions are told, to the log, and to the steps of each shard.
+use Rattle.std.proofs.Common.{ℕ, ◌≡◌, ◌==◌, Bool, true, false, cond, ◌&&◌, ◌||◌, List, [], ◌∷◌, ◌++◌, count_by, append_assoc, append-nil, refl, sym, ap, subst, ◌∙◌, inl, inr, arith}
+use Rattle.std.specs.List.{list_any}
+use Rattle.std.proofs.lemmas.Bool.{eq-eqb}
+use Rattle.std.proofs.lemmas.List.Folds.{list_any-append}
+use Rattle.rows_model.specs.declared.keys.QKey.{QKey}
+use Rattle.rows_model.specs.declared.keys.Sid.{Sid}
+use Rattle.rows_model.specs.Key.{same_key}
+use Rattle.rows_model.proofs.SameKey.{same_key-true}
+use Rattle.rows_model.specs.Placement.{shard_of}
+use Rattle.key_shard.specs.Permit.{Permit}
+use Rattle.key_shard.specs.declared.steps.Ended.TheVariants as ended
+use Rattle.key_shard.specs.declared.steps.Step.{Step}
+use Rattle.key_shard.specs.declared.steps.Step.TheVariants as step
+use Rattle.key_shard.specs.declared.replies.QAnswer.TheVariants as quarantine
+use Rattle.sql_keeper.specs.Commits.{covers, is_covered}
+use Rattle.sql_keeper.specs.Fresh.{quarantines}
+use Rattle.session_client.specs.declared.replies.Reply.{Reply}
+use Rattle.session_client.specs.declared.replies.Reply.TheVariants as reply
+use Rattle.session_client.specs.Wants.{grants_in, granted, is_commit, was_committed}
+use Rattle.core_history.specs.Events.{Event, Stepped, Called, who_in, reply_in, steps_in, steps_of, told_in, told_to, commits_told, log_of, ends, was_ended, has_committed}
+use Rattle.core_history.proofs.ListLemmas.{choose, or_inl, or_inr, or_elim, not_both, any-front, count-append, count-cons, tick, zero_if}
+
+pub grants-append : (new heard : List Reply) → granted (new ++ heard) ≡ granted heard ++ granted new
+grants-append [] heard = sym (append-nil (granted heard))
+grants-append (told ∷ new) heard = ap (λ l. l ++ grants_in told) (grants-append new heard) ∙ append_assoc (granted heard) (granted new) (grants_in told)
+
+told-mine : (n : ℕ) (event : Event) → (who_in event).number ≡ n → told_in n event ≡ reply_in event ∷ []
+told-mine n event e = ap (λ b. cond b (reply_in event ∷ []) []) (eq-eqb _ _ e)
+
+pub told_to-mine : (event : Event) (past : List Event) → told_to (who_in event).number (event ∷ past) ≡ reply_in event ∷ told_to (who_in event).number past
+told_to-mine event past = ap (λ l. l ++ told_to (who_in event).number past) (told-mine (who_in event).number event refl)
+
+pub told_to-other : (n : ℕ) (event : Event) (past : List Event) → ((who_in event).number == n) ≡ false → told_to n (event ∷ past) ≡ told_to n past
+told_to-other n event past e = ap (λ b. cond b (reply_in event ∷ []) [] ++ told_to n past) e
+
+-- a session has committed where it was told so
+commit_is : (n : ℕ) (who : Sid) (told : Reply) → list_any (λ commit. commit.sid.number == n) (commits_told who told) ≡ list_any is_commit (cond (who.number == n) (told ∷ []) [])
+commit_is n who told = by told (who.number == n) refl
+  where
+    both : (told : Reply) (b : Bool) → is_commit told ≡ false → false ≡ list_any is_commit (cond b (told ∷ []) [])
+    both told true e = ap (λ c. c || false) (sym e)
+    both told false e = refl
+
+    by : (told : Reply) (b : Bool) → (who.number == n) ≡ b → list_any (λ commit. commit.sid.number == n) (commits_told who told) ≡ list_any is_commit (cond b (told ∷ []) [])
+    by (reply.Committed number txn grants) true e = ap (λ b. b || false) e
+    by (reply.Committed number txn grants) false e = ap (λ b. b || false) e
+    by (reply.Got got) b e = both (reply.Got got) b refl
+    by (reply.Answer answer) b e = both (reply.Answer answer) b refl
+    by (reply.Set told) b e = both (reply.Set told) b refl
+    by (reply.Quar told) b e = both (reply.Quar told) b refl
+    by (reply.NotCommitted fault txn grants) b e = both (reply.NotCommitted fault txn grants) b refl
+    by (reply.End was) b e = both (reply.End was) b refl
+    by (reply.Rel told) b e = both (reply.Rel told) b refl
+    by (reply.Fault fault) b e = both (reply.Fault fault) b refl
+    by reply.Nothing b e = both reply.Nothing b refl
+
+pub committed-told : (n : ℕ) (past : List Event) → has_committed n past ≡ was_committed (told_to n past)
+committed-told n [] = refl
+committed-told n (event ∷ past) =
+    list_any-append (λ commit. commit.sid.number == n) (log_of past) (commits_told (who_in event) (reply_in event))
+    ∙ ap (λ b. b || list_any (λ commit. commit.sid.number == n) (commits_told (who_in event) (reply_in event))) (committed-told n past)
+    ∙ ap (λ b. was_committed (told_to n past) || b) (commit_is n (who_in event) (reply_in event))
+    ∙ swap (was_committed (told_to n past)) (list_any is_commit (told_in n event))
+    ∙ sym (list_any-append is_commit (told_in n event) (told_to n past))
+  where
+    swap : (a b : Bool) → (a || b) ≡ (b || a)
+    swap true true = refl
+    swap true false = refl
+    swap false true = refl
+    swap false false = refl
+
+-- a session that has committed or was ended is closed
+abbrev pub closed : ℕ → List Event → Bool
+closed n past = has_committed n past || was_ended n past
+
+pub closed-more : (n : ℕ) (event : Event) (past : List Event) → closed n past ≡ true → closed n (event ∷ past) ≡ true
+closed-more n event past h =
+    elim (or_elim (has_committed n past) (was_ended n past) h) [
+      | inl committed ↦ or_inl (has_committed n (event ∷ past)) (was_ended n (event ∷ past)) (any-front (λ commit. commit.sid.number == n) (log_of past) (commits_told (who_in event) (reply_in event)) committed)
+      | inr ended ↦ or_inr (has_committed n (event ∷ past)) (was_ended n (event ∷ past)) (or_inr (ends n event) (was_ended n past) ended)
+    ]
+
+-- a closed session isn't told of a commit
+abbrev pub IsLate : Event → List Event → Type 0
+IsLate event past = (n : ℕ) → closed n past ≡ true → was_committed (told_in n event) ≡ false
+
+pub late-mild : (event : Event) (past : List Event) → is_commit (reply_in event) ≡ false → IsLate event past
+late-mild event past mild n h = choose (λ l. was_committed l ≡ false) ((who_in event).number == n) (reply_in event ∷ []) [] (λ _. ap (λ b. b || false) mild) (λ _. refl)
+
+-- each grant among the steps is one that its session was told of, and each session whose quarantine ended is closed
+abbrev pub IsKnown : List Event → Step → Type 0
+IsKnown past (step.Granted key sid mode shift now token deadline) = is_covered sid (granted (told_to sid.number past)) key ≡ true
+IsKnown past (step.Released key sid token how) =
+    (closed sid.number past ≡ true) × (how ≡ ended.Keep → has_committed sid.number past ≡ false)
+IsKnown past other = Unit {0}
+
+pub uncommitted-more : (n : ℕ) (event : Event) (past : List Event) → was_committed (told_in n event) ≡ false → has_committed n past ≡ false → has_committed n (event ∷ past) ≡ false
+uncommitted-more n event past new old =
+    committed-told n (event ∷ past) ∙ list_any-append is_commit (told_in n event) (told_to n past)
+    ∙ ap (λ b. b || was_committed (told_to n past)) new ∙ sym (committed-told n past) ∙ old
+
+pub known-more : (event : Event) (past : List Event) → IsLate event past → (s : Step) → IsKnown past s → IsKnown (event ∷ past) s
+known-more event past late (step.Granted key sid mode shift now token deadline) h =
+    subst (λ g. is_covered sid g key ≡ true) (sym (grants-append (told_in sid.number event) (told_to sid.number past))) (any-front (covers sid key) (granted (told_to sid.number past)) (granted (told_in sid.number event)) h)
+known-more event past late (step.Released key sid token how) h =
+    (closed-more sid.number event past h.0, λ kept. uncommitted-more sid.number event past (late sid.number h.0) (h.1 kept))
+known-more event past late (step.Hit key sid floor value stamp) h = tt
+known-more event past late (step.Lease key sid floor now token deadline) h = tt
+known-more event past late (step.Again key sid floor now stands) h = tt
+known-more event past late (step.Own key sid) h = tt
+known-more event past late (step.Stored key token now value stamp evicted) h = tt
+known-more event past late (step.Void key token now) h = tt
+known-more event past late (step.Held key sid mode) h = tt
+known-more event past late (step.Refused key sid mode holder held) h = tt
+known-more event past late (step.Gone key sid token) h = tt
+
+-- an event adds as many grants to the steps as to what is told
+abbrev pub IsCounted : ℕ → Event → Type 0
+IsCounted shards event =
+    (key : QKey) (who : Sid) → count_by (quarantines key who) (steps_in (shard_of key shards) event) ≡ count_by (covers who key) (granted (told_in who.number event))
+
+pub counts-more : (shards : ℕ) (event : Event) (past : List Event) → IsCounted shards event → (key : QKey) (who : Sid) → count_by (quarantines key who) (steps_of (shard_of key shards) past) ≡ count_by (covers who key) (granted (told_to who.number past)) → count_by (quarantines key who) (steps_of (shard_of key shards) (event ∷ past)) ≡ count_by (covers who key) (granted (told_to who.number (event ∷ past)))
+counts-more shards event past counted key who h =
+    let a = count-append (quarantines key who) (steps_in (shard_of key shards) event) (steps_of (shard_of key shards) past) in
+    let b = ap (count_by (covers who key)) (grants-append (told_in who.number event) (told_to who.number past)) in
+    let c = count-append (covers who key) (granted (told_to who.number past)) (granted (told_in who.number event)) in
+    let d = counted key who in
+    omega (arith, a, b, c, d, h)
+
+-- none, where nothing is granted
+no_grants : (b : Bool) (told : Reply) → grants_in told ≡ [] → granted (cond b (told ∷ []) []) ≡ []
+no_grants true told e = e
+no_grants false told e = refl
+
+no_step : (b : Bool) (p : Step → Bool) (s : Step) → p s ≡ false → count_by p (cond b (s ∷ []) []) ≡ 0
+no_step true p s e = let a = count-cons p s [] in let b = zero_if (p s) e in omega (arith, a, b)
+no_step false p s e = refl
+
+pub counted-mild : (shards place : ℕ) (who : Sid) (request : _) (s : Step) (told : Reply) → ((key : QKey) (by : Sid) → quarantines key by s ≡ false) → grants_in told ≡ [] → IsCounted shards (Stepped place who request s told)
+counted-mild shards place who request s told none mild key by =
+    no_step (place == shard_of key shards) (quarantines key by) s (none key by) ∙ sym (ap (count_by (covers by key)) (no_grants (who.number == by.number) told mild))
+
+pub counted-called : (shards : ℕ) (who : Sid) (request : _) (told : Reply) → grants_in told ≡ [] → IsCounted shards (Called who request told)
+counted-called shards who request told mild key by = sym (ap (count_by (covers by key)) (no_grants (who.number == by.number) told mild))
+
+-- the grant of a quarantine
+count_one : {X : Type 0} (p : X → Bool) (b : Bool) (x : X) → count_by p (cond b (x ∷ []) []) ≡ tick (b && p x)
+count_one p true x = let a = count-cons p x [] in omega (arith, a)
+count_one p false x = refl
+
+granted_one : (b : Bool) (grant : Permit) (old : _) → granted (cond b (reply.Quar (quarantine.Granted grant old) ∷ []) []) ≡ cond b (grant ∷ []) []
+granted_one true grant old = refl
+granted_one false grant old = refl
+
+same_ticks : (home same mine : Bool) → (same ≡ true → home ≡ true) → tick (home && (same && mine)) ≡ tick (mine && (same && mine))
+same_ticks true true true h = refl
+same_ticks true true false h = refl
+same_ticks true false true h = refl
+same_ticks true false false h = refl
+same_ticks false true mine h = absurd (not_both (h refl) refl)
+same_ticks false false true h = refl
+same_ticks false false false h = refl
+
+pub counted-granted : (shards : ℕ) (key : QKey) (who : Sid) (request : _) (mode : _) (shift : _) (now token deadline place : ℕ) (old : _) → IsCounted shards (Stepped (shard_of key shards) who request (step.Granted key who mode shift now token deadline) (reply.Quar (quarantine.Granted (record { shard = place; key = key; sid = who; mode = mode; token = token }) old)))
+counted-granted shards key who request mode shift now token deadline place old on by =
+    let s = step.Granted key who mode shift now token deadline in
+    let grant : Permit = record { shard = place; key = key; sid = who; mode = mode; token = token } in
+    count_one (quarantines on by) (shard_of key shards == shard_of on shards) s
+    ∙ same_ticks (shard_of key shards == shard_of on shards) (same_key on key) (who.number == by.number) (λ same. eq-eqb _ _ (ap (λ k. shard_of k shards) (sym (same_key-true on key same))))
+    ∙ sym (count_one (covers by on) (who.number == by.number) grant)
+    ∙ sym (ap (count_by (covers by on)) (granted_one (who.number == by.number) grant old))

@@ -1,0 +1,181 @@
+-- How the shards of a core follow an event.
+use Rattle.std.proofs.Common.{ℕ, zero, suc, ◌+◌, ◌-◌, ◌^◌, ◌≡◌, ◌≢◌, ◌<◌, ◌≤◌, ◌==◌, ◌&&◌, Bool, true, false, cond, List, [], ◌∷◌, ◌++◌, length, reverse, map, Option, Some, None, Err, slice_get, set, refl, sym, ap, subst, ◌∙◌, inl, inr, ⊎_elim, ◌⊎◌, length-append, arith, rules, eq-eqb}
+use Rattle.std.proofs.lemmas.Bool.{eqb-true, cases_Bool, cases_lt, false≢true}
+use Rattle.std.proofs.lemmas.List.{reverse-reverse, reverse-append}
+use Rattle.std.proofs.lemmas.List.Sums.{count_by-le-length}
+use Rattle.std.proofs.Math.ListN.{length-set}
+use Rattle.rows_model.specs.declared.keys.QKey.{QKey}
+use Rattle.rows_model.specs.declared.keys.Sid.{Sid}
+use Rattle.rows_model.specs.Placement.{shard_of}
+use Rattle.key_shard.specs.Permit.{Permit}
+use Rattle.key_shard.specs.declared.steps.Step.{Step}
+use Rattle.key_shard.specs.declared.replies.ShardFault.{ShardFault}
+use Rattle.key_shard.specs.declared.replies.ShardFault.TheVariants as faults
+use Rattle.key_shard.specs.Past.{Terms, draws, next_token}
+use Rattle.key_shard.specs.Answers.{IsAtHome}
+use Rattle.key_shard.specs.Shards.{ShardView, past_of, refusal, spent_at, Refuses}
+use Rattle.session_client.specs.declared.plans.Shape.{Shape}
+use Rattle.session_client.specs.declared.replies.Reply.{Reply}
+use Rattle.session_client.specs.declared.replies.Wanted.{Wanted}
+use Rattle.core_history.specs.Events.{Event, Stepped, Called, steps_of, steps_in}
+use Rattle.core_history.specs.Machine.{stepped_on, terms_of, out_of, out_by}
+use Rattle.core_history.specs.Cores.{HasShards, HasHomes, shard_after}
+
+-- a step at home that draws no last token isn't refused
+never_spent : (draw : Bool) (next : ℕ) → next < 2 ^ 64 - 1 → cond (draw && (next == 2 ^ 64 - 1)) (Some (faults.Spent next)) None ≡ None
+never_spent true next h = grind (arith, rules)
+never_spent false next h = refl
+
+at_home : (b : Bool) (spent : Option ShardFault) (shard : ℕ) → b ≡ true → spent ≡ None → cond b spent (Some (faults.Stranger shard)) ≡ None
+at_home true spent shard h n = n
+at_home false spent shard h n = absurd (false≢true h)
+
+pub not_refused : (shard : ShardView) (key : QKey) (s : Step) → IsAtHome shard.terms key → next_token shard.terms (past_of shard) < 2 ^ 64 - 1 → refusal shard key s ≡ None
+not_refused shard key s home unspent =
+    at_home (shard_of key shard.terms.count == shard.terms.no) (spent_at (next_token shard.terms (past_of shard)) s) (shard_of key shard.terms.count)
+    (eq-eqb _ _ home) (never_spent (draws s) (next_token shard.terms (past_of shard)) unspent)
+
+-- a fault that is no refusal is want of memory
+pub only_memory : (X : Type 0) (fault : ShardFault) → Refuses {X = X} None (Err fault) → fault ≡ faults.Memory
+only_memory X faults.Memory h = refl
+only_memory X (faults.Stranger shard) h = absurd h
+only_memory X (faults.Spent next) h = absurd h
+
+-- the place that is written, and another one
+pub slice_get-set_same : {X : Type 0} (xs : List X) (place : ℕ) (x : X) → place < length xs → slice_get (set xs place x) place ≡ Some x
+slice_get-set_same [] place x h = absurd (omega arith)
+slice_get-set_same (y ∷ xs) zero x h = refl
+slice_get-set_same (y ∷ xs) (suc place) x h = slice_get-set_same xs place x (omega arith)
+
+pub slice_get-set_other : {X : Type 0} (xs : List X) (place other : ℕ) (x : X) → place ≢ other → slice_get (set xs place x) other ≡ slice_get xs other
+slice_get-set_other [] place other x h = refl
+slice_get-set_other (y ∷ xs) zero zero x h = absurd (h refl)
+slice_get-set_other (y ∷ xs) zero (suc other) x h = refl
+slice_get-set_other (y ∷ xs) (suc place) zero x h = refl
+slice_get-set_other (y ∷ xs) (suc place) (suc other) x h = slice_get-set_other xs place other x (λ e. h (ap suc e))
+
+-- a shard after the step of a request
+abbrev pub grown : ShardView → Wanted → Step → ShardView
+grown shard request made =
+    record { terms = shard.terms; history = shard.history ++ made ∷ []; out = out_by shard.terms request made shard.out }
+
+place_after : (shape : Shape) (past : List Event) (who : Sid) (request : Wanted) (made : Step) (told : Reply) (home : ℕ) (shards : List ShardView) (place : ℕ) → HasShards shards shape past → home < shape.shards → place < shape.shards → ((home == place) ≡ true) ⊎ ((home == place) ≡ false) →
+    slice_get (set shards home (grown (shard_after shape past home) request made)) place ≡ Some (shard_after shape (Stepped home who request made told ∷ past) place)
+place_after shape past who request made told home shards place has within below (inl same) =
+    let new = grown (shard_after shape past home) request made in
+    let P : ℕ → Type 0 = λ n. slice_get (set shards home new) n ≡ Some (shard_after shape (Stepped home who request made told ∷ past) n) in
+    let inside : home < length shards = omega (arith, has.count) in
+    let steps = steps_of home past in
+    let terms = terms_of shape home in
+    let outs = out_of shape home past in
+    let turned : reverse steps ++ made ∷ [] ≡ reverse (made ∷ steps) = sym (reverse-append (made ∷ []) steps) in
+    let V : Bool → ShardView = λ b. record { terms = terms; history = reverse (cond b (made ∷ []) [] ++ steps); out = cond b (out_by terms request made outs) outs } in
+    let H : List Step → ShardView = λ history. record { terms = terms; history = history; out = out_by terms request made outs } in
+    let view : new ≡ shard_after shape (Stepped home who request made told ∷ past) home = ap H turned ∙ ap V (sym (eq-eqb home home refl)) in
+    subst P (eqb-true home place same) (slice_get-set_same shards home new inside ∙ ap (λ (v : ShardView). Some v) view)
+place_after shape past who request made told home shards place has within below (inr apart) =
+    let new = grown (shard_after shape past home) request made in
+    let differ : home ≢ place = λ e. false≢true (sym apart ∙ eq-eqb home place e) in
+    let steps = steps_of place past in
+    let terms = terms_of shape place in
+    let outs = out_of shape place past in
+    slice_get-set_other shards home place new differ ∙ has.each place below
+    ∙ ap (λ (b : Bool). Some (record { terms = terms; history = reverse (cond b (made ∷ []) [] ++ steps); out = cond b (out_by terms request made outs) outs })) (sym apart)
+
+-- a shard that made a step, and the others, stand after its event
+pub shards_after_step : (shape : Shape) (past : List Event) (who : Sid) (request : Wanted) (made : Step) (told : Reply) (home : ℕ) (shards : List ShardView) → HasShards shards shape past → home < shape.shards →
+    HasShards (set shards home (grown (shard_after shape past home) request made)) shape (Stepped home who request made told ∷ past)
+shards_after_step shape past who request made told home shards has within =
+    record {
+      fit = has.fit;
+      count = length-set shards home (grown (shard_after shape past home) request made) ∙ has.count;
+      each = λ place below. place_after shape past who request made told home shards place has within below (cases_Bool (home == place));
+    }
+
+-- an event at the store leaves the shards
+pub shards_called : (shards : List ShardView) (shape : Shape) (past : List Event) (who : Sid) (request : Wanted) (told : Reply) → HasShards shards shape past → HasShards shards shape (Called who request told ∷ past)
+shards_called shards shape past who request told has = record { fit = has.fit; count = has.count; each = has.each }
+
+-- a key's shard is one of them
+pub home_within : (key : QKey) (count : ℕ) → 1 ≤ count → shard_of key count < count
+unfolding shard_of
+home_within key count some = omega arith
+
+length-steps_in : (place : ℕ) (event : Event) → length (steps_in place event) ≤ 1
+length-steps_in place (Stepped shard who request step told) = one (shard == place) step
+  where
+    one : (b : Bool) (s : Step) → length (cond b (s ∷ []) []) ≤ 1
+    one true s = omega arith
+    one false s = omega arith
+length-steps_in place (Called who request told) = omega arith
+
+length-steps_of : (place : ℕ) (past : List Event) → length (steps_of place past) ≤ length past
+length-steps_of place [] = omega arith
+length-steps_of place (event ∷ past) = omega (arith, length-append (steps_in place event) (steps_of place past), length-steps_in place event, length-steps_of place past)
+
+some_is : (a b : ShardView) → Some a ≡ Some b → a ≡ b
+some_is a b e = cc
+
+-- after fewer than 2^32 events each key's shard is there, with tokens left
+pub homes_of : (shards : List ShardView) (shape : Shape) (past : List Event) → HasShards shards shape past → length past < 2 ^ 32 → HasHomes shards
+homes_of shards shape past has few key =
+    let home = shard_of key (length shards) in
+    let some : 1 ≤ length shards = omega (arith, has.count, has.fit.some_shards) in
+    let below : home < shape.shards = subst (λ (n : ℕ). home < n) has.count (home_within key (length shards) some) in
+    let is : slice_get shards home ≡ Some (shard_after shape past home) = has.each home below in
+    record {
+      some = some;
+      few = omega (arith, has.count, has.fit.few_shards);
+      at_home = λ shard found. let same = some_is _ _ (sym is ∙ found) in let P : ShardView → Type 0 = λ v. IsAtHome v.terms key in
+          subst P same (ap (λ (n : ℕ). shard_of key n) (sym has.count));
+      unspent = λ shard found. let same = some_is _ _ (sym is ∙ found) in let P : ShardView → Type 0 = λ v. next_token v.terms (past_of v) < 2 ^ 64 - 1 in
+          subst P same (rw reverse-reverse (omega (arith, count_by-le-length draws (steps_of home past), length-steps_of home past)));
+    }
+
+-- the shard at a key's place is the one of that number
+pub record IsShardOf (shape : Shape) (past : List Event) (key : QKey) (place : ℕ) (shard : ShardView) : Type 0 where
+  pub here : place ≡ shard_of key shape.shards
+  pub within : shard_of key shape.shards < shape.shards
+  pub same : shard ≡ shard_after shape past (shard_of key shape.shards)
+
+pub shard_found : (shape : Shape) (past : List Event) (key : QKey) (shards : List ShardView) (place : ℕ) (shard : ShardView) → HasShards shards shape past → place ≡ shard_of key (length shards) → slice_get shards place ≡ Some shard → IsShardOf shape past key place shard
+shard_found shape past key shards place shard has at found =
+    let here : place ≡ shard_of key shape.shards = at ∙ ap (λ (n : ℕ). shard_of key n) has.count in
+    let within = home_within key shape.shards has.fit.some_shards in
+    let there : slice_get shards (shard_of key shape.shards) ≡ Some shard = ap (λ (n : ℕ). slice_get shards n) (sym here) ∙ found in
+    record { here = here; within = within; same = some_is shard _ (sym there ∙ has.each (shard_of key shape.shards) within) }
+
+-- what follows the shard's own past follows the steps on it
+pub step_is : (shape : Shape) (past : List Event) (key : QKey) (place : ℕ) (shard : ShardView) (f : Terms → List Step → Step) → IsShardOf shape past key place shard → f shard.terms (past_of shard) ≡ f (terms_of shape (shard_of key shape.shards)) (steps_of (shard_of key shape.shards) past)
+step_is shape past key place shard f is =
+    ap (λ (v : ShardView). f v.terms (past_of v)) is.same ∙ ap (λ (steps : List Step). f (terms_of shape (shard_of key shape.shards)) steps) (reverse-reverse (steps_of (shard_of key shape.shards) past))
+
+-- the shards after a request on one of them
+pub shards_made : (shape : Shape) (past : List Event) (who : Sid) (request : Wanted) (key : QKey) (f : Terms → List Step → Step) (shards : List ShardView) (place : ℕ) (shard new : ShardView) → HasShards shards shape past → IsShardOf shape past key place shard → new ≡ grown shard request (f shard.terms (past_of shard)) →
+    HasShards (set shards place new) shape (stepped_on shape past who request key f ∷ past)
+shards_made shape past who request key f shards place shard new has is grew =
+    let home = shard_of key shape.shards in
+    let made = f (terms_of shape home) (steps_of home past) in
+    let after : new ≡ grown (shard_after shape past home) request made =
+    grew ∙ ap (λ (s : Step). grown shard request s) (step_is shape past key place shard f is) ∙ ap (λ (v : ShardView). grown v request made) is.same in
+    let P : ℕ → Type 0 = λ n. HasShards (set shards n new) shape (stepped_on shape past who request key f ∷ past) in
+    let Q : ShardView → Type 0 = λ v. HasShards (set shards home v) shape (stepped_on shape past who request key f ∷ past) in
+    subst P (sym is.here) (subst Q (sym after) (shards_after_step shape past who request made _ home shards has is.within))
+
+-- one more element leaves those that are there
+pub slice_get_push : {X : Type 0} (xs : List X) (x : X) (place : ℕ) → place < length xs → slice_get (xs ++ x ∷ []) place ≡ slice_get xs place
+slice_get_push [] x place h = absurd (omega arith)
+slice_get_push (y ∷ xs) x zero h = refl
+slice_get_push (y ∷ xs) x (suc place) h = slice_get_push xs x place (omega arith)
+
+pub slice_get_pushed : {X : Type 0} (xs : List X) (x : X) → slice_get (xs ++ x ∷ []) (length xs) ≡ Some x
+slice_get_pushed [] x = refl
+slice_get_pushed (y ∷ xs) x = slice_get_pushed xs x
+
+-- what is at each place below the length, and at the new one
+pub each_pushed : {X : Type 0} (at : ℕ → X) (xs : List X) (x : X) (n : ℕ) → length xs ≡ n → x ≡ at n → ((place : ℕ) → place < n → slice_get xs place ≡ Some (at place)) → (place : ℕ) → place < n + 1 → slice_get (xs ++ x ∷ []) place ≡ Some (at place)
+each_pushed {X} at xs x n count is each place below =
+    ⊎_elim (λ h. slice_get_push xs x place (omega (arith, count)) ∙ each place h)
+    (λ h. let last : place ≡ length xs = omega (arith, count) in
+    ap (slice_get (xs ++ x ∷ [])) last ∙ slice_get_pushed xs x ∙ ap (λ (v : X). Some v) (is ∙ ap at (omega (arith, count))))
+    (cases_lt place n)

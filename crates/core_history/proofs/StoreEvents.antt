@@ -1,0 +1,269 @@
+-- How the store of a core follows an event.
+use Rattle.std.proofs.Common.{ℕ, ◌+◌, ◌-◌, ◌^◌, ◌≡◌, ◌≢◌, ◌<◌, ◌≤◌, Bool, true, false, List, [], ◌∷◌, ◌++◌, length, count_by, Option, Some, None, IsSome, Result, Ok, Err, OnOk, IfOk, IfErr, refl, sym, ap, subst, ◌∙◌, inl, inr, ◌⊎◌, append-nil, arith, rules}
+use Rattle.std.proofs.lemmas.Bool.{false≢true}
+use Rattle.iq_outside.specs.Outside.{Rose}
+use Rattle.rows_model.specs.declared.changes.Change.{Change}
+use Rattle.rows_model.specs.declared.refusals.Memory.{Memory}
+use Rattle.rows_model.specs.declared.keys.Sid.{Sid}
+use Rattle.rows_model.specs.Rows.{Tables}
+use Rattle.rows_model.specs.Changes.{apply_all}
+use Rattle.key_shard.specs.declared.steps.Step.{Step}
+use Rattle.key_shard.specs.declared.steps.Step.TheVariants as step
+use Rattle.key_shard.specs.Past.{Terms}
+use Rattle.sql_keeper.specs.declared.stores.Commit.{Commit}
+use Rattle.sql_keeper.specs.declared.faults.CommitFault.{CommitFault}
+use Rattle.sql_keeper.specs.declared.faults.CommitFault.TheVariants as faults
+use Rattle.sql_keeper.specs.Log.{rows_after}
+use Rattle.sql_keeper.specs.Commits.{commit_fault, covered_fault, full, uncovered}
+use Rattle.sql_keeper.specs.Stores.{Ledger, StoreView, with_call, with_commit, with_end, RoseIf, IsRefusal, IsTrueFault}
+use Rattle.key_shard.specs.Permit.{Permit}
+use Rattle.sql_keeper.specs.declared.stores.Phase.{Phase}
+use Rattle.sql_keeper.specs.declared.stores.Phase.TheVariants.{Committed}
+use Rattle.sql_keeper.specs.Faults.{is_failure}
+use Rattle.sql_keeper.specs.Sessions.{is_open as may_commit, with_phase}
+use Rattle.session_client.specs.Grants.{GrantsView}
+use Rattle.session_client.specs.declared.replies.Reply.{Reply}
+use Rattle.session_client.specs.declared.replies.Reply.TheVariants as reply
+use Rattle.session_client.specs.declared.replies.Wanted.{Wanted}
+use Rattle.session_client.specs.declared.replies.Wanted.TheVariants as wanted
+use Rattle.core_history.specs.Cores.{Origin, HasStore, HasPhases, RoseBy}
+use Rattle.core_history.specs.Events.{Event, Stepped, Called, who_in, reply_in, commits_told, log_of}
+use Rattle.core_history.specs.Lines.{is_fault, tells_fault}
+use Rattle.core_history.specs.Machine.{World, Said, Made, Rejected, Failed, shown, is_open, commit_by, log_cap}
+use Rattle.core_history.specs.Requests.{StandsStore, MakesCall, IsToldOfCommit, after}
+use Rattle.core_history.proofs.OpenLemmas.{phases_same, phases_committed}
+use Rattle.core_history.specs.Truth.{IsTrueReply, IsTruePast}
+use Rattle.core_history.proofs.ListLemmas.{count-cons, tick, zero_if}
+
+-- a reply that tells of no commit and of no fault, and says nothing of the rows
+pub record IsQuiet (who : Sid) (told : Reply) : Type 0 where
+  pub commits : commits_told who told ≡ []
+  pub fault : tells_fault told ≡ false
+  pub truth : (rows : Tables) → IsTrueReply rows told
+
+-- what a shard tells is so
+pub quiet_shown : (who : Sid) (terms : Terms) (past : List Step) (s : Step) → IsQuiet who (shown terms past s)
+quiet_shown who terms past (step.Hit key sid floor value stamp) = record { commits = refl; fault = refl; truth = λ rows. tt }
+quiet_shown who terms past (step.Lease key sid floor now token deadline) = record { commits = refl; fault = refl; truth = λ rows. tt }
+quiet_shown who terms past (step.Again key sid floor now standing) = record { commits = refl; fault = refl; truth = λ rows. tt }
+quiet_shown who terms past (step.Own key sid) = record { commits = refl; fault = refl; truth = λ rows. tt }
+quiet_shown who terms past (step.Stored key token now value stamp evicted) = record { commits = refl; fault = refl; truth = λ rows. tt }
+quiet_shown who terms past (step.Void key token now) = record { commits = refl; fault = refl; truth = λ rows. tt }
+quiet_shown who terms past (step.Granted key sid mode shift now token deadline) = record { commits = refl; fault = refl; truth = λ rows. tt }
+quiet_shown who terms past (step.Held key sid mode) = record { commits = refl; fault = refl; truth = λ rows. tt }
+quiet_shown who terms past (step.Refused key sid mode holder held) = record { commits = refl; fault = refl; truth = λ rows. tt }
+quiet_shown who terms past (step.Released key sid token how) = record { commits = refl; fault = refl; truth = λ rows. tt }
+quiet_shown who terms past (step.Gone key sid token) = record { commits = refl; fault = refl; truth = λ rows. tt }
+
+-- a call of the keeper leaves all but the count of its failures
+record CallsSame (before after : Ledger) : Type 0 where
+  pub opening : after.opening ≡ before.opening
+  pub log : after.log ≡ before.log
+  pub cap : after.cap ≡ before.cap
+  pub sessions : after.sessions ≡ before.sessions
+
+call_same : (b : Bool) (ledger : Ledger) → CallsSame ledger (with_call b ledger)
+call_same true ledger = record { opening = refl; log = refl; cap = refl; sessions = refl }
+call_same false ledger = record { opening = refl; log = refl; cap = refl; sessions = refl }
+
+called_same : (b : Bool) (before after : Ledger) → after ≡ with_call b before → CallsSame before after
+called_same b before after is = let P : Ledger → Type 0 = λ l. CallsSame before l in subst P (sym is) (call_same b before)
+
+pub sessions_called : (b : Bool) (before after : Ledger) → after ≡ with_call b before → after.sessions ≡ before.sessions
+sessions_called b before after is = (called_same b before after is).sessions
+
+-- the count of faults after a call
+rose_more : (b : Bool) (count before old new : ℕ) → RoseBy count before old → RoseIf b old new → old ≤ new → RoseBy (tick b + count) before new
+rose_more false count before old new (inl h) rose more = inl (omega arith)
+rose_more false count before old new (inr h) rose more = inr (h.0, omega (arith, h.1))
+rose_more true count before old new (inl h) (inl less) more = inl (omega arith)
+rose_more true count before old new (inl h) (inr last) more = inr (omega arith, omega arith)
+rose_more true count before old new (inr h) rose more = inr (h.0, omega (arith, h.1))
+
+rose_on : (count before old new : ℕ) → RoseBy count before old → old ≤ new → RoseBy count before new
+rose_on count before old new (inl h) more = inl (omega arith)
+rose_on count before old new (inr h) more = inr (h.0, omega (arith, h.1))
+
+-- the store after a call that told this
+pub store_called : (old new : StoreView) (b : Bool) (origin : Origin) (past : List Event) (event : Event) → HasStore old origin past → new.ledger ≡ with_call b old.ledger → RoseIf b old.faults new.faults → old.faults ≤ new.faults →
+    is_fault event ≡ b → commits_told (who_in event) (reply_in event) ≡ [] → (IsSome new.told → IsSome old.told) → (IsSome new.told → IsTrueReply (rows_after old.ledger.opening old.ledger.log) (reply_in event)) → HasStore new origin (event ∷ past)
+store_called old new b origin past event has ledger rose more fault no_commit told truth =
+    let same = called_same b old.ledger new.ledger ledger in
+    let log : log_of past ++ commits_told (who_in event) (reply_in event) ≡ log_of past = ap (λ (l : List Commit). log_of past ++ l) no_commit ∙ append-nil (log_of past) in
+    let count : count_by is_fault (event ∷ past) ≡ tick b + count_by is_fault past = count-cons is_fault event past ∙ ap (λ (c : Bool). tick c + count_by is_fault past) fault in
+    let F : ℕ → Type 0 = λ n. RoseBy n origin.faults new.faults in
+    let T : Tables → Type 0 = λ rows. IsTrueReply rows (reply_in event) in
+    record {
+      opening = same.opening ∙ has.opening;
+      log = same.log ∙ has.log ∙ sym log;
+      cap = same.cap ∙ has.cap;
+      faults = subst F (sym count) (rose_more b (count_by is_fault past) origin.faults old.faults new.faults has.faults rose more);
+      truth = λ is_told. (subst T (ap (λ (rows : Tables). rows_after rows old.ledger.log) has.opening ∙ ap (rows_after origin.opening) has.log) (truth is_told), has.truth (told is_told));
+    }
+
+-- an event that asks the store nothing
+pub store_quiet : (store : StoreView) (origin : Origin) (past : List Event) (event : Event) → HasStore store origin past → IsQuiet (who_in event) (reply_in event) → HasStore store origin (event ∷ past)
+store_quiet store origin past event has quiet =
+    store_called store store false origin past event has refl tt (omega arith) quiet.fault quiet.commits (λ h. h) (λ h. quiet.truth _)
+
+-- a store of which nothing but the count of faults has changed
+pub store_stays : (old new : StoreView) (origin : Origin) (past : List Event) → HasStore old origin past → new.ledger ≡ old.ledger → old.faults ≤ new.faults → (IsSome new.told → IsSome old.told) → HasStore new origin past
+store_stays old new origin past has ledger more told =
+    record {
+      opening = ap (λ (l : Ledger). l.opening) ledger ∙ has.opening;
+      log = ap (λ (l : Ledger). l.log) ledger ∙ has.log;
+      cap = ap (λ (l : Ledger). l.cap) ledger ∙ has.cap;
+      faults = rose_on _ origin.faults old.faults new.faults has.faults more;
+      truth = λ is_told. has.truth (told is_told);
+    }
+
+-- the store after a commit
+pub store_committed : (old new : StoreView) (origin : Origin) (past : List Event) (who : Sid) (txn : List Change) (event : Event) → HasStore old origin past → new.ledger ≡ with_commit who txn old.ledger → old.faults ≤ new.faults →
+    is_fault event ≡ false → commits_told (who_in event) (reply_in event) ≡ record { sid = who; txn = txn } ∷ [] → (IsSome new.told → IsSome old.told) → (IsSome new.told → IsTrueReply (rows_after old.ledger.opening old.ledger.log) (reply_in event)) → HasStore new origin (event ∷ past)
+store_committed old new origin past who txn event has ledger more fault commits told truth =
+    let e = count-cons is_fault event past in
+    let z = zero_if (is_fault event) fault in
+    let count : count_by is_fault (event ∷ past) ≡ count_by is_fault past = omega (arith, e, z) in
+    let F : ℕ → Type 0 = λ n. RoseBy n origin.faults new.faults in
+    let T : Tables → Type 0 = λ rows. IsTrueReply rows (reply_in event) in
+    record {
+      opening = ap (λ (l : Ledger). l.opening) ledger ∙ has.opening;
+      log = ap (λ (l : Ledger). l.log) ledger ∙ ap (λ (l : List Commit). l ++ record { sid = who; txn = txn } ∷ []) has.log ∙ sym (ap (λ (l : List Commit). log_of past ++ l) commits);
+      cap = ap (λ (l : Ledger). l.cap) ledger ∙ has.cap;
+      faults = subst F (sym count) (rose_on (count_by is_fault past) origin.faults old.faults new.faults has.faults more);
+      truth = λ is_told. (subst T (ap (λ (rows : Tables). rows_after rows old.ledger.log) has.opening ∙ ap (rows_after origin.opening) has.log) (truth is_told), has.truth (told is_told));
+    }
+
+-- the store after a session was ended
+pub store_ended : (old new : StoreView) (origin : Origin) (past : List Event) (who : Sid) (told : Reply) → HasStore old origin past → new.ledger ≡ with_end who old.ledger → new.told ≡ old.told → new.faults ≡ old.faults →
+    commits_told who told ≡ [] → tells_fault told ≡ false → ((rows : Tables) → IsTrueReply rows told) → HasStore new origin (Called who wanted.End told ∷ past)
+store_ended old new origin past who told has ledger rows faults no_commit fault truth =
+    let P : Option Tables → Type 0 = λ o. IsSome o in
+    let between : HasStore new origin past = record {
+      opening = ap (λ (l : Ledger). l.opening) ledger ∙ has.opening;
+      log = ap (λ (l : Ledger). l.log) ledger ∙ has.log;
+      cap = ap (λ (l : Ledger). l.cap) ledger ∙ has.cap;
+      faults = rose_on _ origin.faults old.faults new.faults has.faults (omega (arith, faults));
+      truth = λ is_told. has.truth (subst P rows is_told);
+    } in
+    store_quiet new origin past (Called who wanted.End told) between (record { commits = no_commit; fault = fault; truth = truth })
+
+-- a reply of this fault tells of the keeper where the fault is that of one that failed
+fault_is : (fault : CommitFault) (txn : List Change) (grants : GrantsView) → tells_fault (reply.NotCommitted fault txn grants) ≡ is_failure fault
+fault_is faults.Ended txn grants = refl
+fault_is (faults.Uncovered key) txn grants = refl
+fault_is (faults.LogFull count) txn grants = refl
+fault_is faults.Memory txn grants = refl
+fault_is (faults.Rejected index) txn grants = refl
+fault_is faults.KeepFault txn grants = refl
+
+true_fault : (fault : CommitFault) (txn : List Change) (grants : GrantsView) (rows : Tables) → IsTrueFault txn rows fault → IsTrueReply rows (reply.NotCommitted fault txn grants)
+true_fault faults.Ended txn grants rows h = tt
+true_fault (faults.Uncovered key) txn grants rows h = tt
+true_fault (faults.LogFull count) txn grants rows h = tt
+true_fault faults.Memory txn grants rows h = tt
+true_fault (faults.Rejected index) txn grants rows h = h
+true_fault faults.KeepFault txn grants rows h = tt
+
+-- what the keeper said in a commit that was refused
+said_of : (count : ℕ) (txn : List Change) (grants : GrantsView) (first : Option CommitFault) (fault : CommitFault) → IsRefusal first fault → fault ≢ faults.Memory → (said : Said) × (reply.NotCommitted fault txn grants ≡ commit_by count txn grants said first)
+said_of count txn grants (Some found) faults.Ended h more = (Failed, ap (λ (f : CommitFault). reply.NotCommitted f txn grants) h)
+said_of count txn grants (Some found) (faults.Uncovered key) h more = (Failed, ap (λ (f : CommitFault). reply.NotCommitted f txn grants) h)
+said_of count txn grants (Some found) (faults.LogFull number) h more = (Failed, ap (λ (f : CommitFault). reply.NotCommitted f txn grants) h)
+said_of count txn grants (Some found) faults.Memory h more = absurd (more refl)
+said_of count txn grants (Some found) (faults.Rejected index) h more = (Failed, ap (λ (f : CommitFault). reply.NotCommitted f txn grants) h)
+said_of count txn grants (Some found) faults.KeepFault h more = (Failed, ap (λ (f : CommitFault). reply.NotCommitted f txn grants) h)
+said_of count txn grants None faults.Ended h more = absurd h
+said_of count txn grants None (faults.Uncovered key) h more = absurd h
+said_of count txn grants None (faults.LogFull number) h more = absurd h
+said_of count txn grants None faults.Memory h more = absurd (more refl)
+said_of count txn grants None (faults.Rejected index) h more = (Rejected index, refl)
+said_of count txn grants None faults.KeepFault h more = (Failed, refl)
+
+-- the first fault that the store finds is the machine's
+first_is : (store : StoreView) (origin : Origin) (world : World) (who : Sid) (txn : List Change) (grants : GrantsView) (items : List Permit) → StandsStore store origin world → 1 ≤ who.number → items ≡ grants.items →
+    commit_fault (may_commit who store.ledger.sessions) who items txn (length store.ledger.log) store.ledger.cap ≡ commit_fault (is_open world who) who grants.items txn (length (log_of world.past)) log_cap
+first_is store origin world who txn grants items stands some same =
+    let cap = store.ledger.cap in
+    ap (λ (b : Bool). commit_fault b who items txn (length store.ledger.log) cap) (stands.1.opens who some)
+    ∙ ap (λ (l : List Commit). commit_fault (is_open world who) who items txn (length l) cap) stands.0.log
+    ∙ ap (λ (n : ℕ). commit_fault (is_open world who) who items txn (length (log_of world.past)) n) stands.0.cap
+    ∙ ap (λ (l : List Permit). commit_fault (is_open world who) who l txn (length (log_of world.past)) log_cap) same
+
+-- a commit was refused
+pub commit_refused : (old new : StoreView) (origin : Origin) (world : World) (who : Sid) (txn : List Change) (grants : GrantsView) (items : List Permit) (fault : CommitFault) → StandsStore old origin world → 1 ≤ who.number → items ≡ grants.items → fault ≢ faults.Memory →
+    IsRefusal (commit_fault (may_commit who old.ledger.sessions) who items txn (length old.ledger.log) old.ledger.cap) fault → new.ledger ≡ with_call (is_failure fault) old.ledger → RoseIf (is_failure fault) old.faults new.faults → old.faults ≤ new.faults →
+    (IsSome new.told → IsSome old.told) → (IsSome new.told → IsTrueFault txn (rows_after old.ledger.opening old.ledger.log) fault) →
+    MakesCall origin world who (wanted.Commit txn grants) new (Ok (reply.NotCommitted fault txn grants))
+commit_refused old new origin world who txn grants items fault stands some same more refusal ledger rose no_less told truth =
+    let request = wanted.Commit txn grants in
+    let first = first_is old origin world who txn grants items stands some same in
+    let R : Option CommitFault → Type 0 = λ o. IsRefusal o fault in
+    let said = said_of (length (log_of world.past)) txn grants (commit_fault (is_open world who) who grants.items txn (length (log_of world.past)) log_cap) fault (subst R first refusal) more in
+    let answer : Reply = reply.NotCommitted fault txn grants in
+    let event : Event = Called who request answer in
+    let S : Reply → Type 0 = λ r. StandsStore new origin (after world (Called who request r)) in
+    let H : List Phase → Type 0 = λ xs. HasPhases xs (after world event) in
+    let there : StandsStore new origin (after world event) = (
+      store_called old new (is_failure fault) origin world.past event stands.0 ledger rose no_less (fault_is fault txn grants) refl told (λ is_told. true_fault fault txn grants (rows_after old.ledger.opening old.ledger.log) (truth is_told)),
+      subst H (sym (sessions_called (is_failure fault) old.ledger new.ledger ledger)) (phases_same old.ledger.sessions world event stands.1 refl refl),
+    ) in
+    (said.0, said.1, subst S said.1 there)
+
+-- a commit whose transaction no fault refuses is one of a session that is open
+is_opened : (b : Bool) (who : Sid) (items : List Permit) (txn : List Change) (count cap : ℕ) → commit_fault b who items txn count cap ≡ None → b ≡ true
+is_opened true who items txn count cap h = refl
+is_opened false who items txn count cap h = absurd cc
+
+-- a transaction was committed
+pub commit_made : (old new : StoreView) (origin : Origin) (world : World) (who : Sid) (txn : List Change) (grants : GrantsView) (items : List Permit) (number : ℕ) → StandsStore old origin world → 1 ≤ who.number → items ≡ grants.items →
+    commit_fault (may_commit who old.ledger.sessions) who items txn (length old.ledger.log) old.ledger.cap ≡ None → number ≡ length old.ledger.log + 1 → new.ledger ≡ with_commit who txn old.ledger → old.faults ≤ new.faults →
+    (IsSome new.told → IsSome old.told) → (IsSome new.told → (rows : Tables) × (apply_all txn (rows_after old.ledger.opening old.ledger.log) ≡ Ok rows)) →
+    MakesCall origin world who (wanted.Commit txn grants) new (Ok (reply.Committed number txn grants))
+commit_made old new origin world who txn grants items number stands some same admitted numbered ledger no_less told truth =
+    let request = wanted.Commit txn grants in
+    let count = length (log_of world.past) in
+    let none = sym (first_is old origin world who txn grants items stands some same) ∙ admitted in
+    let is_so : may_commit who old.ledger.sessions ≡ true = is_opened (may_commit who old.ledger.sessions) who items txn (length old.ledger.log) old.ledger.cap admitted in
+    let answer : Reply = reply.Committed number txn grants in
+    let event : Event = Called who request answer in
+    let numbers : number ≡ count + 1 = numbered ∙ ap (λ (l : List Commit). length l + 1) stands.0.log in
+    let is : answer ≡ commit_by count txn grants Made (commit_fault (is_open world who) who grants.items txn count log_cap) =
+    ap (λ (n : ℕ). reply.Committed n txn grants) numbers ∙ ap (λ (o : Option CommitFault). commit_by count txn grants Made o) (sym none) in
+    let S : Reply → Type 0 = λ r. StandsStore new origin (after world (Called who request r)) in
+    let H : List Phase → Type 0 = λ xs. HasPhases xs (after world event) in
+    let sessions : new.ledger.sessions ≡ with_phase who Committed old.ledger.sessions = ap (λ (l : Ledger). l.sessions) ledger in
+    let there : StandsStore new origin (after world event) = (
+      store_committed old new origin world.past who txn event stands.0 ledger no_less refl refl told truth,
+      subst H (sym sessions) (phases_committed old.ledger.sessions world who txn grants number stands.1 some is_so),
+    ) in
+    (Made, is, subst S is there)
+
+-- what a store says of a commit
+pub record SaysCommit (old new : StoreView) (who : Sid) (items : List Permit) (txn : List Change) (made : Result ℕ (CommitFault × List Change)) : Type 0 where
+  pub admitted : OnOk made (commit_fault (may_commit who old.ledger.sessions) who items txn (length old.ledger.log) old.ledger.cap ≡ None)
+  pub refusal : IfErr made (λ back. IsRefusal (commit_fault (may_commit who old.ledger.sessions) who items txn (length old.ledger.log) old.ledger.cap) back.0)
+  pub ledger : OnOk made (new.ledger ≡ with_commit who txn old.ledger)
+  pub number : IfOk made (λ number. number ≡ length old.ledger.log + 1)
+  pub err : IfErr made (λ back. new.ledger ≡ with_call (is_failure back.0) old.ledger)
+  pub tells : IsSome new.told → IsSome old.told
+  pub applied : IsSome new.told → OnOk made ((rows : Tables) × (apply_all txn (rows_after old.ledger.opening old.ledger.log) ≡ Ok rows))
+  pub rejected : IsSome new.told → IfErr made (λ back. IsTrueFault txn (rows_after old.ledger.opening old.ledger.log) back.0)
+  pub failed_rose : IfErr made (λ back. RoseIf (is_failure back.0) old.faults new.faults)
+  pub never_falls : old.faults ≤ new.faults
+
+-- a commit was asked for
+pub commit_makes : (old new : StoreView) (origin : Origin) (world : World) (who : Sid) (txn : List Change) (grants : GrantsView) (items : List Permit) (made : Result ℕ (CommitFault × List Change)) (told : Result Reply Memory) → StandsStore old origin world → 1 ≤ who.number → items ≡ grants.items →
+    SaysCommit old new who items txn made → IsToldOfCommit made txn grants told → MakesCall origin world who (wanted.Commit txn grants) new told
+commit_makes old new origin world who txn grants items (Ok number) told stands some same says is =
+    let P : Result Reply Memory → Type 0 = λ r. MakesCall origin world who (wanted.Commit txn grants) new r in
+    subst P (sym is) (commit_made old new origin world who txn grants items number stands some same says.admitted says.number says.ledger says.never_falls says.tells says.applied)
+commit_makes old new origin world who txn grants items (Err back) (Ok told) stands some same says is =
+    let P : Reply → Type 0 = λ r. MakesCall origin world who (wanted.Commit txn grants) new (Ok r) in
+    subst P (sym is.0) (commit_refused old new origin world who txn grants items back.0 stands some same is.1 says.refusal says.err says.failed_rose says.never_falls says.tells says.rejected)
+commit_makes old new origin world who txn grants items (Err back) (Err memory) stands some same says is =
+    let ledger : new.ledger ≡ old.ledger = says.err ∙ ap (λ (f : CommitFault). with_call (is_failure f) old.ledger) is in
+    let H : List Phase → Type 0 = λ xs. HasPhases xs world in (
+      store_stays old new origin world.past stands.0 ledger says.never_falls says.tells,
+      subst H (sym (ap (λ (l : Ledger). l.sessions) ledger)) stands.1,
+    )

@@ -1,0 +1,161 @@
+-- What is printed: one line an event, and a last line that counts.
+use Rattle.std.specs.Prelude.{ℕ, Bool, true, false, List, [], ◌∷◌, ◌++◌, flat_map, reverse, length, count_by, Option, Some, None, codes, decimal}
+use Rattle.std.specs.List.{join_with_byte}
+use Rattle.rows_model.specs.declared.keys.QKey.{QKey}
+use Rattle.rows_model.specs.Key.{key_text}
+use Rattle.lease_table.specs.declared.records.Mode.{Mode}
+use Rattle.lease_table.specs.declared.records.Mode.TheVariants.{Invalidate, Refresh, Delta}
+use Rattle.key_shard.specs.declared.steps.Stands.{Stands}
+use Rattle.key_shard.specs.declared.steps.Stands.TheVariants as stands
+use Rattle.key_shard.specs.declared.replies.Got.{Got}
+use Rattle.key_shard.specs.declared.replies.Got.TheVariants as got
+use Rattle.key_shard.specs.declared.replies.SetAnswer.{SetAnswer}
+use Rattle.key_shard.specs.declared.replies.SetAnswer.TheVariants as set
+use Rattle.key_shard.specs.declared.replies.QAnswer.{QAnswer}
+use Rattle.key_shard.specs.declared.replies.QAnswer.TheVariants as quarantine
+use Rattle.key_shard.specs.declared.replies.Rel.{Rel}
+use Rattle.key_shard.specs.declared.replies.Rel.TheVariants as rel
+use Rattle.key_shard.specs.declared.steps.Step.{Step}
+use Rattle.key_shard.specs.declared.steps.Step.TheVariants as step
+use Rattle.sql_keeper.specs.declared.faults.CommitFault.{CommitFault}
+use Rattle.sql_keeper.specs.declared.faults.CommitFault.TheVariants as faults
+use Rattle.sql_keeper.specs.declared.stores.Commit.{Commit}
+use Rattle.session_client.specs.declared.replies.Fault.{Fault}
+use Rattle.session_client.specs.declared.replies.Fault.TheVariants as causes
+use Rattle.session_client.specs.declared.replies.Reply.{Reply}
+use Rattle.session_client.specs.declared.replies.Reply.TheVariants as reply
+use Rattle.session_client.specs.declared.replies.Wanted.{Wanted}
+use Rattle.session_client.specs.declared.replies.Wanted.TheVariants as wanted
+use Rattle.core_history.specs.Events.{Event, who_in, request_in, reply_in}
+
+-- Words with a space between, and the line's end.
+abbrev pub line : List (List ℕ) → List ℕ
+line words = join_with_byte 32 words ++ 10 ∷ []
+
+-- A value as it is printed: as it is, or a dot for an empty one.
+abbrev pub shown : List ℕ → List ℕ
+shown [] = codes "."
+shown (byte ∷ bytes) = byte ∷ bytes
+
+-- The words that print a request: what it is, and the key that it is on, if it is on one. A session that is done wants nothing.
+abbrev pub request_words : Wanted → List (List ℕ)
+request_words (wanted.Get key floor) = codes "get" ∷ key_text key ∷ []
+request_words (wanted.Ask key) = codes "ask" ∷ key_text key ∷ []
+request_words (wanted.Set key token value stamp) = codes "set" ∷ key_text key ∷ []
+request_words (wanted.QaReg key) = codes "qareg" ∷ key_text key ∷ []
+request_words (wanted.Commit txn grants) = codes "commit" ∷ []
+request_words wanted.End = codes "end" ∷ []
+request_words (wanted.Dar grant) = codes "dar" ∷ key_text grant.key ∷ []
+request_words (wanted.Abort grant) = codes "abort" ∷ key_text grant.key ∷ []
+request_words wanted.Nothing = codes "done" ∷ []
+
+abbrev pub stands_word : Stands → List ℕ
+stands_word stands.I = codes "I"
+stands_word stands.Q = codes "Q"
+
+abbrev pub mode_word : Mode → List ℕ
+mode_word Invalidate = codes "invalidate"
+mode_word Refresh = codes "refresh"
+mode_word Delta = codes "delta"
+
+-- The key that made room, if one did.
+abbrev pub evicts_words : Option QKey → List (List ℕ)
+evicts_words None = []
+evicts_words (Some key) = codes "EVICTS" ∷ key_text key ∷ []
+
+-- The words that print the answer to a get.
+abbrev pub got_words : Got → List (List ℕ)
+got_words (got.Hit value stamp) = codes "HIT" ∷ decimal stamp ∷ shown value ∷ []
+got_words (got.Lease token) = codes "LEASE" ∷ decimal token ∷ []
+got_words (got.Again standing) = codes "AGAIN" ∷ stands_word standing ∷ []
+got_words got.Own = codes "OWN" ∷ []
+
+-- The words that print the answer to a set.
+abbrev pub set_words : SetAnswer → List (List ℕ)
+set_words (set.Stored evicted) = codes "STORED" ∷ evicts_words evicted
+set_words set.Void = codes "VOID" ∷ []
+
+-- The words that print the answer to a quarantine.
+abbrev pub quarantine_words : QAnswer → List (List ℕ)
+quarantine_words (quarantine.Granted grant old) = codes "GRANTED" ∷ decimal grant.token ∷ []
+quarantine_words quarantine.Held = codes "HELD" ∷ []
+quarantine_words (quarantine.Refused holder mode) =
+    codes "REFUSED" ∷ decimal holder.number ∷ mode_word mode ∷ []
+
+-- The words that print why a transaction was not committed. A run doesn't go on without memory.
+abbrev pub commit_fault_words : CommitFault → List (List ℕ)
+commit_fault_words faults.Ended = codes "ENDED" ∷ []
+commit_fault_words (faults.Uncovered key) = codes "UNCOVERED" ∷ key_text key ∷ []
+commit_fault_words (faults.LogFull count) = codes "FULL" ∷ decimal count ∷ []
+commit_fault_words faults.Memory = []
+commit_fault_words (faults.Rejected index) = codes "REJECTED" ∷ decimal index ∷ []
+commit_fault_words faults.KeepFault = codes "FAULT" ∷ []
+
+-- The words that print whether a session was open.
+abbrev pub open_words : Bool → List (List ℕ)
+open_words true = codes "YES" ∷ []
+open_words false = codes "NO" ∷ []
+
+-- The words that print the answer to a release.
+abbrev pub release_words : Rel → List (List ℕ)
+release_words (rel.Released evicted) = codes "RELEASED" ∷ evicts_words evicted
+release_words rel.Gone = codes "GONE" ∷ []
+
+-- The words that print why a request was not made. A run doesn't go on without memory, and no shard of it is out of tokens.
+abbrev pub fault_words : Fault → List (List ℕ)
+fault_words causes.Spent = []
+fault_words causes.Keep = codes "FAULT" ∷ []
+fault_words causes.Memory = []
+
+-- The words that print what a session was told.
+abbrev pub reply_words : Reply → List (List ℕ)
+reply_words (reply.Got got) = got_words got
+reply_words (reply.Answer answer) = decimal answer.stamp ∷ shown answer.value ∷ []
+reply_words (reply.Set told) = set_words told
+reply_words (reply.Quar told) = quarantine_words told
+reply_words (reply.Committed number txn grants) = codes "COMMITTED" ∷ decimal number ∷ []
+reply_words (reply.NotCommitted fault txn grants) = commit_fault_words fault
+reply_words (reply.End was) = open_words was
+reply_words (reply.Rel told) = release_words told
+reply_words (reply.Fault fault) = fault_words fault
+reply_words reply.Nothing = []
+
+-- The line of an event: the session's number, its request, and what it was told.
+unfoldable pub line_of : Event → List ℕ
+line_of event =
+    line (decimal (who_in event).number ∷ request_words (request_in event) ++ reply_words (reply_in event))
+
+-- The lines of the events, the earliest first.
+unfoldable pub lines_of : List Event → List ℕ
+lines_of past = flat_map line_of (reverse past)
+
+-- Whether a reply tells that the store's keeper failed. It is printed as FAULT.
+abbrev pub tells_fault : Reply → Bool
+tells_fault (reply.Fault causes.Keep) = true
+tells_fault (reply.NotCommitted faults.KeepFault txn grants) = true
+tells_fault other = false
+
+abbrev pub is_fault : Event → Bool
+is_fault event = tells_fault (reply_in event)
+
+abbrev pub is_hit : Step → Bool
+is_hit (step.Hit key sid floor value stamp) = true
+is_hit other = false
+
+abbrev pub is_stored : Step → Bool
+is_stored (step.Stored key token now value stamp evicted) = true
+is_stored other = false
+
+abbrev pub is_again : Step → Bool
+is_again (step.Again key sid floor now standing) = true
+is_again other = false
+
+-- How many steps of all histories pass a test.
+abbrev pub count_in : (Step → Bool) → List (List Step) → ℕ
+count_in test histories = count_by test (flat_map (λ history. history) histories)
+
+-- The last line: how many transactions were committed, and how many hits, stored values and Agains the histories have.
+unfoldable pub end_line : List Commit → List (List Step) → List ℕ
+end_line log histories =
+    line (codes "end" ∷ codes "commits" ∷ decimal (length log) ∷ codes "hits" ∷ decimal (count_in is_hit histories)
+    ∷ codes "stores" ∷ decimal (count_in is_stored histories) ∷ codes "agains" ∷ decimal (count_in is_again histories) ∷ [])

@@ -1,0 +1,21 @@
+-- How the parts of a line are put behind one another.
+use Rattle.std.specs.Prelude.{ℕ, List, [], ◌∷◌, ◌++◌, flat_map, codes}
+use Rattle.rows_model.specs.Key.{key_text}
+use Rattle.core_history.specs.declared.lines.Asked.{Asked}
+use Rattle.core_history.specs.declared.lines.Asked.TheVariants as asked
+
+-- words, each behind a space
+abbrev pub spaced : List (List ℕ) → List ℕ
+spaced words = flat_map (λ word. 32 ∷ word) words
+
+-- the words of what was asked for
+abbrev pub asked_words : Asked → List (List ℕ)
+asked_words (asked.Get key) = codes "get" ∷ key_text key ∷ []
+asked_words (asked.Ask key) = codes "ask" ∷ key_text key ∷ []
+asked_words (asked.Set key) = codes "set" ∷ key_text key ∷ []
+asked_words (asked.QaReg key) = codes "qareg" ∷ key_text key ∷ []
+asked_words asked.Commit = codes "commit" ∷ []
+asked_words asked.End = codes "end" ∷ []
+asked_words (asked.Dar key) = codes "dar" ∷ key_text key ∷ []
+asked_words (asked.Abort key) = codes "abort" ∷ key_text key ∷ []
+asked_words asked.Nothing = codes "done" ∷ []

@@ -1,0 +1,226 @@
+ghost use Rattle.std.specs.Prelude.{◌≡◌, ◌≢◌, ℕ, ◌+◌, ◌<◌, ◌≤◌, ◌^◌, ◌∷◌, ◌⊎◌, [], List, length, slice_get, Some, map, IfOk, IfErr, OnOk, OnErr, MatchResult, IsSome};
+ghost use Rattle.iq_outside.specs.Outside.{Rose};
+ghost use Rattle.rows_model.specs.Rows.{start_tables};
+ghost use Rattle.session_client.specs.declared.plans.Turn.{Turn};
+ghost use Rattle.session_client.specs.Plans.{IsPlan, writes};
+ghost use Rattle.core_history.specs.Cores.{Origin, IsShape, HasShards, HasKept, IsAt, IsSound, IsRunning, HasBegun, shards_in, histories_in};
+ghost use Rattle.core_history.specs.Machine.{Said, Move, Begin, Take, world_of, turn_event, log_cap};
+ghost use Rattle.sql_keeper.specs.Stores.{opened};
+ghost use Rattle.core_history.specs.Told.{IsToldOf};
+
+use crate::told::Told;
+use crate::turns::session_turn;
+use key_shard::{Shard, Step};
+use rows_model::{Memory, Rows, Sid};
+use session_client::{Plan, Session, Shape, Turn};
+use sql_keeper::{Commit, KeepFault, Keeper, NoStore, Place, Store};
+use std::alloc::Global;
+use std::marker::Model;
+
+/// How many commits the log holds at most.
+const LOG_CAP: u64 = 8_000_000;
+
+/// The core of a run: the store, the shards, and the sessions on their way. Contracts see these.
+pub struct Core<K: Keeper> {
+    alloc: Global,
+    store: Store<K>,
+    shards: Vec<Shard>,
+    sessions: Vec<Session>,
+}
+
+impl<K: Keeper> Model for Core<K> {
+    ghost use Rattle.core_history.specs.Cores.{CoreView};
+
+    ghost Value = { CoreView };
+
+    ghost view = { λ core. record { store = core.store; shards = core.shards.items; sessions = core.sessions.items } };
+}
+
+impl<K: Keeper> Core<K> {
+    /// A core of this shape, with no session. Its keeper is started at this place. Where that fails, or
+    /// memory runs out, the keeper comes back, with the cause.
+    pub fn new(
+        alloc: Global,
+        keeper: K,
+        place: &Place,
+        shape: Shape,
+    ) -> Result<Core<K>, NoStore<K>>
+        requires { IsShape shape }
+        ensures begins { IfOk result (λ core. IsAt core (record { shape = shape; opening = core.store.ledger.opening; faults = core.store.faults }) []) }
+        ensures fresh { place.now ≡ Place.Fresh → IfOk result (λ core. IsSome core.store.told → core.store.ledger.opening ≡ start_tables shape.members) }
+        ensures never_falls { MatchResult result (λ core. K.faults keeper ≤ core.store.faults) (λ none. K.faults keeper ≤ K.faults none.keeper) }
+        ensures kept { IfErr result (λ none. none.cause ≡ KeepFault.Failed → K.rows none.keeper ≡ K.rows keeper) }
+        ensures failed_rose { IfErr result (λ none. none.cause ≡ KeepFault.Failed → Rose (K.faults keeper) (K.faults none.keeper)) }
+    {
+        match Store::new(alloc, keeper, place, shape.members, LOG_CAP) {
+            Ok(store) => Core::over(alloc, store, shape),
+            Err(none) => Err(none),
+        }
+    }
+
+    /// A core of this shape over a new store.
+    fn over(alloc: Global, store: Store<K>, shape: Shape) -> Result<Core<K>, NoStore<K>>
+        requires shape { IsShape shape }
+        requires opened { store.ledger ≡ opened store.ledger.opening log_cap }
+        ensures store { IfOk result (λ core. core.store ≡ store) }
+        ensures begins { IfOk result (λ core. IsAt core (record { shape = shape; opening = store.ledger.opening; faults = store.faults }) []) }
+        ensures err { IfErr result (λ none. (none.cause ≡ KeepFault.Memory) × (K.faults none.keeper ≡ store.faults)) }
+    {
+        let _members = store.opening().members();
+        match shards_of(alloc, shape) {
+            Ok(shards) => Ok(Core {
+                alloc,
+                store,
+                shards,
+                sessions: Vec::new(alloc),
+            }),
+            Err(Memory) => {
+                let (keeper, _, _) = store.into_parts();
+                Err(NoStore {
+                    keeper,
+                    cause: KeepFault::Memory,
+                })
+            }
+        }
+    }
+
+    /// Begins a session with this plan, here and at the store. Sessions are numbered from 1, in the
+    /// order in which they begin. For want of memory nothing changes.
+    pub fn add(&mut self, plan: Plan) -> Result<Sid, Memory>
+        requires { IsPlan plan }
+        ensures begins { (origin : Origin) (moves : List Move) → IsAt self.old origin moves → IfOk result (λ sid. (sid.number ≡ length (world_of origin.shape moves).plans + 1) × IsAt self.new origin (Begin plan ∷ moves)) }
+        ensures err { OnErr result (self.new ≡ self.old) }
+    {
+        let writes = writes(&plan);
+        let sid = Sid {
+            number: self.sessions.len() as u64 + 1,
+        };
+        self.sessions.reserve(1)?;
+        let session = Session::new(self.alloc, sid, plan)?;
+        match self.store.begin(writes) {
+            Ok(_) => {
+                self.sessions.push_reserved(session);
+                Ok(sid)
+            }
+            Err(memory) => {
+                session.let_go();
+                Err(memory)
+            }
+        }
+    }
+
+    /// Takes a turn: one event, and its line. A keeper that fails is told as FAULT, and the core goes
+    /// on. After want of memory the event may have been made or not, and the core is only to be read
+    /// and taken apart.
+    pub fn step(&mut self, turn: Turn) -> Result<Told, Memory>
+        requires running { IsRunning self.old }
+        requires begun { HasBegun self.old turn }
+        ensures takes { (origin : Origin) (moves : List Move) → IsAt self.old origin moves → IfOk result (λ told. (said : Said) × IsAt self.new origin (Take turn said ∷ moves) × IsToldOf (turn_event origin.shape (world_of origin.shape moves) turn said) told) }
+        ensures err { (origin : Origin) (moves : List Move) → IsAt self.old origin moves → OnErr result (HasKept self.new origin moves ⊎ ((said : Said) × HasKept self.new origin (Take turn said ∷ moves))) }
+    {
+        self.step_of(turn.sid())
+    }
+
+    /// Takes a session's turn.
+    fn step_of(&mut self, who: Sid) -> Result<Told, Memory>
+        requires running { IsRunning self.old }
+        requires begun { HasBegun self.old (Turn.Session who) }
+        ensures takes { (origin : Origin) (moves : List Move) → IsAt self.old origin moves → IfOk result (λ told. (said : Said) × IsAt self.new origin (Take (Turn.Session who) said ∷ moves) × IsToldOf (turn_event origin.shape (world_of origin.shape moves) (Turn.Session who) said) told) }
+        ensures err { (origin : Origin) (moves : List Move) → IsAt self.old origin moves → OnErr result (HasKept self.new origin moves ⊎ ((said : Said) × HasKept self.new origin (Take (Turn.Session who) said ∷ moves))) }
+    {
+        session_turn(
+            self.alloc,
+            &mut self.store,
+            &mut self.shards,
+            &mut self.sessions,
+            who,
+        )
+    }
+
+    /// The time. It stands at 0.
+    pub fn now(&self) -> u64
+        ensures { result ≡ 0 }
+    {
+        0
+    }
+
+    /// The transactions that were committed, the earliest first.
+    pub fn log(&self) -> &[Commit]
+        ensures { result.now ≡ self.now.store.ledger.log }
+    {
+        self.store.log()
+    }
+
+    /// The rows that the keeper started with.
+    pub fn opening(&self) -> &Rows
+        ensures { result.now ≡ self.now.store.ledger.opening }
+    {
+        self.store.opening()
+    }
+
+    /// How many shards there are.
+    pub fn shards(&self) -> usize
+        ensures { result ≡ shards_in self.now }
+    {
+        self.shards.len()
+    }
+
+    /// The history of the shard of this number, from 0.
+    pub fn history(&self, shard: u32) -> &[Step]
+        requires { shard < shards_in self.now }
+        ensures { slice_get (histories_in self.now) shard ≡ Some result.now }
+    {
+        self.shards[shard as usize].history()
+    }
+
+    /// Takes the core apart into its keeper, the rows that the keeper started with, the log and the
+    /// shards. It takes no memory.
+    pub fn into_parts(self) -> (K, Rows, Vec<Commit>, Vec<Shard>)
+        ensures rows { K.rows result.0 ≡ self.store.told }
+        ensures faults { K.faults result.0 ≡ self.store.faults }
+        ensures opening { result.1 ≡ self.store.ledger.opening }
+        ensures log { result.2.items ≡ self.store.ledger.log }
+        ensures shards { result.3.items ≡ self.shards }
+        ensures sound { (origin : Origin) (moves : List Move) → HasKept self origin moves → IsSound self origin moves }
+    {
+        let Core {
+            alloc: _,
+            store,
+            shards,
+            sessions,
+        } = self;
+        let_go(sessions);
+        let (keeper, opening, log) = store.into_parts();
+        (keeper, opening, log, shards)
+    }
+}
+
+/// Puts all sessions away, with the grants that they have.
+fn let_go(mut sessions: Vec<Session>) {
+    while let Some(session) = sessions.pop() {
+        session.let_go();
+    }
+    sessions.destroy_empty();
+}
+
+/// Whether a session of this plan writes.
+fn writes(plan: &Plan) -> bool
+    ensures { result ≡ writes plan.now }
+{
+    match plan {
+        Plan::Read { .. } => false,
+        Plan::Write { .. } | Plan::Skip { .. } => true,
+    }
+}
+
+/// The shards of a shape.
+fn shards_of(alloc: Global, shape: Shape) -> Result<Vec<Shard>, Memory>
+    requires { IsShape shape }
+    ensures { IfOk result (λ shards. HasShards shards.items shape []) }
+{
+    let mut shards = Vec::new(alloc);
+    for no in 0..shape.shards {
+        shards.push(Shard::new(alloc, no, shape.shards, shape.room, shape.life, 1)?)?;
+    }
+    Ok(shards)
+}

@@ -1,0 +1,259 @@
+// The lines that are printed, one a turn.
+ghost use Rattle.std.specs.Prelude.{◌≡◌, ◌∷◌, ◌++◌, [], IfOk, OnOk, codes, decimal};
+ghost use Rattle.rows_model.specs.Key.{key_text};
+ghost use Rattle.core_history.specs.Lines.{line, shown, request_words, reply_words, stands_word, mode_word, evicts_words, got_words, set_words, quarantine_words, commit_fault_words, open_words, release_words, fault_words, tells_fault};
+ghost use Rattle.core_history.specs.Words.{spaced, asked_words};
+
+use itoa::Buffer;
+use key_shard::{Got, QAnswer, Rel, SetAnswer, Stands};
+use lease_table::Mode;
+use rows_model::{Memory, QKey, Sid};
+use session_client::{Fault, Reply, Wanted};
+use sql_keeper::CommitFault;
+use std::alloc::Global;
+
+/// What a request asks for, as its line says it. It stays when the request is made.
+#[derive(Clone, Copy, Debug, PartialEq, Eq)]
+pub enum Asked {
+    Get { key: QKey },
+    Ask { key: QKey },
+    Set { key: QKey },
+    QaReg { key: QKey },
+    Commit,
+    End,
+    Dar { key: QKey },
+    Abort { key: QKey },
+    Nothing,
+}
+
+impl Asked {
+    /// What this request asks for.
+    pub(crate) fn of(request: &Wanted) -> Asked
+        ensures { asked_words result ≡ request_words request.now }
+    {
+        match request {
+            Wanted::Get { key, .. } => Asked::Get { key: *key },
+            Wanted::Ask { key } => Asked::Ask { key: *key },
+            Wanted::Set { key, .. } => Asked::Set { key: *key },
+            Wanted::QaReg { key } => Asked::QaReg { key: *key },
+            Wanted::Commit { .. } => Asked::Commit,
+            Wanted::End => Asked::End,
+            Wanted::Dar { grant } => Asked::Dar { key: grant.key() },
+            Wanted::Abort { grant } => Asked::Abort { key: grant.key() },
+            Wanted::Nothing => Asked::Nothing,
+        }
+    }
+}
+
+/// The line of a turn: who took it, what was asked for, and the reply.
+pub(crate) fn line_of(
+    alloc: Global,
+    who: Sid,
+    asked: Asked,
+    reply: &Reply,
+) -> Result<Vec<u8>, Memory>
+    ensures { IfOk result (λ text. text.items ≡ line (decimal who.number ∷ asked_words asked ++ reply_words reply.now)) }
+{
+    let mut text = begun(alloc, who)?;
+    push_asked(alloc, &mut text, asked)?;
+    push_reply(alloc, &mut text, reply)?;
+    text.push(b'\n')?;
+    Ok(text)
+}
+
+/// Whether a reply tells that the store's keeper failed.
+pub(crate) fn tells_fault(reply: &Reply) -> bool
+    ensures { result ≡ tells_fault reply.now }
+{
+    matches!(
+        reply,
+        Reply::Fault { fault: Fault::Keep }
+            | Reply::NotCommitted {
+                fault: CommitFault::KeepFault,
+                ..
+            }
+    )
+}
+
+/// A line that begins with the number of its session.
+fn begun(alloc: Global, who: Sid) -> Result<Vec<u8>, Memory>
+    ensures { IfOk result (λ text. text.items ≡ decimal who.number) }
+{
+    let mut buffer = Buffer::new();
+    Ok(Vec::from_slice(alloc, buffer.format(who.number).as_bytes())?)
+}
+
+fn push_asked(alloc: Global, text: &mut Vec<u8>, asked: Asked) -> Result<(), Memory>
+    ensures { OnOk result (text.new.items ≡ text.old.items ++ spaced (asked_words asked)) }
+{
+    match asked {
+        Asked::Get { key } => push_verb(alloc, text, b"get", &key),
+        Asked::Ask { key } => push_verb(alloc, text, b"ask", &key),
+        Asked::Set { key } => push_verb(alloc, text, b"set", &key),
+        Asked::QaReg { key } => push_verb(alloc, text, b"qareg", &key),
+        Asked::Commit => push_word(text, b"commit"),
+        Asked::End => push_word(text, b"end"),
+        Asked::Dar { key } => push_verb(alloc, text, b"dar", &key),
+        Asked::Abort { key } => push_verb(alloc, text, b"abort", &key),
+        Asked::Nothing => push_word(text, b"done"),
+    }
+}
+
+fn push_reply(alloc: Global, text: &mut Vec<u8>, reply: &Reply) -> Result<(), Memory>
+    ensures { OnOk result (text.new.items ≡ text.old.items ++ spaced (reply_words reply.now)) }
+{
+    match reply {
+        Reply::Got { got } => push_got(text, got),
+        Reply::Answer { answer } => push_answer(text, answer.stamp, answer.value.bytes()),
+        Reply::Set { told } => push_set(alloc, text, *told),
+        Reply::Quar { told } => push_quarantine(text, told),
+        Reply::Committed { number, .. } => push_counted(text, b"COMMITTED", *number),
+        Reply::NotCommitted { fault, .. } => push_commit_fault(alloc, text, *fault),
+        Reply::End { was } => push_word(text, if *was { b"YES" } else { b"NO" }),
+        Reply::Rel { told } => push_release(alloc, text, *told),
+        Reply::Fault { fault: Fault::Keep } => push_word(text, b"FAULT"),
+        Reply::Fault { .. } | Reply::Nothing => Ok(()),
+    }
+}
+
+fn push_got(text: &mut Vec<u8>, got: &Got) -> Result<(), Memory>
+    ensures { OnOk result (text.new.items ≡ text.old.items ++ spaced (got_words got.now)) }
+{
+    match got {
+        Got::Hit { value, stamp } => {
+            push_word(text, b"HIT")?;
+            push_answer(text, *stamp, value.bytes())
+        }
+        Got::Lease { token } => push_counted(text, b"LEASE", *token),
+        Got::Again { standing } => {
+            push_word(text, b"AGAIN")?;
+            push_word(text, standing_word(*standing))
+        }
+        Got::Own => push_word(text, b"OWN"),
+    }
+}
+
+fn push_answer(text: &mut Vec<u8>, stamp: u64, value: &[u8]) -> Result<(), Memory>
+    ensures { OnOk result (text.new.items ≡ text.old.items ++ spaced (decimal stamp ∷ shown value.now ∷ [])) }
+{
+    push_number(text, stamp)?;
+    push_value(text, value)
+}
+
+fn push_set(alloc: Global, text: &mut Vec<u8>, told: SetAnswer) -> Result<(), Memory>
+    ensures { OnOk result (text.new.items ≡ text.old.items ++ spaced (set_words told)) }
+{
+    match told {
+        SetAnswer::Stored { evicted } => push_evicting(alloc, text, b"STORED", evicted),
+        SetAnswer::Void => push_word(text, b"VOID"),
+    }
+}
+
+fn push_quarantine(text: &mut Vec<u8>, told: &QAnswer) -> Result<(), Memory>
+    ensures { OnOk result (text.new.items ≡ text.old.items ++ spaced (quarantine_words told.now)) }
+{
+    match told {
+        QAnswer::Granted { grant, .. } => push_counted(text, b"GRANTED", grant.token()),
+        QAnswer::Held => push_word(text, b"HELD"),
+        QAnswer::Refused { holder, mode } => {
+            push_counted(text, b"REFUSED", holder.number)?;
+            push_word(text, word_of_mode(*mode))
+        }
+    }
+}
+
+fn push_commit_fault(alloc: Global, text: &mut Vec<u8>, fault: CommitFault) -> Result<(), Memory>
+    ensures { OnOk result (text.new.items ≡ text.old.items ++ spaced (commit_fault_words fault)) }
+{
+    match fault {
+        CommitFault::Ended => push_word(text, b"ENDED"),
+        CommitFault::Uncovered { key } => push_verb(alloc, text, b"UNCOVERED", &key),
+        CommitFault::LogFull { count } => push_counted(text, b"FULL", count),
+        CommitFault::Memory => Ok(()),
+        CommitFault::Rejected { index } => push_counted(text, b"REJECTED", index as u64),
+        CommitFault::KeepFault => push_word(text, b"FAULT"),
+    }
+}
+
+fn push_release(alloc: Global, text: &mut Vec<u8>, told: Rel) -> Result<(), Memory>
+    ensures { OnOk result (text.new.items ≡ text.old.items ++ spaced (release_words told)) }
+{
+    match told {
+        Rel::Released { evicted } => push_evicting(alloc, text, b"RELEASED", evicted),
+        Rel::Gone => push_word(text, b"GONE"),
+    }
+}
+
+fn push_evicting(
+    alloc: Global,
+    text: &mut Vec<u8>,
+    word: &[u8],
+    evicted: Option<QKey>,
+) -> Result<(), Memory>
+    ensures { OnOk result (text.new.items ≡ text.old.items ++ spaced (word.now ∷ evicts_words evicted)) }
+{
+    push_word(text, word)?;
+    match evicted {
+        Some(key) => push_verb(alloc, text, b"EVICTS", &key),
+        None => Ok(()),
+    }
+}
+
+fn push_verb(alloc: Global, text: &mut Vec<u8>, verb: &[u8], key: &QKey) -> Result<(), Memory>
+    ensures { OnOk result (text.new.items ≡ text.old.items ++ spaced (verb.now ∷ key_text key.now ∷ [])) }
+{
+    push_word(text, verb)?;
+    let word = key.text(alloc)?;
+    push_word(text, word.bytes())
+}
+
+fn push_counted(text: &mut Vec<u8>, word: &[u8], number: u64) -> Result<(), Memory>
+    ensures { OnOk result (text.new.items ≡ text.old.items ++ spaced (word.now ∷ decimal number ∷ [])) }
+{
+    push_word(text, word)?;
+    push_number(text, number)
+}
+
+fn push_word(text: &mut Vec<u8>, word: &[u8]) -> Result<(), Memory>
+    ensures { OnOk result (text.new.items ≡ text.old.items ++ spaced (word.now ∷ [])) }
+{
+    text.push(b' ')?;
+    text.extend_from_slice(word)?;
+    Ok(())
+}
+
+fn push_number(text: &mut Vec<u8>, number: u64) -> Result<(), Memory>
+    ensures { OnOk result (text.new.items ≡ text.old.items ++ spaced (decimal number ∷ [])) }
+{
+    let mut buffer = Buffer::new();
+    push_word(text, buffer.format(number).as_bytes())
+}
+
+fn push_value(text: &mut Vec<u8>, value: &[u8]) -> Result<(), Memory>
+    ensures { OnOk result (text.new.items ≡ text.old.items ++ spaced (shown value.now ∷ [])) }
+{
+    if value.is_empty() {
+        push_word(text, b".")
+    } else {
+        push_word(text, value)
+    }
+}
+
+fn standing_word(standing: Stands) -> &'static [u8]
+    ensures { result.now ≡ stands_word standing }
+{
+    match standing {
+        Stands::I => b"I",
+        Stands::Q => b"Q",
+    }
+}
+
+fn word_of_mode(mode: Mode) -> &'static [u8]
+    ensures { result.now ≡ mode_word mode }
+{
+    match mode {
+        Mode::Invalidate => b"invalidate",
+        Mode::Refresh => b"refresh",
+        Mode::Delta => b"delta",
+    }
+}

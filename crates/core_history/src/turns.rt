@@ -1,0 +1,74 @@
+// A session's turn: its next request is made, its line written, and the reply told.
+ghost use Rattle.std.specs.Prelude.{◌≡◌, ◌≤◌, ◌-◌, ◌∷◌, ◌⊎◌, List, Some, length, slice_get, Ok, OnOk, IfOk};
+ghost use Rattle.session_client.specs.declared.replies.Reply.{Reply};
+ghost use Rattle.session_client.specs.declared.sessions.Session.{Session};
+ghost use Rattle.session_client.specs.Follows.{plan_of, sid_of, IsReady, Follows};
+ghost use Rattle.session_client.specs.Wants.{wants};
+ghost use Rattle.core_history.specs.Cores.{Origin, HasHomes};
+ghost use Rattle.core_history.specs.Machine.{World};
+ghost use Rattle.core_history.specs.Requests.{IsWaiting, Stands, TakesTurn, TakesOne};
+
+use crate::lines::{Asked, line_of, tells_fault};
+use crate::requests::make;
+use crate::told::Told;
+use key_shard::Shard;
+use rows_model::{Memory, Sid};
+use session_client::Session;
+use sql_keeper::{Keeper, Store};
+use std::alloc::Global;
+
+/// Takes a turn of the session of this number.
+pub(crate) fn session_turn<K: Keeper>(
+    alloc: Global,
+    store: &mut Store<K>,
+    shards: &mut Vec<Shard>,
+    sessions: &mut Vec<Session>,
+    who: Sid,
+) -> Result<Told, Memory>
+    requires homes { HasHomes shards.old.items }
+    requires some { 1 ≤ who.number }
+    requires begun { who.number ≤ length sessions.old.items }
+    requires waits { (session : Session) → slice_get sessions.old.items (who.number - 1) ≡ Some session → IsWaiting shards.old.items who session }
+    ensures { TakesOne shards.old.items store.old sessions.old.items who shards.new.items store.new sessions.new.items result }
+{
+    let place = (who.number - 1) as usize;
+    take_turn(alloc, store, shards, &mut sessions[place], who)
+}
+
+fn take_turn<K: Keeper>(
+    alloc: Global,
+    store: &mut Store<K>,
+    shards: &mut Vec<Shard>,
+    session: &mut Session,
+    who: Sid,
+) -> Result<Told, Memory>
+    requires homes { HasHomes shards.old.items }
+    requires some { 1 ≤ who.number }
+    requires waits { IsWaiting shards.old.items who session.old }
+    ensures plan { plan_of session.new ≡ plan_of session.old }
+    ensures sid { sid_of session.new ≡ sid_of session.old }
+    ensures ready { OnOk result (IsReady session.new) }
+    ensures takes { (origin : Origin) (world : World) (heard : List Reply) → Stands shards.old.items store.old origin world → Follows session.old heard →
+        TakesTurn origin world who (wants (plan_of session.old) heard) heard shards.new.items store.new session.new result }
+{
+    let request = session.wants();
+    let asked = Asked::of(&request);
+    match make(store, shards, who, request) {
+        Ok(reply) => {
+            let line = line_of(alloc, who, asked, &reply);
+            let fault = tells_fault(&reply);
+            session.told(reply);
+            told_of(line, fault)
+        }
+        Err(memory) => Err(memory),
+    }
+}
+
+fn told_of(line: Result<Vec<u8>, Memory>, fault: bool) -> Result<Told, Memory>
+    ensures ok { IfOk result (λ told. (line ≡ Ok told.line) × (told.fault ≡ fault)) }
+{
+    match line {
+        Ok(line) => Ok(Told { line, fault }),
+        Err(memory) => Err(memory),
+    }
+}

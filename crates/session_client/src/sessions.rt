@@ -1,0 +1,181 @@
+ghost use Rattle.std.specs.Prelude.{◌≡◌, ◌↔◌, ℕ, List, [], ◌∷◌, IsTrue, IfOk, None};
+ghost use Rattle.rows_model.specs.Changes.{footprint};
+ghost use Rattle.session_client.specs.Plans.{IsPlan, changes_of};
+ghost use Rattle.session_client.specs.Wants.{wants, done_by, keys_of, without_key};
+
+use crate::plans::Plan;
+use crate::readers::Reader;
+use crate::replies::{Outcome, Reply, Wanted};
+use crate::writers::Writer;
+use rows_model::{Memory, QKey, Sid, footprint};
+use std::alloc::Global;
+
+/// What a session does: it reads a key, or it writes.
+#[derive(Debug)]
+pub enum Course {
+    Read(Reader),
+    Write(Writer),
+}
+
+/// A session on its way through its plan. It says what it wants next, and is told what came of it.
+#[derive(Debug)]
+pub struct Session {
+    sid: Sid,
+    plan: Plan,
+    /// Whether a request is out.
+    out: bool,
+    course: Course,
+}
+
+impl Session {
+    ghost use Rattle.session_client.specs.Belongs.{Belongs};
+    ghost use Rattle.session_client.specs.Follows.{plan_of, sid_of, IsReady, IsAwaited, Follows};
+    ghost use Rattle.session_client.specs.declared.replies.Reply.{Reply};
+
+    /// The session of this number, that was told nothing so far. It takes all the memory that it will
+    /// need: the keys that its transaction touches and room for their grants.
+    pub fn new(alloc: Global, sid: Sid, plan: Plan) -> Result<Session, Memory>
+        requires { IsPlan plan }
+        ensures plan { IfOk result (λ session. plan_of session ≡ plan) }
+        ensures sid { IfOk result (λ session. sid_of session ≡ sid) }
+        ensures ready { IfOk result (λ session. IsReady session) }
+        ensures follows { IfOk result (λ session. Follows session []) }
+    {
+        Ok(Session {
+            sid,
+            out: false,
+            course: course_of(alloc, &plan)?,
+            plan,
+        })
+    }
+
+    /// What the session is to do.
+    pub fn plan(&self) -> &Plan
+        ensures { result.now ≡ plan_of self.now }
+    {
+        &self.plan
+    }
+
+    /// The number of the session.
+    pub fn sid(&self) -> Sid
+        ensures { result ≡ sid_of self.now }
+    {
+        self.sid
+    }
+
+    /// The next request of the plan, for which the last one must have been told. It hands over the
+    /// grants and the transaction that it needs, and the reply brings them back. The session waits for
+    /// that reply from now on. It takes no memory.
+    pub fn wants(&mut self) -> Wanted
+        requires { IsReady self.old }
+        ensures plan { plan_of self.new ≡ plan_of self.old }
+        ensures sid { sid_of self.new ≡ sid_of self.old }
+        ensures wanted { (heard : List Reply) → Follows self.old heard → result ≡ wants (plan_of self.old) heard }
+        ensures follows { (heard : List Reply) → Follows self.old heard → Follows self.new heard }
+        ensures awaits { (heard : List Reply) (reply : Reply) → Follows self.old heard → (IsAwaited self.new reply ↔ Belongs (sid_of self.old) result reply) }
+    {
+        self.out = true;
+        match &mut self.course {
+            Course::Read(reader) => reader.wants(),
+            Course::Write(writer) => writer.wants(),
+        }
+    }
+
+    /// Whether the reply belongs to the request that is out. It takes no memory.
+    pub fn takes(&self, reply: &Reply) -> bool
+        ensures { IsTrue result ↔ IsAwaited self.now reply.now }
+    {
+        if !self.out && !self.is_over() {
+            return false;
+        }
+        match &self.course {
+            Course::Read(reader) => reader.takes(reply),
+            Course::Write(writer) => writer.takes(self.sid, self.plan.changes(), reply),
+        }
+    }
+
+    /// Whether the session is at its end.
+    fn is_over(&self) -> bool
+        ensures { result ≡ is_over self.now.course }
+    {
+        match &self.course {
+            Course::Read(reader) => reader.is_over(),
+            Course::Write(writer) => writer.is_over(),
+        }
+    }
+
+    /// Takes in the reply to the request that is out. It takes no memory.
+    pub fn told(&mut self, reply: Reply)
+        requires { IsAwaited self.old reply }
+        ensures plan { plan_of self.new ≡ plan_of self.old }
+        ensures sid { sid_of self.new ≡ sid_of self.old }
+        ensures ready { IsReady self.new }
+        ensures follows { (heard : List Reply) → Follows self.old heard → Follows self.new (reply ∷ heard) }
+    {
+        self.out = false;
+        match &mut self.course {
+            Course::Read(reader) => reader.told(reply),
+            Course::Write(writer) => writer.told(reply),
+        }
+    }
+
+    /// How the session ended: `None` exactly where a request is still wanted or out. It takes no memory.
+    pub fn done(&self) -> Option<Outcome>
+        ensures done { (heard : List Reply) → IsReady self.now → Follows self.now heard → result ≡ done_by (plan_of self.now) heard }
+        ensures going { (IsReady self.now → ⊥) → result ≡ None }
+    {
+        match &self.course {
+            Course::Read(reader) => reader.done(),
+            Course::Write(writer) => writer.done(),
+        }
+    }
+
+    /// Puts the session away, with the grants that it has. Their quarantines are not ended by that, and
+    /// stand until others end them. It takes no memory.
+    pub fn let_go(self) {
+        let Session {
+            sid: _,
+            plan: _,
+            out: _,
+            course,
+        } = self;
+        match course {
+            Course::Read(_) => {}
+            Course::Write(writer) => writer.let_go(),
+        }
+    }
+}
+
+ghost use Rattle.session_client.specs.Follows.{Goes, CourseIsReady, is_over};
+
+/// The keys without one of them.
+fn without_key(alloc: Global, key: &QKey, keys: &[QKey]) -> Result<Vec<QKey>, Memory>
+    ensures { IfOk result (λ rest. rest.items ≡ without_key key.now keys.now) }
+{
+    Ok(keys
+        .iter()
+        .filter(|other| key != *other)
+        .copied()
+        .collect(alloc)?)
+}
+
+/// The course of a plan.
+#[tactic(auto, using(crate::proofs::RoomLemmas::footprint_few, crate::proofs::RoomLemmas::without_few))]
+fn course_of(alloc: Global, plan: &Plan) -> Result<Course, Memory>
+    requires { IsPlan plan.now }
+    ensures ready { IfOk result CourseIsReady }
+    ensures goes { IfOk result (λ course. Goes plan.now course []) }
+{
+    match plan {
+        Plan::Read { key, floor } => Ok(Course::Read(Reader::new(*key, *floor))),
+        Plan::Write { mode: _, txn } => {
+            let keys = footprint(alloc, txn)?;
+            Ok(Course::Write(Writer::new(alloc, keys, txn.copy()?)?))
+        }
+        Plan::Skip { key, txn } => {
+            let keys = footprint(alloc, txn)?;
+            let keys = without_key(alloc, key, keys.as_slice())?;
+            Ok(Course::Write(Writer::new(alloc, keys, txn.copy()?)?))
+        }
+    }
+}

@@ -1,0 +1,418 @@
+ghost use Rattle.std.specs.Prelude.{IfOk};
+ghost use Rattle.session_client.specs.Follows.{IsReady};
+
+use super::*;
+use key_shard::{Got, QAnswer, Rel, SetAnswer, Shard, Stands};
+use lease_table::Mode;
+use rows_model::{Change, Kind, Name, QKey, Sid, Txn, Value, touches};
+use sql_keeper::{Answer, CommitFault};
+use std::alloc::Global;
+use std::process::Abort;
+use std::test::Fail;
+
+const WHO: Sid = Sid { number: 5 };
+
+const OTHER: Sid = Sid { number: 9 };
+
+const PROFILE: QKey = QKey {
+    kind: Kind::Profile,
+    id: 2,
+};
+
+const PENDING: QKey = QKey {
+    kind: Kind::Pending,
+    id: 2,
+};
+
+const N_PENDING: QKey = QKey {
+    kind: Kind::NPending,
+    id: 2,
+};
+
+fn new_shard(alloc: Global) -> Result<Shard, Fail> {
+    Ok(Shard::new(alloc, 0, 1, 8, 100, 1)?)
+}
+
+/// A session that is to read the profile of 2.
+fn reader(alloc: Global) -> Result<Session, Fail>
+    ensures { IfOk result (λ session. IsReady session) }
+{
+    Ok(Session::new(
+        alloc,
+        WHO,
+        Plan::Read {
+            key: PROFILE,
+            floor: 3,
+        },
+    )?)
+}
+
+/// A session that is to commit an invitation of 2 by 1, which touches the profile, the list of pending
+/// invitations and their number of 2.
+fn writer(alloc: Global) -> Result<Session, Fail>
+    ensures { IfOk result (λ session. IsReady session) }
+{
+    let txn = Txn::of(alloc, &[Change::Invite { a: 1, b: 2 }])?;
+    Ok(Session::new(
+        alloc,
+        WHO,
+        Plan::Write {
+            mode: Mode::Invalidate,
+            txn,
+        },
+    )?)
+}
+
+/// Tells the session a reply that belongs to its request.
+fn tell(rt: &impl Abort, session: &mut Session, reply: Reply)
+    ensures { IsReady session.new }
+{
+    if session.takes(&reply) {
+        session.told(reply);
+    } else {
+        reply.let_go();
+        panic!(rt; "no reply to that");
+    }
+}
+
+/// Whether the session takes a reply, which is let go.
+fn takes(session: &Session, reply: Reply) -> bool {
+    let taken = session.takes(&reply);
+    reply.let_go();
+    taken
+}
+
+/// The session asks the shard for its key.
+fn get(rt: &impl Abort, session: &mut Session, shard: &mut Shard)
+    requires { IsReady session.old }
+    ensures { IsReady session.new }
+{
+    match session.wants() {
+        Wanted::Get { key, floor } => match shard.get(key, WHO, floor, 0) {
+            Ok(got) => tell(rt, session, Reply::Got { got }),
+            Err(fault) => panic!(rt; "{fault:?}"),
+        },
+        other => {
+            other.let_go();
+            panic!(rt; "no get")
+        }
+    }
+}
+
+/// The session is told four times to try again.
+fn try_four(rt: &impl Abort, session: &mut Session, shard: &mut Shard)
+    requires { IsReady session.old }
+    ensures { IsReady session.new }
+{
+    get(rt, session, shard);
+    get(rt, session, shard);
+    get(rt, session, shard);
+    get(rt, session, shard);
+}
+
+/// The session asks the store, which answers for this key.
+fn ask(rt: &impl Abort, session: &mut Session, answer: Answer)
+    requires { IsReady session.old }
+    ensures { IsReady session.new }
+{
+    match session.wants() {
+        Wanted::Ask { key } => {
+            assert_eq!(rt; key, PROFILE);
+            tell(rt, session, Reply::Answer { answer });
+        }
+        other => {
+            other.let_go();
+            panic!(rt; "no question")
+        }
+    }
+}
+
+/// The session quarantines this key.
+fn quarantine(rt: &impl Abort, session: &mut Session, shard: &mut Shard, want: QKey)
+    requires { IsReady session.old }
+    ensures { IsReady session.new }
+{
+    match session.wants() {
+        Wanted::QaReg { key } => {
+            assert_eq!(rt; key, want);
+            match shard.quarantine(key, WHO, Mode::Invalidate, 0, 0) {
+                Ok(told) => tell(rt, session, Reply::Quar { told }),
+                Err(fault) => panic!(rt; "{fault:?}"),
+            }
+        }
+        other => {
+            other.let_go();
+            panic!(rt; "no quarantine")
+        }
+    }
+}
+
+/// The session commits, and hands its transaction and its grants over.
+fn commit(rt: &impl Abort, session: &mut Session) -> (Txn, Grants)
+    requires { IsReady session.old }
+{
+    match session.wants() {
+        Wanted::Commit { txn, grants } => (txn, grants),
+        other => {
+            other.let_go();
+            panic!(rt; "no commit")
+        }
+    }
+}
+
+/// The session has its commit refused.
+fn refuse(rt: &impl Abort, session: &mut Session, fault: CommitFault)
+    requires { IsReady session.old }
+    ensures { IsReady session.new }
+{
+    let (txn, grants) = commit(rt, session);
+    tell(rt, session, Reply::NotCommitted { fault, txn, grants });
+}
+
+/// The session is ended at the store.
+fn end(rt: &impl Abort, session: &mut Session)
+    requires { IsReady session.old }
+    ensures { IsReady session.new }
+{
+    match session.wants() {
+        Wanted::End => tell(rt, session, Reply::End { was: true }),
+        other => {
+            other.let_go();
+            panic!(rt; "no end")
+        }
+    }
+}
+
+/// The session releases the grant of this key, and drops its value or leaves it.
+fn release(rt: &impl Abort, session: &mut Session, drops: bool, want: QKey)
+    requires { IsReady session.old }
+    ensures { IsReady session.new }
+{
+    let (grant, dropped) = match session.wants() {
+        Wanted::Dar { grant } => (grant, true),
+        Wanted::Abort { grant } => (grant, false),
+        other => {
+            other.let_go();
+            panic!(rt; "no release")
+        }
+    };
+    let key = grant.key();
+    grant.let_go();
+    assert_eq!(rt; key, want);
+    assert_eq!(rt; dropped, drops);
+    tell(rt, session, Reply::Rel { told: Rel::Gone });
+}
+
+/// The session wants nothing more, and ended so.
+fn check_end(rt: &impl Abort, session: &mut Session, outcome: Outcome)
+    requires { IsReady session.old }
+{
+    assert_eq!(rt; session.done(), Some(outcome));
+    match session.wants() {
+        Wanted::Nothing => tell(rt, session, Reply::Nothing),
+        other => {
+            other.let_go();
+            panic!(rt; "it wants more")
+        }
+    }
+    assert_eq!(rt; session.done(), Some(outcome));
+}
+
+/// Puts the first grant last.
+fn turn(grants: &mut Grants) {
+    if grants.is_empty() {
+        return;
+    }
+    let grant = grants.take(0);
+    if grants.len() < grants.room() as usize {
+        grants.add(grant);
+    } else {
+        grant.let_go();
+    }
+}
+
+fn answer_of(alloc: Global, key: QKey) -> Result<Answer, Fail> {
+    Ok(Answer {
+        key,
+        value: Value::of(alloc, b"a")?,
+        stamp: 4,
+    })
+}
+
+#[test]
+fn reads_to_a_stored_answer(rt: HostRuntime) -> Result<(), Fail> {
+    let alloc = rt.alloc();
+    let mut shard = new_shard(alloc)?;
+    let answer = answer_of(alloc, PROFILE)?;
+    let mut session = reader(alloc)?;
+    assert_eq!(rt; session.sid(), WHO);
+    assert!(rt; !takes(&session, Reply::Got { got: Got::Own }));
+    get(&rt, &mut session, &mut shard);
+    assert_eq!(rt; session.done(), None);
+    ask(&rt, &mut session, answer);
+    match session.wants() {
+        Wanted::Set {
+            key,
+            token,
+            value,
+            stamp,
+        } => match shard.set(key, token, value, stamp, 0) {
+            Ok(told) => {
+                assert_eq!(rt; told, SetAnswer::Stored { evicted: None });
+                tell(&rt, &mut session, Reply::Set { told });
+            }
+            Err(fault) => panic!(rt; "{fault:?}"),
+        },
+        other => {
+            other.let_go();
+            panic!(rt; "no set")
+        }
+    }
+    check_end(&rt, &mut session, Outcome::Stored);
+    session.let_go();
+    match shard.get(PROFILE, WHO, 4, 0) {
+        Ok(Got::Hit { value, stamp: 4 }) => assert_eq!(rt; value.bytes(), b"a".as_slice()),
+        _ => panic!(rt; "not stored"),
+    }
+    let mut session = reader(alloc)?;
+    get(&rt, &mut session, &mut shard);
+    check_end(&rt, &mut session, Outcome::Hit);
+    session.let_go();
+    Ok(())
+}
+
+#[test]
+fn takes_no_answer_of_another_key(rt: HostRuntime) -> Result<(), Fail> {
+    let alloc = rt.alloc();
+    let mut shard = new_shard(alloc)?;
+    let answer = answer_of(alloc, PENDING)?;
+    let mut session = reader(alloc)?;
+    get(&rt, &mut session, &mut shard);
+    session.wants().let_go();
+    assert!(rt; !takes(&session, Reply::Answer { answer }));
+    assert!(rt; !takes(&session, Reply::Fault { fault: Fault::Spent }));
+    assert!(rt; !takes(&session, Reply::Nothing));
+    tell(&rt, &mut session, Reply::Fault { fault: Fault::Keep });
+    check_end(&rt, &mut session, Outcome::Failed { fault: Fault::Keep });
+    session.let_go();
+    Ok(())
+}
+
+#[test]
+fn asks_the_store_after_sixteen_agains(rt: HostRuntime) -> Result<(), Fail> {
+    let alloc = rt.alloc();
+    let mut shard = new_shard(alloc)?;
+    let answer = answer_of(alloc, PROFILE)?;
+    let leased = shard.get(PROFILE, OTHER, 0, 0);
+    assert!(rt; matches!(leased, Ok(Got::Lease { token: 1 })));
+    let mut session = reader(alloc)?;
+    try_four(&rt, &mut session, &mut shard);
+    try_four(&rt, &mut session, &mut shard);
+    try_four(&rt, &mut session, &mut shard);
+    try_four(&rt, &mut session, &mut shard);
+    ask(&rt, &mut session, answer);
+    check_end(&rt, &mut session, Outcome::Bypass);
+    session.let_go();
+    Ok(())
+}
+
+#[test]
+fn writes_and_releases_in_order(rt: HostRuntime) -> Result<(), Fail> {
+    let alloc = rt.alloc();
+    let mut shard = new_shard(alloc)?;
+    let mut session = writer(alloc)?;
+    quarantine(&rt, &mut session, &mut shard, PROFILE);
+    quarantine(&rt, &mut session, &mut shard, PENDING);
+    quarantine(&rt, &mut session, &mut shard, N_PENDING);
+    let (txn, mut grants) = commit(&rt, &mut session);
+    assert_eq!(rt; grants.len(), 3);
+    turn(&mut grants);
+    let out_of_order = Reply::Committed { number: 1, txn, grants };
+    assert!(rt; !session.takes(&out_of_order));
+    let (txn, mut grants) = match out_of_order {
+        Reply::Committed {
+            number: _,
+            txn,
+            grants,
+        } => (txn, grants),
+        other => {
+            other.let_go();
+            panic!(rt; "another reply")
+        }
+    };
+    turn(&mut grants);
+    turn(&mut grants);
+    let number = 1;
+    tell(&rt, &mut session, Reply::Committed { number, txn, grants });
+    assert_eq!(rt; session.done(), None);
+    release(&rt, &mut session, true, PROFILE);
+    release(&rt, &mut session, true, PENDING);
+    release(&rt, &mut session, true, N_PENDING);
+    check_end(&rt, &mut session, Outcome::Committed { number });
+    session.let_go();
+    Ok(())
+}
+
+#[test]
+fn gives_back_what_it_has_when_it_is_refused(rt: HostRuntime) -> Result<(), Fail> {
+    let alloc = rt.alloc();
+    let mut shard = new_shard(alloc)?;
+    match shard.quarantine(PENDING, OTHER, Mode::Refresh, 0, 0) {
+        Ok(QAnswer::Granted { grant, old: _ }) => grant.let_go(),
+        Ok(QAnswer::Held) => panic!(rt; "held"),
+        Ok(QAnswer::Refused { holder: _, mode: _ }) => panic!(rt; "refused"),
+        Err(fault) => panic!(rt; "{fault:?}"),
+    }
+    let mut session = writer(alloc)?;
+    quarantine(&rt, &mut session, &mut shard, PROFILE);
+    quarantine(&rt, &mut session, &mut shard, PENDING);
+    end(&rt, &mut session);
+    release(&rt, &mut session, false, PROFILE);
+    let refused = Outcome::Refused {
+        holder: OTHER,
+        mode: Mode::Refresh,
+    };
+    check_end(&rt, &mut session, refused);
+    session.let_go();
+    Ok(())
+}
+
+#[test]
+fn gives_back_all_when_it_is_not_committed(rt: HostRuntime) -> Result<(), Fail> {
+    let alloc = rt.alloc();
+    let mut shard = new_shard(alloc)?;
+    let mut session = writer(alloc)?;
+    quarantine(&rt, &mut session, &mut shard, PROFILE);
+    quarantine(&rt, &mut session, &mut shard, PENDING);
+    quarantine(&rt, &mut session, &mut shard, N_PENDING);
+    let fault = CommitFault::Rejected { index: 0 };
+    refuse(&rt, &mut session, fault);
+    end(&rt, &mut session);
+    release(&rt, &mut session, false, PROFILE);
+    release(&rt, &mut session, false, PENDING);
+    release(&rt, &mut session, false, N_PENDING);
+    check_end(&rt, &mut session, Outcome::NotCommitted { fault });
+    session.let_go();
+    Ok(())
+}
+
+#[test]
+fn skips_its_only_key(rt: HostRuntime) -> Result<(), Fail> {
+    let alloc = rt.alloc();
+    let name = Name::of(b"ann").expect(&rt, "a name");
+    let txn = Txn::of(alloc, &[Change::Rename { a: 2, name }])?;
+    let key = PROFILE;
+    assert!(rt; touches(&txn, &key));
+    let mut session = Session::new(alloc, WHO, Plan::Skip { key, txn })?;
+    refuse(&rt, &mut session, CommitFault::Uncovered { key });
+    end(&rt, &mut session);
+    check_end(
+        &rt,
+        &mut session,
+        Outcome::NotCommitted {
+            fault: CommitFault::Uncovered { key },
+        },
+    );
+    session.let_go();
+    Ok(())
+}

@@ -1,0 +1,8 @@
+//! The verbs of writers: how a session quarantines a key and ends the quarantine again, by its mode.
+#![tactic(auto)]
+
+pub use invalidate::{abort, dar, qa_reg};
+
+pub mod invalidate;
+#[cfg(test)]
+mod tests;
