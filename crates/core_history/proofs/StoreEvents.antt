@@ -98,6 +98,7 @@ store_called old new b origin past event has ledger rose more fault no_commit to
       log = same.log ∙ has.log ∙ sym log;
       cap = same.cap ∙ has.cap;
       faults = subst F (sym count) (rose_more b (count_by is_fault past) origin.faults old.faults new.faults has.faults rose more);
+      telling = λ is_told. has.telling (told is_told);
       truth = λ is_told. (subst T (ap (λ (rows : Tables). rows_after rows old.ledger.log) has.opening ∙ ap (rows_after origin.opening) has.log) (truth is_told), has.truth (told is_told));
     }
 
@@ -114,6 +115,7 @@ store_stays old new origin past has ledger more told =
       log = ap (λ (l : Ledger). l.log) ledger ∙ has.log;
       cap = ap (λ (l : Ledger). l.cap) ledger ∙ has.cap;
       faults = rose_on _ origin.faults old.faults new.faults has.faults more;
+      telling = λ is_told. has.telling (told is_told);
       truth = λ is_told. has.truth (told is_told);
     }
 
@@ -131,6 +133,7 @@ store_committed old new origin past who txn event has ledger more fault commits 
       log = ap (λ (l : Ledger). l.log) ledger ∙ ap (λ (l : List Commit). l ++ record { sid = who; txn = txn } ∷ []) has.log ∙ sym (ap (λ (l : List Commit). log_of past ++ l) commits);
       cap = ap (λ (l : Ledger). l.cap) ledger ∙ has.cap;
       faults = subst F (sym count) (rose_on (count_by is_fault past) origin.faults old.faults new.faults has.faults more);
+      telling = λ is_told. has.telling (told is_told);
       truth = λ is_told. (subst T (ap (λ (rows : Tables). rows_after rows old.ledger.log) has.opening ∙ ap (rows_after origin.opening) has.log) (truth is_told), has.truth (told is_told));
     }
 
@@ -144,6 +147,7 @@ store_ended old new origin past who told has ledger rows faults no_commit fault 
       log = ap (λ (l : Ledger). l.log) ledger ∙ has.log;
       cap = ap (λ (l : Ledger). l.cap) ledger ∙ has.cap;
       faults = rose_on _ origin.faults old.faults new.faults has.faults (omega (arith, faults));
+      telling = λ is_told. has.telling (subst P rows is_told);
       truth = λ is_told. has.truth (subst P rows is_told);
     } in
     store_quiet new origin past (Called who wanted.End told) between (record { commits = no_commit; fault = fault; truth = truth })

@@ -33,10 +33,11 @@ pub record IsShape (shape : Shape) : Type 0 where
   pub little_room : shape.room ≤ 65536
   pub some_life : 1 ≤ shape.life
 
--- what a core was made with: its shape, the rows that its keeper started with, and the keeper's count of faults then
+-- what a core was made with: its shape, the rows that its keeper started with, and what was known of the keeper then, its rows, where it told them, and its count of faults
 pub record Origin : Type 0 where
   pub shape : Shape
   pub opening : Tables
+  pub told : Option Tables
   pub faults : ℕ
 
 -- what contracts see of a core
@@ -60,12 +61,13 @@ pub record HasShards (shards : List ShardView) (shape : Shape) (past : List Even
 abbrev pub RoseBy : ℕ → ℕ → ℕ → Type 0
 RoseBy count before after = (before + count ≤ after) ⊎ ((before ≤ 2 ^ 64 - 1) × (2 ^ 64 - 1 ≤ after))
 
--- the store began with the opening rows, its log is that of these events, and its keeper's count of faults rose with each FAULT. Where the keeper tells its rows, each of its replies was true
+-- the store began with the opening rows, its log is that of these events, and its keeper's count of faults rose with each FAULT. Where the keeper tells its rows, it told them from the start, and each of its replies was true
 pub record HasStore (store : StoreView) (origin : Origin) (past : List Event) : Type 0 where
   pub opening : store.ledger.opening ≡ origin.opening
   pub log : store.ledger.log ≡ log_of past
   pub cap : store.ledger.cap ≡ log_cap
   pub faults : RoseBy (count_by is_fault past) origin.faults store.faults
+  pub telling : IsSome store.told → IsSome origin.told
   pub truth : IsSome store.told → IsTruePast origin.opening past
 
 -- the shards and the store are those after these moves. So it is at every end

@@ -46,7 +46,7 @@ impl<K: Keeper> Core<K> {
         shape: Shape,
     ) -> Result<Core<K>, NoStore<K>>
         requires { IsShape shape }
-        ensures begins { IfOk result (λ core. IsAt core (record { shape = shape; opening = core.store.ledger.opening; faults = core.store.faults }) []) }
+        ensures begins { IfOk result (λ core. IsAt core (record { shape = shape; opening = core.store.ledger.opening; told = core.store.told; faults = core.store.faults }) []) }
         ensures fresh { place.now ≡ Place.Fresh → IfOk result (λ core. IsSome core.store.told → core.store.ledger.opening ≡ start_tables shape.members) }
         ensures never_falls { MatchResult result (λ core. K.faults keeper ≤ core.store.faults) (λ none. K.faults keeper ≤ K.faults none.keeper) }
         ensures kept { IfErr result (λ none. none.cause ≡ KeepFault.Failed → K.rows none.keeper ≡ K.rows keeper) }
@@ -63,7 +63,7 @@ impl<K: Keeper> Core<K> {
         requires shape { IsShape shape }
         requires opened { store.ledger ≡ opened store.ledger.opening log_cap }
         ensures store { IfOk result (λ core. core.store ≡ store) }
-        ensures begins { IfOk result (λ core. IsAt core (record { shape = shape; opening = store.ledger.opening; faults = store.faults }) []) }
+        ensures begins { IfOk result (λ core. IsAt core (record { shape = shape; opening = store.ledger.opening; told = store.told; faults = store.faults }) []) }
         ensures err { IfErr result (λ none. (none.cause ≡ KeepFault.Memory) × (K.faults none.keeper ≡ store.faults)) }
     {
         let _members = store.opening().members();
