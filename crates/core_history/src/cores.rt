@@ -66,6 +66,7 @@ impl<K: Keeper> Core<K> {
         ensures begins { IfOk result (λ core. IsAt core (record { shape = shape; opening = store.ledger.opening; faults = store.faults }) []) }
         ensures err { IfErr result (λ none. (none.cause ≡ KeepFault.Memory) × (K.faults none.keeper ≡ store.faults)) }
     {
+        // That the rows are fit is a clause of their reader.
         let _members = store.opening().members();
         match shards_of(alloc, shape) {
             Ok(shards) => Ok(Core {
