@@ -1,5 +1,5 @@
 -- What a run reads, prints and keeps.
-use Rattle.std.specs.Prelude.{ℕ, ◌≡◌, ◌+◌, ◌-◌, ◌^◌, ◌≤◌, ◌⊎◌, min, List, [], ◌∷◌, ◌++◌, length, map, reverse, replicate, flat_map, count_by, All, Option, Some, None, slice_get, codes}
+use Rattle.std.specs.Prelude.{ℕ, ◌≡◌, ◌+◌, ◌-◌, ◌^◌, ◌≤◌, ◌⊎◌, min, List, [], ◌∷◌, ◌++◌, length, map, reverse, replicate, flat_map, count_by, Option, Some, None, slice_get, codes}
 use Rattle.std.specs.Option.{ForSome}
 use Rattle.iq_outside.specs.Outside.{Rose, Takes, TakesSome, AtEnd, Gains}
 use Rattle.rows_model.specs.Rows.{Tables, start_tables}
@@ -7,9 +7,7 @@ use Rattle.key_shard.specs.declared.steps.Step.{Step}
 use Rattle.key_shard.specs.Answers.{Legal}
 use Rattle.sql_keeper.specs.declared.stores.Commit.{Commit}
 use Rattle.sql_keeper.specs.Fresh.{Fresh, Covered}
-use Rattle.session_client.specs.declared.plans.Plan.{Plan}
 use Rattle.session_client.specs.declared.plans.Shape.{Shape}
-use Rattle.session_client.specs.declared.plans.Turn.{Turn}
 use Rattle.run_inputs.specs.declared.scripts.Act.{Act}
 use Rattle.run_inputs.specs.declared.scripts.Act.TheVariants as act
 use Rattle.run_inputs.specs.declared.faults.ScriptKind.{ScriptKind}
@@ -17,7 +15,7 @@ use Rattle.run_inputs.specs.Script.{IsScript, IsFault}
 use Rattle.core_history.specs.Determined.{Call, Adds, Turns, call_of}
 use Rattle.core_history.specs.Events.{Event, log_of}
 use Rattle.core_history.specs.Lines.{lines_of, end_line, is_fault}
-use Rattle.core_history.specs.Machine.{Move, Begin, Take, world_of, terms_of}
+use Rattle.core_history.specs.Machine.{Move, world_of, terms_of}
 use Rattle.core_history.specs.Freshness.{histories_of, AreQuarantined}
 use Rattle.core_history.specs.Truth.{IsTruePast}
 use Rattle.top_run.specs.declared.runs.Status.{Status}
