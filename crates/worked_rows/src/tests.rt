@@ -247,7 +247,10 @@ fn prints(
         assert_eq!(rt; ran.status, Status::Done, "{name}, in pieces of {piece}");
         assert_eq!(rt; ran.printed.as_slice(), out, "{name}, in pieces of {piece}");
         assert_eq!(rt; ran.written, out.len() as u64);
-        assert_eq!(rt; (ran.started, ran.histories, ran.unread), (true, histories, 0));
+        assert_eq!(rt;
+            (ran.started, ran.histories, ran.unread),
+            (true, histories, 0)
+        );
     }
     Ok(())
 }
@@ -265,7 +268,8 @@ fn scripts_print_their_lines(rt: HostRuntime) -> Result<(), Fail> {
 
 #[test]
 fn a_run_keeps_its_log(rt: HostRuntime) -> Result<(), Fail> {
-    let text = b"members 3\nwrite 1 invalidate rename 2 bob\nwrite 2 invalidate rename 1 al\nturn 1 3\nturn 2 2\nend\n";
+    let text =
+        b"members 3\nwrite 1 invalidate rename 2 bob\nwrite 2 invalidate rename 1 al\nturn 1 3\nturn 2 2\nend\n";
     let ran = run_over(rt.alloc(), &["replay"], text, 5, &[], &[], &[], 4096)?;
     assert_eq!(rt; (ran.status, ran.commits), (Status::Done, 2));
     Ok(())
@@ -277,19 +281,24 @@ fn a_keepers_fault_is_printed_and_the_run_goes_on(rt: HostRuntime) -> Result<(),
         let ran = run_over(rt.alloc(), &["replay"], text, 5, &[], &[], fails, 4096)?;
         assert_eq!(rt; ran.status, Status::KeepFault, "{name}");
         assert_eq!(rt; ran.printed.as_slice(), out, "{name}");
-        assert_eq!(rt; (ran.started, ran.commits, ran.histories), (true, 0, 1), "{name}");
+        assert_eq!(rt;
+            (ran.started, ran.commits, ran.histories),
+            (true, 0, 1),
+            "{name}"
+        );
     }
     Ok(())
 }
 
 #[test]
-fn a_keeper_that_does_not_start_ends_the_run_before_it_begins(
-    rt: HostRuntime,
-) -> Result<(), Fail> {
+fn a_keeper_that_does_not_start_ends_the_run_before_it_begins(rt: HostRuntime) -> Result<(), Fail> {
     let text = b"members 3\nread 1 profile:2\nturn 1 3\nend\n";
     let ran = run_over(rt.alloc(), &["replay"], text, 5, &[], &[], &[1], 4096)?;
     assert_eq!(rt; ran.status, Status::KeepFault);
-    assert_eq!(rt; (ran.started, ran.commits, ran.histories, ran.unread), (false, 0, 0, 0));
+    assert_eq!(rt;
+        (ran.started, ran.commits, ran.histories, ran.unread),
+        (false, 0, 0, 0)
+    );
     assert!(rt; ran.printed.is_empty());
     Ok(())
 }
@@ -375,7 +384,16 @@ fn a_write_that_fails_ends_the_run_there(rt: HostRuntime) -> Result<(), Fail> {
         (none, 95, 95),
     ];
     for (writes_fail, room, taken) in cases {
-        let ran = run_over(rt.alloc(), &["replay"], text, 5, &[], writes_fail, &[], room)?;
+        let ran = run_over(
+            rt.alloc(),
+            &["replay"],
+            text,
+            5,
+            &[],
+            writes_fail,
+            &[],
+            room,
+        )?;
         assert_eq!(rt; ran.status, Status::WriteFault, "after {taken} bytes");
         assert_eq!(rt; ran.printed.len(), taken);
         assert!(rt; out.starts_with(ran.printed.as_slice()));
