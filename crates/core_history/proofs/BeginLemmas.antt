@@ -106,6 +106,7 @@ core_begun old new origin moves plan session at is_plan plan_is number ready fol
           opening = ap (λ (l : Ledger). l.opening) ledger ∙ store.opening;
           log = ap (λ (l : Ledger). l.log) ledger ∙ store.log;
           cap = ap (λ (l : Ledger). l.cap) ledger ∙ store.cap;
+          failed = ap (λ (l : Ledger). l.failed) ledger ∙ store.failed;
           faults = subst (λ (n : ℕ). RoseBy (count_by is_fault world.past) origin.faults n) (sym faults) store.faults;
           telling = λ is_told. store.telling (subst (λ (o : Option Tables). IsSome o) told is_told);
           truth = λ is_told. store.truth (subst (λ (o : Option Tables). IsSome o) told is_told);

@@ -1,5 +1,5 @@
 -- How the store of a core follows an event.
-use Rattle.std.proofs.Common.{ℕ, ◌+◌, ◌≡◌, ◌≢◌, ◌≤◌, Bool, true, false, List, [], ◌∷◌, ◌++◌, length, count_by, Option, Some, None, IsSome, Result, Ok, Err, OnOk, IfOk, IfErr, refl, sym, ap, subst, ◌∙◌, inl, inr, append-nil, arith}
+use Rattle.std.proofs.Common.{ℕ, min, ◌-◌, ◌^◌, ◌+◌, ◌≡◌, ◌≢◌, ◌≤◌, Bool, true, false, List, [], ◌∷◌, ◌++◌, length, count_by, Option, Some, None, IsSome, Result, Ok, Err, OnOk, IfOk, IfErr, refl, sym, ap, subst, ◌∙◌, inl, inr, append-nil, arith}
 use Rattle.rows_model.specs.declared.changes.Change.{Change}
 use Rattle.rows_model.specs.declared.refusals.Memory.{Memory}
 use Rattle.rows_model.specs.declared.keys.Sid.{Sid}
@@ -59,6 +59,11 @@ record CallsSame (before after : Ledger) : Type 0 where
   pub cap : after.cap ≡ before.cap
   pub sessions : after.sessions ≡ before.sessions
 
+-- the count of failures after a call
+failed_more : (b : Bool) (count : ℕ) (ledger : Ledger) → ledger.failed ≡ min count (2 ^ 64 - 1) → (with_call b ledger).failed ≡ min (tick b + count) (2 ^ 64 - 1)
+failed_more false count ledger e = omega (arith, e)
+failed_more true count ledger e = omega (arith, e)
+
 call_same : (b : Bool) (ledger : Ledger) → CallsSame ledger (with_call b ledger)
 call_same true ledger = record { opening = refl; log = refl; cap = refl; sessions = refl }
 call_same false ledger = record { opening = refl; log = refl; cap = refl; sessions = refl }
@@ -94,6 +99,7 @@ store_called old new b origin past event has ledger rose more fault no_commit to
       opening = same.opening ∙ has.opening;
       log = same.log ∙ has.log ∙ sym log;
       cap = same.cap ∙ has.cap;
+      failed = ap (λ (l : Ledger). l.failed) ledger ∙ failed_more b (count_by is_fault past) old.ledger has.failed ∙ ap (λ (n : ℕ). min n (2 ^ 64 - 1)) (sym count);
       faults = subst F (sym count) (rose_more b (count_by is_fault past) origin.faults old.faults new.faults has.faults rose more);
       telling = λ is_told. has.telling (told is_told);
       truth = λ is_told. (subst T (ap (λ (rows : Tables). rows_after rows old.ledger.log) has.opening ∙ ap (rows_after origin.opening) has.log) (truth is_told), has.truth (told is_told));
@@ -111,6 +117,7 @@ store_stays old new origin past has ledger more told =
       opening = ap (λ (l : Ledger). l.opening) ledger ∙ has.opening;
       log = ap (λ (l : Ledger). l.log) ledger ∙ has.log;
       cap = ap (λ (l : Ledger). l.cap) ledger ∙ has.cap;
+      failed = ap (λ (l : Ledger). l.failed) ledger ∙ has.failed;
       faults = rose_on _ origin.faults old.faults new.faults has.faults more;
       telling = λ is_told. has.telling (told is_told);
       truth = λ is_told. has.truth (told is_told);
@@ -129,6 +136,7 @@ store_committed old new origin past who txn event has ledger more fault commits 
       opening = ap (λ (l : Ledger). l.opening) ledger ∙ has.opening;
       log = ap (λ (l : Ledger). l.log) ledger ∙ ap (λ (l : List Commit). l ++ record { sid = who; txn = txn } ∷ []) has.log ∙ sym (ap (λ (l : List Commit). log_of past ++ l) commits);
       cap = ap (λ (l : Ledger). l.cap) ledger ∙ has.cap;
+      failed = ap (λ (l : Ledger). l.failed) ledger ∙ has.failed ∙ ap (λ (n : ℕ). min n (2 ^ 64 - 1)) (sym count);
       faults = subst F (sym count) (rose_on (count_by is_fault past) origin.faults old.faults new.faults has.faults more);
       telling = λ is_told. has.telling (told is_told);
       truth = λ is_told. (subst T (ap (λ (rows : Tables). rows_after rows old.ledger.log) has.opening ∙ ap (rows_after origin.opening) has.log) (truth is_told), has.truth (told is_told));
@@ -143,6 +151,7 @@ store_ended old new origin past who told has ledger rows faults no_commit fault 
       opening = ap (λ (l : Ledger). l.opening) ledger ∙ has.opening;
       log = ap (λ (l : Ledger). l.log) ledger ∙ has.log;
       cap = ap (λ (l : Ledger). l.cap) ledger ∙ has.cap;
+      failed = ap (λ (l : Ledger). l.failed) ledger ∙ has.failed;
       faults = rose_on _ origin.faults old.faults new.faults has.faults (omega (arith, faults));
       telling = λ is_told. has.telling (subst P rows is_told);
       truth = λ is_told. has.truth (subst P rows is_told);

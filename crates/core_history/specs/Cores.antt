@@ -1,5 +1,5 @@
 -- After which moves a core stands.
-use Rattle.std.specs.Prelude.{ℕ, ◌≡◌, ◌+◌, ◌-◌, ◌^◌, ◌≤◌, ◌<◌, ◌⊎◌, List, [], length, map, reverse, count_by, Some, slice_get, IsSome, Option}
+use Rattle.std.specs.Prelude.{ℕ, min, ◌≡◌, ◌+◌, ◌-◌, ◌^◌, ◌≤◌, ◌<◌, ◌⊎◌, List, [], length, map, reverse, count_by, Some, slice_get, IsSome, Option}
 use Rattle.rows_model.specs.declared.keys.QKey.{QKey}
 use Rattle.rows_model.specs.declared.keys.Sid.{Sid}
 use Rattle.rows_model.specs.Rows.{Tables, Fit}
@@ -61,11 +61,12 @@ pub record HasShards (shards : List ShardView) (shape : Shape) (past : List Even
 abbrev pub RoseBy : ℕ → ℕ → ℕ → Type 0
 RoseBy count before after = (before + count ≤ after) ⊎ ((before ≤ 2 ^ 64 - 1) × (2 ^ 64 - 1 ≤ after))
 
--- the store began with the opening rows, its log is that of these events, and its keeper's count of faults rose with each FAULT. Where the keeper tells its rows, it told them from the start, and each of its replies was true
+-- the store began with the opening rows, its log is that of these events, each call that failed was told as FAULT, and the keeper's count of faults rose with it. Where the keeper tells its rows, it told them from the start, and each of its replies was true
 pub record HasStore (store : StoreView) (origin : Origin) (past : List Event) : Type 0 where
   pub opening : store.ledger.opening ≡ origin.opening
   pub log : store.ledger.log ≡ log_of past
   pub cap : store.ledger.cap ≡ log_cap
+  pub failed : store.ledger.failed ≡ min (count_by is_fault past) (2 ^ 64 - 1)
   pub faults : RoseBy (count_by is_fault past) origin.faults store.faults
   pub telling : IsSome store.told → IsSome origin.told
   pub truth : IsSome store.told → IsTruePast origin.opening past
