@@ -2,6 +2,7 @@ use iq_outside::{MemSink, MemSource, read_up_to};
 use run_inputs::ScriptKind;
 use sql_keeper::MapKeeper;
 use std::alloc::Global;
+use std::process::Abort;
 use std::test::Fail;
 use top_run::{Status, run};
 
@@ -234,14 +235,15 @@ fn run_over(
 
 /// Runs a script without a fault, in pieces of three sizes, and looks at what it prints.
 fn prints(
-    rt: &HostRuntime,
+    rt: &impl Abort,
+    alloc: Global,
     name: &str,
     text: &[u8],
     out: &[u8],
     histories: usize,
 ) -> Result<(), Fail> {
     for piece in [1, 5, 4096] {
-        let ran = run_over(rt.alloc(), &["replay"], text, piece, &[], &[], &[], 4096)?;
+        let ran = run_over(alloc, &["replay"], text, piece, &[], &[], &[], 4096)?;
         assert_eq!(rt; ran.status, Status::Done, "{name}, in pieces of {piece}");
         assert_eq!(rt; ran.printed.as_slice(), out, "{name}, in pieces of {piece}");
         assert_eq!(rt; ran.written, out.len() as u64);
@@ -253,10 +255,10 @@ fn prints(
 #[test]
 fn scripts_print_their_lines(rt: HostRuntime) -> Result<(), Fail> {
     for (name, text, out) in PRINTS {
-        prints(&rt, name, text, out, 1)?;
+        prints(&rt, rt.alloc(), name, text, out, 1)?;
     }
     for (name, text, out) in TWO_SHARDS {
-        prints(&rt, name, text, out, 2)?;
+        prints(&rt, rt.alloc(), name, text, out, 2)?;
     }
     Ok(())
 }
