@@ -1,7 +1,6 @@
-use Rattle.std.proofs.Common.{get_or, ℕ, ◌≡◌, ◌+◌, ◌^◌, ◌-◌, ◌<◌, ◌≤◌, List, [], ◌∷◌, length, map, reverse, arith, refl, sym, ap, ◌∙◌, subst, inl, inr}
-use Rattle.std.specs.Prelude.{◌⊎◌, Option, Some, None, IsSome, slice_get, option_map, count_by}
+use Rattle.std.proofs.Common.{ℕ, ◌≡◌, ◌^◌, ◌-◌, ◌<◌, ◌≤◌, List, [], map, reverse, arith, refl, sym, ap, ◌∙◌, subst, inl, inr}
+use Rattle.std.specs.Prelude.{Option, Some, IsSome, slice_get, option_map}
 use Rattle.std.specs.Option.{ForSome}
-use Rattle.std.specs.List.{range_with_len}
 use Rattle.std.proofs.lemmas.List.{ext_get_or, length-map, reverse-reverse}
 use Rattle.std.proofs.lemmas.List.FromFn.{length-map-range_with_len, get_or-map-range_with_len}
 use Rattle.std.proofs.lemmas.Option.{get_or_from_slice_get, slice_get_within, slice_get-map}
@@ -9,16 +8,15 @@ use Rattle.iq_outside.specs.Outside.{Rose}
 use Rattle.rows_model.specs.Rows.{Tables, start_tables}
 use Rattle.key_shard.specs.declared.steps.Step.{Step}
 use Rattle.key_shard.specs.Shards.{ShardView}
-use Rattle.key_shard.specs.Answers.{Legal, IsLegalPast}
+use Rattle.key_shard.specs.Answers.{IsLegalPast}
 use Rattle.sql_keeper.specs.declared.stores.Commit.{Commit}
 use Rattle.sql_keeper.specs.Fresh.{Fresh, Covered}
 use Rattle.session_client.specs.declared.plans.Shape.{Shape}
 use Rattle.core_history.specs.Events.{Event, steps_of, log_of}
 use Rattle.core_history.specs.Lines.{end_line}
 use Rattle.core_history.specs.Cores.{CoreView, Origin, HasShards, HasKept, IsSound, RoseBy, histories_in}
-use Rattle.core_history.specs.Freshness.{IsLawful, histories_of}
+use Rattle.core_history.specs.Freshness.{histories_of}
 use Rattle.core_history.specs.Machine.{Move, terms_of}
-use Rattle.core_history.specs.Truth.{IsTruePast}
 use Rattle.top_run.specs.Runs.{past_of, Keeps, FewFaults}
 
 -- the history of a shard
@@ -32,11 +30,11 @@ histories_are shards shape past h =
     let made = length-map-range_with_len (λ place. reverse (steps_of place past)) 0 shape.shards in
     ext_get_or [] (map (λ shard. shard.history) shards) (histories_of shape past) (kept ∙ h.count ∙ sym made)
     (λ i below.
-      let within : i < shape.shards = subst (λ (n : ℕ). i < n) (kept ∙ h.count) below in
-      let here : slice_get (map (λ shard. shard.history) shards) i ≡ Some (reverse (steps_of i past)) =
-      slice_get-map (λ shard. shard.history) shards i ∙ ap (option_map (λ shard. shard.history)) (h.each i within) in
-      get_or_from_slice_get (map (λ shard. shard.history) shards) i (reverse (steps_of i past)) [] here
-      ∙ sym (get_or-map-range_with_len (λ place. reverse (steps_of place past)) 0 shape.shards i i [] within (omega arith)))
+    let within : i < shape.shards = subst (λ (n : ℕ). i < n) (kept ∙ h.count) below in
+    let here : slice_get (map (λ shard. shard.history) shards) i ≡ Some (reverse (steps_of i past)) =
+    slice_get-map (λ shard. shard.history) shards i ∙ ap (option_map (λ shard. shard.history)) (h.each i within) in
+    get_or_from_slice_get (map (λ shard. shard.history) shards) i (reverse (steps_of i past)) [] here
+    ∙ sym (get_or-map-range_with_len (λ place. reverse (steps_of place past)) 0 shape.shards i i [] within (omega arith)))
 
 -- the history at a place
 history_is : (shape : Shape) (past : List Event) (place : ℕ) (history : List Step) → slice_get (histories_of shape past) place ≡ Some history → history ≡ reverse (steps_of place past)
@@ -77,8 +75,8 @@ keeps core origin moves rows kept sound told fresh =
       opened = for_some rows (λ some. fresh (kept.store.telling (subst (λ (r : Option Tables). IsSome r) told some)));
       truth = for_some rows (λ some. kept.store.truth (subst (λ (r : Option Tables). IsSome r) told some));
       fresh = for_some rows (λ some.
-        subst (λ (log : List Commit). Fresh origin.opening log (histories_in core)) (sym sound.log)
-        (subst (Fresh origin.opening (log_of past)) (sym sound.histories) (sound.fresh (subst (λ (r : Option Tables). IsSome r) told some))));
+          subst (λ (log : List Commit). Fresh origin.opening log (histories_in core)) (sym sound.log)
+          (subst (Fresh origin.opening (log_of past)) (sym sound.histories) (sound.fresh (subst (λ (r : Option Tables). IsSome r) told some))));
     }
 
 -- a count that rose since an earlier time

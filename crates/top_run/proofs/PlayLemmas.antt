@@ -1,14 +1,12 @@
-use Rattle.std.proofs.Common.{take, drop, get_or, take-append-drop, ℕ, zero, suc, ◌≡◌, ◌+◌, ◌-◌, ◌^◌, ◌<◌, ◌≤◌, List, [], ◌∷◌, ◌++◌, length, map, reverse, arith, refl, sym, ap, ◌∙◌, subst, inl, inr, append_assoc, append-nil}
+use Rattle.std.proofs.Common.{take, drop, get_or, take-append-drop, ℕ, zero, suc, ◌≡◌, ◌+◌, ◌-◌, ◌^◌, ◌<◌, List, [], ◌∷◌, ◌++◌, length, map, reverse, arith, refl, sym, ap, ◌∙◌, subst, inl, inr, append_assoc, append-nil}
 use Rattle.std.specs.Prelude.{Bool, true, false, ◌||◌, cond, ◌⊎◌, Option, Result, OnErr, Ok, Err, replicate, sum_by, count_by}
 use Rattle.std.proofs.lemmas.List.{take_more, drop_more, length-append, length-map, map-append, reverse-append, replicate-append-replicate}
 use Rattle.std.proofs.lemmas.List.Concat.{flat_map-append}
 use Rattle.std.proofs.lemmas.List.Sums.{sum_by-cons, sum_by-append}
-use Rattle.rows_model.specs.declared.keys.Kind.TheVariants.{Profile}
 use Rattle.session_client.specs.declared.plans.Shape.{Shape}
 use Rattle.session_client.specs.declared.plans.Turn.{Turn}
 use Rattle.session_client.specs.declared.plans.Turn.TheVariants.{Session}
 use Rattle.session_client.specs.declared.plans.Plan.{Plan}
-use Rattle.session_client.specs.declared.plans.Plan.TheVariants.{Read}
 use Rattle.run_inputs.specs.declared.scripts.Act.{Act}
 use Rattle.run_inputs.specs.declared.scripts.Act.TheVariants as act
 use Rattle.run_inputs.specs.Fit.{IsTurnOf, AreFit, sessions_of, turns_of}
@@ -17,7 +15,7 @@ use Rattle.core_history.specs.Lines.{line_of, lines_of, is_fault}
 use Rattle.core_history.specs.Cores.{CoreView, Origin, IsAt, HasKept, IsRunning, HasBegun}
 use Rattle.core_history.specs.Machine.{Said, Move, Begin, Take, turn_event, world_of}
 use Rattle.top_run.specs.declared.plays.Tally.{Tally}
-use Rattle.top_run.specs.Runs.{Call, Adds, Turns, call_of, calls_in, calls_of, past_of, faults_in, Prints}
+use Rattle.top_run.specs.Runs.{Call, Adds, Turns, call_of, calls_in, calls_of, past_of, Prints}
 use Rattle.top_run.specs.Plays.{begun_in, taken_in, is_add, is_turn, IsNoted, CanPlay, Stands, Stops}
 use Rattle.top_run.proofs.PrintLemmas.{lines_more}
 
@@ -325,8 +323,8 @@ stops_at core acts i a origin calls taken_old taken_new tally below is h =
     let parts : (calls ++ calls_of (take i acts ++ a ∷ [])) ++ calls_of rest ≡ calls ++ calls_of acts =
     append_assoc calls (calls_of (take i acts ++ a ∷ [])) (calls_of rest)
     ∙ ap (λ (xs : List Call). calls ++ xs)
-      (sym (flat_map-append calls_in (take i acts ++ a ∷ []) rest)
-      ∙ ap calls_of (ap (λ (xs : List Act). xs ++ rest) (sym (took acts i a below is)) ∙ take-append-drop (i + 1) acts)) in
+    (sym (flat_map-append calls_in (take i acts ++ a ∷ []) rest)
+    ∙ ap calls_of (ap (λ (xs : List Act). xs ++ rest) (sym (took acts i a below is)) ∙ take-append-drop (i + 1) acts)) in
     subst (λ (cs : List Call). Stops core origin cs taken_old taken_new tally) parts
     (stops_within core origin (calls ++ calls_of (take i acts ++ a ∷ [])) (calls_of rest) taken_old taken_new tally
     (subst (λ (cs : List Call). Stops core origin cs taken_old taken_new tally) (calls_push calls (take i acts) a) h))

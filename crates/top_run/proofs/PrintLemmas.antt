@@ -1,7 +1,7 @@
 use Rattle.std.proofs.Common.{ℕ, ◌≡◌, ◌+◌, ◌-◌, ◌*◌, ◌^◌, ◌<◌, ◌≤◌, min, List, [], ◌∷◌, ◌++◌, length, take, drop, decimal, arith, refl, sym, ap, ◌∙◌, append_assoc, append-nil, take-append-drop, reverse, flat_map}
 use Rattle.std.specs.Prelude.{Bool, Option, Some, codes, cond, count_by, slice_get}
 use Rattle.std.proofs.lemmas.List.{length-append, length-take-le, reverse-append, take_more}
-use Rattle.std.proofs.lemmas.List.Sums.{sum_by-append, sum_by-cons, count_by-le-length}
+use Rattle.std.proofs.lemmas.List.Sums.{sum_by-append}
 use Rattle.std.proofs.lemmas.Option.{get_or_from_slice_get, slice_get_within}
 use Rattle.std.proofs.lemmas.List.Concat.{flat_map-append}
 use Rattle.iq_outside.specs.Outside.{Gains}

@@ -1,13 +1,11 @@
 use Rattle.std.proofs.Common.{get_or, ℕ, ◌≡◌, ◌+◌, ◌-◌, ◌^◌, ◌<◌, ◌≤◌, List, [], ◌∷◌, ◌++◌, length, map, arith, refl, sym, ap, ◌∙◌, subst, inl, inr, append_assoc, append-nil}
-use Rattle.std.specs.Prelude.{Bool, true, false, Option, Some, None, Result, OnErr, OnOk, Ok, Err, IsSome, sum_by}
+use Rattle.std.specs.Prelude.{Bool, true, false, Option, Some, Result, OnErr, OnOk, Ok, Err, IsSome, sum_by}
 use Rattle.iq_outside.specs.Outside.{Rose}
 use Rattle.iq_outside.proofs.OutsideLemmas.{Gains-none}
 use Rattle.rows_model.specs.Rows.{start_tables}
 use Rattle.session_client.specs.declared.plans.Shape.{Shape}
 use Rattle.run_inputs.specs.declared.scripts.Act.{Act}
 use Rattle.run_inputs.specs.Fit.{IsPlayable, turns_of}
-use Rattle.core_history.specs.Events.{log_of}
-use Rattle.core_history.specs.Freshness.{histories_of}
 use Rattle.core_history.specs.Lines.{lines_of, end_line}
 use Rattle.core_history.specs.Cores.{CoreView, Origin, IsAt, HasKept, IsSound, IsShape, histories_in}
 use Rattle.core_history.specs.Machine.{Move}
@@ -16,7 +14,7 @@ use Rattle.top_run.specs.declared.plays.Stop.TheVariants as stop
 use Rattle.top_run.specs.declared.plays.Tally.{Tally}
 use Rattle.top_run.specs.declared.runs.Status.{Status}
 use Rattle.top_run.specs.declared.runs.Status.TheVariants as status
-use Rattle.top_run.specs.Runs.{Call, calls_of, past_of, out, faults_in, Prints, IsRead, Tells, Left, IsWhole, IsCutOff, Keeps, FewFaults, Ended}
+use Rattle.top_run.specs.Runs.{Call, calls_of, past_of, faults_in, Prints, IsRead, Tells, Left, IsWhole, IsCutOff, Keeps, FewFaults, Ended}
 use Rattle.top_run.specs.Plays.{CanPlay, Stands, Stops, IsNoted, IsNew, IsFinished, IsStopped, origin_of, status_of}
 use Rattle.top_run.proofs.PrintLemmas.{lines_none}
 use Rattle.top_run.proofs.KeepLemmas.{end_line_of, keeps, rose_since, rose_of, never_fell}

@@ -1,5 +1,5 @@
 -- What a run reads, prints and keeps.
-use Rattle.std.specs.Prelude.{ℕ, ◌≡◌, ◌+◌, ◌-◌, ◌^◌, ◌≤◌, ◌⊎◌, min, List, [], ◌∷◌, ◌++◌, length, map, reverse, replicate, flat_map, count_by, All, Option, Some, None, slice_get, codes}
+use Rattle.std.specs.Prelude.{ℕ, ◌≡◌, ◌+◌, ◌-◌, ◌^◌, ◌≤◌, ◌⊎◌, min, List, [], ◌∷◌, ◌++◌, length, map, reverse, replicate, flat_map, count_by, Option, Some, None, slice_get, codes}
 use Rattle.std.specs.Option.{ForSome}
 use Rattle.iq_outside.specs.Outside.{Rose, Takes, TakesSome, AtEnd, Gains}
 use Rattle.rows_model.specs.Rows.{Tables, start_tables}

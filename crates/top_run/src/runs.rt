@@ -121,12 +121,7 @@ fn read_script<S: Source>(alloc: Global, source: &mut S) -> Result<Script, Statu
 
 /// Runs a script and prints its lines. Room for the histories is there before the keeper starts, so
 /// that nothing that the run did is lost for want of memory.
-fn replay<W: Sink, K: Keeper>(
-    alloc: Global,
-    script: &Script,
-    sink: &mut W,
-    keeper: K,
-) -> RunEnd<K>
+fn replay<W: Sink, K: Keeper>(alloc: Global, script: &Script, sink: &mut W, keeper: K) -> RunEnd<K>
     requires { IsPlayable script.now.shape script.now.acts }
     ensures ended { (left_old left_new : Option (List ℕ)) (reads_old reads_new : ℕ) → IsRead left_old left_new script.now.shape script.now.acts → Ended result.status (record { left = left_old; reads_failed = reads_old; taken = W.taken sink.old; writes_failed = W.faults sink.old; rows = K.rows keeper; keeps_failed = K.faults keeper }) (record { left = left_new; reads_failed = reads_new; taken = W.taken sink.new; writes_failed = W.faults sink.new; rows = K.rows result.keeper; keeps_failed = K.faults result.keeper }) (record { opening = result.opening; log = result.log.items; histories = map (λ history. history.items) result.histories.items }) result.written }
     ensures other { result.status ≢ Status.Usage }

@@ -1,4 +1,3 @@
-use Rattle.std.proofs.Common.{◌+◌, ◌*◌, ◌≤◌, ℕ, arith}
 use Rattle.core_history.specs.Cores.{histories_in}
 use Rattle.core_history.specs.Lines.{is_hit, is_stored, is_again}
 use Rattle.top_run.proofs.PrintLemmas.{counted_more, bound_more}

@@ -1,5 +1,4 @@
-use Rattle.std.proofs.Common.{sym, ap, subst, ◌∙◌, ◌≤◌, ◌≡◌}
-use Rattle.top_run.specs.declared.runs.Status.TheVariants as status
+use Rattle.std.proofs.Common.{sym, ◌∙◌}
 use Rattle.top_run.specs.Plays.{origin_of}
 use Rattle.top_run.proofs.RunLemmas.{ended_is, room_at_end, other_end, faults_at_end}
 use Rattle.top_run.proofs.runs.play_on.Goals as goal
