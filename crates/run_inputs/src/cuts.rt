@@ -97,8 +97,10 @@ pub(crate) fn session_number(word: &[u8]) -> Option<Option<u64>>
 
 /// The number that is the only word.
 pub(crate) fn only_number(args: Option<&[u8]>) -> Option<u64>
-    ensures found { IfSome result (λ number. AreNumber number (words_behind (option_copied args.entry))) }
-    ensures none { IfNone result ((number : ℕ) → AreNumber number (words_behind (option_copied args.entry)) → ⊥) }
+    ensures found { IfSome result
+        (λ number. AreNumber number (words_behind (option_copied args.entry))) }
+    ensures none { IfNone result
+        ((number : ℕ) → AreNumber number (words_behind (option_copied args.entry)) → ⊥) }
 {
     let (word, more) = cut(args?, b' ');
     match more {
@@ -109,8 +111,10 @@ pub(crate) fn only_number(args: Option<&[u8]>) -> Option<u64>
 
 /// The count that is the only word, or that there is none; `None` where there are other words.
 pub(crate) fn count_of(args: Option<&[u8]>) -> Option<Option<u32>>
-    ensures found { IfSome result (λ count. AreCount count (words_behind (option_copied args.entry))) }
-    ensures none { IfNone result ((count : Option ℕ) → AreCount count (words_behind (option_copied args.entry)) → ⊥) }
+    ensures found { IfSome result
+        (λ count. AreCount count (words_behind (option_copied args.entry))) }
+    ensures none { IfNone result
+        ((count : Option ℕ) → AreCount count (words_behind (option_copied args.entry)) → ⊥) }
 {
     let Some(_) = args else {
         return Some(None);

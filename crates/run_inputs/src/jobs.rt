@@ -19,8 +19,10 @@ const MOST_CHANGES: usize = 8;
 
 /// The job for the task that the words behind a session's number say.
 pub(crate) fn job_of(alloc: Global, task: Task, args: Option<&[u8]>) -> Result<Option<Job>, Memory>
-    ensures found { IfOk result (λ read. IfSome read (λ job. IsJobOf task (words_behind (option_copied args.entry)) job)) }
-    ensures none { IfOk result (λ read. IfNone read (IsNoJob task (words_behind (option_copied args.entry)))) }
+    ensures found { IfOk result (λ read. IfSome read
+        (λ job. IsJobOf task (words_behind (option_copied args.entry)) job)) }
+    ensures none { IfOk result (λ read. IfNone read
+        (IsNoJob task (words_behind (option_copied args.entry)))) }
 {
     let Some(args) = args else {
         return Ok(None);
@@ -36,8 +38,10 @@ pub(crate) fn job_of(alloc: Global, task: Task, args: Option<&[u8]>) -> Result<O
 }
 
 fn read_of(word: &[u8], more: Option<&[u8]>) -> Option<Job>
-    ensures found { IfSome result (λ job. IsJobOf task.Read (word.now ∷ words_behind (option_copied more.entry)) job) }
-    ensures none { IfNone result (IsNoJob task.Read (word.now ∷ words_behind (option_copied more.entry))) }
+    ensures found { IfSome result
+        (λ job. IsJobOf task.Read (word.now ∷ words_behind (option_copied more.entry)) job) }
+    ensures none { IfNone result
+        (IsNoJob task.Read (word.now ∷ words_behind (option_copied more.entry))) }
 {
     let key = QKey::parse(word)?;
     let floor = floor_of(more)?;
@@ -45,8 +49,10 @@ fn read_of(word: &[u8], more: Option<&[u8]>) -> Option<Job>
 }
 
 fn write_of(alloc: Global, word: &[u8], more: Option<&[u8]>) -> Result<Option<Job>, Memory>
-    ensures found { IfOk result (λ read. IfSome read (λ job. IsJobOf task.Write (word.now ∷ words_behind (option_copied more.entry)) job)) }
-    ensures none { IfOk result (λ read. IfNone read (IsNoJob task.Write (word.now ∷ words_behind (option_copied more.entry)))) }
+    ensures found { IfOk result (λ read. IfSome read
+        (λ job. IsJobOf task.Write (word.now ∷ words_behind (option_copied more.entry)) job)) }
+    ensures none { IfOk result (λ read. IfNone read
+        (IsNoJob task.Write (word.now ∷ words_behind (option_copied more.entry)))) }
 {
     let Some(mode) = mode_of(word) else {
         return Ok(None);
@@ -58,8 +64,10 @@ fn write_of(alloc: Global, word: &[u8], more: Option<&[u8]>) -> Result<Option<Jo
 }
 
 fn look_of(alloc: Global, word: &[u8], more: Option<&[u8]>) -> Result<Option<Job>, Memory>
-    ensures found { IfOk result (λ read. IfSome read (λ job. IsJobOf task.Look (word.now ∷ words_behind (option_copied more.entry)) job)) }
-    ensures none { IfOk result (λ read. IfNone read (IsNoJob task.Look (word.now ∷ words_behind (option_copied more.entry)))) }
+    ensures found { IfOk result (λ read. IfSome read
+        (λ job. IsJobOf task.Look (word.now ∷ words_behind (option_copied more.entry)) job)) }
+    ensures none { IfOk result (λ read. IfNone read
+        (IsNoJob task.Look (word.now ∷ words_behind (option_copied more.entry)))) }
 {
     let Some(mode) = mode_of(word) else {
         return Ok(None);
@@ -78,8 +86,10 @@ fn look_of(alloc: Global, word: &[u8], more: Option<&[u8]>) -> Result<Option<Job
 }
 
 fn quit_of(alloc: Global, word: &[u8], more: Option<&[u8]>) -> Result<Option<Job>, Memory>
-    ensures found { IfOk result (λ read. IfSome read (λ job. IsJobOf task.Quit (word.now ∷ words_behind (option_copied more.entry)) job)) }
-    ensures none { IfOk result (λ read. IfNone read (IsNoJob task.Quit (word.now ∷ words_behind (option_copied more.entry)))) }
+    ensures found { IfOk result (λ read. IfSome read
+        (λ job. IsJobOf task.Quit (word.now ∷ words_behind (option_copied more.entry)) job)) }
+    ensures none { IfOk result (λ read. IfNone read
+        (IsNoJob task.Quit (word.now ∷ words_behind (option_copied more.entry)))) }
 {
     let Some(mode) = mode_of(word) else {
         return Ok(None);
@@ -91,8 +101,10 @@ fn quit_of(alloc: Global, word: &[u8], more: Option<&[u8]>) -> Result<Option<Job
 }
 
 fn skip_of(alloc: Global, word: &[u8], more: Option<&[u8]>) -> Result<Option<Job>, Memory>
-    ensures found { IfOk result (λ read. IfSome read (λ job. IsJobOf task.Skip (word.now ∷ words_behind (option_copied more.entry)) job)) }
-    ensures none { IfOk result (λ read. IfNone read (IsNoJob task.Skip (word.now ∷ words_behind (option_copied more.entry)))) }
+    ensures found { IfOk result (λ read. IfSome read
+        (λ job. IsJobOf task.Skip (word.now ∷ words_behind (option_copied more.entry)) job)) }
+    ensures none { IfOk result (λ read. IfNone read
+        (IsNoJob task.Skip (word.now ∷ words_behind (option_copied more.entry)))) }
 {
     let Some(key) = QKey::parse(word) else {
         return Ok(None);
@@ -105,8 +117,10 @@ fn skip_of(alloc: Global, word: &[u8], more: Option<&[u8]>) -> Result<Option<Job
 
 // The floor of a `read` line, or that there is none; `None` where there are other words.
 fn floor_of(args: Option<&[u8]>) -> Option<Option<u64>>
-    ensures found { IfSome result (λ floor. AreFloor floor (words_behind (option_copied args.entry))) }
-    ensures none { IfNone result ((floor : Option ℕ) → AreFloor floor (words_behind (option_copied args.entry)) → ⊥) }
+    ensures found { IfSome result
+        (λ floor. AreFloor floor (words_behind (option_copied args.entry))) }
+    ensures none { IfNone result
+        ((floor : Option ℕ) → AreFloor floor (words_behind (option_copied args.entry)) → ⊥) }
 {
     let Some(args) = args else {
         return Some(None);
@@ -134,8 +148,10 @@ fn mode_of(word: &[u8]) -> Option<Mode>
 
 // The transaction of which these are the words.
 fn txn_of(alloc: Global, args: Option<&[u8]>) -> Result<Option<Txn>, Memory>
-    ensures found { IfOk result (λ read. IfSome read (λ txn. AreTxnWords txn (words_behind (option_copied args.entry)))) }
-    ensures none { IfOk result (λ read. IfNone read ((txn : List Change) → AreTxnWords txn (words_behind (option_copied args.entry)) → ⊥)) }
+    ensures found { IfOk result (λ read. IfSome read
+        (λ txn. AreTxnWords txn (words_behind (option_copied args.entry)))) }
+    ensures none { IfOk result (λ read. IfNone read
+        ((txn : List Change) → AreTxnWords txn (words_behind (option_copied args.entry)) → ⊥)) }
 {
     let Some(words) = args else {
         return Ok(None);
@@ -152,8 +168,10 @@ fn txn_of(alloc: Global, args: Option<&[u8]>) -> Result<Option<Txn>, Memory>
 
 // The changes of which these are the words, joined by `+`: 1 to 8 of them.
 fn changes_of(alloc: Global, words: &[u8]) -> Result<Option<Vec<Change>>, Memory>
-    ensures found { IfOk result (λ read. IfSome read (λ changes. AreTxnWords changes.items (words_in words.now))) }
-    ensures none { IfOk result (λ read. IfNone read ((txn : List Change) → AreTxnWords txn (words_in words.now) → ⊥)) }
+    ensures found { IfOk result (λ read. IfSome read
+        (λ changes. AreTxnWords changes.items (words_in words.now))) }
+    ensures none { IfOk result (λ read. IfNone read
+        ((txn : List Change) → AreTxnWords txn (words_in words.now) → ⊥)) }
 {
     let mut changes = Vec::new(alloc);
     let mut rest = words;
@@ -176,7 +194,8 @@ fn changes_of(alloc: Global, words: &[u8]) -> Result<Option<Vec<Change>>, Memory
 // What stands behind the word `+`, if that is the first word and not the last.
 fn behind_plus(text: &[u8]) -> Option<&[u8]>
     ensures found { IfSome result (λ rest. words_in text.now ≡ codes "+" ∷ words_in rest.now) }
-    ensures none { IfNone result ((changes : List Change) → AreChanges changes (words_in text.now) → ⊥) }
+    ensures none { IfNone result
+        ((changes : List Change) → AreChanges changes (words_in text.now) → ⊥) }
 {
     let (word, more) = cut(text, b' ');
     if word == b"+".as_slice() { more } else { None }
@@ -184,7 +203,8 @@ fn behind_plus(text: &[u8]) -> Option<&[u8]>
 
 // The change that the first three words are, and what stands behind them if anything does.
 fn first_change(text: &[u8]) -> Option<(Change, Option<&[u8]>)>
-    ensures found { IfSome result (λ read. BeginsWith read.0 (words_in text.now) (words_behind (option_copied read.1))) }
+    ensures found { IfSome result
+        (λ read. BeginsWith read.0 (words_in text.now) (words_behind (option_copied read.1))) }
     ensures none { IfNone result (BeginsWithNone (words_in text.now)) }
 {
     let (word, rest) = cut(text, b' ');
@@ -198,7 +218,8 @@ fn first_change(text: &[u8]) -> Option<(Change, Option<&[u8]>)>
 fn change_of(word: &[u8], first: &[u8], second: &[u8]) -> Option<Change>
     ensures word { IfSome result (λ change. word.now ≡ change_word change) }
     ensures sides { IfSome result (λ change. AreSides change first.now second.now) }
-    ensures none { IfNone result ((change : Change) → word.now ≡ change_word change → AreSides change first.now second.now → ⊥) }
+    ensures none { IfNone result
+        ((change : Change) → word.now ≡ change_word change → AreSides change first.now second.now → ⊥) }
 {
     let a = id_of(first)?;
     if word == b"rename".as_slice() {
@@ -212,7 +233,8 @@ fn change_of(word: &[u8], first: &[u8], second: &[u8]) -> Option<Change>
 fn pair_of(word: &[u8], a: u32, b: u32) -> Option<Change>
     ensures word { IfSome result (λ change. word.now ≡ change_word change) }
     ensures pair { IfSome result (λ change. IsPair change a b) }
-    ensures none { IfNone result ((change : Change) → word.now ≡ change_word change → change_word change ≢ codes "rename" → ⊥) }
+    ensures none { IfNone result
+        ((change : Change) → word.now ≡ change_word change → change_word change ≢ codes "rename" → ⊥) }
 {
     match word {
         b"invite" => Some(Change::Invite { a, b }),

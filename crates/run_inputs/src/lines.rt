@@ -155,7 +155,8 @@ impl Verb {
 /// What the line says, or `None` exactly where it has the words of no line.
 pub(crate) fn line_of(alloc: Global, line: &[u8]) -> Result<Option<Line>, Memory>
     ensures found { IfOk result (λ read. IfSome read (λ said. AreWords said (words_in line.now))) }
-    ensures none { IfOk result (λ read. IfNone read ((said : Line) → AreWords said (words_in line.now) → ⊥)) }
+    ensures none { IfOk result (λ read. IfNone read
+        ((said : Line) → AreWords said (words_in line.now) → ⊥)) }
 {
     let (word, args) = cut(line, b' ');
     match Verb::of_word(word) {
@@ -166,8 +167,10 @@ pub(crate) fn line_of(alloc: Global, line: &[u8]) -> Result<Option<Line>, Memory
 
 // What the words behind the verb say.
 fn with_verb(alloc: Global, verb: Verb, args: Option<&[u8]>) -> Result<Option<Line>, Memory>
-    ensures found { IfOk result (λ read. IfSome read (λ said. IsLineOf verb (words_behind (option_copied args.entry)) said)) }
-    ensures none { IfOk result (λ read. IfNone read (IsNoLine verb (words_behind (option_copied args.entry)))) }
+    ensures found { IfOk result (λ read. IfSome read
+        (λ said. IsLineOf verb (words_behind (option_copied args.entry)) said)) }
+    ensures none { IfOk result (λ read. IfNone read
+        (IsNoLine verb (words_behind (option_copied args.entry)))) }
 {
     match verb {
         Verb::Head { part } => Ok(head_of(part, args)),
@@ -180,8 +183,10 @@ fn with_verb(alloc: Global, verb: Verb, args: Option<&[u8]>) -> Result<Option<Li
 }
 
 fn head_of(part: Part, args: Option<&[u8]>) -> Option<Line>
-    ensures found { IfSome result (λ said. IsLineOf (verb.Head part) (words_behind (option_copied args.entry)) said) }
-    ensures none { IfNone result (IsNoLine (verb.Head part) (words_behind (option_copied args.entry))) }
+    ensures found { IfSome result
+        (λ said. IsLineOf (verb.Head part) (words_behind (option_copied args.entry)) said) }
+    ensures none { IfNone result
+        (IsNoLine (verb.Head part) (words_behind (option_copied args.entry))) }
 {
     let number = only_number(args)?;
     if number < 1 || number > part.most() {
@@ -191,8 +196,10 @@ fn head_of(part: Part, args: Option<&[u8]>) -> Option<Line>
 }
 
 fn session_of(alloc: Global, task: Task, args: Option<&[u8]>) -> Result<Option<Line>, Memory>
-    ensures found { IfOk result (λ read. IfSome read (λ said. IsLineOf (verb.Session task) (words_behind (option_copied args.entry)) said)) }
-    ensures none { IfOk result (λ read. IfNone read (IsNoLine (verb.Session task) (words_behind (option_copied args.entry)))) }
+    ensures found { IfOk result (λ read. IfSome read
+        (λ said. IsLineOf (verb.Session task) (words_behind (option_copied args.entry)) said)) }
+    ensures none { IfOk result (λ read. IfNone read
+        (IsNoLine (verb.Session task) (words_behind (option_copied args.entry)))) }
 {
     let Some(args) = args else {
         return Ok(None);
@@ -208,7 +215,8 @@ fn session_of(alloc: Global, task: Task, args: Option<&[u8]>) -> Result<Option<L
 }
 
 fn turn_of(args: Option<&[u8]>) -> Option<Line>
-    ensures found { IfSome result (λ said. IsLineOf verb.Turn (words_behind (option_copied args.entry)) said) }
+    ensures found { IfSome result
+        (λ said. IsLineOf verb.Turn (words_behind (option_copied args.entry)) said) }
     ensures none { IfNone result (IsNoLine verb.Turn (words_behind (option_copied args.entry))) }
 {
     let (word, more) = cut(args?, b' ');
@@ -218,7 +226,8 @@ fn turn_of(args: Option<&[u8]>) -> Option<Line>
 }
 
 fn tick_of(args: Option<&[u8]>) -> Option<Line>
-    ensures found { IfSome result (λ said. IsLineOf verb.Tick (words_behind (option_copied args.entry)) said) }
+    ensures found { IfSome result
+        (λ said. IsLineOf verb.Tick (words_behind (option_copied args.entry)) said) }
     ensures none { IfNone result (IsNoLine verb.Tick (words_behind (option_copied args.entry))) }
 {
     let ticks = only_number(args)?;
@@ -226,7 +235,8 @@ fn tick_of(args: Option<&[u8]>) -> Option<Line>
 }
 
 fn sweep_of(args: Option<&[u8]>) -> Option<Line>
-    ensures found { IfSome result (λ said. IsLineOf verb.Sweep (words_behind (option_copied args.entry)) said) }
+    ensures found { IfSome result
+        (λ said. IsLineOf verb.Sweep (words_behind (option_copied args.entry)) said) }
     ensures none { IfNone result (IsNoLine verb.Sweep (words_behind (option_copied args.entry))) }
 {
     let count = count_of(args)?;
@@ -234,7 +244,8 @@ fn sweep_of(args: Option<&[u8]>) -> Option<Line>
 }
 
 fn end_of(args: Option<&[u8]>) -> Option<Line>
-    ensures found { IfSome result (λ said. IsLineOf verb.End (words_behind (option_copied args.entry)) said) }
+    ensures found { IfSome result
+        (λ said. IsLineOf verb.End (words_behind (option_copied args.entry)) said) }
     ensures none { IfNone result (IsNoLine verb.End (words_behind (option_copied args.entry))) }
 {
     match args {
