@@ -1,23 +1,22 @@
 -- How a core follows a session that begins.
-use Rattle.std.proofs.Common.{ℕ, zero, suc, ◌+◌, ◌-◌, ◌≡◌, ◌≢◌, ◌<◌, ◌≤◌, ◌==◌, ◌&&◌, ◌||◌, Bool, true, false, not, cond, List, [], ◌∷◌, ◌++◌, length, map, count_by, Option, Some, None, IsSome, slice_get, refl, sym, ap, subst, ◌∙◌, inl, inr, ⊎_elim, ◌⊎◌, length-append, arith, rules}
-use Rattle.std.proofs.lemmas.Bool.{cases_Bool, cases_lt, false≢true}
+use Rattle.std.proofs.Common.{ℕ, zero, suc, ◌+◌, ◌-◌, ◌≡◌, ◌<◌, ◌≤◌, ◌==◌, ◌&&◌, ◌||◌, Bool, true, false, not, cond, List, [], ◌∷◌, ◌++◌, length, map, count_by, Option, Some, None, IsSome, slice_get, refl, sym, ap, subst, ◌∙◌, ⊎_elim, length-append, arith}
+use Rattle.std.proofs.lemmas.Bool.{cases_lt}
 use Rattle.std.proofs.lemmas.List.{length-map}
 use Rattle.rows_model.specs.declared.keys.Sid.{Sid}
 use Rattle.rows_model.specs.Rows.{Tables}
 use Rattle.sql_keeper.specs.declared.stores.Phase.{Phase}
 use Rattle.sql_keeper.specs.Sessions.{may_commit as may, is_open as may_commit, first_phase, begun as begun_phases}
-use Rattle.sql_keeper.specs.Stores.{Ledger, StoreView, with_session}
+use Rattle.sql_keeper.specs.Stores.{Ledger, with_session}
 use Rattle.session_client.specs.Follows.{plan_of, sid_of, IsReady, Follows}
 use Rattle.session_client.specs.Plans.{IsPlan, writes}
 use Rattle.session_client.specs.Wants.{was_committed}
 use Rattle.session_client.specs.declared.plans.Plan.{Plan}
-use Rattle.session_client.specs.declared.replies.Reply.{Reply}
 use Rattle.session_client.specs.declared.sessions.Session.{Session}
 use Rattle.key_shard.specs.Shards.{ShardView}
-use Rattle.core_history.specs.Cores.{Origin, CoreView, HasShards, HasStore, HasPhases, RoseBy, IsAt, AreFollowing}
-use Rattle.core_history.specs.Events.{Event, who_in, request_in, reply_in, is_end, ends, told_in, told_to, was_ended, has_committed}
+use Rattle.core_history.specs.Cores.{Origin, CoreView, HasShards, HasPhases, RoseBy, IsAt, AreFollowing}
+use Rattle.core_history.specs.Events.{Event, who_in, request_in, reply_in, is_end, told_to, was_ended, has_committed}
 use Rattle.core_history.specs.Lines.{is_fault}
-use Rattle.core_history.specs.Machine.{World, Move, Begin, plan_at, is_writer, is_open, begun, world_of}
+use Rattle.core_history.specs.Machine.{World, Move, Begin, is_writer, is_open, begun, world_of}
 use Rattle.core_history.proofs.CoresLemmas.{NoneUnbegun, follow_begun, none_begun, plans_begun}
 use Rattle.core_history.proofs.EventLemmas.{committed-told}
 use Rattle.core_history.proofs.OpenLemmas.{phase_there}

@@ -21,8 +21,8 @@ use Rattle.rows_model.specs.declared.refusals.Memory.{Memory}
 use Rattle.session_client.specs.declared.plans.Turn.TheVariants as turn
 use Rattle.core_history.specs.declared.told.Told.{Told}
 use Rattle.core_history.specs.Cores.{Origin, CoreView, HasShards, AreFollowing, HasKept, IsAt}
-use Rattle.core_history.specs.Events.{Event, who_in, told_to, reply_in}
-use Rattle.core_history.specs.Machine.{World, plan_at, wanted_by, wanted_of, event_of, turn_event, out_of, Said, Move, Take, world_of}
+use Rattle.core_history.specs.Events.{Event, told_to, reply_in}
+use Rattle.core_history.specs.Machine.{World, wanted_by, wanted_of, event_of, turn_event, out_of, Said, Move, Take, world_of}
 use Rattle.core_history.specs.Requests.{IsGrantOut, IsOutWhereReleased, IsWaiting, Stands, TakesTurn, TakesOne, after}
 use Rattle.core_history.specs.Told.{IsToldOf}
 use Rattle.core_history.proofs.GrantLemmas.{grant_facts}

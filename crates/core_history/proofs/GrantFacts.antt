@@ -1,5 +1,5 @@
 -- What holds of leases, quarantines and grants after any moves, whatever the keeper says.
-use Rattle.std.specs.Prelude.{ℕ, ◌≡◌, ◌≢◌, ◌<◌, ◌≤◌, true, false, List, All, AllPairs, count_by, Some}
+use Rattle.std.specs.Prelude.{ℕ, ◌≡◌, ◌≢◌, ◌<◌, ◌≤◌, true, false, All, AllPairs, count_by, Some}
 use Rattle.std.specs.List.{list_any}
 use Rattle.rows_model.specs.declared.keys.QKey.{QKey}
 use Rattle.rows_model.specs.declared.keys.Sid.{Sid}
@@ -16,7 +16,7 @@ use Rattle.session_client.specs.declared.replies.Reply.{Reply}
 use Rattle.session_client.specs.declared.replies.Reply.TheVariants as reply
 use Rattle.session_client.specs.declared.replies.Wanted.{Wanted}
 use Rattle.session_client.specs.declared.replies.Wanted.TheVariants as wanted
-use Rattle.core_history.specs.Events.{steps_of, told_to, log_of}
+use Rattle.core_history.specs.Events.{steps_of, told_to}
 use Rattle.core_history.specs.Machine.{World, terms_of, plan_at, wanted_of, out_of}
 use Rattle.core_history.specs.Facts.{steps_on, stands_for, AreApart, IsOrdered}
 use Rattle.core_history.specs.Freshness.{AreQuarantined}

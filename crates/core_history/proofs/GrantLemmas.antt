@@ -62,9 +62,9 @@ tokens-key (x ∷ xs) h =
 writer-once : (shape : Shape) (past : List Event) (who : Sid) (heard : List Reply) (keys : List QKey) (key : QKey) → Writer shape past who.number heard keys → count_by (covers who key) (granted heard) ≤ 1
 writer-once shape past who heard keys key w =
     count-once (covers who key) (granted heard) (λ i j a b at_i at_j on_a on_b.
-        let one = same_key-true key a.key (and_elim (same_key key a.key) (a.sid.number == who.number) on_a).0 in
-        let other = same_key-true key b.key (and_elim (same_key key b.key) (b.sid.number == who.number) on_b).0 in
-        w.once i j key ((w.fits i a at_i).at_key ∙ ap (λ k. Some k) (sym one)) ((w.fits j b at_j).at_key ∙ ap (λ k. Some k) (sym other)))
+    let one = same_key-true key a.key (and_elim (same_key key a.key) (a.sid.number == who.number) on_a).0 in
+    let other = same_key-true key b.key (and_elim (same_key key b.key) (b.sid.number == who.number) on_b).0 in
+    w.once i j key ((w.fits i a at_i).at_key ∙ ap (λ k. Some k) (sym one)) ((w.fits j b at_j).at_key ∙ ap (λ k. Some k) (sym other)))
 
 none-once : (who : Sid) (key : QKey) (grants : List Permit) → grants ≡ [] → count_by (covers who key) grants ≤ 1
 none-once who key grants e = let z : count_by (covers who key) grants ≡ 0 = ap (count_by (covers who key)) e in omega (arith, z)

@@ -166,13 +166,13 @@ stepped-inner shape world home who request s told inner answers facts known mild
     let past = world.past in
     inner-event shape world event inner
     (λ place.
-        let P : ℕ → Type 0 = λ p. Answers (terms_of shape p) (steps_of p past) s in
-        maybe-step (IsLegalPast (terms_of shape place)) (home == place) s (steps_of place past) (λ same. (subst P (eqb-true home place same) answers, inner.legal place)) (λ _. inner.legal place))
+    let P : ℕ → Type 0 = λ p. Answers (terms_of shape p) (steps_of p past) s in
+    maybe-step (IsLegalPast (terms_of shape place)) (home == place) s (steps_of place past) (λ same. (subst P (eqb-true home place same) answers, inner.legal place)) (λ _. inner.legal place))
     (λ key.
-        let place = shard_of key shape.shards in
-        let P : ℕ → Type 0 = λ p. KeyFacts (terms_of shape p) key (s ∷ steps_of p past) in
-        let Q : ℕ → Type 0 = λ p. KeyFacts (terms_of shape p) key (steps_of p past) in
-        maybe-step (KeyFacts (terms_of shape place) key) (home == place) s (steps_of place past) (λ same. let e = eqb-true home place same in subst P e (facts key (subst Q (sym e) (inner.keys key)))) (λ _. inner.keys key))
+    let place = shard_of key shape.shards in
+    let P : ℕ → Type 0 = λ p. KeyFacts (terms_of shape p) key (s ∷ steps_of p past) in
+    let Q : ℕ → Type 0 = λ p. KeyFacts (terms_of shape p) key (steps_of p past) in
+    maybe-step (KeyFacts (terms_of shape place) key) (home == place) s (steps_of place past) (λ same. let e = eqb-true home place same in subst P e (facts key (subst Q (sym e) (inner.keys key)))) (λ _. inner.keys key))
     (λ place. known-one (IsKnown (event ∷ past)) (home == place) s known)
     (late-mild event past mild) counted (mild-quarantined shape past who told mild) keeps mine
   where

@@ -82,9 +82,9 @@ granted-key terms key on who shift now deadline steps facts =
       apart = elim (cases_Bool (same_key key on)) [
         | inl same ↦ inl (ap (λ b. cond b None (recorded key steps)) same)
         | inr other ↦ elim facts.apart [
-            | inl none ↦ inl (ap (λ b. cond b None (recorded key steps)) other ∙ none)
-            | inr none ↦ inr (ap (λ b. cond b (xs ++ quar ∷ []) xs) other ∙ none)
-          ]
+          | inl none ↦ inl (ap (λ b. cond b None (recorded key steps)) other ∙ none)
+          | inr none ↦ inr (ap (λ b. cond b (xs ++ quar ∷ []) xs) other ∙ none)
+        ]
       ];
       balance = λ by.
           let a = count-cond (is_of by) (same_key key on) (who.number == by.number) xs quar refl in
@@ -195,6 +195,8 @@ stays-of n t m u xs h mine theirs apart =
 
     each : (ys : List Quar) → AllByRecursion (λ y. is_quar n t y ≡ true → not (has_token u y) ≡ true) ys
     each [] = tt
-    each (y ∷ ys) =
-        ((λ is. let tok = eqb-true _ _ (and_elim (y.sid.number == n) (y.token == t) is).1 in
-            ap not (not_true (y.token == u) (λ same. others (sym tok ∙ eqb-true _ _ same)))), each ys)
+    each (y ∷ ys) = (
+      (λ is. let tok = eqb-true _ _ (and_elim (y.sid.number == n) (y.token == t) is).1 in
+          ap not (not_true (y.token == u) (λ same. others (sym tok ∙ eqb-true _ _ same)))),
+      each ys,
+    )

@@ -1,5 +1,5 @@
 -- Which sessions are open, at the store and by the events.
-use Rattle.std.proofs.Common.{ℕ, zero, suc, ◌+◌, ◌-◌, ◌≡◌, ◌≢◌, ◌<◌, ◌≤◌, ◌==◌, ◌&&◌, ◌||◌, Bool, true, false, not, cond, if◌then◌else◌, List, [], ◌∷◌, ◌++◌, length, Option, Some, None, slice_get, slice_set, refl, sym, ap, subst, ◌∙◌, inl, inr, ⊎_elim, ◌⊎◌, append-nil, length-append, length-set, arith, rules, eq-eqb}
+use Rattle.std.proofs.Common.{ℕ, zero, suc, ◌-◌, ◌≡◌, ◌≢◌, ◌<◌, ◌≤◌, ◌==◌, ◌&&◌, ◌||◌, Bool, true, false, not, cond, if◌then◌else◌, List, [], ◌∷◌, ◌++◌, length, Some, None, slice_get, refl, sym, ap, subst, ◌∙◌, inl, inr, ⊎_elim, ◌⊎◌, append-nil, length-set, arith, rules, eq-eqb}
 use Rattle.std.specs.List.{list_any}
 use Rattle.std.proofs.lemmas.Bool.{eqb-true, cases_Bool, false≢true}
 use Rattle.std.proofs.lemmas.List.Folds.{list_any-append}
@@ -8,18 +8,16 @@ use Rattle.rows_model.specs.declared.keys.Sid.{Sid}
 use Rattle.sql_keeper.specs.declared.stores.Commit.{Commit}
 use Rattle.sql_keeper.specs.declared.stores.Phase.{Phase}
 use Rattle.sql_keeper.specs.declared.stores.Phase.TheVariants.{Committed, Ended}
-use Rattle.sql_keeper.specs.Sessions.{phase_of, may_commit as may, is_open as may_commit, first_phase, begun as begun_phases, with_phase, ended}
+use Rattle.sql_keeper.specs.Sessions.{may_commit as may, is_open as may_commit, with_phase, ended}
 use Rattle.session_client.specs.Grants.{GrantsView}
-use Rattle.session_client.specs.Plans.{writes}
-use Rattle.session_client.specs.declared.plans.Plan.{Plan}
 use Rattle.session_client.specs.declared.replies.Reply.{Reply}
 use Rattle.session_client.specs.declared.replies.Reply.TheVariants as reply
 use Rattle.session_client.specs.declared.replies.Wanted.TheVariants as wanted
 use Rattle.core_history.specs.Cores.{HasPhases}
-use Rattle.core_history.specs.Events.{Event, Called, who_in, request_in, reply_in, commits_told, log_of, is_end, ends, was_ended, has_committed, told_to}
-use Rattle.core_history.specs.Machine.{World, plan_at, is_writer, is_open, begun}
+use Rattle.core_history.specs.Events.{Event, Called, who_in, request_in, reply_in, commits_told, log_of, is_end, ends, was_ended, has_committed}
+use Rattle.core_history.specs.Machine.{World, plan_at, is_writer, is_open}
 use Rattle.core_history.specs.Requests.{after}
-use Rattle.core_history.proofs.ShardsLemmas.{slice_get-set_same, slice_get-set_other, slice_get_push, slice_get_pushed}
+use Rattle.core_history.proofs.ShardsLemmas.{slice_get-set_same, slice_get-set_other}
 
 same_both : (b : Bool) → cond b false false ≡ false
 same_both true = refl

@@ -86,9 +86,9 @@ lease-apart key on lease past none old =
     elim (cases_Bool (same_key on key)) [
       | inl same ↦ inr (subst (λ k. standing k past ≡ []) (sym (same_key-true on key same)) none)
       | inr other ↦ elim old [
-          | inl free ↦ inl (ap (λ b. cond b (Some lease) (recorded on past)) other ∙ free)
-          | inr empty ↦ inr empty
-        ]
+        | inl free ↦ inl (ap (λ b. cond b (Some lease) (recorded on past)) other ∙ free)
+        | inr empty ↦ inr empty
+      ]
     ]
 
 stored-apart : (b : Bool) (lease : Option ReadLease) (xs : List Quar) → (lease ≡ None) ⊎ (xs ≡ []) → (cond b None lease ≡ None) ⊎ (xs ≡ [])
@@ -107,13 +107,13 @@ get-turn shape world who said key floor inner plan =
     (λ is. reader-step shape world who key floor request (step.Own key who) (reply.Got got.Own) inner plan (record { request = Get key who floor 0; at_home = refl; owed = tt; answer = is }) (quiet-own key who) (λ t out. refl) (λ on old. old) tt refl refl tt)
     (λ stands is. reader-step shape world who key floor request (step.Again key who floor 0 stands) (reply.Got (got.Again stands)) inner plan (record { request = Get key who floor 0; at_home = refl; owed = tt; answer = is }) (quiet-again key who floor 0 stands) (λ t out. refl) (λ on old. old) tt refl refl tt)
     (λ none is.
-        let token = next_token terms steps in
-        let deadline = deadline_at terms 0 in
-        let s = step.Lease key who floor 0 token deadline in
-        let one = count-cons draws s steps in
-        let here : (home == home) ≡ true = eq-eqb home home refl in
-        reader-step shape world who key floor request s (reply.Got (got.Lease token)) inner plan (record { request = Get key who floor 0; at_home = refl; owed = tt; answer = is }) (quiet-lease key who floor 0 token deadline) (λ t out. refl) (λ on old. lease-apart key on (record { sid = who; token = token; deadline = deadline }) steps none old) tt refl refl
-        (maybe-step (λ l. token < next_token terms l) (home == home) s steps (λ _. omega (arith, one)) (λ other. absurd (false≢true (sym other ∙ here)))))
+    let token = next_token terms steps in
+    let deadline = deadline_at terms 0 in
+    let s = step.Lease key who floor 0 token deadline in
+    let one = count-cons draws s steps in
+    let here : (home == home) ≡ true = eq-eqb home home refl in
+    reader-step shape world who key floor request s (reply.Got (got.Lease token)) inner plan (record { request = Get key who floor 0; at_home = refl; owed = tt; answer = is }) (quiet-lease key who floor 0 token deadline) (λ t out. refl) (λ on old. lease-apart key on (record { sid = who; token = token; deadline = deadline }) steps none old) tt refl refl
+    (maybe-step (λ l. token < next_token terms l) (home == home) s steps (λ _. omega (arith, one)) (λ other. absurd (false≢true (sym other ∙ here)))))
     refl
 
 set-turn : (shape : Shape) (world : World) (who : Sid) (said : Said) (key : QKey) (floor : ℕ) (token : ℕ) (value : List ℕ) (stamp : ℕ) → Inner shape world → plan_at who.number world.plans ≡ Some (Read key floor) → After shape world who said (wanted.Set key token value stamp)

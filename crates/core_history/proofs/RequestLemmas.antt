@@ -1,5 +1,5 @@
 -- What a shard's answer tells is what its step shows.
-use Rattle.std.proofs.Common.{ℕ, ◌≡◌, pos, List, [], ◌∷◌, Option, Some, None, refl, sym, ap, subst, set, Result, Ok, Err, IfOk, ◌∙◌}
+use Rattle.std.proofs.Common.{ℕ, ◌≡◌, pos, List, ◌∷◌, Option, Some, None, refl, sym, ap, subst, set, ◌∙◌}
 use Rattle.std.proofs.lemmas.List.{reverse-reverse}
 use Rattle.rows_model.specs.declared.keys.QKey.{QKey}
 use Rattle.rows_model.specs.declared.keys.Sid.{Sid}
@@ -32,7 +32,7 @@ use Rattle.session_client.specs.Belongs.{IsQuarantineOf}
 use Rattle.core_history.specs.Cores.{HasShards}
 use Rattle.core_history.specs.Events.{Event, steps_of, reply_in}
 use Rattle.core_history.specs.Machine.{World, Failed, event_of, stepped_on, terms_of, shown}
-use Rattle.core_history.proofs.ShardsLemmas.{IsShardOf, step_is, shards_made, grown}
+use Rattle.core_history.proofs.ShardsLemmas.{IsShardOf, step_is, shards_made}
 
 tells_got : (terms : Terms) (past : List Step) (s : Step) (answer : Got) → ShowsGot s answer → reply.Got answer ≡ shown terms past s
 tells_got terms past (step.Hit key sid floor value stamp) answer h = ap reply.Got h

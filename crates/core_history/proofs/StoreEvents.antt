@@ -1,7 +1,5 @@
 -- How the store of a core follows an event.
-use Rattle.std.proofs.Common.{ℕ, ◌+◌, ◌-◌, ◌^◌, ◌≡◌, ◌≢◌, ◌<◌, ◌≤◌, Bool, true, false, List, [], ◌∷◌, ◌++◌, length, count_by, Option, Some, None, IsSome, Result, Ok, Err, OnOk, IfOk, IfErr, refl, sym, ap, subst, ◌∙◌, inl, inr, ◌⊎◌, append-nil, arith, rules}
-use Rattle.std.proofs.lemmas.Bool.{false≢true}
-use Rattle.iq_outside.specs.Outside.{Rose}
+use Rattle.std.proofs.Common.{ℕ, ◌+◌, ◌≡◌, ◌≢◌, ◌≤◌, Bool, true, false, List, [], ◌∷◌, ◌++◌, length, count_by, Option, Some, None, IsSome, Result, Ok, Err, OnOk, IfOk, IfErr, refl, sym, ap, subst, ◌∙◌, inl, inr, append-nil, arith}
 use Rattle.rows_model.specs.declared.changes.Change.{Change}
 use Rattle.rows_model.specs.declared.refusals.Memory.{Memory}
 use Rattle.rows_model.specs.declared.keys.Sid.{Sid}
@@ -14,7 +12,7 @@ use Rattle.sql_keeper.specs.declared.stores.Commit.{Commit}
 use Rattle.sql_keeper.specs.declared.faults.CommitFault.{CommitFault}
 use Rattle.sql_keeper.specs.declared.faults.CommitFault.TheVariants as faults
 use Rattle.sql_keeper.specs.Log.{rows_after}
-use Rattle.sql_keeper.specs.Commits.{commit_fault, covered_fault, full, uncovered}
+use Rattle.sql_keeper.specs.Commits.{commit_fault}
 use Rattle.sql_keeper.specs.Stores.{Ledger, StoreView, with_call, with_commit, with_end, RoseIf, IsRefusal, IsTrueFault}
 use Rattle.key_shard.specs.Permit.{Permit}
 use Rattle.sql_keeper.specs.declared.stores.Phase.{Phase}
@@ -24,15 +22,14 @@ use Rattle.sql_keeper.specs.Sessions.{is_open as may_commit, with_phase}
 use Rattle.session_client.specs.Grants.{GrantsView}
 use Rattle.session_client.specs.declared.replies.Reply.{Reply}
 use Rattle.session_client.specs.declared.replies.Reply.TheVariants as reply
-use Rattle.session_client.specs.declared.replies.Wanted.{Wanted}
 use Rattle.session_client.specs.declared.replies.Wanted.TheVariants as wanted
 use Rattle.core_history.specs.Cores.{Origin, HasStore, HasPhases, RoseBy}
-use Rattle.core_history.specs.Events.{Event, Stepped, Called, who_in, reply_in, commits_told, log_of}
+use Rattle.core_history.specs.Events.{Event, Called, who_in, reply_in, commits_told, log_of}
 use Rattle.core_history.specs.Lines.{is_fault, tells_fault}
 use Rattle.core_history.specs.Machine.{World, Said, Made, Rejected, Failed, shown, is_open, commit_by, log_cap}
 use Rattle.core_history.specs.Requests.{StandsStore, MakesCall, IsToldOfCommit, after}
 use Rattle.core_history.proofs.OpenLemmas.{phases_same, phases_committed}
-use Rattle.core_history.specs.Truth.{IsTrueReply, IsTruePast}
+use Rattle.core_history.specs.Truth.{IsTrueReply}
 use Rattle.core_history.proofs.ListLemmas.{count-cons, tick, zero_if}
 
 -- a reply that tells of no commit and of no fault, and says nothing of the rows

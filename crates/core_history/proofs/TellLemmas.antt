@@ -1,5 +1,5 @@
 -- What is told of a turn is its event's.
-use Rattle.std.proofs.Common.{ℕ, ◌≡◌, Bool, List, [], ◌∷◌, ◌++◌, decimal, Result, Ok, Err, IfOk, refl, sym, ap, subst, inl, inr, ◌∙◌, Vec}
+use Rattle.std.proofs.Common.{ℕ, ◌≡◌, Bool, List, ◌∷◌, ◌++◌, decimal, Result, Ok, Err, IfOk, refl, sym, ap, subst, inr, ◌∙◌, Vec}
 use Rattle.std.specs.Global.{Global}
 use Rattle.rows_model.specs.declared.keys.Sid.{Sid}
 use Rattle.rows_model.specs.declared.refusals.Memory.{Memory}
@@ -15,10 +15,9 @@ use Rattle.core_history.specs.declared.lines.Asked.{Asked}
 use Rattle.core_history.specs.declared.told.Told.{Told}
 use Rattle.core_history.specs.Cores.{Origin}
 use Rattle.core_history.specs.Events.{Event, who_in, request_in, reply_in}
-use Rattle.core_history.specs.Lines.{line, request_words, reply_words, line_of, tells_fault, is_fault}
+use Rattle.core_history.specs.Lines.{line, request_words, reply_words, line_of, tells_fault}
 use Rattle.core_history.specs.Machine.{World, Said, event_of}
 use Rattle.core_history.specs.Requests.{Makes, TakesTurn}
-use Rattle.core_history.specs.Told.{line_in, fault_in, IsToldOf}
 use Rattle.core_history.specs.Words.{asked_words}
 
 -- the event of a request is that of its session

@@ -232,7 +232,7 @@ release-turn shape world who keys request grant how inner w without fit kept at 
     refl (counted-mild shape.shards home who request s told (λ key by. refl) refl)
     (λ n other g mine. stood-released shape home who request grant quar.sid (ended_as quar how) told past n who.number g without distinct own mine stood (λ _ e. other (sym e)))
     (w.1 event told (writer-released shape event past who.number grant (rel.Released (evicted_by (ended_as quar how))) heard keys at shut
-        (λ g mine other. stood-released shape home who request grant quar.sid (ended_as quar how) told past who.number who.number g without distinct own mine stood (λ same _. other same)) w.0)))
+    (λ g mine other. stood-released shape home who request grant quar.sid (ended_as quar how) told past who.number who.number g without distinct own mine stood (λ same _. other same)) w.0)))
 
 drop-turn : (shape : Shape) (world : World) (who : Sid) (said : Said) (keys : List QKey) (grant : Permit) → Inner shape world → IsWriter shape world who.number keys → slice_get (granted (told_to who.number world.past)) (released (told_to who.number world.past)) ≡ Some grant → is_ending (told_to who.number world.past) ≡ true → After shape world who said (wanted.Dar grant)
 drop-turn shape world who said keys grant inner w at ending =

@@ -1,5 +1,5 @@
 -- After which moves a core stands.
-use Rattle.std.specs.Prelude.{ℕ, ◌≡◌, ◌+◌, ◌-◌, ◌^◌, ◌≤◌, ◌<◌, ◌⊎◌, List, [], ◌∷◌, length, map, reverse, count_by, Option, Some, slice_get, IsSome}
+use Rattle.std.specs.Prelude.{ℕ, ◌≡◌, ◌+◌, ◌-◌, ◌^◌, ◌≤◌, ◌<◌, ◌⊎◌, List, [], length, map, reverse, count_by, Some, slice_get, IsSome}
 use Rattle.rows_model.specs.declared.keys.QKey.{QKey}
 use Rattle.rows_model.specs.declared.keys.Sid.{Sid}
 use Rattle.rows_model.specs.Rows.{Tables, Fit}
@@ -7,7 +7,7 @@ use Rattle.rows_model.specs.Placement.{shard_of}
 use Rattle.key_shard.specs.declared.steps.Step.{Step}
 use Rattle.key_shard.specs.Past.{next_token}
 use Rattle.key_shard.specs.Answers.{IsAtHome}
-use Rattle.key_shard.specs.Shards.{ShardView, past_of, is_out}
+use Rattle.key_shard.specs.Shards.{ShardView, past_of}
 use Rattle.sql_keeper.specs.declared.stores.Phase.{Phase}
 use Rattle.sql_keeper.specs.Fresh.{Fresh}
 use Rattle.sql_keeper.specs.Sessions.{is_open as may_commit}

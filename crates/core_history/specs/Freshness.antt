@@ -1,5 +1,5 @@
 -- What holds of every run: of its log, its histories, and of each turn that commits.
-use Rattle.std.specs.Prelude.{ℕ, ◌≡◌, ◌≢◌, true, List, [], ◌∷◌, map, reverse, length, All}
+use Rattle.std.specs.Prelude.{ℕ, ◌≡◌, ◌≢◌, true, List, [], ◌∷◌, map, reverse}
 use Rattle.std.specs.List.{range_with_len}
 use Rattle.rows_model.specs.declared.keys.QKey.{QKey}
 use Rattle.rows_model.specs.declared.keys.Sid.{Sid}

@@ -1,7 +1,6 @@
 -- What a request that is made does to shards and store.
 use Rattle.std.specs.Prelude.{ℕ, ◌≡◌, ◌≢◌, ◌-◌, List, ◌∷◌, Result, Ok, Err, MatchResult, length, Some, slice_get, slice_set, OnOk, IsTrue, ◌⊎◌}
 use Rattle.rows_model.specs.declared.keys.Sid.{Sid}
-use Rattle.rows_model.specs.declared.keys.QKey.{QKey}
 use Rattle.rows_model.specs.declared.refusals.Memory.{Memory}
 use Rattle.rows_model.specs.Placement.{shard_of}
 use Rattle.key_shard.specs.Permit.{Permit}

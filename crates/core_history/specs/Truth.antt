@@ -1,10 +1,8 @@
 -- A keeper's word is true where it is that of the rows after the log so far.
-use Rattle.std.specs.Prelude.{ℕ, ◌≡◌, List, [], ◌∷◌, Ok, Err}
+use Rattle.std.specs.Prelude.{◌≡◌, List, [], ◌∷◌, Ok, Err}
 use Rattle.rows_model.specs.Rows.{Tables}
 use Rattle.rows_model.specs.Query.{answer}
 use Rattle.rows_model.specs.Changes.{apply_all}
-use Rattle.sql_keeper.specs.declared.stores.Commit.{Commit}
-use Rattle.sql_keeper.specs.declared.faults.CommitFault.{CommitFault}
 use Rattle.sql_keeper.specs.declared.faults.CommitFault.TheVariants.{Rejected}
 use Rattle.sql_keeper.specs.Log.{rows_after}
 use Rattle.session_client.specs.declared.replies.Reply.{Reply}

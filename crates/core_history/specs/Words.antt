@@ -1,5 +1,5 @@
 -- How the parts of a line are put behind one another.
-use Rattle.std.specs.Prelude.{ℕ, List, [], ◌∷◌, ◌++◌, flat_map, codes}
+use Rattle.std.specs.Prelude.{ℕ, List, [], ◌∷◌, flat_map, codes}
 use Rattle.rows_model.specs.Key.{key_text}
 use Rattle.core_history.specs.declared.lines.Asked.{Asked}
 use Rattle.core_history.specs.declared.lines.Asked.TheVariants as asked

@@ -39,12 +39,7 @@ impl<K: Keeper> Model for Core<K> {
 impl<K: Keeper> Core<K> {
     /// A core of this shape, with no session. Its keeper is started at this place. Where that fails, or
     /// memory runs out, the keeper comes back, with the cause.
-    pub fn new(
-        alloc: Global,
-        keeper: K,
-        place: &Place,
-        shape: Shape,
-    ) -> Result<Core<K>, NoStore<K>>
+    pub fn new(alloc: Global, keeper: K, place: &Place, shape: Shape) -> Result<Core<K>, NoStore<K>>
         requires { IsShape shape }
         ensures begins { IfOk result (λ core. IsAt core (record { shape = shape; opening = core.store.ledger.opening; told = core.store.told; faults = core.store.faults }) []) }
         ensures fresh { place.now ≡ Place.Fresh → IfOk result (λ core. IsSome core.store.told → core.store.ledger.opening ≡ start_tables shape.members) }
@@ -66,6 +61,7 @@ impl<K: Keeper> Core<K> {
         ensures begins { IfOk result (λ core. IsAt core (record { shape = shape; opening = store.ledger.opening; told = store.told; faults = store.faults }) []) }
         ensures err { IfErr result (λ none. (none.cause ≡ KeepFault.Memory) × (K.faults none.keeper ≡ store.faults)) }
     {
+        // That the rows are fit is a clause of their reader.
         let _members = store.opening().members();
         match shards_of(alloc, shape) {
             Ok(shards) => Ok(Core {

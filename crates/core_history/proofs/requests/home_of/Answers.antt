@@ -1,4 +1,4 @@
-use Rattle.std.proofs.Common.{◌≡◌, ◌<◌, ℕ, length, subst, sym, ap, ◌∙◌, arith}
+use Rattle.std.proofs.Common.{◌≡◌, ℕ, length, ap, ◌∙◌, arith}
 use Rattle.rows_model.specs.Placement.{shard_of}
 use Rattle.core_history.proofs.ShardsLemmas.{home_within}
 use Rattle.core_history.proofs.requests.home_of.Goals as goal

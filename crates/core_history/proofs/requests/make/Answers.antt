@@ -69,7 +69,7 @@ returns-in-End-clause-makes g c origin world stands =
     let who = c.args.who in
     let shards = c.args.shards.now.items in
     let P : Wanted → Type 0 = λ w. Makes origin world who w shards c.make_end.new.store (Ok c.make_end.result) in
-    subst P (sym c.in-End.is) (makes_end origin world who  shards c.make_end.new.store (Ok c.make_end.result) stands.0 (c.make_end.ensures.makes origin world stands.1))
+    subst P (sym c.in-End.is) (makes_end origin world who shards c.make_end.new.store (Ok c.make_end.result) stands.0 (c.make_end.ensures.makes origin world stands.1))
 
 pub returns-in-Ask-clause-belongs : goal.returns-in-Ask-clause-belongs
 returns-in-Ask-clause-belongs g c =

@@ -1,19 +1,15 @@
-use Rattle.std.proofs.Common.{◌≡◌, Bool, false, true, ℕ, length, List, ◌∷◌, IsSome, Some, Ok, ap, subst, sym, refl, ◌∙◌}
-use Rattle.rows_model.specs.Rows.{Tables}
-use Rattle.rows_model.specs.Query.{answer}
+use Rattle.std.proofs.Common.{◌≡◌, false, ℕ, length, List, ap, subst, sym, refl, ◌∙◌}
 use Rattle.sql_keeper.specs.declared.stores.Answer.{Answer}
 use Rattle.sql_keeper.specs.declared.stores.Commit.{Commit}
 use Rattle.sql_keeper.specs.declared.stores.Phase.{Phase}
-use Rattle.sql_keeper.specs.Log.{rows_after}
-use Rattle.session_client.specs.declared.replies.Fault.TheVariants as causes
 use Rattle.session_client.specs.declared.replies.Reply.TheVariants as reply
 use Rattle.session_client.specs.declared.replies.Wanted.TheVariants as wanted
 use Rattle.core_history.specs.Cores.{HasPhases}
 use Rattle.core_history.specs.Events.{Event, Called, log_of}
-use Rattle.core_history.specs.Machine.{Value, Failed, ask_told}
+use Rattle.core_history.specs.Machine.{Value, ask_told}
 use Rattle.core_history.specs.Requests.{after}
 use Rattle.core_history.proofs.OpenLemmas.{phases_same}
-use Rattle.core_history.proofs.StoreEvents.{store_called, store_stays, sessions_called}
+use Rattle.core_history.proofs.StoreEvents.{store_called, sessions_called}
 use Rattle.core_history.proofs.requests.make_ask.Goals as goal
 
 pub returns-in-Ok-clause-makes : goal.returns-in-Ok-clause-makes
@@ -28,8 +24,10 @@ returns-in-Ok-clause-makes g c origin world who stands =
     let stamp : given.stamp ≡ length (log_of world.past) = c.in-Ok.ensures.answer.1 ∙ ap (λ (l : List Commit). length l) stands.0.log in (
       Value given.value,
       ap (λ (a : Answer). reply.Answer a) (answer_is given key (length (log_of world.past)) c.in-Ok.ensures.answer.0 stamp),
-      (store_called old new false origin world.past event stands.0 c.in-Ok.ensures.ledger c.in-Ok.ensures.failed_rose c.in-Ok.ensures.never_falls refl refl (λ told. (c.in-Ok.ensures.tells told).0) (λ told. (c.in-Ok.ensures.tells told).1),
-      subst P (sym sessions) (phases_same old.ledger.sessions world event stands.1 refl refl)),
+      (
+        store_called old new false origin world.past event stands.0 c.in-Ok.ensures.ledger c.in-Ok.ensures.failed_rose c.in-Ok.ensures.never_falls refl refl (λ told. (c.in-Ok.ensures.tells told).0) (λ told. (c.in-Ok.ensures.tells told).1),
+        subst P (sym sessions) (phases_same old.ledger.sessions world event stands.1 refl refl),
+      ),
     )
   where
     answer_is : (given : Answer) (key : _) (stamp : ℕ) → given.key ≡ key → given.stamp ≡ stamp → given ≡ record { key = key; value = given.value; stamp = stamp }

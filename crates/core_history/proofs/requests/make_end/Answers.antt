@@ -1,4 +1,4 @@
-use Rattle.std.proofs.Common.{◌≡◌, Bool, List, ◌∷◌, ap, subst, sym, refl, ◌∙◌, arith}
+use Rattle.std.proofs.Common.{◌≡◌, List, ap, subst, sym, refl, ◌∙◌}
 use Rattle.sql_keeper.specs.declared.stores.Phase.{Phase}
 use Rattle.sql_keeper.specs.Sessions.{ended}
 use Rattle.sql_keeper.specs.Stores.{Ledger}
@@ -21,6 +21,8 @@ returns-clause-makes g c origin world stands =
     let P : List Phase → Type 0 = λ xs. HasPhases xs (after world (Called who wanted.End told)) in (
       Failed,
       ap reply.End (c.end.ensures.was ∙ stands.1.opens who c.requires),
-      (store_ended c.args.store.now c.end.new.self origin world.past who told stands.0 c.end.ensures.ledger c.end.ensures.keeper.0 c.end.ensures.keeper.1 refl refl (λ rows. tt),
-      subst P (sym sessions) (phases_ended c.args.store.now.ledger.sessions world who told refl stands.1 c.requires)),
+      (
+        store_ended c.args.store.now c.end.new.self origin world.past who told stands.0 c.end.ensures.ledger c.end.ensures.keeper.0 c.end.ensures.keeper.1 refl refl (λ rows. tt),
+        subst P (sym sessions) (phases_ended c.args.store.now.ledger.sessions world who told refl stands.1 c.requires),
+      ),
     )

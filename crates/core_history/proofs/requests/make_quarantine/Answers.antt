@@ -1,4 +1,4 @@
-use Rattle.std.proofs.Common.{◌≡◌, ℕ, length, slice_get, sym, ap, refl, ◌∙◌}
+use Rattle.std.proofs.Common.{ℕ, length, slice_get, sym, ap, refl, ◌∙◌}
 use Rattle.std.proofs.lemmas.Option.{slice_get_read}
 use Rattle.key_shard.specs.Shards.{past_of}
 use Rattle.core_history.proofs.ShardsLemmas.{shard_found}

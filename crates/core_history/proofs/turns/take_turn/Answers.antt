@@ -1,8 +1,6 @@
-use Rattle.std.proofs.Common.{◌≡◌, ◌∷◌, List, subst, sym, inl, ◌∙◌, Ok}
+use Rattle.std.proofs.Common.{subst, sym, inl}
 use Rattle.rows_model.specs.declared.keys.Sid.{Sid}
 use Rattle.session_client.specs.Belongs.{Belongs}
-use Rattle.session_client.specs.Wants.{wants}
-use Rattle.session_client.specs.Follows.{plan_of}
 use Rattle.session_client.specs.declared.replies.Wanted.{Wanted}
 use Rattle.core_history.specs.Requests.{IsOutWhereReleased, TakesTurn}
 use Rattle.core_history.proofs.TellLemmas.{turn_told}

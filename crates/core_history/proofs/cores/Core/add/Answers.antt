@@ -1,7 +1,7 @@
-use Rattle.std.proofs.Common.{◌≡◌, ℕ, ◌+◌, List, [], ◌∷◌, ◌++◌, length, map, sym, ap, subst, refl, ◌∙◌}
+use Rattle.std.proofs.Common.{◌≡◌, ℕ, ◌+◌, List, [], ◌∷◌, ◌++◌, length, sym, ap, subst, refl, ◌∙◌}
 use Rattle.std.proofs.lemmas.List.{length-map}
 use Rattle.rows_model.specs.declared.keys.Sid.{Sid}
-use Rattle.sql_keeper.specs.Stores.{Ledger, with_session}
+use Rattle.sql_keeper.specs.Stores.{with_session}
 use Rattle.session_client.specs.Follows.{plan_of}
 use Rattle.session_client.specs.declared.plans.Plan.{Plan}
 use Rattle.session_client.specs.declared.sessions.Session.{Session}
@@ -23,5 +23,5 @@ returns-in-Ok-clause-begins g c origin moves before =
     let ledger = c.in-Ok.ensures.ledger in (
       ap (λ (n : ℕ). n + 1) (count ∙ plans),
       core_begun core new origin moves c.args.plan session at c.requires c.in_ok-session.ensures.plan number c.in_ok-session.ensures.ready c.in_ok-session.ensures.follows
-      sessions refl (ledger ∙ ap (λ b. with_session b core.store.ledger) c.writes-writes.ensures) c.in-Ok.ensures.keeper.0 c.in-Ok.ensures.keeper.1,
+          sessions refl (ledger ∙ ap (λ b. with_session b core.store.ledger) c.writes-writes.ensures) c.in-Ok.ensures.keeper.0 c.in-Ok.ensures.keeper.1,
     )

@@ -1,4 +1,4 @@
-use Rattle.std.proofs.Common.{◌≡◌, ◌⊎◌, ◌∷◌, IfOk, OnErr, subst, sym}
+use Rattle.std.proofs.Common.{◌⊎◌, ◌∷◌, IfOk, OnErr, subst, sym}
 use Rattle.session_client.specs.declared.plans.Turn.{Turn}
 use Rattle.core_history.specs.Cores.{HasBegun, HasKept, IsAt}
 use Rattle.core_history.specs.Machine.{Said, Take, world_of, turn_event}

@@ -1,4 +1,4 @@
-use Rattle.std.proofs.Common.{◌≡◌, List, sym, subst}
+use Rattle.std.proofs.Common.{sym, subst}
 use Rattle.session_client.specs.declared.plans.Turn.TheVariants as turn
 use Rattle.core_history.specs.Cores.{CoreView, HasBegun, IsAt}
 use Rattle.core_history.specs.Machine.{world_of}
