@@ -1,5 +1,5 @@
 -- After which moves a core stands.
-use Rattle.std.specs.Prelude.{ℕ, ◌≡◌, ◌+◌, ◌-◌, ◌^◌, ◌≤◌, ◌<◌, ◌⊎◌, List, [], length, map, reverse, count_by, Some, slice_get, IsSome}
+use Rattle.std.specs.Prelude.{ℕ, ◌≡◌, ◌+◌, ◌-◌, ◌^◌, ◌≤◌, ◌<◌, ◌⊎◌, List, [], length, map, reverse, count_by, Option, Some, slice_get, IsSome}
 use Rattle.rows_model.specs.declared.keys.QKey.{QKey}
 use Rattle.rows_model.specs.declared.keys.Sid.{Sid}
 use Rattle.rows_model.specs.Rows.{Tables, Fit}
