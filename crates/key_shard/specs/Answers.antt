@@ -27,11 +27,16 @@ abbrev pub stands_of : List Quar → Stands
 stands_of [] = I
 stands_of (quar ∷ quars) = Q
 
--- A miss by the verdict on its request to read: Wait is answered Again, and else a lease is given.
+-- A miss by the verdict on its request to read: Give gives a lease, and Wait is answered Again. No other verdict is one on a miss.
 abbrev pub miss_by : Terms → List Step → QKey → Sid → ℕ → ℕ → Verdict → Step
-miss_by terms past key who floor now verdicts.Wait = Again key who floor now (stands_of (standing key past))
-miss_by terms past key who floor now verdict =
+miss_by terms past key who floor now verdicts.Give =
     Lease key who floor now (next_token terms past) (deadline_at terms now)
+miss_by terms past key who floor now verdicts.Wait = Again key who floor now (stands_of (standing key past))
+miss_by terms past key who floor now verdicts.Own = Own key who
+miss_by terms past key who floor now verdicts.Void = Own key who
+miss_by terms past key who floor now verdicts.Join = Own key who
+miss_by terms past key who floor now verdicts.Same = Own key who
+miss_by terms past key who floor now verdicts.Refuse = Own key who
 
 abbrev pub miss_step : Terms → List Step → QKey → Sid → ℕ → ℕ → Step
 miss_step terms past key who floor now =
@@ -62,13 +67,21 @@ abbrev pub refused_step : QKey → Sid → Mode → Option Quar → Step
 refused_step key who mode (Some holder) = Refused key who mode holder.sid holder.mode
 refused_step key who mode None = Held key who mode
 
--- The step of a quarantine, by the verdict on it.
+-- A quarantine that is granted.
+abbrev pub granted_step : Terms → List Step → QKey → Sid → Mode → ℤ → ℕ → Step
+granted_step terms past key who mode shift now =
+    Granted key who mode shift now (next_token terms past) (deadline_at terms now)
+
+-- The step of a quarantine, by the verdict on it. Wait and Own are none on a quarantine.
 abbrev pub quarantine_by : Terms → List Step → QKey → Sid → Mode → ℤ → ℕ → Verdict → Step
+quarantine_by terms past key who mode shift now verdicts.Give = granted_step terms past key who mode shift now
+quarantine_by terms past key who mode shift now verdicts.Void = granted_step terms past key who mode shift now
+quarantine_by terms past key who mode shift now verdicts.Join = granted_step terms past key who mode shift now
 quarantine_by terms past key who mode shift now verdicts.Same = Held key who mode
 quarantine_by terms past key who mode shift now verdicts.Refuse =
     refused_step key who mode (holder_of key who past)
-quarantine_by terms past key who mode shift now verdict =
-    Granted key who mode shift now (next_token terms past) (deadline_at terms now)
+quarantine_by terms past key who mode shift now verdicts.Wait = Held key who mode
+quarantine_by terms past key who mode shift now verdicts.Own = Held key who mode
 
 abbrev pub quarantine_step : Terms → List Step → QKey → Sid → Mode → ℤ → ℕ → Step
 quarantine_step terms past key who mode shift now =
@@ -127,15 +140,31 @@ FitsMode mode (how.Shift stamp) = mode ≡ modes.Delta
 -- A shift other than 0 comes with a delta alone.
 abbrev pub FitsShift : Mode → ℤ → Type 0
 FitsShift modes.Delta shift = Unit {0}
-FitsShift mode shift = shift ≡ pos 0
+FitsShift modes.Invalidate shift = shift ≡ pos 0
+FitsShift modes.Refresh shift = shift ≡ pos 0
 
--- What a request owes: a shift is a delta's, and what is released or replaced was granted, a new value in mode Refresh.
+-- A quarantine that stands is the one of which a permit speaks: it is of that session, in that mode.
+pub record IsOf (permit : Permit) (quar : Quar) : Type 0 where
+  pub sid : quar.sid ≡ permit.sid
+  pub mode : quar.mode ≡ permit.mode
+
+-- What a release owes, by the quarantine of its token: where that stands, it is the permit's, and may end so; where none does, it was granted once.
+abbrev pub OwesRelease : List Step → Permit → How → Option Quar → Type 0
+OwesRelease past permit how (Some quar) = IsOf permit quar × FitsMode quar.mode how
+OwesRelease past permit how None = WasGranted past permit
+
+-- What a replace owes likewise: a quarantine that stands is to refresh.
+abbrev pub OwesReplace : List Step → Permit → Option Quar → Type 0
+OwesReplace past permit (Some quar) = IsOf permit quar × (quar.mode ≡ modes.Refresh)
+OwesReplace past permit None = WasGranted past permit
+
+-- What a request owes: a shift is a delta's, and what is released or replaced stands as the permit says, or was granted.
 abbrev pub IsOwed : List Step → Request → Type 0
 IsOwed past (Get key who floor now) = Unit {0}
 IsOwed past (Set key token value stamp now) = Unit {0}
 IsOwed past (Quarantine key who mode shift now) = FitsShift mode shift
-IsOwed past (Release permit how) = WasGranted past permit × FitsMode permit.mode how
-IsOwed past (Replace permit value stamp) = WasGranted past permit × (permit.mode ≡ modes.Refresh)
+IsOwed past (Release permit how) = OwesRelease past permit how (quar_of permit.key permit.token past)
+IsOwed past (Replace permit value stamp) = OwesReplace past permit (quar_of permit.key permit.token past)
 
 -- The key is this shard's.
 abbrev pub IsAtHome : Terms → QKey → Type 0

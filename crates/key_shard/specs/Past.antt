@@ -4,10 +4,10 @@ use Rattle.rows_model.specs.declared.keys.QKey.{QKey}
 use Rattle.rows_model.specs.declared.keys.Sid.{Sid}
 use Rattle.rows_model.specs.Key.{same_key}
 use Rattle.rows_model.specs.Shift.{shifted}
-use Rattle.case_tables.specs.Compatibility.{Holding, same_way}
+use Rattle.case_tables.specs.Compatibility.{Holding}
 use Rattle.lease_table.specs.declared.records.Quar.{Quar}
 use Rattle.lease_table.specs.declared.records.ReadLease.{ReadLease}
-use Rattle.lease_table.specs.Leases.{way_of, is_of, has_token, is_unexpired}
+use Rattle.lease_table.specs.Leases.{has_token, own_in, others_in, holder_in, holding_of}
 use Rattle.key_shard.specs.Permit.{Permit}
 use Rattle.key_shard.specs.declared.steps.Ended.{Ended}
 use Rattle.key_shard.specs.declared.steps.Ended.TheVariants.{Keep, Drop, Put, Shift}
@@ -45,32 +45,19 @@ recorded key (step ∷ past) = recorded key past
 
 -- The session's own quarantine of a key.
 abbrev pub own_of : QKey → Sid → List Step → Option Quar
-own_of key who past = find (is_of who) (standing key past)
+own_of key who past = own_in who (standing key past)
 
 -- The other sessions' quarantines of a key.
 abbrev pub others_of : QKey → Sid → List Step → List Quar
-others_of key who past = filter (λ quar. not (is_of who quar)) (standing key past)
+others_of key who past = others_in who (standing key past)
 
 -- What stands on a key at this time, as a session sees it.
 abbrev pub seen_by : QKey → Sid → ℕ → List Step → Holding
-seen_by key who now past = record {
-  own = option_map (λ quar. way_of quar.mode) (own_of key who past);
-  others = map (λ quar. way_of quar.mode) (others_of key who past);
-  reading = is_unexpired now (recorded key past);
-}
-
--- The first of the quarantines, which has the least token.
-abbrev pub first_of : List Quar → Option Quar
-first_of [] = None
-first_of (quar ∷ quars) = Some quar
+seen_by key who now past = holding_of who now (recorded key past) (standing key past)
 
 -- Who holds a key against a session: the session itself, or else the quarantine of least token.
 abbrev pub holder_of : QKey → Sid → List Step → Option Quar
-holder_of key who past = own_first (own_of key who past)
-  where
-    own_first : Option Quar → Option Quar
-    own_first (Some own) = Some own
-    own_first None = first_of (standing key past)
+holder_of key who past = holder_in who (standing key past)
 
 -- The quarantine of this token on a key.
 abbrev pub quar_of : QKey → ℕ → List Step → Option Quar
@@ -164,8 +151,8 @@ next_token terms past = terms.first + count_by draws past
 abbrev pub deadline_at : Terms → ℕ → ℕ
 deadline_at terms now = min (now + terms.life) (2 ^ 64 - 1)
 
--- Whether a step is the grant of which this permit speaks.
+-- Whether a step is the grant of which this permit speaks: its key, session and token. Its mode isn't asked.
 abbrev pub grants : Permit → Step → Bool
 grants permit (Granted on sid mode shift now token deadline) =
-    same_key permit.key on && (permit.sid.number == sid.number) && same_way (way_of permit.mode) (way_of mode) && (permit.token == token)
+    same_key permit.key on && (permit.sid.number == sid.number) && (permit.token == token)
 grants permit step = false

@@ -22,14 +22,19 @@ abbrev pub comes_before : Due → Due → Bool
 comes_before a b =
     key_before a.key b.key || (same_key a.key b.key && nat_lt a.token b.token)
 
--- a quarantine whose deadline has come stands in the table and is told so
-abbrev pub StandsDue : ℕ → List Lease → Due → Type 0
-StandsDue now leases due = Any (λ quar. (quar.deadline ≤ now) × (due ≡ due_as due.key quar)) (quars due.key leases)
+-- whether the deadline of a quarantine has come
+abbrev pub IsDue : ℕ → Quar → Type 0
+IsDue now quar = quar.deadline ≤ now
+
+-- a quarantine whose deadline has come stands on its key and is told so, by what stands on each key
+abbrev pub StandsDue : ℕ → (QKey → List Quar) → Due → Type 0
+StandsDue now standing due = Any (λ quar. IsDue now quar × (due ≡ due_as due.key quar)) (standing due.key)
 
 -- no quarantine whose deadline has come, on any key, comes before this one
-abbrev pub NoneDueBefore : ℕ → List Lease → Due → Type 0
-NoneDueBefore now leases due = (key : QKey) → All (λ quar. quar.deadline ≤ now → IsFalse (comes_before (due_as key quar) due)) (quars key leases)
+abbrev pub NoneDueBefore : ℕ → (QKey → List Quar) → Due → Type 0
+NoneDueBefore now standing due =
+    (key : QKey) → All (λ quar. IsDue now quar → IsFalse (comes_before (due_as key quar) due)) (standing key)
 
 -- on every key the deadline of each quarantine lies ahead
-abbrev pub NoneDue : ℕ → List Lease → Type 0
-NoneDue now leases = (key : QKey) → All (λ quar. now < quar.deadline) (quars key leases)
+abbrev pub NoneDue : ℕ → (QKey → List Quar) → Type 0
+NoneDue now standing = (key : QKey) → All (λ quar. now < quar.deadline) (standing key)

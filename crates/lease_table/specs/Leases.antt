@@ -1,5 +1,6 @@
 use Rattle.std.specs.Prelude.{ℕ, ◌≡◌, ◌≢◌, ◌<◌, ◌≤◌, ◌==◌, Bool, false, not, nat_lt, if◌then◌else◌, Option, Some, None, option_map, ◌&&◌, List, [], ◌∷◌, map, filter, find, length, IsTrue}
 use Rattle.std.specs.List.{filter_map, AllPairs}
+use Rattle.std.specs.Option.{option_or}
 use Rattle.std.specs.Bool.{IsFalse}
 use Rattle.rows_model.specs.declared.keys.Sid.{Sid}
 use Rattle.rows_model.specs.declared.keys.QKey.{QKey}
@@ -63,21 +64,37 @@ is_unexpired now (Some lease) = nat_lt now lease.deadline
 abbrev pub is_of : Sid → Quar → Bool
 is_of who quar = quar.sid.number == who.number
 
+-- one's own quarantine, among those that stand on a key
+abbrev pub own_in : Sid → List Quar → Option Quar
+own_in who quars = find (is_of who) quars
+
+-- the others' quarantines, among those that stand on a key
+abbrev pub others_in : Sid → List Quar → List Quar
+others_in who quars = filter (λ quar. not (is_of who quar)) quars
+
+-- who holds a key against a session, among the quarantines that stand on it: the session itself, or else the first
+abbrev pub holder_in : Sid → List Quar → Option Quar
+holder_in who quars = option_or (own_in who quars) (first quars)
+
+-- what stands on a key at this time as a session sees it, by the lease to read that is recorded and the quarantines
+abbrev pub holding_of : Sid → ℕ → Option ReadLease → List Quar → Holding
+holding_of who now reader quars = record {
+  own = option_map (λ quar. way_of quar.mode) (own_in who quars);
+  others = map (λ quar. way_of quar.mode) (others_in who quars);
+  reading = is_unexpired now reader;
+}
+
 -- the session's own quarantine on a key
 abbrev pub own_quar : QKey → Sid → List Lease → Option Quar
-own_quar key who leases = find (is_of who) (quars key leases)
+own_quar key who leases = own_in who (quars key leases)
 
 -- the other sessions' quarantines on a key
 abbrev pub other_quars : QKey → Sid → List Lease → List Quar
-other_quars key who leases = filter (λ quar. not (is_of who quar)) (quars key leases)
+other_quars key who leases = others_in who (quars key leases)
 
 -- what stands on a key at this time, as this session sees it
 abbrev pub holding : QKey → Sid → ℕ → List Lease → Holding
-holding key who now leases = record {
-  own = option_map (λ quar. way_of quar.mode) (own_quar key who leases);
-  others = map (λ quar. way_of quar.mode) (other_quars key who leases);
-  reading = is_unexpired now (recorded key leases);
-}
+holding key who now leases = holding_of who now (recorded key leases) (quars key leases)
 
 -- of two quarantines on one key the earlier has the lower token, they are of two sessions, and both are
 -- to invalidate

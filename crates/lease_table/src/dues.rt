@@ -1,5 +1,6 @@
 ghost use Rattle.std.specs.Prelude.{◌≡◌, MatchOption};
 ghost use Rattle.lease_table.specs.Expiry.{comes_before, NoneDue, NoneDueBefore, StandsDue};
+ghost use Rattle.lease_table.specs.Leases.{quars};
 ghost use Rattle.lease_table.specs.Pieces.{due_of, earlier};
 
 use crate::records::{Due, Held, Lease};
@@ -39,8 +40,8 @@ pub fn earlier_of(least: Option<Due>, next: Option<Due>) -> Option<Due>
 /// The first quarantine whose deadline has come, by key and then by token.
 pub fn least_due(leases: &[Lease], now: u64) -> Option<Due>
     ensures { MatchOption result
-        (NoneDue now leases.now)
-        (λ due. StandsDue now leases.now due × NoneDueBefore now leases.now due) }
+        (NoneDue now (λ key. quars key leases.now))
+        (λ due. StandsDue now (λ key. quars key leases.now) due × NoneDueBefore now (λ key. quars key leases.now) due) }
 {
     let mut least = None;
     for lease in leases {

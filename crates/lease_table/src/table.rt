@@ -166,9 +166,9 @@ impl Leases {
     /// The quarantine whose deadline has come that is first by key, and then by token; none exactly where
     /// no deadline has come.
     pub fn expired(&self, now: u64) -> Option<Due>
-        ensures due { IfSome result (StandsDue now self.now) }
-        ensures least { IfSome result (NoneDueBefore now self.now) }
-        ensures none { IfNone result (NoneDue now self.now) }
+        ensures due { IfSome result (StandsDue now (λ key. quars key self.now)) }
+        ensures least { IfSome result (NoneDueBefore now (λ key. quars key self.now)) }
+        ensures none { IfNone result (NoneDue now (λ key. quars key self.now)) }
     {
         least_due(self.leases.as_slice(), now)
     }
