@@ -1,7 +1,8 @@
 // Changes of the two lists of rows, made in place, and undone where a later one doesn't apply.
 ghost use Rattle.std.specs.Prelude.{ℕ, ◌≡◌, ◌≤◌, ◌<◌, ◌+◌, ◌&&◌, ◌==◌, true, false, List, Ok, Err, length, position, count_by, All, AllPairs, IfSome, IfNone, IfErr, OnOk, OnErr, vec_len, vec_capacity};
 ghost use Rattle.std.specs.List.{list_any, insert};
-ghost use Rattle.rows_model.specs.Rows.{Fit, joins, is_pending, is_friend};
+ghost use Rattle.rows_model.specs.Rows.{Fit, HasRoom, joins, is_pending, is_friend};
+ghost use Rattle.rows_model.specs.ApplyFaults.{IsFaultFrom};
 ghost use Rattle.rows_model.specs.Changes.{HasIds, is_before, with_link, without_link, applies, apply_from};
 ghost use Rattle.rows_model.specs.Undo.{tables_of, members_back, links_back, CanUndo, IsMade, IsAt};
 ghost use Rattle.rows_model.specs.declared.changes.Change.{Change};
@@ -10,9 +11,13 @@ ghost use Rattle.rows_model.specs.declared.rows.Member.{Member};
 
 use crate::changes::Change;
 use crate::names::Name;
+use crate::refusals::ApplyFault;
 use crate::rows::{Link, LinkState, Member};
 
 const MOST_LINKS: usize = 1_000_000;
+
+// The most changes of a transaction. Each adds one link at most.
+pub(crate) const MOST_CHANGES: usize = 8;
 
 // What undoes a change.
 #[derive(Clone, Copy)]
@@ -39,31 +44,34 @@ pub(crate) enum Undo {
     },
 }
 
-// Makes the changes in turn, all or none, or answers the place of the first that doesn't apply,
-// where the first of these stands at `place`. The links have room for one more a change.
+// Makes the changes in turn, all or none, where the first of these stands at `place`: the place of the
+// first that doesn't apply is answered. The links have room for one more a change. Once all are made
+// there is room again for a whole transaction, and where that is refused they are undone.
 pub(crate) fn make_all(
     members: &mut Vec<Member>,
     links: &mut Vec<Link>,
     changes: &[Change],
     place: u32,
-) -> Result<(), u32>
+) -> Result<(), ApplyFault>
     requires fit { Fit (tables_of members.old.items links.old.items) }
     requires ids { All HasIds changes.now }
     requires few { place + length changes.now ≤ 8 }
     requires room { vec_len links.old + length changes.now ≤ vec_capacity links.old }
     ensures made { OnOk result (apply_from place changes.now (tables_of members.old.items links.old.items)
         ≡ Ok (tables_of members.new.items links.new.items)) }
-    ensures rejected { IfErr result (λ at.
-        apply_from place changes.now (tables_of members.old.items links.old.items) ≡ Err at) }
+    ensures fault { IfErr result (λ fault.
+        IsFaultFrom place changes.now (tables_of members.old.items links.old.items) fault) }
+    ensures room { OnOk result (HasRoom (length links.new.items) (vec_capacity links.new)) }
     ensures members { OnErr result (members.new.items ≡ members.old.items) }
     ensures links { OnErr result (links.new.items ≡ links.old.items) }
-    ensures room { vec_capacity links.new ≡ vec_capacity links.old }
+    ensures room_kept { OnErr result (vec_capacity links.new ≡ vec_capacity links.old) }
 {
     let Some((change, rest)) = changes.split_first() else {
+        links.reserve(MOST_CHANGES)?;
         return Ok(());
     };
     let Some(undo) = make(members, links, change) else {
-        return Err(place);
+        return Err(ApplyFault::Rejected { index: place });
     };
     let made = make_all(members, links, rest, place + 1);
     if made.is_err() {

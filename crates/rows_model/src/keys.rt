@@ -13,7 +13,7 @@ pub struct Sid {
 }
 
 /// What a key asks of a member. Keys are ordered by kind in this order, and then by id.
-#[derive(Clone, Copy, Debug, PartialEq, Eq, PartialOrd, Ord)]
+#[derive(Clone, Copy, Debug, PartialEq, Eq, PartialOrd, Ord, Hash)]
 pub enum Kind {
     /// The member's name, and how many friends and pending invitations it has.
     Profile,
@@ -28,7 +28,7 @@ pub enum Kind {
 }
 
 /// A key of the cache: one query, of one member.
-#[derive(Clone, Copy, Debug, PartialEq, Eq, PartialOrd, Ord)]
+#[derive(Clone, Copy, Debug, PartialEq, Eq, PartialOrd, Ord, Hash)]
 pub struct QKey {
     pub kind: Kind,
     /// The member's id. No key text has the id 0.

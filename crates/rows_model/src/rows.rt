@@ -1,12 +1,12 @@
-ghost use Rattle.std.specs.Prelude.{◌≡◌, ◌≤◌, ◌&&◌, ◌==◌, IfOk, IfErr, OnOk, OnErr};
+ghost use Rattle.std.specs.Prelude.{◌≡◌, ◌≤◌, ◌&&◌, ◌==◌, Err, IfOk, IfErr, OnOk, OnErr};
 ghost use Rattle.std.specs.Option.{option_copied};
 ghost use Rattle.rows_model.specs.Rows.{Fit, start_tables, member_of, joins, is_pending, is_friend};
 ghost use Rattle.rows_model.specs.Changes.{is_before, friendship, apply_all};
-ghost use Rattle.rows_model.specs.ApplyFaults.{IsRejection};
+ghost use Rattle.rows_model.specs.ApplyFaults.{IsRejection, AllApply};
 ghost use Rattle.rows_model.specs.Query.{invites, befriends, other_end, friend_count, pending_count};
 
 use crate::changes::Txn;
-use crate::edits::make_all;
+use crate::edits::{MOST_CHANGES, make_all};
 use crate::names::Name;
 use crate::refusals::{ApplyFault, Memory};
 use std::alloc::Global;
@@ -103,6 +103,8 @@ impl Link {
 
 /// The rows of the store. Contracts see the two lists: the members by id, and the links by their
 /// two ids.
+///
+/// They keep room for the links of one more transaction, so that it can be judged without memory.
 #[derive(Debug, Drop)]
 pub struct Rows {
     members: Vec<Member>,
@@ -110,13 +112,15 @@ pub struct Rows {
 }
 
 impl Model for Rows {
-    ghost use Rattle.rows_model.specs.Rows.{Tables, Fit};
+    ghost use Rattle.std.specs.Prelude.{length, vec_capacity};
+    ghost use Rattle.rows_model.specs.Rows.{Tables, Fit, HasRoom};
 
     ghost Value = { Tables };
 
     ghost view = { λ r. record { members = r.members.items; links = r.links.items } };
 
-    ghost invariant = { λ r. Fit (record { members = r.members.items; links = r.links.items }) };
+    ghost invariant = { λ r. Fit (record { members = r.members.items; links = r.links.items })
+        × HasRoom (length r.links.items) (vec_capacity r.links) };
 }
 
 impl Rows {
@@ -135,7 +139,7 @@ impl Rows {
         }
         Ok(Rows {
             members: rows,
-            links: Vec::new(alloc),
+            links: Vec::with_capacity(alloc, MOST_CHANGES)?,
         })
     }
 
@@ -143,9 +147,12 @@ impl Rows {
     pub fn copy(&self) -> Result<Rows, Memory>
         ensures { IfOk result (λ rows. rows ≡ self.now) }
     {
+        let room = self.links.len() + MOST_CHANGES;
+        let mut links = Vec::with_capacity(*self.links.allocator(), room)?;
+        links.extend_from_slice(self.links.as_slice())?;
         Ok(Rows {
             members: self.members.clone()?,
-            links: self.links.clone()?,
+            links,
         })
     }
 
@@ -190,19 +197,15 @@ impl Rows {
     }
 
     /// Makes the changes of the transaction in turn, all or none. `Rejected` comes exactly where a
-    /// change doesn't apply, with the place of the first. After a fault the rows are as before. No
-    /// row is copied but those that the changes alter.
+    /// change doesn't apply, with the place of the first. Memory is asked for only once all are made,
+    /// where links were added, so `Memory` comes only where the transaction applies. After a fault the
+    /// rows are as before. No row is copied to undo but those that the changes alter.
     pub fn apply(&mut self, txn: &Txn) -> Result<(), ApplyFault>
         ensures made { OnOk result (apply_all txn.now self.old ≡ Ok self.new) }
         ensures fault { IfErr result (λ fault. IsRejection txn.now self.old fault) }
+        ensures memory { result ≡ Err ApplyFault.Memory → AllApply txn.now self.old }
         ensures kept { OnErr result (self.new ≡ self.old) }
     {
-        let changes = txn.changes();
-        // Room for the links of all the changes, so that none of them wants memory.
-        self.links.reserve(changes.len())?;
-        if let Err(index) = make_all(&mut self.members, &mut self.links, changes, 0) {
-            return Err(ApplyFault::Rejected { index });
-        }
-        Ok(())
+        make_all(&mut self.members, &mut self.links, txn.changes(), 0)
     }
 }

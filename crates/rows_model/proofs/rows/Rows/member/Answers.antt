@@ -12,7 +12,7 @@ returns-in-Ok c =
     let tables : Tables = record { members = c.self.inside.members.items; links = c.self.inside.links.items } in
     let bound = rw c.deref.ensures.value at facts.bound in
     let found = rw c.deref.ensures.value at by_key in
-    rw (← c.self.view_is) (ap (λ (m : Member). Some m) c.index.ensures ∙ sym (member_searched tables c.args.id (Ok c.in-Ok.place) c.self.invariant bound found c.index.result.now))
+    rw (← c.self.view_is) (ap (λ (m : Member). Some m) c.index.ensures ∙ sym (member_searched tables c.args.id (Ok c.in-Ok.place) c.self.invariant.0 bound found c.index.result.now))
 
 pub returns-in-Err : goal.returns-in-Err
 returns-in-Err c =
@@ -21,4 +21,4 @@ returns-in-Err c =
     let tables : Tables = record { members = c.self.inside.members.items; links = c.self.inside.links.items } in
     let bound = rw c.deref.ensures.value at facts.bound in
     let found = rw c.deref.ensures.value at by_key in
-    rw (← c.self.view_is) (sym (member_searched tables c.args.id (Err c.in-Err.field-0) c.self.invariant bound found))
+    rw (← c.self.view_is) (sym (member_searched tables c.args.id (Err c.in-Err.field-0) c.self.invariant.0 bound found))
