@@ -1,12 +1,13 @@
 -- A shard keeps what it keeps through a step.
-use Rattle.std.proofs.Common.{◌≡◌, ◌<◌, ◌≤◌, ◌+◌, ◌*◌, ℕ, true, List, [], ◌∷◌, ◌++◌, length, reverse, Some, refl, sym, ap, subst, ◌∙◌, arith, vec_len}
+use Rattle.std.proofs.Common.{◌≡◌, ◌<◌, ◌≤◌, ◌+◌, ℕ, cond, find, List, [], ◌∷◌, ◌++◌, reverse, Some, refl, sym, ap, subst, ◌∙◌, arith, vec_len}
 use Rattle.std.specs.Prelude.{vec_capacity}
-use Rattle.std.specs.List.{All}
+use Rattle.std.specs.List.{All, count_by}
 use Rattle.std.proofs.lemmas.Bool.{or_left, or_right, and_from, eq-eqb}
 use Rattle.std.specs.Prelude.{ℤ}
 use Rattle.rows_model.proofs.SameKey.{same_key-refl}
-use Rattle.case_tables.specs.Compatibility.{Way, invalidate, refresh, delta, same_way}
-use Rattle.lease_table.specs.Leases.{way_of}
+use Rattle.lease_table.specs.declared.records.Quar.{Quar}
+use Rattle.lease_table.specs.Leases.{has_token}
+use Rattle.std.proofs.lemmas.List.Sums.{sum_by-cons}
 use Rattle.std.proofs.lemmas.List.{reverse-append}
 use Rattle.std.proofs.lemmas.List.Elements.{All-nil, All-weaker}
 use Rattle.entry_table.proofs.EntriesLemmas.{lookup-nil, keys-nil}
@@ -17,15 +18,17 @@ use Rattle.rows_model.specs.declared.keys.Sid.{Sid}
 use Rattle.key_shard.specs.declared.steps.Step.{Step}
 use Rattle.key_shard.specs.declared.steps.Step.TheVariants.{Hit, Granted}
 use Rattle.key_shard.specs.Shards.{ShardView, stepped, out_after}
-use Rattle.key_shard.specs.Past.{Terms}
+use Rattle.key_shard.specs.Past.{Terms, standing, quar_of, draws, next_token}
 use Rattle.key_shard.specs.Permit.{Permit}
-use Rattle.key_shard.specs.Answers.{IsAtHome}
-use Rattle.key_shard.specs.Kept.{Ties, IsKept, IsOut, terms_of, steps_of}
+use Rattle.key_shard.specs.Answers.{IsAtHome, IsOf}
+use Rattle.key_shard.specs.Kept.{Ties, IsKept, IsOut, permit_of, places_of, terms_of, steps_of}
+use Rattle.key_shard.proofs.PlaceLemmas.{StoodBefore, next-grows, places-kept, found-last}
 
--- what was granted stays so
-pub IsOut-later : (terms : Terms) (past : List Step) (step : Step) (out : List Out) → All (IsOut terms past) out → All (IsOut terms (step ∷ past)) out
-IsOut-later terms past step out h =
-    All-weaker (IsOut terms past) (IsOut terms (step ∷ past)) (λ o was. record { at_home = was.at_home; granted = or_right _ _ was.granted }) out h
+-- what was granted stays so, and what stands of it stood
+pub IsOut-later : (terms : Terms) (past : List Step) (step : Step) → StoodBefore terms past step → (out : List Out) → All (IsOut terms past) out → All (IsOut terms (step ∷ past)) out
+IsOut-later terms past step stood out h =
+    let grows = next-grows terms past step in
+    All-weaker (IsOut terms past) (IsOut terms (step ∷ past)) (λ o was. record { at_home = was.at_home; granted = or_right _ _ was.granted; drawn = omega (arith, grows, was.drawn); stands = λ quar e. was.stands quar (stood o.key o.token quar was.drawn e) }) out h
 
 pub steps-pushed : (history new : List Step) (step : Step) → new ≡ history ++ step ∷ [] → reverse new ≡ step ∷ reverse history
 steps-pushed history new step e = ap reverse e ∙ reverse-append history (step ∷ [])
@@ -43,24 +46,25 @@ view-after old new step terms history out quiet =
     ap (λ t. made t new.history new.out) terms ∙ ap (λ h. made old.terms h new.out) history ∙ ap (made old.terms (old.history ++ step ∷ [])) (out ∙ sym quiet)
 
 -- what a shard keeps after a step
-pub IsKept-after : (old new : Body) (step : Step) → new.history.items ≡ old.history.items ++ step ∷ [] → terms_of new ≡ terms_of old → Ties (terms_of old) (step ∷ steps_of old) new.entries.list new.leases new.next → new.no < new.count → All (IsOut (terms_of old) (step ∷ steps_of old)) new.out.items → 2 * length new.out.items ≤ new.promised → vec_len new.history + new.promised ≤ vec_capacity new.history → IsKept new
+pub IsKept-after : (old new : Body) (step : Step) → new.history.items ≡ old.history.items ++ step ∷ [] → terms_of new ≡ terms_of old → Ties (terms_of old) (step ∷ steps_of old) new.entries.list new.leases new.next → new.no < new.count → All (IsOut (terms_of old) (step ∷ steps_of old)) new.out.items → places_of (step ∷ steps_of old) new.out.items ≤ new.promised → vec_len new.history + new.promised ≤ vec_capacity new.history → IsKept new
 IsKept-after old new step pushed same ties one outs promises reserved =
     let past : steps_of new ≡ step ∷ steps_of old = steps-pushed old.history.items new.history.items step pushed in
     record {
       one_of = one;
       ties = subst (λ p. Ties (terms_of new) p new.entries.list new.leases new.next) (sym past) (subst (λ t. Ties t (step ∷ steps_of old) new.entries.list new.leases new.next) (sym same) ties);
       outs = subst (λ p. All (IsOut (terms_of new) p) new.out.items) (sym past) (subst (λ t. All (IsOut t (step ∷ steps_of old)) new.out.items) (sym same) outs);
-      promises = promises;
+      promises = subst (λ p. places_of p new.out.items ≤ new.promised) (sym past) promises;
       reserved = reserved;
     }
 
 -- a step that makes no grant
-pub IsKept-step : (old new : Body) (step : Step) → IsKept old → new.history.items ≡ old.history.items ++ step ∷ [] → terms_of new ≡ terms_of old → Ties (terms_of old) (step ∷ steps_of old) new.entries.list new.leases new.next → new.no < new.count → All (IsOut (terms_of old) (steps_of old)) new.out.items → 2 * length new.out.items ≤ new.promised → vec_len new.history + new.promised ≤ vec_capacity new.history → IsKept new
-IsKept-step old new step kept pushed same ties one outs promises reserved =
-    IsKept-after old new step pushed same ties one (IsOut-later (terms_of old) (steps_of old) step new.out.items outs) promises reserved
+pub IsKept-step : (old new : Body) (step : Step) → StoodBefore (terms_of old) (steps_of old) step → IsKept old → new.history.items ≡ old.history.items ++ step ∷ [] → terms_of new ≡ terms_of old → Ties (terms_of old) (step ∷ steps_of old) new.entries.list new.leases new.next → new.no < new.count → All (IsOut (terms_of old) (steps_of old)) new.out.items → places_of (steps_of old) new.out.items ≤ new.promised → vec_len new.history + new.promised ≤ vec_capacity new.history → IsKept new
+IsKept-step old new step stood kept pushed same ties one outs promises reserved =
+    let kept_places = places-kept (terms_of old) (steps_of old) step stood new.out.items outs in
+    IsKept-after old new step pushed same ties one (IsOut-later (terms_of old) (steps_of old) step stood new.out.items outs) (omega (arith, kept_places, promises)) reserved
 
 -- what a shard keeps where all stays but the room of its lists
-pub IsKept-still : (old new : Body) → IsKept old → terms_of new ≡ terms_of old → new.history.items ≡ old.history.items → new.entries.list ≡ old.entries.list → new.leases ≡ old.leases → new.next ≡ old.next → new.out.items ≡ old.out.items → new.no < new.count → 2 * length old.out.items ≤ new.promised → vec_len new.history + new.promised ≤ vec_capacity new.history → IsKept new
+pub IsKept-still : (old new : Body) → IsKept old → terms_of new ≡ terms_of old → new.history.items ≡ old.history.items → new.entries.list ≡ old.entries.list → new.leases ≡ old.leases → new.next ≡ old.next → new.out.items ≡ old.out.items → new.no < new.count → places_of (steps_of old) old.out.items ≤ new.promised → vec_len new.history + new.promised ≤ vec_capacity new.history → IsKept new
 IsKept-still old new kept same history list table next out one promises reserved =
     let past : steps_of new ≡ steps_of old = ap reverse history in
     let ties : Ties (terms_of old) (steps_of old) new.entries.list new.leases new.next =
@@ -70,21 +74,29 @@ IsKept-still old new kept same history list table next out one promises reserved
       one_of = one;
       ties = subst (λ p. Ties (terms_of new) p new.entries.list new.leases new.next) (sym past) (subst (λ t. Ties t (steps_of old) new.entries.list new.leases new.next) (sym same) ties);
       outs = subst (λ p. All (IsOut (terms_of new) p) new.out.items) (sym past) (subst (λ t. All (IsOut t (steps_of old)) new.out.items) (sym same) outs);
-      promises = subst (λ l. 2 * length l ≤ new.promised) (sym out) promises;
+      promises = subst (λ p. places_of p new.out.items ≤ new.promised) (sym past) (subst (λ l. places_of (steps_of old) l ≤ new.promised) (sym out) promises);
       reserved = reserved;
     }
 
 -- the grant of a step is out behind it
-pub IsOut-granted : (terms : Terms) (past : List Step) (out : Out) (shift : ℤ) (now deadline : ℕ) → IsAtHome terms out.key → IsOut terms (Granted out.key out.sid out.mode shift now out.token deadline ∷ past) out
-IsOut-granted terms past out shift now deadline home = record {
+pub IsOut-granted : (terms : Terms) (past : List Step) (out : Out) (shift : ℤ) (now deadline : ℕ) → IsAtHome terms out.key → out.token ≡ next_token terms past → All (λ quar. quar.token < out.token) (standing out.key past) → IsOut terms (Granted out.key out.sid out.mode shift now out.token deadline ∷ past) out
+IsOut-granted terms past out shift now deadline home next below = record {
   at_home = home;
-  granted = or_left _ _ (and_from _ _ (and_from _ _ (and_from _ _ (same_key-refl out.key) (eq-eqb out.sid.number out.sid.number refl)) (same_way-refl (way_of out.mode))) (eq-eqb out.token out.token refl));
+  granted = or_left _ _ (and_from _ _ (and_from _ _ (same_key-refl out.key) (eq-eqb out.sid.number out.sid.number refl)) (eq-eqb out.token out.token refl));
+  drawn = omega (arith, next, one_more);
+  stands = λ quar e. the_one quar (sym found ∙ e);
 }
   where
-    same_way-refl : (w : Way) → same_way w w ≡ true
-    same_way-refl invalidate = refl
-    same_way-refl refresh = refl
-    same_way-refl delta = refl
+    new : Quar
+    new = record { sid = out.sid; mode = out.mode; token = out.token; deadline = deadline; shift = shift }
+    step : Step
+    step = Granted out.key out.sid out.mode shift now out.token deadline
+    one_more : count_by draws (step ∷ past) ≡ 1 + count_by draws past
+    one_more = sum_by-cons (λ s. cond (draws s) 1 0) step past
+    found : quar_of out.key out.token (step ∷ past) ≡ Some new
+    found = ap (λ b. find (has_token out.token) (cond b (standing out.key past ++ new ∷ []) (standing out.key past))) (same_key-refl out.key) ∙ found-last new (standing out.key past) below
+    the_one : (quar : Quar) → Some new ≡ Some quar → IsOf (permit_of terms.no out) quar
+    the_one quar e = let same : new ≡ quar = cc in subst (IsOf (permit_of terms.no out)) same (record { sid = refl; mode = refl })
 
 -- the terms, of a body with another table of as much room
 abbrev terms_with : Body → ℕ → Terms
@@ -107,7 +119,7 @@ IsKept-new body one roomy entries leases out history next promised empty =
       legal = tt;
     } in
     let past : steps_of body ≡ [] = ap reverse history in
-    let none : length body.out.items ≡ 0 = ap length out in
+    let none : places_of (steps_of body) body.out.items ≡ 0 = ap (places_of (steps_of body)) out in
     record {
       one_of = one;
       ties = subst (λ p. Ties (terms_of body) p body.entries.list body.leases body.next) (sym past) (subst (λ l. Ties (terms_of body) [] l body.leases body.next) (sym entries) (subst (λ l. Ties (terms_of body) [] [] l body.next) (sym leases) start));

@@ -3,6 +3,7 @@ pub mod KeptLemmas
 pub mod LookLemmas
 pub mod OrderLemmas
 pub mod OutLemmas
+pub mod PlaceLemmas
 pub mod PutLemmas
 pub mod QuarantineLemmas
 pub mod TiesLemmas

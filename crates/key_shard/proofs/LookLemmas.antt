@@ -8,9 +8,8 @@ use Rattle.case_tables.specs.declared.grids.Verdict.{Verdict}
 use Rattle.case_tables.specs.declared.grids.Verdict.TheVariants as verdicts
 use Rattle.lease_table.specs.declared.records.Lease.{Lease}
 use Rattle.lease_table.specs.declared.records.Quar.{Quar}
-use Rattle.lease_table.specs.declared.records.ReadLease.{ReadLease}
 use Rattle.lease_table.specs.Leases as leases
-use Rattle.lease_table.specs.Leases.{way_of, is_of, is_unexpired}
+use Rattle.lease_table.specs.Leases.{way_of, is_of, is_unexpired, holding_of}
 use Rattle.lease_table.proofs.ListLemmas.{find-none, filter-not-all}
 use Rattle.entry_table.specs.Entries.{Item}
 use Rattle.key_shard.specs.declared.steps.Stands.TheVariants.{I, Q}
@@ -21,18 +20,10 @@ use Rattle.key_shard.specs.Past.{Terms, standing, recorded, own_of, others_of, s
 use Rattle.key_shard.specs.Answers.{stands_of, miss_by, miss_step, found_step, get_by, get_step}
 use Rattle.key_shard.specs.Kept.{Ties, IsLook, is_fresh}
 
--- what stands on a key, of its quarantines and its lease to read
-abbrev seen_from : Sid → ℕ → List Quar → Option ReadLease → Holding
-seen_from who now quars reader = record {
-  own = option_map (λ quar. way_of quar.mode) (find (is_of who) quars);
-  others = map (λ quar. way_of quar.mode) (filter (λ quar. not (is_of who quar)) quars);
-  reading = is_unexpired now reader;
-}
-
 -- the table of leases shows what the past does
 pub holding-seen : {terms : Terms} {past : List Step} {list : List Item} {table : List Lease} {next : ℕ} → Ties terms past list table next → (key : QKey) (who : Sid) (now : ℕ) → leases.holding key who now table ≡ seen_by key who now past
 holding-seen {past = past} {table = table} h key who now =
-    ap (λ quars. seen_from who now quars (leases.recorded key table)) (h.quars key) ∙ ap (seen_from who now (standing key past)) (h.reads key)
+    ap (holding_of who now (leases.recorded key table)) (h.quars key) ∙ ap (λ reader. holding_of who now reader (standing key past)) (h.reads key)
 
 -- the rows where the asker holds none
 three : (a b : Bool) → (2 ≤ cond a 2 (cond b 3 4)) × (cond a 2 (cond b 3 4) < 5)

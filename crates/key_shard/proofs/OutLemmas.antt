@@ -1,5 +1,5 @@
 -- The grants that are out, less one, and what of it follows.
-use Rattle.std.proofs.Common.{◌≡◌, ◌<◌, ◌≤◌, ◌+◌, ◌&&◌, ◌||◌, ◌==◌, ℕ, Bool, true, false, not, cond, List, [], ◌∷◌, ◌++◌, Option, Some, find, length, map, filter, refl, sym, ap, subst, ◌∙◌, inl, inr, arith, vec_len}
+use Rattle.std.proofs.Common.{◌≡◌, ◌<◌, ◌≤◌, ◌+◌, ◌&&◌, ◌||◌, ◌==◌, ℕ, Bool, true, false, not, cond, List, [], ◌∷◌, ◌++◌, Option, Some, None, find, map, filter, refl, sym, ap, subst, ◌∙◌, inl, inr, arith, vec_len}
 use Rattle.std.specs.Prelude.{vec_capacity}
 use Rattle.std.specs.List.{All, list_any}
 use Rattle.std.proofs.lemmas.Bool.{cases_Bool, and_parts, eqb-true, false≢true}
@@ -24,10 +24,11 @@ use Rattle.lease_table.specs.Leases as leases
 use Rattle.entry_table.specs.Entries.{Item}
 use Rattle.key_shard.specs.declared.replies.How.{How}
 use Rattle.key_shard.specs.declared.replies.How.TheVariants as hows
-use Rattle.key_shard.specs.Answers.{WasGranted, IsAtHome, ended_as}
+use Rattle.key_shard.specs.Answers.{WasGranted, IsAtHome, IsOf, FitsMode, OwesRelease, OwesReplace, ended_as}
 use Rattle.key_shard.specs.Shards.{ShardView, is_out, without_permit, returned}
-use Rattle.key_shard.specs.Kept.{Ties, PutsNone, IsKept, IsOut, terms_of, steps_of, permit_of, shown}
-use Rattle.key_shard.proofs.KeptLemmas.{IsKept-step}
+use Rattle.key_shard.specs.Kept.{Ties, PutsNone, IsKept, IsOut, places_for, places_of, terms_of, steps_of, permit_of, shown}
+use Rattle.key_shard.proofs.KeptLemmas.{IsKept-after, IsOut-later}
+use Rattle.key_shard.proofs.PlaceLemmas.{StoodBefore, places-less, places-some, place-one, place-two}
 
 -- a test of what a map gives, and a test behind the map
 pub any-map : {X Y : Type 0} (p : Y → Bool) (f : X → Y) (xs : List X) → list_any p (map f xs) ≡ list_any (λ x. p (f x)) xs
@@ -44,28 +45,9 @@ map-filter p f [] = refl
 map-filter p f (x ∷ xs) =
     filter-map-step f (p (f x)) x (filter (λ y. p (f y)) xs) (filter p (map f xs)) (map-filter p f xs)
 
-less-or-same : {X : Type 0} (b : Bool) (x : X) (xs : List X) (n : ℕ) → length xs ≤ n → length (cond b (x ∷ xs) xs) ≤ n + 1
-less-or-same true x xs n h = omega arith
-less-or-same false x xs n h = omega arith
-
-filter-le : {X : Type 0} (p : X → Bool) (xs : List X) → length (filter p xs) ≤ length xs
-filter-le p [] = omega arith
-filter-le p (x ∷ xs) =
-    let here = less-or-same (p x) x (filter p xs) (length xs) (filter-le p xs) in omega (arith, here)
-
-shorter-step : {X : Type 0} (b : Bool) (x : X) (rest : List X) (n : ℕ) → length rest ≤ n → (b ≡ false → length rest + 1 ≤ n) → length (cond (not b) (x ∷ rest) rest) + 1 ≤ n + 1
-shorter-step true x rest n le less = omega arith
-shorter-step false x rest n le less = let h = less refl in omega (arith, h)
-
 any-rest : (a b : Bool) → (a || b) ≡ true → a ≡ false → b ≡ true
 any-rest true b h e = cc
 any-rest false b h e = h
-
--- a list less what passes a test is shorter where something passes
-pub filter-shorter : {X : Type 0} (p : X → Bool) (xs : List X) → list_any p xs ≡ true → length (filter (λ x. not (p x)) xs) + 1 ≤ length xs
-filter-shorter p [] h = absurd (false≢true h)
-filter-shorter p (x ∷ xs) h =
-    let here = shorter-step (p x) x (filter (λ y. not (p y)) xs) (length xs) (filter-le (λ y. not (p y)) xs) (λ e. filter-shorter p xs (any-rest (p x) (list_any p xs) h e)) in omega (arith, here)
 
 -- grants that say the same are one
 same_mode : (a b : Mode) → same_way (way_of a) (way_of b) ≡ true → a ≡ b
@@ -104,28 +86,49 @@ out-holds P number grant (out ∷ outs) each h =
       | inr apart ↦ out-holds P number grant outs (All-tail (λ o. P (permit_of number o)) out outs each) (any-rest (same_permit grant (permit_of number out)) (list_any (λ o. same_permit grant (permit_of number o)) outs) h apart)
     ]
 
+-- a grant that is out is among those of the body
+some-out : (body : Body) (grant : Permit) → is_out (shown body) grant ≡ true → list_any (λ out. same_permit grant (permit_of body.no out)) body.out.items ≡ true
+some-out body grant out = sym (any-map (same_permit grant) (permit_of body.no) body.out.items) ∙ out
+
 -- a grant that is out was granted, on a key that is the shard's
 pub out-granted : (body : Body) (grant : Permit) → IsKept body → is_out (shown body) grant ≡ true → WasGranted (steps_of body) grant × IsAtHome (terms_of body) grant.key
 out-granted body grant kept out =
     let each = All-weaker (IsOut (terms_of body) (steps_of body)) (λ o. WasGranted (steps_of body) (permit_of body.no o) × IsAtHome (terms_of body) o.key) (λ o was. (was.granted, was.at_home)) body.out.items kept.outs in
-    out-holds (λ g. WasGranted (steps_of body) g × IsAtHome (terms_of body) g.key) body.no grant body.out.items each (sym (any-map (same_permit grant) (permit_of body.no) body.out.items) ∙ out)
+    out-holds (λ g. WasGranted (steps_of body) g × IsAtHome (terms_of body) g.key) body.no grant body.out.items each (some-out body grant out)
 
-shorter-out : (body : Body) (grant : Permit) → is_out (shown body) grant ≡ true → length (filter (λ out. not (same_permit grant (permit_of body.no out))) body.out.items) + 1 ≤ length body.out.items
-shorter-out body grant out =
-    filter-shorter (λ o. same_permit grant (permit_of body.no o)) body.out.items (sym (any-map (same_permit grant) (permit_of body.no) body.out.items) ∙ out)
+-- where the quarantine of a grant that is out stands, it is the grant's
+pub out-stands : (body : Body) (grant : Permit) → IsKept body → is_out (shown body) grant ≡ true → (quar : Quar) → quar_of grant.key grant.token (steps_of body) ≡ Some quar → IsOf grant quar
+out-stands body grant kept out =
+    let each = All-weaker (IsOut (terms_of body) (steps_of body)) (λ o. (quar : Quar) → quar_of o.key o.token (steps_of body) ≡ Some quar → IsOf (permit_of body.no o) quar) (λ o was. was.stands) body.out.items kept.outs in
+    out-holds (λ g. (quar : Quar) → quar_of g.key g.token (steps_of body) ≡ Some quar → IsOf g quar) body.no grant body.out.items each (some-out body grant out)
 
--- two places are kept for a grant that is out
-pub promised-two : (body : Body) (grant : Permit) → IsKept body → is_out (shown body) grant ≡ true → 2 ≤ body.promised
-promised-two body grant kept out =
-    let shorter = shorter-out body grant out in omega (arith, shorter, kept.promises)
+-- each that says the same may take so many places
+abbrev pub MayTake : Body → Permit → ℕ → Type 0
+MayTake body grant n = (out : Out) → same_permit grant (permit_of body.no out) ≡ true → n ≤ places_for (steps_of body) out
 
--- a step that takes a grant from those that are out
-pub IsKept-returned : (old new : Body) (step : Step) (grant : Permit) → IsKept old → is_out (shown old) grant ≡ true → new.out.items ≡ filter (λ out. not (same_permit grant (permit_of old.no out))) old.out.items → new.history.items ≡ old.history.items ++ step ∷ [] → terms_of new ≡ terms_of old → Ties (terms_of old) (step ∷ steps_of old) new.entries.list new.leases new.next → new.no < new.count → new.promised + 2 ≡ old.promised → vec_len new.history + new.promised ≤ vec_capacity new.history → IsKept new
-IsKept-returned old new step grant kept out less pushed same ties one promised reserved =
-    let shorter = shorter-out old grant out in
-    let len : length new.out.items ≡ length (filter (λ o. not (same_permit grant (permit_of old.no o))) old.out.items) = ap length less in
-    let outs = subst (All (IsOut (terms_of old) (steps_of old))) (sym less) (All-filter (λ o. not (same_permit grant (permit_of old.no o))) (IsOut (terms_of old) (steps_of old)) old.out.items kept.outs) in
-    IsKept-step old new step kept pushed same ties one outs (omega (arith, shorter, len, kept.promises)) reserved
+-- a grant that is out may take one place, and two where its quarantine stands
+pub may-take-one : (body : Body) (grant : Permit) → MayTake body grant 1
+may-take-one body grant out same = place-one (steps_of body) out
+
+pub may-take-two : (body : Body) (grant : Permit) (quar : Quar) → quar_of grant.key grant.token (steps_of body) ≡ Some quar → MayTake body grant 2
+may-take-two body grant quar stands out same =
+    let told : permit_of body.no out ≡ grant = same_permit-true grant (permit_of body.no out) same in
+    place-two (steps_of body) out quar (ap (λ (g : Permit). quar_of g.key g.token (steps_of body)) told ∙ stands)
+
+-- so many places are kept for it
+pub places-out : (body : Body) (grant : Permit) (n : ℕ) → MayTake body grant n → IsKept body → is_out (shown body) grant ≡ true → n ≤ body.promised
+places-out body grant n may kept out =
+    let some = places-some (steps_of body) (λ o. same_permit grant (permit_of body.no o)) n may body.out.items (some-out body grant out) in
+    omega (arith, some, kept.promises)
+
+-- a step that takes a grant from those that are out, and gives back so many places
+pub IsKept-returned : (old new : Body) (step : Step) (grant : Permit) (n : ℕ) → MayTake old grant n → StoodBefore (terms_of old) (steps_of old) step → IsKept old → is_out (shown old) grant ≡ true → new.out.items ≡ filter (λ out. not (same_permit grant (permit_of old.no out))) old.out.items → new.history.items ≡ old.history.items ++ step ∷ [] → terms_of new ≡ terms_of old → Ties (terms_of old) (step ∷ steps_of old) new.entries.list new.leases new.next → new.no < new.count → new.promised + n ≡ old.promised → vec_len new.history + new.promised ≤ vec_capacity new.history → IsKept new
+IsKept-returned old new step grant n may stood kept out less pushed same ties one promised reserved =
+    let left : List Out = filter (λ o. not (same_permit grant (permit_of old.no o))) old.out.items in
+    let fewer = places-less (terms_of old) (steps_of old) step (λ o. same_permit grant (permit_of old.no o)) n stood may old.out.items kept.outs (some-out old grant out) in
+    let fits : places_of (step ∷ steps_of old) left ≤ new.promised = omega (arith, fewer, promised, kept.promises) in
+    let outs = IsOut-later (terms_of old) (steps_of old) step stood left (All-filter (λ o. not (same_permit grant (permit_of old.no o))) (IsOut (terms_of old) (steps_of old)) old.out.items kept.outs) in
+    IsKept-after old new step pushed same ties one (subst (All (IsOut (terms_of old) (step ∷ steps_of old))) (sym less) outs) (subst (λ os. places_of (step ∷ steps_of old) os ≤ new.promised) (sym less) fits) reserved
 
 -- what callers see behind it
 pub view-returned : (old : Body) (terms : Terms) (history : List Step) (outs : List Out) (step : Step) (grant : Permit) → terms ≡ terms_of old → history ≡ old.history.items ++ step ∷ [] → outs ≡ filter (λ out. not (same_permit grant (permit_of old.no out))) old.out.items → record { terms = terms; history = history; out = map (permit_of old.no) outs } ≡ returned (shown old) grant step
@@ -153,3 +156,22 @@ pub puts-none : (quar : Quar) (how : How) → PutsNone (ended_as quar how)
 puts-none quar hows.Keep = refl
 puts-none quar hows.Drop = refl
 puts-none quar (hows.Shift stamp) = refl
+
+-- what a release and a replace owe of a grant that is out
+pub owes-release : (body : Body) (grant : Permit) (how : How) (told : Option Quar) → IsKept body → is_out (shown body) grant ≡ true → FitsMode grant.mode how → quar_of grant.key grant.token (steps_of body) ≡ told → OwesRelease (steps_of body) grant how (quar_of grant.key grant.token (steps_of body))
+owes-release body grant how told kept out fits e =
+    subst (OwesRelease (steps_of body) grant how) (sym e) (by told e)
+  where
+    by : (o : Option Quar) → quar_of grant.key grant.token (steps_of body) ≡ o → OwesRelease (steps_of body) grant how o
+    by None is = (out-granted body grant kept out).0
+    by (Some quar) is =
+        let of = out-stands body grant kept out quar is in
+        (of, subst (λ m. FitsMode m how) (sym of.mode) fits)
+
+pub owes-replace : (body : Body) (grant : Permit) (told : Option Quar) → IsKept body → is_out (shown body) grant ≡ true → grant.mode ≡ Refresh → quar_of grant.key grant.token (steps_of body) ≡ told → OwesReplace (steps_of body) grant (quar_of grant.key grant.token (steps_of body))
+owes-replace body grant told kept out refresh e =
+    subst (OwesReplace (steps_of body) grant) (sym e) (by told e)
+  where
+    by : (o : Option Quar) → quar_of grant.key grant.token (steps_of body) ≡ o → OwesReplace (steps_of body) grant o
+    by None is = (out-granted body grant kept out).0
+    by (Some quar) is = let of = out-stands body grant kept out quar is in (of, of.mode ∙ refresh)

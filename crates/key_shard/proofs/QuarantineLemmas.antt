@@ -1,47 +1,35 @@
 -- What a request for a quarantine gives, by the verdict on it.
-use Rattle.std.proofs.Common.{◌≡◌, ℕ, Bool, true, false, cond, List, [], ◌∷◌, map, find, filter, not, Option, Some, None, is_some, option_map, refl, sym, ap, subst, ◌∙◌}
+use Rattle.std.proofs.Common.{◌≡◌, ℕ, Bool, true, false, cond, List, [], ◌∷◌, map, filter, not, Option, Some, None, is_some, option_map, refl, sym, ap, subst, ◌∙◌, ◌⊎◌, inl, inr}
 use Rattle.std.specs.Prelude.{ℤ, Result}
 use Rattle.std.specs.Option.{option_or}
-use Rattle.std.specs.List.{list_all}
-use Rattle.std.specs.Prelude.{◌&&◌}
 use Rattle.std.proofs.lemmas.Bool.{eq-eqb}
 use Rattle.rows_model.specs.declared.keys.QKey.{QKey}
 use Rattle.rows_model.specs.declared.keys.Sid.{Sid}
 use Rattle.rows_model.specs.Placement.{shard_of}
-use Rattle.case_tables.specs.Compatibility.{Way, is_given, is_invalidate, same_way, quarantine_verdict, verdict, quarantine}
+use Rattle.case_tables.specs.Compatibility.{Way, is_given, quarantine_verdict, verdict, quarantine}
 use Rattle.case_tables.specs.declared.grids.Verdict.{Verdict}
 use Rattle.case_tables.specs.declared.grids.Verdict.TheVariants.{Give, Wait, Void, Join, Same, Own, Refuse}
 use Rattle.lease_table.specs.declared.records.Lease.{Lease}
 use Rattle.lease_table.specs.declared.records.Mode.{Mode}
 use Rattle.lease_table.specs.declared.records.Quar.{Quar}
 use Rattle.lease_table.specs.Leases as leases
-use Rattle.lease_table.specs.Leases.{way_of, is_of}
+use Rattle.lease_table.specs.Leases.{way_of, is_of, first, holder_in}
 use Rattle.entry_table.specs.Entries.{Item}
 use Rattle.key_shard.specs.declared.replies.ShardFault.{ShardFault}
 use Rattle.key_shard.specs.declared.replies.ShardFault.TheVariants as faults
 use Rattle.key_shard.specs.declared.steps.Step.{Step}
 use Rattle.key_shard.specs.declared.steps.Step.TheVariants.{Granted}
-use Rattle.key_shard.specs.Past.{Terms, standing, own_of, seen_by, first_of, holder_of, next_token, deadline_at}
+use Rattle.key_shard.specs.Past.{Terms, standing, own_of, seen_by, holder_of, next_token, deadline_at}
 use Rattle.key_shard.specs.Answers.{quarantine_by, quarantine_step, IsAtHome}
 use Rattle.key_shard.specs.Shards.{ShardView, past_of, refusal, spent_at, Refuses}
 use Rattle.key_shard.specs.Kept.{Ties}
 use Rattle.key_shard.proofs.LookLemmas.{holding-seen}
 
--- a verdict on a quarantine that neither is Same nor refuses gives it
-own-else : (b : Bool) → (cond b Same Refuse ≡ Same → ⊥) → (cond b Same Refuse ≡ Refuse → ⊥) → is_given (cond b Same Refuse) ≡ true
-own-else true same refuse = absurd (same refl)
-own-else false same refuse = absurd (refuse refl)
-
-beside-else : (b : Bool) → (cond b Join Refuse ≡ Refuse → ⊥) → is_given (cond b Join Refuse) ≡ true
-beside-else true refuse = refl
-beside-else false refuse = absurd (refuse refl)
-
-given-else : (w : Way) (own : Option Way) (others : List Way) (reading : Bool) → (quarantine_verdict w own others reading ≡ Same → ⊥) → (quarantine_verdict w own others reading ≡ Refuse → ⊥) → is_given (quarantine_verdict w own others reading) ≡ true
-given-else w (Some o) others reading same refuse = own-else (same_way o w) same refuse
-given-else w None [] true same refuse = refl
-given-else w None [] false same refuse = refl
-given-else w None (o ∷ os) reading same refuse =
-    beside-else (is_invalidate w && list_all is_invalidate (o ∷ os)) refuse
+-- these verdicts give a quarantine
+pub given-one : (v : Verdict) → (v ≡ Give) ⊎ ((v ≡ Void) ⊎ (v ≡ Join)) → is_given v ≡ true
+given-one v (inl e) = rw e refl
+given-one v (inr (inl e)) = rw e refl
+given-one v (inr (inr e)) = rw e refl
 
 -- where a quarantine is refused, one stands in the way
 refused-some : (w : Way) (own : Option Way) (others : List Way) (reading : Bool) → quarantine_verdict w own others reading ≡ Refuse → own ≡ None → others ≡ [] → ⊥
@@ -68,36 +56,22 @@ pub step-granted : (terms : Terms) (past : List Step) (key : QKey) (who : Sid) (
 step-granted terms past key who mode shift now given =
     given-by terms past key who mode shift now (verdict (seen_by key who now past) (quarantine (way_of mode))) given
 
-pub is-given : (key : QKey) (who : Sid) (mode : Mode) (now : ℕ) (past : List Step) (v : Verdict) → verdict (seen_by key who now past) (quarantine (way_of mode)) ≡ v → (v ≡ Same → ⊥) → (v ≡ Refuse → ⊥) → is_given (verdict (seen_by key who now past) (quarantine (way_of mode))) ≡ true
-is-given key who mode now past v e same refuse =
-    let seen = seen_by key who now past in
-    given-else (way_of mode) seen.own seen.others seen.reading (λ s. same (sym e ∙ s)) (λ r. refuse (sym e ∙ r))
-
 -- who holds a key: as the past and as the table of leases tell it
-holder-by : (own : Option Quar) (quars : List Quar) (past : List Step) (key : QKey) (who : Sid) → own_of key who past ≡ own → holder_of key who past ≡ option_or own (first_of (standing key past))
-holder-by (Some q) quars past key who e = rw e refl
-holder-by None quars past key who e = rw e refl
-
-first-same : (quars : List Quar) → leases.first quars ≡ first_of quars
-first-same [] = refl
-first-same (q ∷ qs) = refl
-
 pub holder-told : {terms : Terms} {past : List Step} {list : List Item} {table : List Lease} {next : ℕ} → Ties terms past list table next → (key : QKey) (who : Sid) → option_or (leases.own_quar key who table) (leases.first (leases.quars key table)) ≡ holder_of key who past
-holder-told {past = past} {table = table} h key who =
-    ap (λ quars. option_or (find (is_of who) quars) (leases.first quars)) (h.quars key) ∙ ap (option_or (own_of key who past)) (first-same (standing key past)) ∙ sym (holder-by (own_of key who past) (standing key past) past key who refl)
+holder-told h key who = ap (holder_in who) (h.quars key)
 
-some-first : (quars : List Quar) → (quars ≡ [] → ⊥) → is_some (first_of quars) ≡ true
+some-first : (quars : List Quar) → (quars ≡ [] → ⊥) → is_some (first quars) ≡ true
 some-first [] h = absurd (h refl)
 some-first (q ∷ qs) h = refl
 
-some-holder : (own : Option Quar) (quars : List Quar) → (option_map (λ quar. way_of quar.mode) own ≡ None → quars ≡ [] → ⊥) → is_some (option_or own (first_of quars)) ≡ true
+some-holder : (own : Option Quar) (quars : List Quar) → (option_map (λ quar. way_of quar.mode) own ≡ None → quars ≡ [] → ⊥) → is_some (option_or own (first quars)) ≡ true
 some-holder (Some q) quars h = refl
 some-holder None quars h = some-first quars (h refl)
 
 pub holder-some : (key : QKey) (who : Sid) (mode : Mode) (now : ℕ) (past : List Step) → verdict (seen_by key who now past) (quarantine (way_of mode)) ≡ Refuse → is_some (holder_of key who past) ≡ true
 holder-some key who mode now past refuse =
     let seen = seen_by key who now past in
-    ap is_some (holder-by (own_of key who past) (standing key past) past key who refl) ∙ some-holder (own_of key who past) (standing key past) (λ none nothing. refused-some (way_of mode) seen.own seen.others seen.reading refuse none (ap (λ quars. map (λ quar. way_of quar.mode) (filter (λ quar. not (is_of who quar)) quars)) nothing))
+    some-holder (own_of key who past) (standing key past) (λ none nothing. refused-some (way_of mode) seen.own seen.others seen.reading refuse none (ap (λ quars. map (λ quar. way_of quar.mode) (filter (λ quar. not (is_of who quar)) quars)) nothing))
 
 -- a key at home is refused for want of tokens alone
 pub refuses-home : {X : Type 0} (shard : ShardView) (key : QKey) (step : Step) (result : Result X ShardFault) → IsAtHome shard.terms key → Refuses (spent_at (next_token shard.terms (past_of shard)) step) result → Refuses (refusal shard key step) result

@@ -1,12 +1,13 @@
 -- What a shard keeps: entries, leases and the next token are those that its past tells.
-use Rattle.std.specs.Prelude.{ℕ, ◌≡◌, ◌<◌, ◌≤◌, ◌+◌, ◌*◌, [], ◌∷◌, Bool, false, not, nat_lt, nat_le, if◌then◌else◌, List, map, filter, length, reverse, Option, Some, None, is_some, vec_len, vec_capacity}
-use Rattle.std.specs.List.{All}
+use Rattle.std.specs.Prelude.{ℕ, ◌≡◌, ◌<◌, ◌≤◌, ◌+◌, [], ◌∷◌, Bool, false, not, nat_lt, nat_le, if◌then◌else◌, List, map, filter, length, reverse, Option, Some, None, is_some, vec_len, vec_capacity}
+use Rattle.std.specs.List.{All, sum_by}
 use Rattle.rows_model.specs.declared.keys.QKey.{QKey}
 use Rattle.rows_model.specs.declared.keys.Sid.{Sid}
 use Rattle.rows_model.specs.Key.{same_key}
 use Rattle.case_tables.specs.Compatibility.{verdict, read}
 use Rattle.case_tables.specs.declared.grids.Verdict.TheVariants as verdicts
 use Rattle.lease_table.specs.declared.records.Lease.{Lease}
+use Rattle.lease_table.specs.declared.records.Quar.{Quar}
 use Rattle.lease_table.specs.Leases as leases
 use Rattle.entry_table.specs.Entries.{Item, Table, IsSound, lookup, keys}
 use Rattle.key_shard.specs.Permit.{Permit}
@@ -19,8 +20,8 @@ use Rattle.key_shard.specs.declared.bodies.Body.{Body}
 use Rattle.key_shard.specs.declared.bodies.Out.{Out}
 use Rattle.key_shard.specs.declared.lookups.Look.{Look}
 use Rattle.key_shard.specs.declared.lookups.Look.TheVariants as looks
-use Rattle.key_shard.specs.Past.{Terms, standing, recorded, seen_by, entry, order, is_evicted, entry_ended, is_put, last_key, next_token, deadline_at}
-use Rattle.key_shard.specs.Answers.{IsAtHome, IsLegalPast, WasGranted, get_step}
+use Rattle.key_shard.specs.Past.{Terms, standing, recorded, seen_by, quar_of, entry, order, is_evicted, entry_ended, is_put, last_key, next_token, deadline_at}
+use Rattle.key_shard.specs.Answers.{IsAtHome, IsLegalPast, IsOf, WasGranted, get_step}
 use Rattle.key_shard.specs.Shards.{ShardView}
 
 -- what a shard is made with
@@ -50,17 +51,27 @@ pub record Ties (terms : Terms) (past : List Step) (list : List Item) (table : L
   pub below : (key : QKey) → All (λ quar. quar.token < next) (standing key past)
   pub legal : IsLegalPast terms past
 
--- of a grant that is out the key is the shard's, and its quarantine was granted
+-- of a grant that is out the key is the shard's, and its quarantine was granted, under a token drawn before; where that one stands, it is the grant's
 pub record IsOut (terms : Terms) (past : List Step) (out : Out) : Type 0 where
   pub at_home : IsAtHome terms out.key
   pub granted : WasGranted past (permit_of terms.no out)
+  pub drawn : out.token < next_token terms past
+  pub stands : (quar : Quar) → quar_of out.key out.token past ≡ Some quar → IsOf (permit_of terms.no out) quar
 
--- what a shard keeps: that, and two places of the history for each grant that is out
+-- how many places of the history a grant that is out may still take: one for its release, and one more while its quarantine stands
+abbrev pub places_for : List Step → Out → ℕ
+places_for past out = if is_some (quar_of out.key out.token past) then 2 else 1
+
+-- how many all of them may
+abbrev pub places_of : List Step → List Out → ℕ
+places_of past outs = sum_by (places_for past) outs
+
+-- what a shard keeps: that, and the places of the history that the grants that are out may still take
 pub record IsKept (body : Body) : Type 0 where
   pub one_of : body.no < body.count
   pub ties : Ties (terms_of body) (steps_of body) body.entries.list body.leases body.next
   pub outs : All (IsOut (terms_of body) (steps_of body)) body.out.items
-  pub promises : 2 * length body.out.items ≤ body.promised
+  pub promises : places_of (steps_of body) body.out.items ≤ body.promised
   pub reserved : vec_len body.history + body.promised ≤ vec_capacity body.history
 
 -- a step that changes no entry, order or lease

@@ -48,7 +48,8 @@ impl Body {
         match row {
             0 => Look::Free,
             1 => Look::Waits(Stands::I),
-            _ => Look::Waits(Stands::Q),
+            2..=4 => Look::Waits(Stands::Q),
+            _ => unreachable!(),
         }
     }
 }

@@ -36,9 +36,12 @@ impl Body {
     {
         self.check_home(&key)?;
         match self.leases.judge_q(&key, sid, mode, now) {
+            Verdict::Give | Verdict::Void | Verdict::Join => {
+                self.grant(key, sid, mode, shift, now)
+            }
             Verdict::Same => Ok(self.held(key, sid, mode)?),
             Verdict::Refuse => Ok(self.refuse(key, sid, mode)?),
-            _ => self.grant(key, sid, mode, shift, now),
+            Verdict::Wait | Verdict::Own => unreachable!(),
         }
     }
 

@@ -118,7 +118,7 @@ impl Body {
         ensures gone { result ≡ Rel.Gone }
     {
         drop_out(&mut self.out, self.no, &grant);
-        self.promised -= 2;
+        self.promised -= 1;
         self.history.push_reserved(Step::Gone {
             key: grant.key(),
             sid: grant.sid(),

@@ -2,9 +2,19 @@ use Rattle.std.proofs.Common.{[], ◌∷◌, ◌++◌, refl, ap, ◌∙◌, arit
 use Rattle.key_shard.specs.declared.steps.Step.{Step}
 use Rattle.key_shard.specs.declared.steps.Step.TheVariants.{Gone}
 use Rattle.key_shard.specs.Kept.{terms_of, steps_of}
-use Rattle.key_shard.proofs.OutLemmas.{IsKept-returned, promised-two, view-returned}
+use Rattle.key_shard.proofs.OutLemmas.{IsKept-returned, may-take-one, places-out, view-returned}
 use Rattle.key_shard.proofs.TiesLemmas.{Ties-quiet}
 use Rattle.key_shard.proofs.bodies.Body.gone.Goals as goal
+
+pub overflow_sub-self : goal.overflow_sub-self
+overflow_sub-self c =
+    let kept = places-out c.args.self.now c.args.grant 1 (may-take-one c.args.self.now c.args.grant) c.requires.kept c.requires.out in
+    omega (arith, kept)
+
+pub push_reserved-requires : goal.push_reserved-requires
+push_reserved-requires c =
+    let kept = places-out c.args.self.now c.args.grant 1 (may-take-one c.args.self.now c.args.grant) c.requires.kept c.requires.out in
+    omega (arith, kept, c.requires.kept.reserved)
 
 pub returns-clause-kept : goal.returns-clause-kept
 returns-clause-kept c =
@@ -14,8 +24,8 @@ returns-clause-kept c =
     let same = ap (λ k. Gone k c.sid.result c.token.result) c.key.ensures ∙ ap (λ s. Gone grant.key s c.token.result) c.sid.ensures ∙ ap (Gone grant.key grant.sid) c.token.ensures in
     let pushed = c.push_reserved.ensures.items ∙ ap (λ (s : Step). old.history.items ++ s ∷ []) same in
     let ties = Ties-quiet (terms_of old) (steps_of old) old.entries.list old.leases old.next step tt c.requires.answers c.requires.kept.ties in
-    let two = promised-two old grant c.requires.kept c.requires.out in
-    IsKept-returned old _ step grant c.requires.kept c.requires.out c.drop_out.ensures.items pushed refl ties c.requires.kept.one_of (omega (arith, two)) (omega (arith, two, c.requires.kept.reserved))
+    let two = places-out old grant 1 (may-take-one old grant) c.requires.kept c.requires.out in
+    IsKept-returned old _ step grant 1 (may-take-one old grant) (λ k t q low e. e) c.requires.kept c.requires.out c.drop_out.ensures.items pushed refl ties c.requires.kept.one_of (omega (arith, two)) (omega (arith, two, c.requires.kept.reserved))
 
 pub returns-clause-step : goal.returns-clause-step
 returns-clause-step c =

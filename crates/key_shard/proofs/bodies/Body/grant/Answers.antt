@@ -1,4 +1,4 @@
-use Rattle.std.proofs.Common.{◌≡◌, ◌+◌, ℕ, true, List, [], ◌∷◌, ◌++◌, None, length, length-append, refl, sym, ap, subst, ◌∙◌, arith}
+use Rattle.std.proofs.Common.{◌≡◌, ℕ, true, List, [], ◌∷◌, ◌++◌, None, refl, sym, ap, subst, ◌∙◌, arith}
 use Rattle.std.specs.Prelude.{ℤ, MatchBool}
 use Rattle.std.proofs.lemmas.Int.{to_z-of_z}
 use mir.Syntax.{w32}
@@ -13,9 +13,10 @@ use Rattle.key_shard.specs.declared.steps.Step.{Step}
 use Rattle.key_shard.specs.declared.steps.Step.TheVariants.{Granted}
 use Rattle.key_shard.specs.Past.{next_token}
 use Rattle.key_shard.specs.Answers.{Answers}
-use Rattle.key_shard.specs.Kept.{IsOut, terms_of, steps_of}
+use Rattle.key_shard.specs.Kept.{IsOut, places_of, terms_of, steps_of}
 use Rattle.key_shard.proofs.KeptLemmas.{IsKept-still, IsKept-after, IsOut-later, IsOut-granted}
 use Rattle.key_shard.proofs.LookLemmas.{holding-seen}
+use Rattle.key_shard.proofs.PlaceLemmas.{places-more, stood-granted}
 use Rattle.key_shard.proofs.TiesLemmas.{Ties-granted}
 use Rattle.key_shard.proofs.bodies.Body.grant.Goals as goal
 
@@ -54,7 +55,10 @@ returns-clause-kept c =
     let pushed = subst (λ (s : ℤ). c.push_reserved-2.new.self.items ≡ c.make_room.new.history.items ++ Granted c.args.key c.args.sid c.args.mode s c.args.now token deadline ∷ []) (to_z-of_z w32 shift fits) c.push_reserved-2.ensures.items ∙ ap (λ (h : List Step). h ++ step ∷ []) c.make_room.ensures.items in
     let ties = Ties-granted (terms_of old) (steps_of old) old.entries.list old.leases c.ask_q.new.self old.next c.args.key c.args.sid c.args.mode shift c.args.now token deadline refl leaves answers c.requires.kept.ties in
     let grown : c.push_reserved.new.self.items ≡ old.out.items ++ out ∷ [] = c.push_reserved.ensures.items ∙ ap (λ (o : List Out). o ++ out ∷ []) c.keep_place.ensures.items in
-    let before = IsOut-later (terms_of old) (steps_of old) step old.out.items c.requires.kept.outs in
-    let after = All-append (IsOut (terms_of old) (step ∷ steps_of old)) old.out.items (out ∷ []) before (All-cons (IsOut (terms_of old) (step ∷ steps_of old)) out [] (IsOut-granted (terms_of old) (steps_of old) out shift c.args.now deadline c.requires.home) (All-nil (IsOut (terms_of old) (step ∷ steps_of old)))) in
-    let longer : length c.push_reserved.new.self.items ≡ length old.out.items + 1 = ap length grown ∙ length-append old.out.items (out ∷ []) in
-    IsKept-after old _ step pushed refl ties c.requires.kept.one_of (subst (All (IsOut (terms_of old) (step ∷ steps_of old))) (sym grown) after) (omega (arith, longer, c.requires.kept.promises)) (omega (arith, c.in_ok-make_room.ensures.ok))
+    let drawn = c.requires.kept.ties.counted in
+    let stood = stood-granted (terms_of old) (steps_of old) c.args.key c.args.sid c.args.mode shift c.args.now token deadline drawn in
+    let before = IsOut-later (terms_of old) (steps_of old) step stood old.out.items c.requires.kept.outs in
+    let after = All-append (IsOut (terms_of old) (step ∷ steps_of old)) old.out.items (out ∷ []) before (All-cons (IsOut (terms_of old) (step ∷ steps_of old)) out [] (IsOut-granted (terms_of old) (steps_of old) out shift c.args.now deadline c.requires.home drawn (c.requires.kept.ties.below c.args.key)) (All-nil (IsOut (terms_of old) (step ∷ steps_of old)))) in
+    let fits = places-more (terms_of old) (steps_of old) step stood old.out.items out c.requires.kept.outs in
+    let places = ap (places_of (step ∷ steps_of old)) grown in
+    IsKept-after old _ step pushed refl ties c.requires.kept.one_of (subst (All (IsOut (terms_of old) (step ∷ steps_of old))) (sym grown) after) (omega (arith, fits, places, c.requires.kept.promises)) (omega (arith, c.in_ok-make_room.ensures.ok))

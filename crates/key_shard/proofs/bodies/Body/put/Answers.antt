@@ -8,7 +8,8 @@ use Rattle.key_shard.specs.declared.steps.Step.TheVariants.{Released}
 use Rattle.key_shard.specs.Past.{evicts}
 use Rattle.key_shard.specs.Kept.{Puts, terms_of, steps_of}
 use Rattle.key_shard.proofs.KeptLemmas.{IsKept-still, terms-kept}
-use Rattle.key_shard.proofs.OutLemmas.{IsKept-returned, promised-two, view-returned, ended-leaves}
+use Rattle.key_shard.proofs.OutLemmas.{IsKept-returned, may-take-two, places-out, view-returned, ended-leaves}
+use Rattle.key_shard.proofs.PlaceLemmas.{stood-ended}
 use Rattle.key_shard.proofs.TiesLemmas.{Ties-put, evicts-room}
 use Rattle.key_shard.proofs.bodies.Body.put.Goals as goal
 
@@ -26,6 +27,16 @@ step-same : (grant key : QKey) (sid : Sid) (token token' : ℕ) (value copy : Li
 step-same grant key sid token token' value copy stamp evicted evicted' keys tokens copied same =
     ap (λ k. Released k sid token' (Put copy stamp evicted')) keys ∙ ap (λ t. Released grant sid t (Put copy stamp evicted')) tokens ∙ ap (λ v. Released grant sid token (Put v stamp evicted')) copied ∙ ap (λ e. Released grant sid token (Put value stamp e)) same
 
+pub overflow_sub-self : goal.overflow_sub-self
+overflow_sub-self c =
+    let kept = places-out c.args.self.now c.args.grant 2 (may-take-two c.args.self.now c.args.grant c.args.quar c.requires.stands) c.requires.kept c.requires.out in
+    omega (arith, kept)
+
+pub push_reserved-requires : goal.push_reserved-requires
+push_reserved-requires c =
+    let kept = places-out c.args.self.now c.args.grant 2 (may-take-two c.args.self.now c.args.grant c.args.quar c.requires.stands) c.requires.kept c.requires.out in
+    omega (arith, kept, c.requires.kept.reserved)
+
 pub returns-clause-kept : goal.returns-clause-kept
 returns-clause-kept c =
     let old = c.args.self.now in
@@ -38,8 +49,8 @@ returns-clause-kept c =
     let puts = told grant.key c.key-key.result c.args.value c.args.stamp evicted c.in-Ok-put_in_front.evicted old.entries c.put_in_front.new.entries c.key-key.ensures room c.in-Ok-put_in_front.ensures.puts in
     let leaves = ended-leaves c.requires.kept.ties grant.key grant.token c.key-key.result c.token-token.result c.end_q.result c.args.quar c.end_q.new.self c.key-key.ensures c.token-token.ensures c.end_q.ensures.ended c.end_q.ensures.after c.requires.stands in
     let ties = Ties-put (terms_of old) (steps_of old) old.entries.list old.leases c.end_q.new.self old.next grant.key c.args.quar.sid grant.token c.args.value c.args.stamp evicted c.put_in_front.new.entries puts leaves c.requires.answers c.requires.kept.ties in
-    let two = promised-two old grant c.requires.kept c.requires.out in
-    IsKept-returned old _ step grant c.requires.kept c.requires.out c.drop_out.ensures.items pushed (terms-kept old c.put_in_front.new.entries.room puts.same_room) ties c.requires.kept.one_of (omega (arith, two)) (omega (arith, two, c.requires.kept.reserved))
+    let two = places-out old grant 2 (may-take-two old grant c.args.quar c.requires.stands) c.requires.kept c.requires.out in
+    IsKept-returned old _ step grant 2 (may-take-two old grant c.args.quar c.requires.stands) (stood-ended (terms_of old) (steps_of old) grant.key c.args.quar.sid grant.token (Put c.args.value c.args.stamp evicted)) c.requires.kept c.requires.out c.drop_out.ensures.items pushed (terms-kept old c.put_in_front.new.entries.room puts.same_room) ties c.requires.kept.one_of (omega (arith, two)) (omega (arith, two, c.requires.kept.reserved))
 
 pub returns-clause-step : goal.returns-clause-step
 returns-clause-step c =
