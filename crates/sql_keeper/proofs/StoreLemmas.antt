@@ -1,4 +1,4 @@
-use Rattle.std.proofs.Common.{◌≡◌, ◌≢◌, ℕ, ◌-◌, ◌≤◌, Bool, true, false, List, [], ◌∷◌, ◌++◌, length, Option, Some, None, IsSome, Ok, slice_get, slice_set, slice_index_or, if◌then◌else◌, ◌==◌, zero, suc, refl, sym, ap, ◌∙◌, arith}
+use Rattle.std.proofs.Common.{◌≡◌, ◌≢◌, ℕ, ◌+◌, ◌-◌, ◌^◌, ◌≤◌, ◌⊎◌, inl, inr, Bool, true, false, List, [], ◌∷◌, ◌++◌, length, Option, Some, None, IsSome, Ok, slice_get, slice_set, slice_index_or, if◌then◌else◌, ◌==◌, zero, suc, refl, sym, ap, ◌∙◌, arith}
 use Rattle.std.proofs.lemmas.List.Sums.{fold-append}
 use Rattle.std.proofs.lemmas.List.Elements.{All-push, All-weaker}
 use Rattle.std.proofs.lemmas.List.Quantifiers.{all_pairs_push}
@@ -7,6 +7,7 @@ use Rattle.rows_model.specs.declared.keys.QKey.{QKey}
 use Rattle.rows_model.specs.declared.keys.Sid.{Sid}
 use Rattle.key_shard.specs.Permit.{Permit}
 use Rattle.sql_keeper.specs.Commits.{commit_fault, covered_fault, uncovered}
+use Rattle.sql_keeper.specs.Faults.{FewFailed}
 use Rattle.rows_model.specs.declared.changes.Change.{Change}
 use Rattle.rows_model.specs.Rows.{Tables}
 use Rattle.rows_model.specs.Changes.{apply_all}
@@ -115,3 +116,11 @@ admitted true who grants changes count cap h = (refl, room (uncovered who grants
     room : (key : Option QKey) → covered_fault key count cap ≡ None → count ≢ cap
     room (Some key) h = grind (arith, h)
     room None h = λ e. grind (arith, h, e)
+
+-- a claim of few failed calls lasts where the count of faults stands still
+pub few-same : (first : Option ℕ) (failed before after : ℕ) → FewFailed first failed before → after ≡ before → FewFailed first failed after
+few-same first failed before after few same = λ start named. still start (few start named)
+  where
+    still : (start : ℕ) → (start + failed ≤ before) ⊎ (before ≡ 2 ^ 64 - 1) → (start + failed ≤ after) ⊎ (after ≡ 2 ^ 64 - 1)
+    still start (inl h) = inl (omega arith)
+    still start (inr h) = inr (omega arith)

@@ -1,5 +1,7 @@
 -- What the faults of rows, of a keeper and of a store have to do with one another.
-use Rattle.std.specs.Prelude.{Bool, true, false, Result, Ok, Err}
+use Rattle.std.specs.Prelude.{ℕ, ◌≡◌, ◌+◌, ◌-◌, ◌^◌, ◌≤◌, ◌⊎◌, Bool, true, false, Option, Result, Ok, Err}
+use Rattle.std.specs.Option.{ForSome}
+use Rattle.iq_outside.specs.Outside.{Rose}
 use Rattle.rows_model.specs.declared.refusals.ApplyFault.{ApplyFault}
 use Rattle.rows_model.specs.declared.refusals.ApplyFault.TheVariants as causes
 use Rattle.sql_keeper.specs.declared.faults.KeepFault.{KeepFault}
@@ -20,11 +22,15 @@ after_keeper (staged.Rejected index) = faults.Rejected index
 after_keeper staged.Failed = faults.KeepFault
 after_keeper staged.Memory = faults.Memory
 
+-- whether a fault is that of a keeper that failed
+abbrev pub has_failed : KeepFault → Bool
+has_failed keep.Failed = true
+has_failed keep.Memory = false
+
 -- whether the keeper failed, by what it answered
 abbrev pub keep_failed : {A : Type 0} → Result A KeepFault → Bool
 keep_failed (Ok answer) = false
-keep_failed (Err keep.Failed) = true
-keep_failed (Err keep.Memory) = false
+keep_failed (Err fault) = has_failed fault
 
 -- whether the keeper failed, by what it answered on the rows after a transaction
 abbrev pub staged_failed : {A : Type 0} → Result A AfterFault → Bool
@@ -41,3 +47,12 @@ is_failure (faults.LogFull count) = false
 is_failure faults.Memory = false
 is_failure (faults.Rejected index) = false
 is_failure faults.KeepFault = true
+
+-- what a call makes of a count of faults: where it failed the count rose, up to the end of its type, and else it is as before
+abbrev pub Counts : Bool → ℕ → ℕ → Type 0
+Counts true before after = Rose before after × (after ≤ 2 ^ 64 - 1)
+Counts false before after = after ≡ before
+
+-- so many calls failed, and no more than the count of faults rose by since it stood at the first number, where one is named; or the count stands at the end of its type
+abbrev pub FewFailed : Option ℕ → ℕ → ℕ → Type 0
+FewFailed first failed faults = ForSome first (λ start. (start + failed ≤ faults) ⊎ (faults ≡ 2 ^ 64 - 1))

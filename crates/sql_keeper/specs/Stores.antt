@@ -1,6 +1,6 @@
 -- What contracts see of a store, and what becomes of it.
 use Rattle.std.specs.Prelude.{ℕ, ◌≡◌, ◌≢◌, ◌≤◌, Bool, true, false, List, [], ◌∷◌, ◌++◌, length, All, AllPairs, Option, Some, None, Err}
-use Rattle.iq_outside.specs.Outside.{Rose, count_up}
+use Rattle.iq_outside.specs.Outside.{count_up}
 use Rattle.rows_model.specs.declared.keys.Sid.{Sid}
 use Rattle.rows_model.specs.declared.changes.Change.{Change}
 use Rattle.rows_model.specs.Rows.{Tables}
@@ -62,14 +62,9 @@ with_call true ledger =
     record { opening = ledger.opening; log = ledger.log; sessions = ledger.sessions; cap = ledger.cap; failed = count_up ledger.failed }
 with_call false ledger = ledger
 
--- where a call failed, the keeper's count of faults rose in it
-abbrev pub RoseIf : Bool → ℕ → ℕ → Type 0
-RoseIf true before after = Rose before after
-RoseIf false before after = Unit {0}
-
--- A commit is refused for this fault: for the first that is found before the keeper is asked; where there is none, for one of the keeper's. Memory may always run out.
+-- A commit is refused for this fault: for the first that is found before the keeper is asked; where there is none, for one of the keeper's. Memory may run out instead, but for a session that isn't open.
 abbrev pub IsRefusal : Option CommitFault → CommitFault → Type 0
-IsRefusal first faults.Memory = Unit {0}
+IsRefusal first faults.Memory = first ≢ Some faults.Ended
 IsRefusal (Some fault) refused = refused ≡ fault
 IsRefusal None (faults.Rejected index) = Unit {0}
 IsRefusal None faults.KeepFault = Unit {0}

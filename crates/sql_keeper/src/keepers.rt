@@ -1,9 +1,9 @@
-ghost use Rattle.std.specs.Prelude.{◌≡◌, ℕ, ◌≤◌, Option, Some, IfOk, OnOk, OnErr, Err};
+ghost use Rattle.std.specs.Prelude.{◌≡◌, ℕ, ◌≤◌, Option, Some, IfOk, OnOk, OnErr, IsSome};
 ghost use Rattle.std.specs.Option.{ForSome};
-ghost use Rattle.iq_outside.specs.Outside.{Rose};
 ghost use Rattle.rows_model.specs.Rows.{Tables, start_tables};
 ghost use Rattle.rows_model.specs.Query.{answer};
 ghost use Rattle.sql_keeper.specs.Keepers.{Commits, AnswersAfter};
+ghost use Rattle.sql_keeper.specs.Faults.{Counts, keep_failed, staged_failed};
 
 use crate::faults::{AfterFault, KeepFault};
 use rows_model::{QKey, Rows, Txn, Value};
@@ -20,27 +20,34 @@ pub enum Place {
 
 /// Who keeps the rows of a store.
 ///
-/// Contracts see three things of a keeper: `rows`, its rows, or `None` where it doesn't tell them;
+/// Contracts see four things of a keeper: `rows`, its rows, or `None` where it doesn't tell them;
+/// `holds`, the rows that a start with so many members finds at a place, where that is told;
 /// `faults`, how often it failed; and `is_started`, that it was started. Only `start` begins the
 /// telling: where rows are told after another call they were told before it. No refusal changes
-/// rows that are told, and the count of faults never falls.
+/// rows that are told. The count of faults never falls, and rises in the calls that answer `Failed`
+/// and in no other: so no keeper fails, tries again and hides it.
 pub trait Keeper {
+    ghost use Rattle.sql_keeper.specs.declared.keepers.Place.{Place};
+
     ghost rows: { Self → Option Tables };
+
+    ghost holds: { Self → Place → ℕ → Option Tables };
 
     ghost faults: { Self → ℕ };
 
     ghost is_started: { Self → Type 0 };
 
-    /// Starts the keeper, and answers the rows that it has. A fresh place has so many members, and
-    /// no links.
+    /// Starts the keeper, and answers the rows that it has: those of the place. A fresh place has so
+    /// many members, and no links.
     fn start(&mut self, alloc: Global, place: &Place, members: u32) -> Result<Rows, KeepFault>
         requires some { 1 ≤ members }
         requires few { members ≤ 100000 }
         ensures started { OnOk result (is_started self.new) }
         ensures tells { IfOk result (λ opening. ForSome (rows self.new) (λ told. told ≡ opening)) }
-        ensures fresh { place.now ≡ Place.Fresh → IfOk result (λ opening. ForSome (rows self.new) (λ told. told ≡ start_tables members)) }
+        ensures held { IfOk result (λ opening. IsSome (rows self.new) → ForSome (holds self.old place.now members) (λ held. opening ≡ held)) }
+        ensures fresh { place.now ≡ Place.Fresh → holds self.old place.now members ≡ Some (start_tables members) }
         ensures kept { OnErr result (rows self.new ≡ rows self.old) }
-        ensures failed_rose { result ≡ Err KeepFault.Failed → Rose (faults self.old) (faults self.new) }
+        ensures counts { Counts (keep_failed result) (faults self.old) (faults self.new) }
         ensures never_falls { faults self.old ≤ faults self.new };
 
     /// The answer to a key on the rows.
@@ -48,7 +55,7 @@ pub trait Keeper {
         requires { is_started self.old }
         ensures started { is_started self.new }
         ensures tells { (told : Tables) → rows self.new ≡ Some told → (rows self.old ≡ Some told) × IfOk result (λ value. value ≡ answer key.now told) }
-        ensures failed_rose { result ≡ Err KeepFault.Failed → Rose (faults self.old) (faults self.new) }
+        ensures counts { Counts (keep_failed result) (faults self.old) (faults self.new) }
         ensures never_falls { faults self.old ≤ faults self.new };
 
     /// The answer to a key on the rows as they were after a transaction, which isn't made.
@@ -56,7 +63,7 @@ pub trait Keeper {
         requires { is_started self.old }
         ensures started { is_started self.new }
         ensures tells { (told : Tables) → rows self.new ≡ Some told → (rows self.old ≡ Some told) × AnswersAfter txn.now key.now told result }
-        ensures failed_rose { result ≡ Err AfterFault.Failed → Rose (faults self.old) (faults self.new) }
+        ensures counts { Counts (staged_failed result) (faults self.old) (faults self.new) }
         ensures never_falls { faults self.old ≤ faults self.new };
 
     /// Makes the changes of a transaction, all or none.
@@ -64,6 +71,6 @@ pub trait Keeper {
         requires { is_started self.old }
         ensures started { is_started self.new }
         ensures tells { (told : Tables) → rows self.new ≡ Some told → (before : Tables) × (rows self.old ≡ Some before) × Commits txn.now before told result }
-        ensures failed_rose { result ≡ Err AfterFault.Failed → Rose (faults self.old) (faults self.new) }
+        ensures counts { Counts (staged_failed result) (faults self.old) (faults self.new) }
         ensures never_falls { faults self.old ≤ faults self.new };
 }

@@ -1,11 +1,11 @@
 ghost use Rattle.std.specs.Prelude.{◌≡◌, ℕ, false, ◌+◌, ◌≤◌, ◌↔◌, Option, Some, None, Ok, Err, IsTrue, IfOk, IfErr, OnOk, OnErr, IsSome, Contains};
 ghost use Rattle.std.specs.Bool.{IsFalse};
 ghost use Rattle.std.specs.Option.{ForSome};
-ghost use Rattle.iq_outside.specs.Outside.{Rose, count_up};
+ghost use Rattle.iq_outside.specs.Outside.{count_up};
 ghost use Rattle.rows_model.specs.Rows.{Tables, start_tables};
 ghost use Rattle.rows_model.specs.Query.{answer};
 ghost use Rattle.sql_keeper.specs.Keepers.{Commits, AnswersAfter};
-ghost use Rattle.sql_keeper.specs.Faults.{keep_failed, staged_failed};
+ghost use Rattle.sql_keeper.specs.Faults.{Counts, keep_failed, staged_failed};
 ghost use Rattle.sql_keeper.specs.MapKeepers.{MapView, counted, with_rows};
 
 use crate::faults::{AfterFault, KeepFault};
@@ -59,6 +59,7 @@ impl MapKeeper {
     fn fails_now(&mut self) -> bool
         ensures fails { IsTrue result ↔ Contains self.old.fails (count_up self.old.calls) }
         ensures counted { self.new ≡ counted result self.old }
+        ensures counts { Counts result self.old.faults self.new.faults }
         ensures never_falls { self.old.faults ≤ self.new.faults }
     {
         self.calls = self.calls.saturating_add(1);
@@ -73,6 +74,8 @@ impl MapKeeper {
 impl Keeper for MapKeeper {
     ghost rows = { λ keeper. keeper.rows };
 
+    ghost holds = { λ keeper place members. Some (start_tables members) };
+
     ghost faults = { λ keeper. keeper.faults };
 
     ghost is_started = { λ keeper. IsSome keeper.rows };
@@ -84,9 +87,8 @@ impl Keeper for MapKeeper {
         requires few { members ≤ 100000 }
         ensures started { OnOk result (IsSome self.new.rows) }
         ensures tells { IfOk result (λ opening. ForSome self.new.rows (λ told. told ≡ opening)) }
-        ensures fresh { _place.now ≡ Place.Fresh → IfOk result (λ opening. ForSome self.new.rows (λ told. told ≡ start_tables members)) }
         ensures kept { OnErr result (self.new.rows ≡ self.old.rows) }
-        ensures failed_rose { result ≡ Err KeepFault.Failed → Rose self.old.faults self.new.faults }
+        ensures counts { Counts (keep_failed result) self.old.faults self.new.faults }
         ensures never_falls { self.old.faults ≤ self.new.faults }
 
         ensures fails { IsTrue (keep_failed result) ↔ Contains self.old.fails (count_up self.old.calls) }
@@ -108,7 +110,7 @@ impl Keeper for MapKeeper {
         requires { IsSome self.old.rows }
         ensures started { IsSome self.new.rows }
         ensures tells { (told : Tables) → self.new.rows ≡ Some told → (self.old.rows ≡ Some told) × IfOk result (λ value. value ≡ answer key.now told) }
-        ensures failed_rose { result ≡ Err KeepFault.Failed → Rose self.old.faults self.new.faults }
+        ensures counts { Counts (keep_failed result) self.old.faults self.new.faults }
         ensures never_falls { self.old.faults ≤ self.new.faults }
 
         ensures fails { IsTrue (keep_failed result) ↔ Contains self.old.fails (count_up self.old.calls) }
@@ -125,7 +127,7 @@ impl Keeper for MapKeeper {
         requires { IsSome self.old.rows }
         ensures started { IsSome self.new.rows }
         ensures tells { (told : Tables) → self.new.rows ≡ Some told → (self.old.rows ≡ Some told) × AnswersAfter txn.now key.now told result }
-        ensures failed_rose { result ≡ Err AfterFault.Failed → Rose self.old.faults self.new.faults }
+        ensures counts { Counts (staged_failed result) self.old.faults self.new.faults }
         ensures never_falls { self.old.faults ≤ self.new.faults }
 
         ensures fails { IsTrue (staged_failed result) ↔ Contains self.old.fails (count_up self.old.calls) }
@@ -142,7 +144,7 @@ impl Keeper for MapKeeper {
         requires { IsSome self.old.rows }
         ensures started { IsSome self.new.rows }
         ensures tells { (told : Tables) → self.new.rows ≡ Some told → (before : Tables) × (self.old.rows ≡ Some before) × Commits txn.now before told result }
-        ensures failed_rose { result ≡ Err AfterFault.Failed → Rose self.old.faults self.new.faults }
+        ensures counts { Counts (staged_failed result) self.old.faults self.new.faults }
         ensures never_falls { self.old.faults ≤ self.new.faults }
 
         ensures fails { IsTrue (staged_failed result) ↔ Contains self.old.fails (count_up self.old.calls) }

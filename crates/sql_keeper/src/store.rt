@@ -1,7 +1,6 @@
-ghost use Rattle.std.specs.Prelude.{◌≡◌, ◌≢◌, ◌+◌, ◌≤◌, ℕ, Option, Some, None, Ok, Err, All, AllPairs, length, MatchResult, IfOk, IfErr, OnOk, OnErr, IsSome, IsTrue};
+ghost use Rattle.std.specs.Prelude.{◌≡◌, ◌≢◌, ◌+◌, ◌≤◌, ℕ, Option, Some, None, Ok, All, AllPairs, length, MatchResult, IfOk, IfErr, OnOk, OnErr, IsSome};
 ghost use Rattle.std.specs.Bool.{IsFalse};
 ghost use Rattle.std.specs.Option.{ForSome};
-ghost use Rattle.iq_outside.specs.Outside.{Rose};
 ghost use Rattle.rows_model.specs.Rows.{Tables, start_tables};
 ghost use Rattle.rows_model.specs.Query.{answer};
 ghost use Rattle.rows_model.specs.Changes.{apply_all};
@@ -9,8 +8,8 @@ ghost use Rattle.sql_keeper.specs.Keepers.{AnswersAfter};
 ghost use Rattle.sql_keeper.specs.Log.{rows_after};
 ghost use Rattle.sql_keeper.specs.Sessions.{is_open};
 ghost use Rattle.sql_keeper.specs.Commits.{commit_fault};
-ghost use Rattle.sql_keeper.specs.Faults.{keep_failed, staged_failed, is_failure};
-ghost use Rattle.sql_keeper.specs.Stores.{opened, with_session, with_end, with_commit, with_call, RoseIf, IsRefusal, IsTrueFault};
+ghost use Rattle.sql_keeper.specs.Faults.{has_failed, keep_failed, staged_failed, is_failure, Counts, FewFailed};
+ghost use Rattle.sql_keeper.specs.Stores.{opened, with_session, with_end, with_commit, with_call, IsRefusal, IsTrueFault};
 
 use crate::faults::{AfterFault, CommitFault, KeepFault};
 use crate::keepers::{Keeper, Place};
@@ -20,27 +19,55 @@ use crate::stores::{Answer, Commit, Phase};
 use key_shard::Grant;
 use rows_model::{Memory, QKey, Rows, Sid, Txn, Value};
 use std::alloc::Global;
-use std::marker::Model;
+use std::marker::{Brand, Model, PhantomData};
+
+/// Names the count of faults at which a store's keeper stood when it was started.
+///
+/// The name is picked where a caller that is generic in it is called, at the type `Brand`.
+pub trait Start {
+    ghost use Rattle.std.specs.Prelude.{ℕ, Option};
+
+    ghost count: { Option ℕ };
+}
+
+impl Start for Brand {
+    ghost use Rattle.std.specs.Prelude.{None};
+
+    ghost count = { None };
+}
+
+/// No count is named.
+#[derive(Drop)]
+pub struct Unnamed;
+
+impl Start for Unnamed {
+    ghost use Rattle.std.specs.Prelude.{None};
+
+    ghost count = { None };
+}
 
 /// The rows of a keeper, what was committed on them, and the sessions. Contracts see the ledger, and
 /// of the keeper its rows, where it tells them, and its count of faults.
 ///
 /// Where the keeper tells its rows, they are those after the log. Where they are told after a call,
-/// they were told before it.
+/// they were told before it. Where `N` names the count of faults at the start, no more calls have
+/// failed than that count has risen by since, unless it stands at 2^64 - 1.
 #[derive(Drop)]
-pub struct Store<K: Keeper> {
+pub struct Store<K: Keeper, N: Start = Unnamed> {
     keeper: K,
     opening: Rows,
     log: Vec<Commit>,
     sessions: Sessions,
     cap: u64,
     failed: u64,
+    start: PhantomData<N>,
 }
 
-impl<K: Keeper> Model for Store<K> {
+impl<K: Keeper, N: Start> Model for Store<K, N> {
     ghost use Rattle.std.specs.Prelude.{◌≡◌};
     ghost use Rattle.std.specs.Option.{ForSome};
     ghost use Rattle.sql_keeper.specs.Log.{rows_after};
+    ghost use Rattle.sql_keeper.specs.Faults.{FewFailed};
     ghost use Rattle.sql_keeper.specs.Stores.{StoreView, IsLedger};
 
     ghost Value = { StoreView };
@@ -53,10 +80,12 @@ impl<K: Keeper> Model for Store<K> {
 
     ghost invariant = { λ s. K.is_started s.keeper
         × IsLedger (record { opening = s.opening; log = s.log.items; sessions = s.sessions; cap = s.cap; failed = s.failed })
-        × ForSome (K.rows s.keeper) (λ told. told ≡ rows_after s.opening s.log.items) };
+        × ForSome (K.rows s.keeper) (λ told. told ≡ rows_after s.opening s.log.items)
+        × FewFailed N.count s.failed (K.faults s.keeper) };
 }
 
-/// A keeper that didn't start, and why. Its rows are as before.
+/// A keeper that didn't start, and why. Its rows are as before, and its count of faults too, unless it
+/// failed.
 #[derive(Drop)]
 pub struct NoStore<K: Keeper> {
     pub keeper: K,
@@ -65,7 +94,7 @@ pub struct NoStore<K: Keeper> {
 
 impl<K: Keeper> Store<K> {
     /// Starts the keeper, with so many members at a fresh place. The rows that it has are the opening
-    /// rows. The log is empty, and takes at most `cap` commits.
+    /// rows: those of the place, where these are told. The log is empty, and takes at most `cap` commits.
     pub fn new(
         alloc: Global,
         keeper: K,
@@ -78,10 +107,11 @@ impl<K: Keeper> Store<K> {
         requires cap { cap ≤ 8000000 }
         ensures opened { IfOk result (λ store. store.ledger ≡ opened store.ledger.opening cap) }
         ensures told { IfOk result (λ store. ForSome store.told (λ told. told ≡ store.ledger.opening)) }
-        ensures fresh { place.now ≡ Place.Fresh → IfOk result (λ store. IsSome store.told → store.ledger.opening ≡ start_tables members) }
+        ensures held { IfOk result (λ store. IsSome store.told → ForSome (K.holds keeper place.now members) (λ held. store.ledger.opening ≡ held)) }
+        ensures fresh { place.now ≡ Place.Fresh → K.holds keeper place.now members ≡ Some (start_tables members) }
+        ensures counts { MatchResult result (λ store. store.faults ≡ K.faults keeper) (λ none. Counts (has_failed none.cause) (K.faults keeper) (K.faults none.keeper)) }
         ensures never_falls { MatchResult result (λ store. K.faults keeper ≤ store.faults) (λ none. K.faults keeper ≤ K.faults none.keeper) }
         ensures kept { IfErr result (λ none. K.rows none.keeper ≡ K.rows keeper) }
-        ensures failed_rose { IfErr result (λ none. none.cause ≡ KeepFault.Failed → Rose (K.faults keeper) (K.faults none.keeper)) }
     {
         let mut keeper = keeper;
         match keeper.start(alloc, place, members) {
@@ -92,11 +122,40 @@ impl<K: Keeper> Store<K> {
                 sessions: Sessions::new(alloc),
                 cap,
                 failed: 0,
+                start: PhantomData,
             }),
             Err(cause) => Err(NoStore { keeper, cause }),
         }
     }
 
+    /// The store, with its keeper's count of faults at the start named. No call has failed since.
+    pub fn named<N: Start>(self) -> Store<K, N>
+        requires start { N.count ≡ Some self.faults }
+        requires new { self.ledger.failed ≡ 0 }
+        ensures { result ≡ self }
+    {
+        let Store {
+            keeper,
+            opening,
+            log,
+            sessions,
+            cap,
+            failed,
+            start: _,
+        } = self;
+        Store {
+            keeper,
+            opening,
+            log,
+            sessions,
+            cap,
+            failed,
+            start: PhantomData,
+        }
+    }
+}
+
+impl<K: Keeper, N: Start> Store<K, N> {
     /// A session begins, to write or to read. Its number is the next one, from 1. One that writes is
     /// open. For want of memory everything is as before.
     pub fn begin(&mut self, writes: bool) -> Result<Sid, Memory>
@@ -114,7 +173,7 @@ impl<K: Keeper> Store<K> {
         ensures ledger { self.new.ledger ≡ with_call (keep_failed result) self.old.ledger }
         ensures answer { IfOk result (λ given. (given.key ≡ key.now) × (given.stamp ≡ length self.old.ledger.log)) }
         ensures tells { IsSome self.new.told → (IsSome self.old.told) × IfOk result (λ given. given.value ≡ answer key.now (rows_after self.old.ledger.opening self.old.ledger.log)) }
-        ensures failed_rose { RoseIf (keep_failed result) self.old.faults self.new.faults }
+        ensures counts { Counts (keep_failed result) self.old.faults self.new.faults }
         ensures never_falls { self.old.faults ≤ self.new.faults }
     {
         let stamp = self.log.len() as u64;
@@ -137,7 +196,7 @@ impl<K: Keeper> Store<K> {
     pub fn ask_staged(&mut self, txn: &Txn, key: &QKey) -> Result<Value, AfterFault>
         ensures ledger { self.new.ledger ≡ with_call (staged_failed result) self.old.ledger }
         ensures tells { IsSome self.new.told → (IsSome self.old.told) × AnswersAfter txn.now key.now (rows_after self.old.ledger.opening self.old.ledger.log) result }
-        ensures failed_rose { RoseIf (staged_failed result) self.old.faults self.new.faults }
+        ensures counts { Counts (staged_failed result) self.old.faults self.new.faults }
         ensures never_falls { self.old.faults ≤ self.new.faults }
     {
         match self.keeper.ask_after(*self.log.allocator(), txn, key) {
@@ -153,8 +212,9 @@ impl<K: Keeper> Store<K> {
     /// Commits the transaction of an open session, under the grants that cover each key it touches:
     /// the rows take it, the log gains it, the session is open no more, and the answer is the new
     /// number of commits. Else the first cause in the order of `CommitFault` is told, the
-    /// transaction comes back, and rows, log and sessions are as before. A keeper that fails is
-    /// told before it is known whether the transaction applies.
+    /// transaction comes back, and rows, log and sessions are as before. A session that isn't open is
+    /// told before memory is asked for. A keeper that fails is told before it is known whether the
+    /// transaction applies.
     pub fn commit(
         &mut self,
         sid: Sid,
@@ -170,7 +230,7 @@ impl<K: Keeper> Store<K> {
         ensures tells { IsSome self.new.told → IsSome self.old.told }
         ensures applied { IsSome self.new.told → OnOk result ((after : Tables) × (apply_all txn (rows_after self.old.ledger.opening self.old.ledger.log) ≡ Ok after)) }
         ensures rejected { IsSome self.new.told → IfErr result (λ back. IsTrueFault txn (rows_after self.old.ledger.opening self.old.ledger.log) back.0) }
-        ensures failed_rose { IfErr result (λ back. RoseIf (is_failure back.0) self.old.faults self.new.faults) }
+        ensures counts { MatchResult result (λ _. self.new.faults ≡ self.old.faults) (λ back. Counts (is_failure back.0) self.old.faults self.new.faults) }
         ensures never_falls { self.old.faults ≤ self.new.faults }
     {
         if let Err(fault) = admit(&self.sessions, &mut self.log, self.cap, sid, &txn, grants) {
@@ -224,9 +284,11 @@ impl<K: Keeper> Store<K> {
         self.log.as_slice()
     }
 
-    /// How many calls of the keeper have failed since it was started. The count stops at 2^64 - 1.
+    /// How many calls of the keeper have failed since it was started. The count stops at 2^64 - 1. It
+    /// takes no memory.
     pub fn failed(&self) -> u64
-        ensures { result ≡ self.now.ledger.failed }
+        ensures count { result ≡ self.now.ledger.failed }
+        ensures few { FewFailed N.count result self.now.faults }
     {
         self.failed
     }
@@ -239,6 +301,7 @@ impl<K: Keeper> Store<K> {
         ensures opening { result.1 ≡ self.ledger.opening }
         ensures log { result.2.items ≡ self.ledger.log }
         ensures told { ForSome self.told (λ told. told ≡ rows_after self.ledger.opening self.ledger.log) }
+        ensures few { FewFailed N.count self.ledger.failed self.faults }
     {
         let Store {
             keeper,
@@ -247,6 +310,7 @@ impl<K: Keeper> Store<K> {
             sessions: _,
             cap: _,
             failed: _,
+            start: _,
         } = self;
         (keeper, opening, log)
     }
