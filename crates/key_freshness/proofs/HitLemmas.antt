@@ -1,10 +1,7 @@
 -- A hit on a held and right entry is fresh, and what it lacks still stands quarantined.
-use Rattle.std.proofs.Common.{ℕ, ◌≡◌, ◌≤◌, ◌<◌, ◌⊎◌, inl, inr, ⊎_elim, arith}
+use Rattle.std.proofs.Common.{ℕ, ◌≡◌, ◌≤◌, ◌<◌, lt_of_not-le, ⊎_elim}
 use Rattle.key_freshness.specs.Laws.{HitIsFresh, LackingStands}
 use Rattle.key_freshness.proofs.MarkLemmas.{released-ended}
-
-cases_lt : (a b : ℕ) → (a < b) ⊎ (b ≤ a)
-cases_lt a b = omega arith
 
 pub hit_is_fresh : HitIsFresh
 hit_is_fresh key opening known past value stamp held right = record {
@@ -12,10 +9,7 @@ hit_is_fresh key opening known past value stamp held right = record {
   right = right;
   current = λ place commit at touched released.
       let ended = released-ended key commit.sid past released in
-      ⊎_elim
-      (λ lt. lt)
-      (λ from. absurd (held.pending place commit ended.token at from touched ended.mark))
-      (cases_lt place stamp);
+      lt_of_not-le (λ from. held.pending place commit ended.token at from touched ended.mark);
 }
 
 pub lacking_stands : LackingStands

@@ -1,7 +1,7 @@
 -- Which marks stand in lists put together, which stamp was written last, and what a release marks.
 use Rattle.std.proofs.Common.{ℕ, ◌≡◌, ◌==◌, ◌&&◌, Bool, true, false, cond, List, [], ◌∷◌, ◌++◌, Option, None, Some, refl, ap, subst, ◌∙◌, sym, ◌⊎◌, inl, inr, ⊎_elim}
 use Rattle.std.specs.List.{list_any}
-use Rattle.std.proofs.lemmas.Bool.{false≢true, eqb-true, or_parts, and_parts}
+use Rattle.std.proofs.lemmas.Bool.{false≢true, eqb-true, or_cases, and_parts}
 use Rattle.rows_model.specs.declared.keys.QKey.{QKey}
 use Rattle.rows_model.specs.declared.keys.Sid.{Sid}
 use Rattle.rows_model.specs.Key.{same_key}
@@ -10,6 +10,11 @@ use Rattle.key_shard.specs.declared.steps.Step.{Step}
 use Rattle.key_shard.specs.declared.steps.Step.TheVariants as step
 use Rattle.sql_keeper.specs.Fresh.{releases}
 use Rattle.key_freshness.specs.Marks.{Mark, Granted, Ended, Leased, Wrote, Has, writes_by, marks_by, marks_in, marks_of, last_wrote}
+
+-- by whether a test holds
+pub by_test : (P : Bool → Type 0) (b : Bool) → (b ≡ true → P true) → (b ≡ false → P false) → P b
+by_test P true holds fails = holds refl
+by_test P false holds fails = fails refl
 
 pub has-front : (mark : Mark) (xs ys : List Mark) → Has mark xs → Has mark (xs ++ ys)
 has-front mark [] ys h = absurd h
@@ -64,4 +69,4 @@ released-ended key who (s ∷ past) e =
     ⊎_elim
     (λ here. let found = ended_by key who s here in record { token = found.token; mark = has-front (Ended who.number found.token) (marks_in key s) (marks_of key past) found.mark })
     (λ there. let found = released-ended key who past there in record { token = found.token; mark = has-back (Ended who.number found.token) (marks_in key s) (marks_of key past) found.mark })
-    (or_parts (releases key who s) (list_any (releases key who) past) e)
+    (or_cases (releases key who s) (list_any (releases key who) past) e)
