@@ -1,0 +1,10 @@
+pub mod MarkLemmas
+pub mod KnownLemmas
+pub mod RuleLemmas
+pub mod MomentLemmas
+pub mod WriteLemmas
+pub mod HitLemmas
+pub mod StepLemmas
+pub mod TieLemmas
+pub mod StoreLemmas
+pub mod RunningLemmas

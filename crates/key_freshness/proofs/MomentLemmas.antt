@@ -1,0 +1,48 @@
+-- What stays held and right where more is known, what was known at a moment, and what is stored under a lease.
+use Rattle.std.proofs.Common.{ℕ, ◌≡◌, ◌+◌, ◌≤◌, ◌<◌, List, [], ◌∷◌, ◌++◌, length, take, None, Some, sym, ap, subst, ◌∙◌, ◌⊎◌, inl, inr, ⊎_elim, arith}
+use Rattle.key_freshness.specs.Marks.{Mark, Granted, Ended, Wrote, Has}
+use Rattle.key_freshness.specs.Known.{Known, IsMore}
+use Rattle.key_freshness.specs.Laws.{MoreIsHeld, MoreIsRight, KnownThen, StoredIsHeld, StoredIsLatest, StoredIsRight}
+use Rattle.key_freshness.proofs.MarkLemmas.{has-split}
+use Rattle.key_freshness.proofs.KnownLemmas.{take-whole, more-refl, more-trans, more-length, more-stood, more-take, over-then}
+
+pub more_is_held : MoreIsHeld
+more_is_held key marks old new stamp more ruled_old ruled_new held = record {
+  within = let k = more-length more in let h = held.within in omega (arith, k, h);
+  pending = λ place commit token at from touched ended.
+      let lt = over-then key marks more ruled_new place commit at (ruled_old.over commit.sid.number token ended) in
+      held.pending place commit token (more-stood more place commit at lt) from touched ended;
+}
+
+pub more_is_right : MoreIsRight
+more_is_right answer old new value stamp more within right = right ∙ ap answer (sym (more-take more stamp within))
+
+pub known_then : KnownThen
+known_then key mine then_marks marks then_known known moment since more ruled place commit at touched =
+    let who = commit.sid.number in
+    let granted = ruled.covered place commit at touched in
+    ⊎_elim
+    (λ new. inl (since.only who granted.token new))
+    (λ old. ⊎_elim
+        (λ m. inl m)
+        (λ ended. inr (over-then key marks more ruled place commit at (moment.ruled.over who granted.token ended)))
+        (moment.settled who granted.token old))
+    (has-split (Granted who granted.token) since.more then_marks (subst (λ ms. Has (Granted who granted.token) ms) since.goes_on granted.mark))
+
+pub stored_is_latest : StoredIsLatest
+stored_is_latest key then_marks marks then_known known stamp moment since more ruled asked place commit at from touched =
+    ⊎_elim
+    (λ m. m)
+    (λ lt. absurd (omega (arith, asked, from, lt)))
+    (known_then key None then_marks marks then_known known moment since more ruled place commit at touched)
+
+pub stored_is_held : StoredIsHeld
+stored_is_held key then_marks marks then_known asked known moment since before after ruled = record {
+  within = more-length after;
+  pending = λ place commit token at from touched ended.
+      stored_is_latest key then_marks marks then_known known (length asked.log) moment since (more-trans before after) ruled (more-length before) place commit at from touched;
+}
+
+pub stored_is_right : StoredIsRight
+stored_is_right answer asked known value more right =
+    more_is_right answer asked known value (length asked.log) more (more-length (more-refl asked)) (right ∙ ap answer (sym (take-whole asked.log)))
