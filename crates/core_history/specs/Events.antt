@@ -4,10 +4,10 @@ use Rattle.std.specs.List.{list_any}
 use Rattle.rows_model.specs.declared.keys.Sid.{Sid}
 use Rattle.key_shard.specs.declared.steps.Step.{Step}
 use Rattle.sql_keeper.specs.declared.stores.Commit.{Commit}
+use Rattle.key_freshness.specs.Known.{Known}
 use Rattle.session_client.specs.declared.replies.Reply.{Reply}
 use Rattle.session_client.specs.declared.replies.Reply.TheVariants as reply
 use Rattle.session_client.specs.declared.replies.Wanted.{Wanted}
-use Rattle.session_client.specs.declared.replies.Wanted.TheVariants as wanted
 
 -- One event: a session's request on a shard, the step that came of it and what the session was told; or a request at the store, or none, and what it was told.
 pub data Event : Type 0 where
@@ -56,17 +56,23 @@ abbrev pub log_of : List Event → List Commit
 log_of [] = []
 log_of (event ∷ past) = log_of past ++ commits_told (who_in event) (reply_in event)
 
--- Whether an event ended this session at the store.
-abbrev pub is_end : Wanted → Bool
-is_end wanted.End = true
-is_end other = false
+-- The session that a reply tells of as ended at the store, if it does: it was open until then.
+abbrev pub ends_told : Sid → Reply → List ℕ
+ends_told who (reply.End true) = who.number ∷ []
+ends_told who other = []
 
-abbrev pub ends : ℕ → Event → Bool
-ends number event = if (who_in event).number == number then is_end (request_in event) else false
+-- The numbers of the sessions that were ended without a commit, the latest first.
+abbrev pub ended_of : List Event → List ℕ
+ended_of [] = []
+ended_of (event ∷ past) = ends_told (who_in event) (reply_in event) ++ ended_of past
 
 -- Whether the session of this number was ended at the store.
 abbrev pub was_ended : ℕ → List Event → Bool
-was_ended number past = list_any (ends number) past
+was_ended number past = list_any (λ other. other == number) (ended_of past)
+
+-- What is known of the store after these events: all of it.
+abbrev pub known_of : List Event → Known
+known_of past = record { log = log_of past; ended = ended_of past }
 
 -- Whether the session of this number has committed.
 abbrev pub has_committed : ℕ → List Event → Bool

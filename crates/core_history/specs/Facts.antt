@@ -1,6 +1,6 @@
 -- What holds before and after every event of a run.
-use Rattle.std.specs.Prelude.{ℕ, ◌≡◌, ◌≢◌, ◌<◌, ◌≤◌, ◌==◌, ◌||◌, Bool, true, false, if◌then◌else◌, List, [], ◌∷◌, length, All, count_by, Option, Some, None, slice_get}
-use Rattle.std.specs.List.{list_any}
+use Rattle.std.specs.Prelude.{ℕ, ◌≡◌, ◌≢◌, ◌<◌, ◌≤◌, ◌==◌, ◌&&◌, Bool, true, false, if◌then◌else◌, List, [], ◌∷◌, ◌++◌, length, All, count_by, Option, Some, None, slice_get}
+use Rattle.std.specs.List.{list_any, AllByRecursion}
 use Rattle.rows_model.specs.declared.keys.QKey.{QKey}
 use Rattle.rows_model.specs.declared.keys.Sid.{Sid}
 use Rattle.rows_model.specs.Key.{same_key}
@@ -14,18 +14,16 @@ use Rattle.lease_table.specs.declared.records.ReadLease.{ReadLease}
 use Rattle.key_shard.specs.declared.steps.Ended.TheVariants as ended
 use Rattle.key_shard.specs.declared.steps.Step.{Step}
 use Rattle.key_shard.specs.declared.steps.Step.TheVariants as step
-use Rattle.key_shard.specs.declared.replies.Got.TheVariants as got
 use Rattle.key_shard.specs.Past.{standing, recorded, entry}
 use Rattle.sql_keeper.specs.declared.stores.Answer.{Answer}
 use Rattle.sql_keeper.specs.declared.stores.Commit.{Commit}
 use Rattle.sql_keeper.specs.Log.{state}
 use Rattle.sql_keeper.specs.Fresh.{quarantines}
-use Rattle.session_client.specs.declared.plans.Plan.TheVariants.{Read}
 use Rattle.session_client.specs.declared.plans.Shape.{Shape}
 use Rattle.session_client.specs.declared.replies.Reply.{Reply}
 use Rattle.session_client.specs.declared.replies.Reply.TheVariants as reply
-use Rattle.core_history.specs.Events.{Event, Stepped, Called, steps_of, told_to, log_of, has_committed}
-use Rattle.core_history.specs.Machine.{World, plan_at, is_open}
+use Rattle.core_history.specs.Events.{Event, Stepped, Called, steps_of, log_of, has_committed}
+use Rattle.core_history.specs.Machine.{World, is_open}
 
 -- The past of a key's own shard.
 abbrev pub steps_on : Shape → World → QKey → List Step
@@ -52,40 +50,45 @@ pub record AreApart (past : List Step) (key : QKey) : Type 0 where
   pub no_reader : (quar : Quar) (quars : List Quar) → standing key past ≡ quar ∷ quars → recorded key past ≡ None
   pub alone : All (λ quar. quar.mode ≢ Invalidate → length (standing key past) ≡ 1) (standing key past)
 
--- Whether a step gives a lease to read the key.
-abbrev pub leases : QKey → Step → Bool
-leases key (step.Lease on sid floor now token deadline) = same_key key on
-leases key other = false
+-- Whether a step gives the lease of this token to read the key.
+abbrev pub leases : QKey → ℕ → Step → Bool
+leases key token (step.Lease on sid floor now given deadline) = same_key key on && (given == token)
+leases key token other = false
 
--- Whether a reply tells of a commit that touches the key.
-abbrev pub commits_on : QKey → Reply → Bool
-commits_on key (reply.Committed number txn grants) = touches txn key
-commits_on key other = false
+-- How many commits the log had when the lease of this token was given on the key, if it was.
+abbrev pub leased_at : QKey → ℕ → List Event → Option ℕ
+leased_at key token [] = None
+leased_at key token (Stepped shard who request step told ∷ past) =
+    if leases key token step then Some (length (log_of past)) else leased_at key token past
+leased_at key token (Called who request told ∷ past) = leased_at key token past
 
--- Whether a commit touched the key since the last lease to read it was given.
-abbrev pub touched_since : QKey → List Event → Bool
-touched_since key [] = false
-touched_since key (Stepped shard who request step told ∷ past) =
-    if leases key step then false else touched_since key past
-touched_since key (Called who request told ∷ past) = commits_on key told || touched_since key past
+-- The answer to the key that a reply tells the session of this number, if it does.
+abbrev pub answers_in : QKey → ℕ → Sid → Reply → List Answer
+answers_in key number who (reply.Answer answered) =
+    if (who.number == number) && same_key key answered.key then answered ∷ [] else []
+answers_in key number who other = []
 
--- The answer that a reader holds under this lease, if it holds one.
-abbrev pub held_under : ℕ → List Reply → Option Answer
-held_under token (reply.Answer answered ∷ reply.Got (got.Lease mine) ∷ heard) =
-    if mine == token then Some answered else None
-held_under token heard = None
+-- The answers to the key that a session was told since the lease of this token was given on it.
+abbrev pub answers_under : QKey → ℕ → ℕ → List Event → List Answer
+answers_under key token number [] = []
+answers_under key token number (Stepped shard who request step told ∷ past) =
+    if leases key token step then [] else answers_under key token number past
+answers_under key token number (Called who request told ∷ past) =
+    answers_in key number who told ++ answers_under key token number past
 
--- An answer is the key's on the rows after as many commits as its stamp says, and no commit after those touches the key.
-abbrev pub IsCurrent : Tables → List Commit → QKey → Option Answer → Type 0
-IsCurrent opening log key None = Unit {0}
-IsCurrent opening log key (Some answered) =
-    (answered.key ≡ key) × (answered.stamp ≤ length log) × (answered.value ≡ answer key (state opening log answered.stamp))
-    × ((place : ℕ) (commit : Commit) → slice_get log place ≡ Some commit → answered.stamp ≤ place → touches commit.txn key ≡ false)
+-- An answer that is held under a lease is the key's on the rows after as many commits as its stamp says, these are at least as many as there were at the lease, and no commit after them touches the key.
+pub record IsCurrent (opening : Tables) (log : List Commit) (key : QKey) (least : ℕ) (answered : Answer) : Type 0 where
+  pub since : least ≤ answered.stamp
+  pub within : answered.stamp ≤ length log
+  pub right : answered.value ≡ answer key (state opening log answered.stamp)
+  pub latest : (place : ℕ) (commit : Commit) → slice_get log place ≡ Some commit → answered.stamp ≤ place → touches commit.txn key ≡ false
 
--- No commit has touched a key since the lease that is recorded on it, and the answer that a reader of the key holds under that lease is current.
+-- No commit has touched a key since the lease that is recorded on it, and each answer that any session was told under it is current.
 pub record IsQuiet (opening : Tables) (shape : Shape) (world : World) (key : QKey) (lease : ReadLease) : Type 0 where
-  pub untouched : touched_since key world.past ≡ false
-  pub held : (number floor : ℕ) → plan_at number world.plans ≡ Some (Read key floor) → IsCurrent opening (log_of world.past) key (held_under lease.token (told_to number world.past))
+  pub least : ℕ
+  pub leased : leased_at key lease.token world.past ≡ Some least
+  pub untouched : (place : ℕ) (commit : Commit) → slice_get (log_of world.past) place ≡ Some commit → least ≤ place → touches commit.txn key ≡ false
+  pub held : (number : ℕ) → AllByRecursion (IsCurrent opening (log_of world.past) key least) (answers_under key lease.token number world.past)
 
 -- A session that may still commit has each quarantine standing that it was granted. One whose quarantine ended with Keep didn't commit, and any whose quarantine ended may commit no more.
 abbrev pub IsOrdered : Shape → World → Step → Type 0
