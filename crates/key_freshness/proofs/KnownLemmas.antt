@@ -67,6 +67,12 @@ more-stood {old} {new} more place commit at lt =
 pub more-take : {old new : Known} → IsMore old new → (n : ℕ) → n ≤ length old.log → take n new.log ≡ take n old.log
 more-take {old} {new} more n le = ap (λ l. take n l) more.goes_on ∙ take-front old.log more.more n le
 
+-- a session that was over is over still
+pub over-more : {old new : Known} → IsMore old new → (who : ℕ) → IsOver old who → IsOver new who
+over-more {old} {new} more who (inl logged) =
+    inl (record { place = logged.place; commit = logged.commit; at = more-stands more logged.place logged.commit logged.at; own = logged.own })
+over-more {old} {new} more who (inr ended) = inr (more.kept who ended)
+
 -- a commit that is known now, of a session that was over then, was known then
 pub over-then : {old new : Known} (key : QKey) (marks : List Mark) → IsMore old new → IsRuled key marks new → (place : ℕ) (commit : Commit) → StandsAt new.log place commit → IsOver old commit.sid.number → place < length old.log
 over-then {old} {new} key marks more ruled place commit at (inl logged) =

@@ -174,13 +174,14 @@ EndsKeep =
     (key : QKey) (marks : List Mark) (known : Known) (who : ℕ) → (IsLogged known.log who → ⊥) → IsRuled key marks known
     → IsRuled key marks (with_end known who)
 
--- The running case: what was known at the lease, asked with and known at the set may each be more than the one before, by commits of whichever sessions. What was stored then is fresh for every hit later, against the most that is known.
+-- The running case: what was known at the lease, asked with and known at the set may each be more than the one before, by commits of whichever sessions. What was stored then is fresh for every hit later, against the most that is known, where each quarantine that ended since kept the value, its session being ended without a commit.
 abbrev pub RunningHitIsFresh : Type 0
 RunningHitIsFresh =
-    (key : QKey) (opening : Tables) (then_past past later : List Step) (then_known asked known later_known : Known) (value : List ℕ)
+    (key : QKey) (opening : Tables) (then_past past later : List Step) (then_known asked known later_known : Known) (value : List ℕ) (since : List Mark)
     → IsMoment key None (marks_of key then_past) then_known → IsSince None (marks_of key then_past) (marks_of key past)
     → IsMore then_known asked → IsMore asked known → IsRuled key (marks_of key past) known
     → value ≡ query.answer key (rows_after opening asked.log)
-    → marks_of key later ≡ Wrote (length asked.log) ∷ marks_of key past
+    → marks_of key later ≡ since ++ Wrote (length asked.log) ∷ marks_of key past
+    → ((who token : ℕ) → Has (Ended who token) since → IsAmong who later_known.ended)
     → IsMore known later_known → IsRuled key (marks_of key later) later_known
     → IsFreshHit opening later_known.log later key value (length asked.log)
