@@ -1,10 +1,10 @@
 -- Places of a log, and what stays where more is known.
-use Rattle.std.proofs.Common.{ℕ, zero, suc, ◌≡◌, ◌+◌, ◌≤◌, ◌<◌, List, [], ◌∷◌, ◌++◌, length, length-append, take, Some, slice_get, refl, sym, ap, subst, ◌∙◌, ◌⊎◌, inl, inr, ⊎_elim, append-nil, append_assoc, arith}
+use Rattle.std.proofs.Common.{ℕ, zero, suc, ◌≡◌, ◌≤◌, ◌<◌, List, [], ◌∷◌, ◌++◌, length, length-append, take, Some, slice_get, refl, sym, ap, subst, ◌∙◌, ◌⊎◌, inl, inr, ⊎_elim, append-nil, append_assoc, arith}
 use Rattle.std.proofs.lemmas.Option.{slice_get_within}
 use Rattle.rows_model.specs.declared.keys.QKey.{QKey}
 use Rattle.sql_keeper.specs.declared.stores.Commit.{Commit}
 use Rattle.key_freshness.specs.Marks.{Mark}
-use Rattle.key_freshness.specs.Known.{Known, StandsAt, IsAmong, IsOver, IsMore, IsRuled}
+use Rattle.key_freshness.specs.Known.{Known, StandsAt, IsOver, IsMore, IsRuled}
 
 pub stands-front : {X : Type 0} (xs ys : List X) (place : ℕ) (x : X) → slice_get xs place ≡ Some x → slice_get (xs ++ ys) place ≡ Some x
 stands-front [] ys place x e = absurd cc

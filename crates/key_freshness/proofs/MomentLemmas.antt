@@ -1,7 +1,7 @@
 -- What stays held and right where more is known, what was known at a moment, and what is stored under a lease.
-use Rattle.std.proofs.Common.{ℕ, ◌≡◌, ◌+◌, ◌≤◌, ◌<◌, List, [], ◌∷◌, ◌++◌, length, take, None, Some, sym, ap, subst, ◌∙◌, ◌⊎◌, inl, inr, ⊎_elim, arith}
+use Rattle.std.proofs.Common.{ℕ, List, [], ◌++◌, length, None, sym, ap, subst, ◌∙◌, inl, inr, ⊎_elim, arith}
 use Rattle.rows_model.specs.declared.keys.QKey.{QKey}
-use Rattle.key_freshness.specs.Marks.{Mark, Granted, Ended, Wrote, Has}
+use Rattle.key_freshness.specs.Marks.{Mark, Granted, Ended, Has}
 use Rattle.key_freshness.specs.Known.{Known, IsAmong, IsMore, IsRuled}
 use Rattle.key_freshness.specs.Held.{IsHeld}
 use Rattle.key_freshness.specs.Laws.{MoreIsHeld, MoreIsRight, KnownThen, StoredIsHeld, StoredIsLatest, StoredIsRight}
@@ -17,8 +17,8 @@ held_later key more marks old new stamp grown ruled_old ruled_new ends held = re
       ⊎_elim
       (λ since. ruled_new.apart place commit at (ends commit.sid.number token since))
       (λ was.
-          let lt = over-then key (more ++ marks) grown ruled_new place commit at (ruled_old.over commit.sid.number token was) in
-          held.pending place commit token (more-stood grown place commit at lt) from touched was)
+      let lt = over-then key (more ++ marks) grown ruled_new place commit at (ruled_old.over commit.sid.number token was) in
+      held.pending place commit token (more-stood grown place commit at lt) from touched was)
       (has-split (Ended commit.sid.number token) more marks ended);
 }
 
@@ -36,9 +36,9 @@ known_then key mine then_marks marks then_known known moment since more ruled pl
     ⊎_elim
     (λ new. inl (since.only who granted.token new))
     (λ old. ⊎_elim
-        (λ m. inl m)
-        (λ ended. inr (over-then key marks more ruled place commit at (moment.ruled.over who granted.token ended)))
-        (moment.settled who granted.token old))
+    (λ m. inl m)
+    (λ ended. inr (over-then key marks more ruled place commit at (moment.ruled.over who granted.token ended)))
+    (moment.settled who granted.token old))
     (has-split (Granted who granted.token) since.more then_marks (subst (λ ms. Has (Granted who granted.token) ms) since.goes_on granted.mark))
 
 pub stored_is_latest : StoredIsLatest

@@ -1,5 +1,5 @@
 -- How a moment begins, and how marks since it go on.
-use Rattle.std.proofs.Common.{ℕ, ◌≡◌, true, List, [], ◌∷◌, ◌++◌, Option, None, Some, refl, ap, ◌∙◌, sym, ◌⊎◌, inl, inr, ⊎_elim, append_assoc}
+use Rattle.std.proofs.Common.{ℕ, ◌≡◌, true, List, [], ◌∷◌, ◌++◌, Option, None, refl, ap, ◌∙◌, sym, inl, inr, ⊎_elim, append_assoc}
 use Rattle.std.proofs.lemmas.Bool.{false≢true}
 use Rattle.rows_model.specs.declared.keys.QKey.{QKey}
 use Rattle.lease_table.specs.declared.records.Quar.{Quar}

@@ -1,5 +1,5 @@
 -- What is stored under a lease is fresh for every hit later, against the most that is known.
-use Rattle.std.proofs.Common.{ℕ, List, ◌∷◌, ◌++◌, length, sym, subst}
+use Rattle.std.proofs.Common.{ℕ, List, ◌∷◌, length, sym, subst}
 use Rattle.rows_model.specs.Query as query
 use Rattle.sql_keeper.specs.declared.stores.Commit.{Commit}
 use Rattle.sql_keeper.specs.Log.{rows_after}

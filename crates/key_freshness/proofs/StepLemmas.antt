@@ -1,20 +1,17 @@
 -- An honest step keeps the rule of each key, and its entry held or leaves none.
-use Rattle.std.proofs.Common.{ℕ, ◌≡◌, ◌≤◌, Bool, true, false, cond, List, [], ◌∷◌, ◌++◌, length, Option, None, Some, refl, sym, ap, subst, ◌∙◌, ◌⊎◌, inl, inr, ⊎_elim, ℤ, decimal, option_map}
+use Rattle.std.proofs.Common.{ℕ, ◌≡◌, Bool, true, false, cond, List, [], ◌∷◌, ◌++◌, Option, None, Some, sym, subst, inr, ⊎_elim, ℤ, decimal, option_map}
 use Rattle.rows_model.specs.declared.keys.QKey.{QKey}
-use Rattle.rows_model.specs.Changes.{touches}
 use Rattle.rows_model.specs.Key.{same_key}
 use Rattle.rows_model.specs.Shift.{shifted}
 use Rattle.rows_model.proofs.SameKey.{same_key-true}
 use Rattle.key_shard.specs.declared.steps.Step.{Step}
 use Rattle.key_shard.specs.declared.steps.Step.TheVariants as step
-use Rattle.key_shard.specs.declared.steps.Ended.{Ended as How}
 use Rattle.key_shard.specs.declared.steps.Ended.TheVariants as ended
-use Rattle.key_shard.specs.Past.{entry, entry_ended, entry_shifted, is_evicted, evicted_by}
-use Rattle.sql_keeper.specs.declared.stores.Commit.{Commit}
-use Rattle.key_freshness.specs.Marks.{Mark, Granted, Ended, Leased, Wrote, Has, marks_by, marks_of, writes_by}
-use Rattle.key_freshness.specs.Known.{Known, StandsAt, IsAmong, IsOver, IsRuled}
+use Rattle.key_shard.specs.Past.{entry, entry_shifted, is_evicted}
+use Rattle.key_freshness.specs.Marks.{Mark, Granted, Ended, Leased, Wrote, Has, marks_of}
+use Rattle.key_freshness.specs.Known.{Known, IsAmong, IsRuled}
 use Rattle.key_freshness.specs.Held.{IsHeld, IsEntryHeld}
-use Rattle.key_freshness.specs.Laws.{IsHonest, StepsKeep}
+use Rattle.key_freshness.specs.Laws.{StepsKeep}
 use Rattle.key_freshness.proofs.MarkLemmas.{by_test}
 use Rattle.key_freshness.proofs.RuleLemmas.{ended-same, ruled-append, ruled-wrote, ruled-ended, held-append}
 

@@ -1,10 +1,8 @@
 -- A commit that was quarantined, and an end without a commit, keep the rule.
-use Rattle.std.proofs.Common.{ℕ, ◌≡◌, ◌+◌, ◌≤◌, true, List, [], ◌∷◌, ◌++◌, length, length-append, Some, slice_get, sym, ap, subst, ◌∙◌, ◌⊎◌, inl, inr, ⊎_elim, append-nil, arith}
-use Rattle.rows_model.specs.declared.keys.QKey.{QKey}
+use Rattle.std.proofs.Common.{ℕ, ◌≡◌, true, [], ◌∷◌, ◌++◌, length-append, sym, ap, subst, ◌∙◌, inl, inr, ⊎_elim, append-nil, arith}
 use Rattle.rows_model.specs.Changes.{touches}
 use Rattle.sql_keeper.specs.declared.stores.Commit.{Commit}
-use Rattle.key_freshness.specs.Marks.{Mark}
-use Rattle.key_freshness.specs.Known.{Known, IsAmong, IsLogged, IsOver, IsMore, IsRuled, WasGranted}
+use Rattle.key_freshness.specs.Known.{Known, IsAmong, IsMore, WasGranted}
 use Rattle.key_freshness.specs.Laws.{with_commit, with_end, CommitsKeep, EndsKeep}
 use Rattle.key_freshness.proofs.KnownLemmas.{stands-pushed, over-more}
 
@@ -21,13 +19,13 @@ commits_keep key marks known commit ongoing granted ruled = record {
   over = λ who token h. over-more (more-commit known commit) who (ruled.over who token h);
   once = λ i j a b at bt same. ⊎_elim
       (λ old. ⊎_elim
-          (λ its. ruled.once i j a b old its same)
-          (λ last. absurd (ongoing (inl (record { place = i; commit = a; at = old; own = same ∙ sym (ap (λ c. c.sid.number) last.1) }))))
-          (stands-pushed known.log commit b j bt))
+      (λ its. ruled.once i j a b old its same)
+      (λ last. absurd (ongoing (inl (record { place = i; commit = a; at = old; own = same ∙ sym (ap (λ c. c.sid.number) last.1) }))))
+      (stands-pushed known.log commit b j bt))
       (λ last. ⊎_elim
-          (λ its. absurd (ongoing (inl (record { place = j; commit = b; at = its; own = sym same ∙ sym (ap (λ c. c.sid.number) last.1) }))))
-          (λ its. last.0 ∙ sym its.0)
-          (stands-pushed known.log commit b j bt))
+      (λ its. absurd (ongoing (inl (record { place = j; commit = b; at = its; own = sym same ∙ sym (ap (λ c. c.sid.number) last.1) }))))
+      (λ its. last.0 ∙ sym its.0)
+      (stands-pushed known.log commit b j bt))
       (stands-pushed known.log commit a i at);
   apart = λ place c at h. ⊎_elim
       (λ old. ruled.apart place c old h)

@@ -1,6 +1,5 @@
 -- The laws of a key's freshness, over its marks and what is known of the store.
 use Rattle.std.specs.Prelude.{ℕ, ◌≡◌, ◌⊎◌, ◌+◌, ◌≤◌, ◌<◌, true, List, [], ◌∷◌, ◌++◌, length, Option, None, Some}
-use Rattle.std.specs.List.{AllPairs}
 use Rattle.rows_model.specs.declared.keys.QKey.{QKey}
 use Rattle.rows_model.specs.declared.changes.Change.{Change}
 use Rattle.rows_model.specs.Changes.{touches}
@@ -14,10 +13,10 @@ use Rattle.key_shard.specs.Past.{standing, entry}
 use Rattle.sql_keeper.specs.declared.stores.Commit.{Commit}
 use Rattle.sql_keeper.specs.Fresh.{IsFreshHit}
 use Rattle.sql_keeper.specs.Log.{rows_after}
-use Rattle.key_freshness.specs.Marks.{Mark, Granted, Ended, Wrote, Has, marks_of}
+use Rattle.key_freshness.specs.Marks.{Mark, Ended, Wrote, Has, marks_of}
 use Rattle.key_freshness.specs.Known.{Known, IsAmong, StandsAt, IsLogged, IsOver, IsMore, WasGranted, IsRuled}
 use Rattle.key_freshness.specs.Moments.{IsMine, IsMoment, IsSince}
-use Rattle.key_freshness.specs.Held.{IsHeld, IsRight, LeavesUntouched, MakesNext, IsEntryHeld, IsEntryRight, IsTied, IsStamped, stands_as}
+use Rattle.key_freshness.specs.Held.{IsHeld, IsRight, LeavesUntouched, MakesNext, IsEntryHeld, IsTied, IsStamped, stands_as}
 
 -- A held entry stays held where more is known.
 abbrev pub MoreIsHeld : Type 0
