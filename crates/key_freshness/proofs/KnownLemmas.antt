@@ -74,7 +74,8 @@ over-more {old} {new} more who (inl logged) =
 over-more {old} {new} more who (inr ended) = inr (more.kept who ended)
 
 -- a commit that is known now, of a session that was over then, was known then
-pub over-then : {old new : Known} (key : QKey) (marks : List Mark) → IsMore old new → IsRuled key marks new → (place : ℕ) (commit : Commit) → StandsAt new.log place commit → IsOver old commit.sid.number → place < length old.log
+pub over-then : {old new : Known} (key : QKey) (marks : List Mark) → IsMore old new → IsRuled key marks new
+    → (place : ℕ) (commit : Commit) → StandsAt new.log place commit → IsOver old commit.sid.number → place < length old.log
 over-then {old} {new} key marks more ruled place commit at (inl logged) =
     let e = ruled.once place logged.place commit logged.commit at (more-stands more logged.place logged.commit logged.at) (sym logged.own) in
     let lt = slice_get_within old.log logged.place logged.commit logged.at in omega (arith, e, lt)

@@ -11,15 +11,16 @@ use Rattle.key_freshness.specs.Held.{IsTied, stands_as}
 use Rattle.key_freshness.proofs.MarkLemmas.{has-split}
 
 -- it is a moment of whoever alone has quarantines that stand
-pub moment-of : (key : QKey) (mine : Option ℕ) (marks : List Mark) (known : Known) (start : Option ℕ) (quars : List Quar) (found : Option (List ℕ × ℕ)) → IsRuled key marks known → IsTied marks start quars found
-    → ((who token : ℕ) → stands_as who token quars ≡ true → IsMine mine who) → IsMoment key mine marks known
+pub moment-of : (key : QKey) (mine : Option ℕ) (marks : List Mark) (known : Known) (start : Option ℕ) (quars : List Quar) (found : Option (List ℕ × ℕ))
+    → IsRuled key marks known → IsTied marks start quars found → ((who token : ℕ) → stands_as who token quars ≡ true → IsMine mine who) → IsMoment key mine marks known
 moment-of key mine marks known start quars found ruled tied alone = record {
   ruled = ruled;
   settled = λ who token h. ⊎_elim (λ stands. inl (alone who token stands)) (λ ended. inr ended) (tied.granted who token h);
 }
 
 -- where none stands it is a moment of nobody
-pub moment-of-none : (key : QKey) (marks : List Mark) (known : Known) (start : Option ℕ) (found : Option (List ℕ × ℕ)) → IsRuled key marks known → IsTied marks start [] found → IsMoment key None marks known
+pub moment-of-none : (key : QKey) (marks : List Mark) (known : Known) (start : Option ℕ) (found : Option (List ℕ × ℕ)) → IsRuled key marks known → IsTied marks start [] found
+    → IsMoment key None marks known
 moment-of-none key marks known start found ruled tied = moment-of key None marks known start [] found ruled tied (λ who token h. false≢true h)
 
 pub since-refl : (mine : Option ℕ) (marks : List Mark) → IsSince mine marks marks

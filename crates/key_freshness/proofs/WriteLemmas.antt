@@ -65,7 +65,8 @@ made_next key who place stamp own then_marks marks then_known known answer next 
     let late = its.late in
     let lt = slice_get_within known.log place own its.at in
     let e : stamp + (place - stamp) ≡ place = omega (arith, within, late) in
-    let same : answer (take place known.log) ≡ old = ap (λ m. answer (take m known.log)) (sym e) ∙ unmoved key answer known.log stamp (place - stamp) leaves (omega (arith, e, lt)) (λ q commit at from before touched. quiet q commit at from (omega (arith, e, before)) touched) ∙ sym right in
+    let still = unmoved key answer known.log stamp (place - stamp) leaves (omega (arith, e, lt)) (λ q commit at from before touched. quiet q commit at from (omega (arith, e, before)) touched) in
+    let same : answer (take place known.log) ≡ old = ap (λ m. answer (take m known.log)) (sym e) ∙ still ∙ sym right in
     some_same (sym made ∙ ap (λ v. next own.txn v) (sym same) ∙ makes place own its.at)
   where
     quiet : (q : ℕ) (commit : Commit) → StandsAt known.log q commit → stamp ≤ q → q < place → touches commit.txn key ≡ true → ⊥

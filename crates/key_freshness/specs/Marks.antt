@@ -7,7 +7,8 @@ use Rattle.key_shard.specs.declared.steps.Ended as ends
 use Rattle.key_shard.specs.declared.steps.Step.{Step}
 use Rattle.key_shard.specs.declared.steps.Step.TheVariants as step
 
--- A mark of a key. A session is told by its number: it was granted a quarantine under this token, or that quarantine ended. A lease to read was given under this token. A value was written with this stamp: stored, put, or shifted.
+-- A mark of a key. A session is told by its number: it was granted a quarantine under this token, or that quarantine ended.
+-- A lease to read was given under this token. A value was written with this stamp: stored, put, or shifted.
 pub data Mark : Type 0 where
   Granted : (who token : ℕ) → Mark
   Ended : (who token : ℕ) → Mark
