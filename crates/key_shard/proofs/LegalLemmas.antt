@@ -1,9 +1,9 @@
 -- What stands on a key after a legal past: by one step, by induction, and what follows of it.
-use Rattle.std.proofs.Common.{ℕ, ◌≡◌, ◌≢◌, ◌+◌, ◌<◌, ◌≤◌, ◌==◌, Bool, true, false, not, cond, ◌&&◌, Option, Some, None, inl, inr, ◌⊎◌, refl, sym, ap, subst, ◌∙◌, arith}
+use Rattle.std.proofs.Common.{ℕ, ◌≡◌, ◌≢◌, ◌+◌, ◌<◌, ◌≤◌, ◌==◌, Bool, true, false, not, cond, ◌&&◌, ◌||◌, Option, Some, None, inl, inr, ◌⊎◌, refl, sym, ap, subst, ◌∙◌, arith}
 use Rattle.std.proofs.Common.{List, [], ◌∷◌, ◌++◌, map, filter, find, length}
 use Rattle.std.specs.Prelude.{ℤ, IsTrue}
 use Rattle.std.specs.List.{All, AllByRecursion, list_all, list_any}
-use Rattle.std.proofs.lemmas.Bool.{cond_both, false≢true, eq-eqb, eqb-true, and_parts, or_cases, false_from_ne_true}
+use Rattle.std.proofs.lemmas.Bool.{cond_both, false≢true, eq-eqb, eqb-true, and_from, and_parts, or_cases, or_left, or_right, false_from_ne_true}
 use Rattle.std.proofs.lemmas.List.Elements.{All-append, All-filter, All-weaker, All-from_recursion, recursion_from_All}
 use Rattle.rows_model.specs.declared.keys.QKey.{QKey}
 use Rattle.rows_model.specs.declared.keys.Sid.{Sid}
@@ -239,6 +239,7 @@ abbrev pub AllOfOwnToken : List Quar → Type 0
 AllOfOwnToken [] = Unit {0}
 AllOfOwnToken (quar ∷ quars) = AllByRecursion (λ other. quar.token ≢ other.token) quars × AllOfOwnToken quars
 
+-- of two that stand beside one another each has another token
 distinct-in : (quars : List Quar) → AllStandBeside quars → AllOfOwnToken quars
 distinct-in [] h = tt
 distinct-in (quar ∷ quars) h =
@@ -274,6 +275,9 @@ found-in who token (quar ∷ quars) h e =
           (found.0, ap (λ b. cond b (Some quar) (find (has_token token) quars)) apart ∙ found.1, found.2)
     ]
 
+some_same : {a b : Quar} → Some a ≡ Some b → a ≡ b
+some_same e = cc
+
 -- where a session has a quarantine of a token, the quarantine of that token is its own
 pub found_token : (terms : Terms) (past : List Step) (key : QKey) (who token : ℕ) → StandsWell terms past key →
     list_any (is_quar who token) (standing key past) ≡ true → (quar : Quar) × (quar_of key token past ≡ Some quar) × (quar.sid.number ≡ who)
@@ -286,6 +290,83 @@ own_token terms past key who token quar h e found =
     let own = found_token terms past key who token h e in
     let same : own.0 ≡ quar = some_same (sym own.1 ∙ found) in
     sym (ap (λ q. q.sid.number) same) ∙ own.2
+
+-- what is found passes the test, and is there
+found-passes : (p q : Quar → Bool) (quars : List Quar) (quar : Quar) → (p quar ≡ true → q quar ≡ true) → find p quars ≡ Some quar → list_any q quars ≡ true
+found-passes p q [] quar more e = cc
+found-passes p q (x ∷ xs) quar more e = by (p x) refl (found-passes p q xs quar more)
   where
-    some_same : {a b : Quar} → Some a ≡ Some b → a ≡ b
-    some_same e = cc
+    by : (b : Bool) → p x ≡ b → (find p xs ≡ Some quar → list_any q xs ≡ true) → (q x || list_any q xs) ≡ true
+    by true h rest =
+        let same : x ≡ quar = some_same (sym (ap (λ b. cond b (Some x) (find p xs)) h) ∙ e) in
+        or_left (q x) (list_any q xs) (ap q same ∙ more (sym (ap p same) ∙ h))
+    by false h rest =
+        or_right (q x) (list_any q xs) (rest (sym (ap (λ b. cond b (Some x) (find p xs)) h) ∙ e))
+
+-- the quarantine of a token is there, as its session's
+pub token_stands : (key : QKey) (token : ℕ) (past : List Step) (quar : Quar) → quar_of key token past ≡ Some quar →
+    list_any (is_quar quar.sid.number token) (standing key past) ≡ true
+token_stands key token past quar e =
+    found-passes (has_token token) (is_quar quar.sid.number token) (standing key past) quar
+    (λ has. and_from (quar.sid.number == quar.sid.number) (quar.token == token) (eq-eqb quar.sid.number quar.sid.number refl) has)
+    e
+
+-- a session's own quarantine is there, as that of its token
+pub own_stands : (key : QKey) (who : Sid) (past : List Step) (quar : Quar) → own_of key who past ≡ Some quar →
+    list_any (is_quar who.number quar.token) (standing key past) ≡ true
+own_stands key who past quar e =
+    found-passes (is_of who) (is_quar who.number quar.token) (standing key past) quar
+    (λ own. and_from (quar.sid.number == who.number) (quar.token == quar.token) own (eq-eqb quar.token quar.token refl))
+    e
+
+own-in : (who : Sid) (token : ℕ) (quars : List Quar) → AllStandBeside quars → list_any (is_quar who.number token) quars ≡ true →
+    (quar : Quar) × (own_in who quars ≡ Some quar) × (quar.token ≡ token)
+own-in who token [] h e = absurd (false≢true e)
+own-in who token (quar ∷ quars) h e =
+    elim (or_cases (is_quar who.number token quar) (list_any (is_quar who.number token) quars) e) [
+      | inl here ↦ let parts = and_parts (quar.sid.number == who.number) (quar.token == token) here in
+          (quar, ap (λ b. cond b (Some quar) (own_in who quars)) parts.0, eqb-true quar.token token parts.1)
+      | inr there ↦
+          let other = some-passes (StandBeside quar) (is_quar who.number token) quars h.0 there in
+          let theirs : other.0.sid.number ≡ who.number = eqb-true other.0.sid.number who.number (and_parts (other.0.sid.number == who.number) (other.0.token == token) other.2).0 in
+          let beside : StandBeside quar other.0 = other.1 in
+          let apart : is_of who quar ≡ false = false_from_ne_true (is_of who quar) (λ same. beside.of_two (eqb-true quar.sid.number who.number same ∙ sym theirs)) in
+          let found = own-in who token quars h.1 there in
+          (found.0, ap (λ b. cond b (Some quar) (own_in who quars)) apart ∙ found.1, found.2)
+    ]
+
+-- where a session has a quarantine of a token, its own is the one of that token
+pub found_own : (terms : Terms) (past : List Step) (key : QKey) (who : Sid) (token : ℕ) → StandsWell terms past key →
+    list_any (is_quar who.number token) (standing key past) ≡ true → (quar : Quar) × (own_of key who past ≡ Some quar) × (quar.token ≡ token)
+found_own terms past key who token h e = own-in who token (standing key past) h.beside e
+
+-- the end of a token leaves another
+stays-in : (who token gone : ℕ) (quars : List Quar) → token ≢ gone → list_any (is_quar who token) quars ≡ true →
+    list_any (is_quar who token) (filter (λ quar. not (has_token gone quar)) quars) ≡ true
+stays-in who token gone [] apart e = e
+stays-in who token gone (quar ∷ quars) apart e =
+    let rest = filter (λ q. not (has_token gone q)) quars in
+    let P : List Quar → Type 0 = λ l. list_any (is_quar who token) l ≡ true in
+    elim (or_cases (is_quar who token quar) (list_any (is_quar who token) quars) e) [
+      | inl here ↦
+          let mine = eqb-true quar.token token (and_parts (quar.sid.number == who) (quar.token == token) here).1 in
+          let stays : has_token gone quar ≡ false = false_from_ne_true (has_token gone quar) (λ same. apart (sym mine ∙ eqb-true quar.token gone same)) in
+          subst (λ b. P (cond (not b) (quar ∷ rest) rest)) (sym stays) (or_left (is_quar who token quar) (list_any (is_quar who token) rest) here)
+      | inr there ↦
+          let later = stays-in who token gone quars apart there in
+          cond_both (not (has_token gone quar)) (quar ∷ rest) rest P (λ _. or_right (is_quar who token quar) (list_any (is_quar who token) rest) later) (λ _. later)
+    ]
+
+-- the end of one session's quarantine leaves another's
+pub other_stays : (terms : Terms) (past : List Step) (key : QKey) (who token other gone : ℕ) → StandsWell terms past key →
+    list_any (is_quar who token) (standing key past) ≡ true → list_any (is_quar other gone) (standing key past) ≡ true → who ≢ other →
+    list_any (is_quar who token) (filter (λ quar. not (has_token gone quar)) (standing key past)) ≡ true
+other_stays terms past key who token other gone h mine theirs apart =
+    stays-in who token gone (standing key past) two mine
+  where
+    two : token ≢ gone
+    two same =
+        let a = found_token terms past key who token h mine in
+        let b = found_token terms past key other gone h theirs in
+        let one : a.0 ≡ b.0 = some_same (sym a.1 ∙ ap (λ t. quar_of key t past) same ∙ b.1) in
+        apart (sym a.2 ∙ ap (λ q. q.sid.number) one ∙ b.2)
