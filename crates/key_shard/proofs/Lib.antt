@@ -1,6 +1,7 @@
 pub mod EndLemmas
 pub mod KeptLemmas
 pub mod LookLemmas
+pub mod ModeLemmas
 pub mod OrderLemmas
 pub mod OutLemmas
 pub mod PlaceLemmas
