@@ -12,7 +12,7 @@ use Rattle.lease_table.specs.declared.records.Quar.{Quar}
 use Rattle.lease_table.specs.declared.records.Lease.{Lease}
 use Rattle.lease_table.specs.declared.records.Due.{Due}
 use Rattle.lease_table.specs.Leases.{quars, quar_of, quar_on}
-use Rattle.lease_table.specs.Expiry.{due_as, comes_before, StandsDue, NoneDueBefore, NoneDue}
+use Rattle.lease_table.specs.Expiry.{due_as, comes_before, quars_in, StandsDue, NoneDueBefore, NoneDue}
 use Rattle.lease_table.specs.Pieces.{due_from, due_of, earlier}
 use Rattle.lease_table.proofs.TableLemmas.{SameKey-from_test, on-itself}
 
@@ -62,27 +62,27 @@ on-held false o q e = cc
 
 -- ---- what one more record changes
 
-NoneDue-push : (now : ℕ) (seen : List Lease) (l : Lease) → NoneDue now seen → ((q : Quar) → quar_of l.held ≡ Some q → now < q.deadline) → NoneDue now (seen ++ l ∷ [])
+NoneDue-push : (now : ℕ) (seen : List Lease) (l : Lease) → NoneDue now (quars_in seen) → ((q : Quar) → quar_of l.held ≡ Some q → now < q.deadline) → NoneDue now (quars_in (seen ++ l ∷ []))
 NoneDue-push now seen l none ahead =
     λ key. All-more_quars (λ q. now < q.deadline) key seen l (none key) (λ q e. ahead q (on-held (same_key key l.key) (quar_of l.held) q e).1)
 
-NoneDueBefore-push : (now : ℕ) (seen : List Lease) (l : Lease) (d : Due) → NoneDueBefore now seen d → ((q : Quar) → quar_of l.held ≡ Some q → q.deadline ≤ now → comes_before (due_as l.key q) d ≡ false) → NoneDueBefore now (seen ++ l ∷ []) d
+NoneDueBefore-push : (now : ℕ) (seen : List Lease) (l : Lease) (d : Due) → NoneDueBefore now (quars_in seen) d → ((q : Quar) → quar_of l.held ≡ Some q → q.deadline ≤ now → comes_before (due_as l.key q) d ≡ false) → NoneDueBefore now (quars_in (seen ++ l ∷ [])) d
 NoneDueBefore-push now seen l d none each =
     λ key. All-more_quars (λ q. q.deadline ≤ now → comes_before (due_as key q) d ≡ false) key seen l (none key) (λ q e late. let here = on-held (same_key key l.key) (quar_of l.held) q e in before-same_key key l.key q d here.0 ∙ each q here.1 late)
 
-StandsDue-push : (now : ℕ) (seen : List Lease) (l : Lease) (d : Due) → StandsDue now seen d → StandsDue now (seen ++ l ∷ []) d
+StandsDue-push : (now : ℕ) (seen : List Lease) (l : Lease) (d : Due) → StandsDue now (quars_in seen) d → StandsDue now (quars_in (seen ++ l ∷ [])) d
 StandsDue-push now seen l d stands =
     Any-more_quars (λ q. (q.deadline ≤ now) × (d ≡ due_as d.key q)) d.key seen l stands
 
-StandsDue-new : (now : ℕ) (seen : List Lease) (l : Lease) (q : Quar) → quar_of l.held ≡ Some q → q.deadline ≤ now → StandsDue now (seen ++ l ∷ []) (due_as l.key q)
+StandsDue-new : (now : ℕ) (seen : List Lease) (l : Lease) (q : Quar) → quar_of l.held ≡ Some q → q.deadline ≤ now → StandsDue now (quars_in (seen ++ l ∷ [])) (due_as l.key q)
 StandsDue-new now seen l q e late =
     Any-new_quar (λ r. (r.deadline ≤ now) × (due_as l.key q ≡ due_as l.key r)) l.key seen l q (on-itself l.key (quar_of l.held) ∙ e) (late, refl)
 
-NoneDueBefore-from_none : (now : ℕ) (seen : List Lease) (d : Due) → NoneDue now seen → NoneDueBefore now seen d
+NoneDueBefore-from_none : (now : ℕ) (seen : List Lease) (d : Due) → NoneDue now (quars_in seen) → NoneDueBefore now (quars_in seen) d
 NoneDueBefore-from_none now seen d none =
     λ key. All-weaker (λ q. now < q.deadline) (λ q. q.deadline ≤ now → comes_before (due_as key q) d ≡ false) (λ q ahead late. absurd (omega arith)) (quars key seen) (none key)
 
-NoneDueBefore-lower : (now : ℕ) (seen : List Lease) (d e : Due) → NoneDueBefore now seen d → comes_before e d ≡ true → NoneDueBefore now seen e
+NoneDueBefore-lower : (now : ℕ) (seen : List Lease) (d e : Due) → NoneDueBefore now (quars_in seen) d → comes_before e d ≡ true → NoneDueBefore now (quars_in seen) e
 NoneDueBefore-lower now seen d e none before =
     λ key. All-weaker (λ q. q.deadline ≤ now → comes_before (due_as key q) d ≡ false) (λ q. q.deadline ≤ now → comes_before (due_as key q) e ≡ false) (λ q h late. before-lower (due_as key q) d e (h late) before) (quars key seen) (none key)
 
@@ -90,7 +90,7 @@ NoneDueBefore-lower now seen d e none before =
 
 -- the first of those that are due, if any is
 abbrev pub IsLeastDue : ℕ → List Lease → Option Due → Type 0
-IsLeastDue now leases least = MatchOption least (NoneDue now leases) (λ due. StandsDue now leases due × NoneDueBefore now leases due)
+IsLeastDue now leases least = MatchOption least (NoneDue now (quars_in leases)) (λ due. StandsDue now (quars_in leases) due × NoneDueBefore now (quars_in leases) due)
 
 -- a record that isn't due changes nothing
 IsLeastDue-not_due : (now : ℕ) (seen : List Lease) (l : Lease) (least : Option Due) → IsLeastDue now seen least → ((q : Quar) → quar_of l.held ≡ Some q → now < q.deadline) → IsLeastDue now (seen ++ l ∷ []) least

@@ -50,10 +50,6 @@ pub first-none : {X : Type 0} (xs : List X) → first xs ≡ None → xs ≡ []
 first-none [] e = refl
 first-none (x ∷ xs) e = cc
 
--- where nothing is found the filter keeps nothing
-pub filter-not_found : {X : Type 0} (p : X → Bool) (xs : List X) → find p xs ≡ None → filter p xs ≡ []
-filter-not_found p xs e = first-none (filter p xs) (sym (find-first p xs) ∙ e)
-
 -- the first stands in the relation to all behind it
 pub AllPairs-head : {X : Type 0} (R : X → X → Type 0) (x : X) (xs : List X) → AllPairs R (x ∷ xs) → All (R x) xs
 AllPairs-head R x xs pairs = λ k d within. pairs 0 (suc k) d (omega arith) (omega arith)

@@ -1,18 +1,16 @@
 -- The row of the grid for a key.
-use Rattle.std.proofs.Common.{◌≡◌, ℕ, ◌+◌, ◌≤◌, subst, IfSome, Bool, true, not, Option, Some, None, List, [], ◌∷◌, map, sym, refl, ◌∙◌, ap, find, filter, IsTrue, arith}
+use Rattle.std.proofs.Common.{◌≡◌, ℕ, ◌+◌, ◌≤◌, subst, IfSome, Bool, true, not, Option, Some, None, List, [], ◌∷◌, map, sym, refl, ◌∙◌, ap, find, IsTrue, arith}
 use Rattle.std.specs.List.{list_all, AllPairs}
 use Rattle.rows_model.specs.declared.keys.Sid.{Sid}
 use Rattle.rows_model.specs.declared.keys.QKey.{QKey}
 use Rattle.case_tables.specs.Compatibility.{row_of, Way, invalidate, refresh, delta, is_invalidate, others_row, way_number}
 use Rattle.lease_table.specs.declared.records.Quar.{Quar}
 use Rattle.lease_table.specs.declared.records.Lease.{Lease}
-use Rattle.std.specs.Prelude.{if◌then◌else◌}
-use Rattle.lease_table.specs.Leases.{first, is_of, way_of, StandBeside, IsTable, quars, own_quar, recorded, is_unexpired, holding}
+use Rattle.lease_table.specs.Leases.{first, is_of, way_of, StandBeside, IsTable, quars, own_in, others_in, holder_in, recorded, is_unexpired, holding}
 use Rattle.std.proofs.lemmas.List.Kept.{AllPairs-filter}
 use Rattle.std.proofs.lemmas.List.Elements.{All-weaker, All-cons}
-use Rattle.std.specs.Option.{option_or}
 use Rattle.std.specs.List.{All}
-use Rattle.lease_table.proofs.ListLemmas.{find-first, filter-not_found, AllPairs-head, list_all-map}
+use Rattle.lease_table.proofs.ListLemmas.{find-first, first-none, AllPairs-head, list_all-map}
 
 -- a quarantine's way
 abbrev pub quar_way : Quar → Way
@@ -44,26 +42,23 @@ others_row-first q (r ∷ rs) reading beside =
     let at_first = way_number-invalidate (quar_way q) here in
     rw (here, behind, at_first) refl
 
--- the same where the first is found among all on the key
-pub others_row-found : (p : Quar → Bool) (qs : List Quar) (q : Quar) (reading : Bool) → AllPairs StandBeside qs → find p qs ≡ Some q → others_row (map quar_way (filter p qs)) reading ≡ 2 + way_number (quar_way q)
-others_row-found p qs q reading beside e =
-    from_first (filter p qs) (AllPairs-filter StandBeside p qs beside) (sym (find-first p qs) ∙ e)
-  where
-    from_first : (rs : List Quar) → AllPairs StandBeside rs → first rs ≡ Some q → others_row (map quar_way rs) reading ≡ 2 + way_number (quar_way q)
-    from_first [] pairs f = cc
-    from_first (r ∷ rs) pairs f =
-        let same : r ≡ q = cc in
-        others_row-first r rs reading pairs ∙ ap (λ x. 2 + way_number (quar_way x)) same
+-- the same where the first is that of a list that may be empty
+others_row-found : (qs : List Quar) (q : Quar) (reading : Bool) → AllPairs StandBeside qs → first qs ≡ Some q → others_row (map quar_way qs) reading ≡ 2 + way_number (quar_way q)
+others_row-found [] q reading beside e = cc
+others_row-found (r ∷ rs) q reading beside e =
+    let same : r ≡ q = cc in
+    others_row-first r rs reading beside ∙ ap (λ x. 2 + way_number (quar_way x)) same
 
 -- the row of a key on which the asker holds none and others hold some
-pub row-others : (key : QKey) (who : Sid) (now : ℕ) (leases : List Lease) (q : Quar) → IsTable leases → own_quar key who leases ≡ None → find (λ quar. not (is_of who quar)) (quars key leases) ≡ Some q → row_of (holding key who now leases) ≡ 2 + way_number (quar_way q)
+pub row-others : (key : QKey) (who : Sid) (now : ℕ) (leases : List Lease) (q : Quar) → IsTable leases → own_in who (quars key leases) ≡ None → find (λ quar. not (is_of who quar)) (quars key leases) ≡ Some q → row_of (holding key who now leases) ≡ 2 + way_number (quar_way q)
 row-others key who now leases q table none found =
-    rw none (others_row-found (λ quar. not (is_of who quar)) (quars key leases) q _ (table key).beside found)
+    let beside = AllPairs-filter StandBeside (λ quar. not (is_of who quar)) (quars key leases) (table key).beside in
+    rw none (others_row-found (others_in who (quars key leases)) q _ beside (sym (find-first _ (quars key leases)) ∙ found))
 
 -- the row of a key on which nobody holds a quarantine
-pub row-free : (key : QKey) (who : Sid) (now : ℕ) (leases : List Lease) (reading : Bool) → own_quar key who leases ≡ None → find (λ quar. not (is_of who quar)) (quars key leases) ≡ None → is_unexpired now (recorded key leases) ≡ reading → row_of (holding key who now leases) ≡ (if reading then 1 else 0)
-row-free key who now leases reading none no_other e =
-    rw (none, filter-not_found (λ quar. not (is_of who quar)) (quars key leases) no_other, e) refl
+pub row-free : (key : QKey) (who : Sid) (now : ℕ) (leases : List Lease) → own_in who (quars key leases) ≡ None → find (λ quar. not (is_of who quar)) (quars key leases) ≡ None → row_of (holding key who now leases) ≡ others_row [] (is_unexpired now (recorded key leases))
+row-free key who now leases none no_other =
+    rw (none, first-none (others_in who (quars key leases)) (sym (find-first _ (quars key leases)) ∙ no_other)) refl
 
 -- the first of those that stand has the least token
 pub first-least : (qs : List Quar) (q : Quar) → AllPairs StandBeside qs → first qs ≡ Some q → All (λ other. q.token ≤ other.token) qs
@@ -73,7 +68,7 @@ first-least (r ∷ rs) q beside e =
     subst (λ x. All (λ other. x.token ≤ other.token) (r ∷ rs)) same (All-cons (λ other. r.token ≤ other.token) r rs (omega arith) (All-weaker (StandBeside r) (λ other. r.token ≤ other.token) (λ other h. let below = h.in_order in omega arith) rs (AllPairs-head StandBeside r rs beside)))
 
 -- who holds a key on which the asker holds nothing has the least token
-pub holder-least : (key : QKey) (who : Sid) (leases : List Lease) (o : Option Quar) → IsTable leases → own_quar key who leases ≡ None → o ≡ option_or (own_quar key who leases) (first (quars key leases)) → IfSome o (λ q. All (λ other. q.token ≤ other.token) (quars key leases))
+pub holder-least : (key : QKey) (who : Sid) (leases : List Lease) (o : Option Quar) → IsTable leases → own_in who (quars key leases) ≡ None → o ≡ holder_in who (quars key leases) → IfSome o (λ q. All (λ other. q.token ≤ other.token) (quars key leases))
 holder-least key who leases None table none e = tt
 holder-least key who leases (Some q) table none e =
     first-least (quars key leases) q (table key).beside (sym (e ∙ rw none refl))

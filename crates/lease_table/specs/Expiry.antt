@@ -22,6 +22,10 @@ abbrev pub comes_before : Due → Due → Bool
 comes_before a b =
     key_before a.key b.key || (same_key a.key b.key && nat_lt a.token b.token)
 
+-- the quarantines of a table, by the key that they stand on
+abbrev pub quars_in : List Lease → QKey → List Quar
+quars_in leases = λ key. quars key leases
+
 -- whether the deadline of a quarantine has come
 abbrev pub IsDue : ℕ → Quar → Type 0
 IsDue now quar = quar.deadline ≤ now

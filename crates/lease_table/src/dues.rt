@@ -1,6 +1,5 @@
 ghost use Rattle.std.specs.Prelude.{◌≡◌, MatchOption};
-ghost use Rattle.lease_table.specs.Expiry.{comes_before, NoneDue, NoneDueBefore, StandsDue};
-ghost use Rattle.lease_table.specs.Leases.{quars};
+ghost use Rattle.lease_table.specs.Expiry.{comes_before, NoneDue, NoneDueBefore, quars_in, StandsDue};
 ghost use Rattle.lease_table.specs.Pieces.{due_of, earlier};
 
 use crate::records::{Due, Held, Lease};
@@ -39,9 +38,9 @@ pub fn earlier_of(least: Option<Due>, next: Option<Due>) -> Option<Due>
 
 /// The first quarantine whose deadline has come, by key and then by token.
 pub fn least_due(leases: &[Lease], now: u64) -> Option<Due>
-    ensures { MatchOption result
-        (NoneDue now (λ key. quars key leases.now))
-        (λ due. StandsDue now (λ key. quars key leases.now) due × NoneDueBefore now (λ key. quars key leases.now) due) }
+    ensures { let standing = quars_in leases.now in MatchOption result
+        (NoneDue now standing)
+        (λ due. StandsDue now standing due × NoneDueBefore now standing due) }
 {
     let mut least = None;
     for lease in leases {

@@ -1,8 +1,7 @@
-ghost use Rattle.std.specs.Prelude.{◌≡◌, ◌<◌, not, find};
-ghost use Rattle.std.specs.Option.{option_or};
-ghost use Rattle.case_tables.specs.Compatibility.{verdict, row_of, read, quarantine};
+ghost use Rattle.std.specs.Prelude.{◌≡◌, ◌<◌, [], not, find};
+ghost use Rattle.case_tables.specs.Compatibility.{verdict, row_of, others_row, read, quarantine};
 ghost use Rattle.rows_model.specs.Key.{same_key};
-ghost use Rattle.lease_table.specs.Leases.{quar_on, read_on, quars, own_quar, recorded, is_of, has_token, first, is_unexpired, is_current, way_of, holding, IsTable};
+ghost use Rattle.lease_table.specs.Leases.{quar_on, read_on, quars, own_in, holder_in, recorded, is_of, has_token, is_unexpired, is_current, way_of, holding, IsTable};
 
 use crate::records::{Held, Lease, Mode, Quar, ReadLease};
 use case_tables::{Verdict, lease_grid};
@@ -51,7 +50,7 @@ pub fn read_at(lease: &Lease, key: &QKey) -> Option<ReadLease>
 
 /// The session's own quarantine on the key.
 pub fn own_quar_on(leases: &[Lease], key: &QKey, who: Sid) -> Option<Quar>
-    ensures { result ≡ own_quar key.now who leases.now }
+    ensures { result ≡ own_in who (quars key.now leases.now) }
 {
     leases
         .iter()
@@ -71,7 +70,7 @@ pub fn other_quar_on(leases: &[Lease], key: &QKey, who: Sid) -> Option<Quar>
 
 /// The session's own quarantine on the key, else the first of another session.
 pub fn holder_on(leases: &[Lease], key: &QKey, who: Sid) -> Option<Quar>
-    ensures { result ≡ option_or (own_quar key.now who leases.now) (first (quars key.now leases.now)) }
+    ensures { result ≡ holder_in who (quars key.now leases.now) }
 {
     own_quar_on(leases, key, who).or(other_quar_on(leases, key, who))
 }
@@ -118,12 +117,20 @@ pub fn row_on(leases: &[Lease], key: &QKey, who: Sid, now: u64) -> usize
     ensures row { result ≡ row_of (holding key.now who now leases.now) }
     ensures within { result < 8 }
 {
-    if let Some(own) = own_quar_on(leases, key, who) {
-        return OWN_ROWS + own.mode.place();
+    let own = own_quar_on(leases, key, who);
+    let other = other_quar_on(leases, key, who);
+    match (own, other) {
+        (Some(own), None) | (Some(own), Some(_)) => OWN_ROWS + own.mode.place(),
+        (None, Some(other)) => OTHERS_ROWS + other.mode.place(),
+        (None, None) => free_row_on(leases, key, now),
     }
-    if let Some(other) = other_quar_on(leases, key, who) {
-        return OTHERS_ROWS + other.mode.place();
-    }
+}
+
+/// The row of the grid for a key on which nobody holds a quarantine.
+fn free_row_on(leases: &[Lease], key: &QKey, now: u64) -> usize
+    ensures row { result ≡ others_row [] (is_unexpired now (recorded key.now leases.now)) }
+    ensures within { result < 2 }
+{
     if is_unexpired_at(recorded_on(leases, key), now) {
         READ_ROW
     } else {

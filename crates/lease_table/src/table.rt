@@ -1,9 +1,8 @@
-ghost use Rattle.std.specs.Prelude.{◌≡◌, ◌<◌, ◌≤◌, [], ◌∷◌, ◌++◌, Some, None, not, filter, find, MatchBool, IfOk, IfSome, IfNone, OnSome, OnErr};
+ghost use Rattle.std.specs.Prelude.{◌≡◌, ◌<◌, ◌≤◌, [], ◌∷◌, ◌++◌, Some, None, not, filter, find, MatchBool, IfOk, IfSome, IfNone, IsTrue, OnSome, OnErr};
 ghost use Rattle.std.specs.List.{All};
-ghost use Rattle.std.specs.Option.{option_or};
 ghost use Rattle.case_tables.specs.Compatibility.{verdict, is_given, row_of, read, quarantine};
-ghost use Rattle.lease_table.specs.Expiry.{NoneDue, NoneDueBefore, StandsDue};
-ghost use Rattle.lease_table.specs.Leases.{quars, recorded, own_quar, first, has_token, is_current, way_of, holding, IsTable, Leaves};
+ghost use Rattle.lease_table.specs.Expiry.{NoneDue, NoneDueBefore, quars_in, StandsDue};
+ghost use Rattle.lease_table.specs.Leases.{quars, recorded, own_quar, holder_in, has_token, is_current, way_of, holding, IsTable, Leaves};
 
 use crate::dues::least_due;
 use crate::edits::{drop_quar, drop_read, record_lease};
@@ -56,7 +55,8 @@ impl Leases {
     }
 
     /// Asks for a lease to read the key, and answers the grid's verdict. `Give` puts it in the place of
-    /// any that is recorded; any other verdict and want of memory leave the table.
+    /// any that is recorded; any other verdict leaves the table. `Memory` comes only where the lease
+    /// would be given, and leaves the table too.
     pub fn ask_i(
         &mut self,
         key: QKey,
@@ -67,25 +67,31 @@ impl Leases {
     ) -> Result<Verdict, Memory>
         ensures verdict { IfOk result (λ v. v ≡ verdict (holding key sid now self.old) read) }
         ensures after { IfOk result (λ v. MatchBool (is_given v)
-            (Leaves key (Some (record { sid = sid; token = token; deadline = deadline })) (quars key self.old) self.old self.new)
+            (Leaves key (Some (record { sid = sid; token = token; deadline = deadline }))
+            (quars key self.old) self.old self.new)
             (self.new ≡ self.old)) }
+        ensures memory { OnErr result (IsTrue (is_given
+            (verdict (holding key sid now self.old) read))) }
         ensures err { OnErr result (self.new ≡ self.old) }
     {
         let verdict = read_verdict(self.leases.as_slice(), &key, sid, now);
-        if !verdict.is_given() {
-            return Ok(verdict);
+        match verdict {
+            Verdict::Wait | Verdict::Same | Verdict::Own | Verdict::Refuse => {}
+            Verdict::Give | Verdict::Void | Verdict::Join => {
+                let held = Held::Read(ReadLease {
+                    sid,
+                    token,
+                    deadline,
+                });
+                record_lease(&mut self.leases, Lease { key, held })?;
+            }
         }
-        let held = Held::Read(ReadLease {
-            sid,
-            token,
-            deadline,
-        });
-        record_lease(&mut self.leases, Lease { key, held })?;
         Ok(verdict)
     }
 
     /// Asks for a quarantine of the key, and answers the grid's verdict. `Give`, `Void` and `Join` add it
-    /// and end any lease to read that is recorded; any other verdict and want of memory leave the table.
+    /// and end any lease to read that is recorded; any other verdict leaves the table. `Memory` comes only
+    /// where the quarantine would be given, and leaves the table too.
     pub fn ask_q(&mut self, key: QKey, q: Quar, now: u64) -> Result<Verdict, Memory>
         requires { All (λ other. other.token < q.token) (quars key self.old) }
         ensures verdict { IfOk result (λ v. v
@@ -93,14 +99,18 @@ impl Leases {
         ensures after { IfOk result (λ v. MatchBool (is_given v)
             (Leaves key None (quars key self.old ++ q ∷ []) self.old self.new)
             (self.new ≡ self.old)) }
+        ensures memory { OnErr result (IsTrue (is_given
+            (verdict (holding key q.sid now self.old) (quarantine (way_of q.mode))))) }
         ensures err { OnErr result (self.new ≡ self.old) }
     {
         let verdict = quar_verdict(self.leases.as_slice(), &key, q.sid, q.mode, now);
-        if !verdict.is_given() {
-            return Ok(verdict);
+        match verdict {
+            Verdict::Wait | Verdict::Same | Verdict::Own | Verdict::Refuse => {}
+            Verdict::Give | Verdict::Void | Verdict::Join => {
+                let held = Held::Quarantine(q);
+                record_lease(&mut self.leases, Lease { key, held })?;
+            }
         }
-        let held = Held::Quarantine(q);
-        record_lease(&mut self.leases, Lease { key, held })?;
         Ok(verdict)
     }
 
@@ -120,8 +130,7 @@ impl Leases {
 
     /// The session's own quarantine on the key, else the one of least token, else none.
     pub fn holder(&self, key: &QKey, who: Sid) -> Option<Quar>
-        ensures holder { result
-            ≡ option_or (own_quar key.now who self.now) (first (quars key.now self.now)) }
+        ensures holder { result ≡ holder_in who (quars key.now self.now) }
         ensures least { own_quar key.now who self.now ≡ None
             → IfSome result (λ q. All (λ other. q.token ≤ other.token) (quars key.now self.now)) }
     {
@@ -166,9 +175,9 @@ impl Leases {
     /// The quarantine whose deadline has come that is first by key, and then by token; none exactly where
     /// no deadline has come.
     pub fn expired(&self, now: u64) -> Option<Due>
-        ensures due { IfSome result (StandsDue now (λ key. quars key self.now)) }
-        ensures least { IfSome result (NoneDueBefore now (λ key. quars key self.now)) }
-        ensures none { IfNone result (NoneDue now (λ key. quars key self.now)) }
+        ensures due { IfSome result (StandsDue now (quars_in self.now)) }
+        ensures least { IfSome result (NoneDueBefore now (quars_in self.now)) }
+        ensures none { IfNone result (NoneDue now (quars_in self.now)) }
     {
         least_due(self.leases.as_slice(), now)
     }
