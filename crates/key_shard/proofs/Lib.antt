@@ -1,5 +1,7 @@
+pub mod CaseLemmas
 pub mod EndLemmas
 pub mod KeptLemmas
+pub mod LegalLemmas
 pub mod LookLemmas
 pub mod OrderLemmas
 pub mod OutLemmas

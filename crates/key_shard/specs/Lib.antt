@@ -6,6 +6,7 @@ pub use Rattle.lease_table.specs.Leases
 pub mod Permit
 pub mod Past
 pub mod Answers
+pub mod LegalStands
 pub mod Shards
 pub mod Replies
 pub mod Kept

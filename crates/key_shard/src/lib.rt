@@ -11,6 +11,7 @@ mod gets;
 pub mod grants;
 mod lookups;
 mod quarantines;
+pub mod readers;
 mod releases;
 pub mod replies;
 mod sets;
