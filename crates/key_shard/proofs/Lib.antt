@@ -3,6 +3,7 @@ pub mod EndLemmas
 pub mod KeptLemmas
 pub mod LegalLemmas
 pub mod LookLemmas
+pub mod OneStepLemmas
 pub mod OrderLemmas
 pub mod OutLemmas
 pub mod PlaceLemmas

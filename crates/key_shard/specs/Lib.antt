@@ -7,6 +7,7 @@ pub mod Permit
 pub mod Past
 pub mod Answers
 pub mod LegalStands
+pub mod OneStep
 pub mod Shards
 pub mod Replies
 pub mod Kept
