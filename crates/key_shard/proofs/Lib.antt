@@ -4,6 +4,7 @@ pub mod KeptLemmas
 pub mod LegalLemmas
 pub mod LookLemmas
 pub mod OneStepLemmas
+pub mod ModeLemmas
 pub mod OrderLemmas
 pub mod OutLemmas
 pub mod PlaceLemmas

@@ -8,6 +8,7 @@ pub mod Past
 pub mod Answers
 pub mod LegalStands
 pub mod OneStep
+pub mod Modes
 pub mod Shards
 pub mod Replies
 pub mod Kept

@@ -9,6 +9,7 @@ pub use steps::{Ended, Stands, Step};
 mod bodies;
 mod gets;
 pub mod grants;
+pub mod laws;
 mod lookups;
 mod quarantines;
 pub mod readers;
