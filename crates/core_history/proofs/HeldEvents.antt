@@ -190,11 +190,11 @@ honest_is shape past who (step.Refused on sid mode holder held) holds good = tt
 honest_is shape past who (step.Gone on sid token) holds good = tt
 
 module _ (shape : Shape) (past : List Event) (who : Sid) (request : Wanted) (s : Step) (told : Reply) (holds : Holds shape past (known_of past)) (good : IsGoodStep past (steps_at shape past (key_of s)) who s) (own : EndsItsOwn (steps_at shape past (key_of s)) s) where
-  place : ℕ
-  abbrev place = shard_of (key_of s) shape.shards
+  abbrev place : ℕ
+  place = shard_of (key_of s) shape.shards
 
-  event : Event
-  abbrev event = Stepped place who request s told
+  abbrev event : Event
+  event = Stepped place who request s told
 
   -- at another shard, and at this one
   at_shard : (P : QKey → List Step → Type 0) (key : QKey) → (place ≡ shard_of key shape.shards → P key (s ∷ steps_at shape past key)) → P key (steps_at shape past key) → P key (steps_at shape (event ∷ past) key)

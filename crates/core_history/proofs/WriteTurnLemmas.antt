@@ -1,5 +1,5 @@
 -- A turn of a writer keeps the facts.
-use Rattle.std.proofs.Common.{ℕ, ◌≡◌, ◌+◌, ◌==◌, Bool, true, false, not, cond, ◌||◌, List, [], ◌∷◌, length, find, count_by, pos, Option, Some, None, slice_get, refl, sym, ap, subst, ◌∙◌, inl, inr, ◌⊎◌, arith}
+use Rattle.std.proofs.Common.{ℕ, ◌≡◌, ◌+◌, ◌==◌, Bool, true, false, not, cond, ◌&&◌, ◌||◌, List, [], ◌∷◌, length, find, count_by, pos, Option, Some, None, slice_get, refl, sym, ap, subst, ◌∙◌, inl, inr, ◌⊎◌, arith}
 use Rattle.std.specs.List.{list_any}
 use Rattle.std.proofs.lemmas.Bool.{false≢true, eqb-true, eq-eqb}
 use Rattle.std.proofs.lemmas.Option.{slice_get_within}
@@ -92,19 +92,19 @@ ask-turn shape world who said keys key inner w at =
     let P : Step → Type 0 = λ x. x ≡ quarantine_step terms steps key who Invalidate (pos 0) 0 → Inner shape (with_event world (Stepped home who request x (shown terms steps x))) × IsGoodEvent shape world.past (Stepped home who request x (shown terms steps x)) in
     asked_cases P terms steps key who Invalidate (pos 0) 0 (no_own key who steps (not_true (list_any (is_of who) (standing key steps)) (none_asked shape world who keys key inner w.0 at))) granted_turn refused_turn refl
   where
-    abbrev home : ℕ
+    home : ℕ
     home = shard_of key shape.shards
 
-    abbrev terms : Terms
+    terms : Terms
     terms = terms_of shape home
 
-    abbrev past : List Event
+    past : List Event
     past = world.past
 
-    abbrev steps : List Step
+    steps : List Step
     steps = steps_of home past
 
-    abbrev request : Wanted
+    request : Wanted
     request = wanted.QaReg key
 
     granted_turn : granted_step terms steps key who Invalidate (pos 0) 0 ≡ quarantine_step terms steps key who Invalidate (pos 0) 0 → Inner shape (with_event world (Stepped home who request (granted_step terms steps key who Invalidate (pos 0) 0) (shown terms steps (granted_step terms steps key who Invalidate (pos 0) 0)))) × IsGoodEvent shape past (Stepped home who request (granted_step terms steps key who Invalidate (pos 0) 0) (shown terms steps (granted_step terms steps key who Invalidate (pos 0) 0)))
@@ -234,19 +234,19 @@ commit-turn : (shape : Shape) (world : World) (who : Sid) (said : Said) (keys : 
 commit-turn shape world who said keys txn inner w =
     by (commit_fault (is_open world who) who (granted heard) txn (length (log_of past)) log_cap) refl
   where
-    abbrev past : List Event
+    past : List Event
     past = world.past
 
-    abbrev heard : List Reply
+    heard : List Reply
     heard = told_to who.number past
 
-    abbrev count : ℕ
+    count : ℕ
     count = length (log_of past)
 
-    abbrev request : Wanted
+    request : Wanted
     request = wanted.Commit txn (record { items = granted heard; room = length keys })
 
-    abbrev lent : GrantsView
+    lent : GrantsView
     lent = record { items = granted heard; room = length keys }
 
     refused : (fault : CommitFault) → Inner shape (with_event world (Called who request (reply.NotCommitted fault txn lent))) × IsGoodEvent shape past (Called who request (reply.NotCommitted fault txn lent))
