@@ -19,12 +19,9 @@ use Rattle.key_freshness.specs.Known.{IsAmong, IsLogged, IsOver}
 use Rattle.session_client.specs.declared.replies.Reply.{Reply}
 use Rattle.session_client.specs.declared.replies.Reply.TheVariants as reply
 use Rattle.session_client.specs.Wants.{grants_in, granted, is_commit, was_committed}
+use Rattle.session_client.proofs.WantCases.{grants-append}
 use Rattle.core_history.specs.Events.{Event, Stepped, Called, who_in, reply_in, steps_in, steps_of, told_in, told_to, commits_told, log_of, ends_told, ended_of, known_of, was_ended, has_committed}
 use Rattle.core_history.proofs.ListLemmas.{choose, or_inl, or_inr, or_elim, not_both, any-front, any-back, any-at, place_of, count-append, count-cons, tick, zero_if}
-
-pub grants-append : (new heard : List Reply) → granted (new ++ heard) ≡ granted heard ++ granted new
-grants-append [] heard = sym (append-nil (granted heard))
-grants-append (told ∷ new) heard = ap (λ l. l ++ grants_in told) (grants-append new heard) ∙ append_assoc (granted heard) (granted new) (grants_in told)
 
 told-mine : (n : ℕ) (event : Event) → (who_in event).number ≡ n → told_in n event ≡ reply_in event ∷ []
 told-mine n event e = ap (λ b. cond b (reply_in event ∷ []) []) (eq-eqb _ _ e)

@@ -28,6 +28,7 @@ use Rattle.session_client.specs.declared.plans.Shape.{Shape}
 use Rattle.session_client.specs.declared.replies.Reply.{Reply}
 use Rattle.session_client.specs.declared.replies.Wanted.{Wanted}
 use Rattle.session_client.specs.Wants.{granted, released, write_wants, without_key}
+use Rattle.session_client.proofs.WantCases.{write_cases, read_cases}
 use Rattle.core_history.specs.Events.{Event, steps_of, told_to, log_of}
 use Rattle.core_history.specs.Machine.{World, Move, world_of, HasPlans, terms_of, plan_at, wanted_by, is_open, out_of}
 use Rattle.core_history.specs.Facts.{steps_on, stands_for, AreApart, IsOrdered}
@@ -36,7 +37,6 @@ use Rattle.core_history.proofs.GrantFacts.{GrantFacts, IsReleaseOf}
 use Rattle.core_history.proofs.ListLemmas.{and_elim, not_true, any-reverse, count-once, count-some, every-weaker}
 use Rattle.core_history.proofs.EventLemmas.{IsKnown}
 use Rattle.core_history.proofs.SessionLemmas.{Writer}
-use Rattle.core_history.proofs.WriterLemmas.{write_cases, read_cases}
 use Rattle.core_history.proofs.InnerLemmas.{Inner, IsSession, IsCovered, stands_well}
 use Rattle.core_history.proofs.WriteTurnLemmas.{open-closed, granted-stands}
 use Rattle.core_history.proofs.WorldLemmas.{idle-grants, inner_of}

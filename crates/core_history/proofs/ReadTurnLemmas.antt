@@ -24,6 +24,7 @@ use Rattle.session_client.specs.declared.replies.Reply.TheVariants as reply
 use Rattle.session_client.specs.declared.replies.Wanted.{Wanted}
 use Rattle.session_client.specs.declared.replies.Wanted.TheVariants as wanted
 use Rattle.session_client.specs.Wants.{granted, grants_in, is_commit, read_wants}
+use Rattle.session_client.proofs.WantCases.{read_cases}
 use Rattle.core_history.specs.Events.{Event, Stepped, Called, who_in, reply_in, steps_of, told_to, log_of}
 use Rattle.core_history.specs.Machine.{World, Said, Value, Made, Rejected, Failed, terms_of, plan_at, shown, event_of, ask_told, out_by}
 use Rattle.core_history.specs.Facts.{answers_in, answers_under}
@@ -33,7 +34,6 @@ use Rattle.core_history.proofs.ListLemmas.{and_elim, and_intro, count-cons}
 use Rattle.core_history.proofs.KeyLemmas.{QuietStep}
 use Rattle.core_history.proofs.EventLemmas.{late-mild, IsKnown}
 use Rattle.core_history.proofs.SessionLemmas.{maybe-step, stood-quiet, stood-called, Keeps}
-use Rattle.core_history.proofs.WriterLemmas.{read_cases}
 use Rattle.core_history.proofs.InnerLemmas.{Inner, IsSession, IsHolding, HasTold, DrawsLate, with_event, session-more, called-inner, quiet-inner, lease-late}
 use Rattle.core_history.proofs.GoodEvents.{IsTold, SetsTold, IsGoodStep, IsGoodCall, IsGoodEvent}
 

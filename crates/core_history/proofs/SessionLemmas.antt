@@ -19,17 +19,19 @@ use Rattle.key_shard.specs.declared.steps.Step.TheVariants as step
 use Rattle.key_shard.specs.Past.{Terms, standing, grants}
 use Rattle.key_shard.specs.Shards.{without_permit}
 use Rattle.key_shard.proofs.OutLemmas.{same_permit-true}
+use Rattle.key_shard.proofs.PermitLemmas.{is_of_permit, stays_permit}
 use Rattle.session_client.specs.declared.plans.Shape.{Shape}
 use Rattle.session_client.specs.declared.replies.Reply.{Reply}
 use Rattle.session_client.specs.declared.replies.Reply.TheVariants as reply
 use Rattle.session_client.specs.declared.replies.Wanted.{Wanted}
 use Rattle.session_client.specs.declared.replies.Wanted.TheVariants as wanted
 use Rattle.session_client.specs.Wants.{grants_in, granted, is_had, is_release, released}
+use Rattle.session_client.proofs.WantCases.{is_ending, AreOnce}
 use Rattle.core_history.specs.Events.{Event, Stepped, Called, steps_of}
 use Rattle.core_history.specs.Machine.{terms_of, out_by, out_of}
 use Rattle.core_history.proofs.ListLemmas.{choose, or_inl, and_intro, not_both, not_true, any-filter, any-front, any-back, count-cons, zero_if}
 use Rattle.key_shard.proofs.LegalLemmas.{AllOfOwnToken}
-use Rattle.core_history.proofs.KeyLemmas.{QuietStep, is_of_permit, stays_permit}
+use Rattle.core_history.proofs.KeyLemmas.{QuietStep}
 use Rattle.core_history.proofs.EventLemmas.{closed, closed-more}
 
 -- a grant is the session's, its quarantine stands, it is out, and it was given
@@ -130,18 +132,6 @@ stood-released shape place who request gone by how told past n m grant without d
       out = choose (λ l. list_any (same_permit grant) l ≡ true) (place == home) (out_by (terms_of shape home) request s (out_of shape home past)) (out_of shape home past) (λ _. subst (λ l. list_any (same_permit grant) l ≡ true) (sym (without (terms_of shape home) s (out_of shape home past))) (without-other grant gone (out_of shape home past) other h.out)) (λ _. h.out);
       was = was-more shape place who request s told past n grant h;
     }
-
--- the session was told that it is committed or ended, or that a grant of its is released
-abbrev pub is_ending : List Reply → Bool
-is_ending [] = false
-is_ending (reply.Committed number txn grants ∷ heard) = true
-is_ending (reply.End was ∷ heard) = true
-is_ending (reply.Rel told ∷ heard) = true
-is_ending (other ∷ heard) = false
-
--- each key stands once among these
-abbrev pub AreOnce : List QKey → Type 0
-AreOnce keys = (i j : ℕ) (key : QKey) → slice_get keys i ≡ Some key → slice_get keys j ≡ Some key → i ≡ j
 
 -- a grant is the session's, on the key at its own place
 pub record Fits (n : ℕ) (keys : List QKey) (i : ℕ) (grant : Permit) : Type 0 where

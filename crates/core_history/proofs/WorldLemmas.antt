@@ -15,12 +15,12 @@ use Rattle.session_client.specs.declared.replies.Reply.{Reply}
 use Rattle.session_client.specs.declared.replies.Reply.TheVariants as reply
 use Rattle.session_client.specs.declared.replies.Wanted.TheVariants as wanted
 use Rattle.session_client.specs.Wants.{granted, is_had, is_release, without_key}
+use Rattle.session_client.proofs.WantCases.{footprint-once, skipped-once, AreOnce, is_ending}
 use Rattle.core_history.specs.Events.{Event, Called, steps_of, told_to}
 use Rattle.core_history.specs.Machine.{World, Move, Begin, Take, Said, start, world_of, begun, taken, turn_event, terms_of, plan_at, is_writer, wanted_by}
 use Rattle.core_history.proofs.GrantFacts.{IsDrawnBelow}
 use Rattle.core_history.proofs.ListLemmas.{zero_if, count-cons, not_both, every-weaker}
-use Rattle.core_history.proofs.SessionLemmas.{AreOnce, Writer, is_ending}
-use Rattle.core_history.proofs.WriterLemmas.{footprint-once, skipped-once}
+use Rattle.core_history.proofs.SessionLemmas.{Writer}
 use Rattle.core_history.proofs.InnerLemmas.{Inner, IsIdle, IsSession, IsHolding, IsCovered}
 use Rattle.core_history.proofs.GoodEvents.{IsGoodEvent}
 use Rattle.core_history.proofs.ReadTurnLemmas.{After, idle-turn, read-turn}

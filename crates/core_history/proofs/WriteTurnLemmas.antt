@@ -35,6 +35,7 @@ use Rattle.sql_keeper.specs.Commits.{covers, is_covered, uncovered, covered_faul
 use Rattle.sql_keeper.specs.Fresh.{quarantines}
 use Rattle.key_freshness.specs.Known.{IsAmong}
 use Rattle.key_freshness.proofs.GrantMarks.{quarantined-granted}
+use Rattle.key_shard.proofs.PermitLemmas.{is_of_permit, find_permit}
 use Rattle.session_client.specs.Grants.{GrantsView}
 use Rattle.session_client.specs.declared.plans.Shape.{Shape}
 use Rattle.session_client.specs.declared.replies.Reply.{Reply}
@@ -42,16 +43,17 @@ use Rattle.session_client.specs.declared.replies.Reply.TheVariants as reply
 use Rattle.session_client.specs.declared.replies.Wanted.{Wanted}
 use Rattle.session_client.specs.declared.replies.Wanted.TheVariants as wanted
 use Rattle.session_client.specs.Wants.{granted, is_had, released, was_committed, write_wants}
+use Rattle.session_client.proofs.WantCases.{write_cases, is_ending}
 use Rattle.core_history.specs.Events.{Event, Stepped, Called, steps_of, told_to, log_of, ended_of, has_committed, was_ended}
 use Rattle.core_history.specs.Machine.{World, Said, Value, Made, Rejected, Failed, terms_of, plan_at, is_writer, shown, out_by, is_open, commit_said, commit_by, log_cap}
 use Rattle.core_history.specs.Facts.{stands_for}
 use Rattle.core_history.specs.Freshness.{IsQuarantinedReply}
 use Rattle.core_history.proofs.ListLemmas.{choose, or_inl, or_inr, or_elim, and_elim, and_intro, not_both, not_true, any-back, any-weaker, place_of, count-some, some-count}
 use Rattle.core_history.proofs.GoodEvents.{IsGoodStep, IsGoodEvent}
-use Rattle.core_history.proofs.KeyLemmas.{QuietStep, is_of_permit, find_permit, granted_standing}
+use Rattle.core_history.proofs.KeyLemmas.{QuietStep, granted_standing}
 use Rattle.core_history.proofs.EventLemmas.{closed, closed-more, closed-over, over-closed, ended-among, logged-committed, committed-told, uncommitted-more, IsLate, late-mild, counted-mild, counted-granted, told_to-mine}
-use Rattle.core_history.proofs.SessionLemmas.{stood-quiet, stood-called, stood-granted, stood-new, stood-released, is_ending, Writer, Mild, Keeps, writer-mild}
-use Rattle.core_history.proofs.WriterLemmas.{writer-granted, writer-released, write_cases}
+use Rattle.core_history.proofs.SessionLemmas.{stood-quiet, stood-called, stood-granted, stood-new, stood-released, Writer, Mild, Keeps, writer-mild}
+use Rattle.core_history.proofs.WriterLemmas.{writer-granted, writer-released}
 use Rattle.core_history.proofs.InnerLemmas.{Inner, IsSession, with_event, called-inner, stepped-inner, quiet-inner, stands_well}
 use Rattle.core_history.proofs.ReadTurnLemmas.{After}
 

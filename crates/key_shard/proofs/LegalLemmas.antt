@@ -253,7 +253,7 @@ abbrev pub is_quar : ℕ → ℕ → Quar → Bool
 is_quar who token quar = (quar.sid.number == who) && (quar.token == token)
 
 -- what passes a test is there, and has what each has
-some-passes : {X : Type 0} (P : X → Type 0) (p : X → Bool) (xs : List X) → AllByRecursion P xs → list_any p xs ≡ true → (x : X) × P x × (p x ≡ true)
+pub some-passes : {X : Type 0} (P : X → Type 0) (p : X → Bool) (xs : List X) → AllByRecursion P xs → list_any p xs ≡ true → (x : X) × P x × (p x ≡ true)
 some-passes P p [] h e = absurd (false≢true e)
 some-passes P p (x ∷ xs) h e =
     elim (or_cases (p x) (list_any p xs) e) [

@@ -11,3 +11,4 @@ pub mod PlaceLemmas
 pub mod PutLemmas
 pub mod QuarantineLemmas
 pub mod TiesLemmas
+pub mod PermitLemmas
