@@ -1,12 +1,23 @@
 -- What a keeper answers where it tells its rows.
-use Rattle.std.specs.Prelude.{ℕ, ◌≡◌, List, Result, Ok, Err, MatchResult}
+use Rattle.std.specs.Prelude.{ℕ, ◌≡◌, List, Option, Some, IsSome, Result, Ok, Err, MatchResult}
+use Rattle.std.specs.Option.{ForSome}
 use Rattle.rows_model.specs.declared.keys.QKey.{QKey}
 use Rattle.rows_model.specs.declared.changes.Change.{Change}
-use Rattle.rows_model.specs.Rows.{Tables}
+use Rattle.rows_model.specs.Rows.{Tables, start_tables}
 use Rattle.rows_model.specs.Query.{answer}
 use Rattle.rows_model.specs.Changes.{apply_all}
+use Rattle.sql_keeper.specs.declared.keepers.Place.{Place}
+use Rattle.sql_keeper.specs.declared.keepers.Place.TheVariants.{Fresh}
 use Rattle.sql_keeper.specs.declared.faults.AfterFault.{AfterFault}
 use Rattle.sql_keeper.specs.declared.faults.AfterFault.TheVariants.{Rejected, Failed, Memory}
+
+-- where a keeper tells its rows after a start, and the place tells those that it holds, the opening rows are these
+abbrev pub AreHeld : Option Tables → Option Tables → Tables → Type 0
+AreHeld told held opening = IsSome told → ForSome held (λ rows. opening ≡ rows)
+
+-- a fresh place holds so many members, and no links; of a file nothing is said
+abbrev pub HoldsFresh : Place → ℕ → Option Tables → Type 0
+HoldsFresh place members held = place ≡ Fresh → held ≡ Some (start_tables members)
 
 -- a fault that names a place names that of the first change that doesn't apply
 abbrev pub IsRejectedAt : List Change → Tables → AfterFault → Type 0

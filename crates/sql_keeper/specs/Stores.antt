@@ -10,7 +10,10 @@ use Rattle.sql_keeper.specs.declared.faults.CommitFault.TheVariants as faults
 use Rattle.sql_keeper.specs.declared.stores.Commit.{Commit}
 use Rattle.sql_keeper.specs.declared.stores.Phase.{Phase}
 use Rattle.sql_keeper.specs.declared.stores.Phase.TheVariants.{Committed}
-use Rattle.sql_keeper.specs.Sessions.{phase_of, begun, ended, with_phase}
+use Rattle.key_shard.specs.Permit.{Permit}
+use Rattle.sql_keeper.specs.Log.{rows_after}
+use Rattle.sql_keeper.specs.Sessions.{phase_of, is_open, begun, ended, with_phase}
+use Rattle.sql_keeper.specs.Commits.{commit_fault}
 
 -- what a store itself knows: the rows that its keeper started with, the commits so far, where each session stands, how many commits there may be, and how many calls of the keeper failed
 pub record Ledger : Type 0 where
@@ -31,6 +34,14 @@ pub record IsLedger (ledger : Ledger) : Type 0 where
   pub few : length ledger.log ≤ ledger.cap
   pub committed : All (λ commit. phase_of commit.sid ledger.sessions ≡ Some Committed) ledger.log
   pub once : AllPairs (λ commit later. commit.sid.number ≢ later.sid.number) ledger.log
+
+-- the rows after the log of a ledger
+abbrev pub rows_of : Ledger → Tables
+rows_of ledger = rows_after ledger.opening ledger.log
+
+-- why a ledger refuses a commit before the keeper is asked, if it does
+abbrev pub first_fault : Ledger → Sid → List Permit → List Change → Option CommitFault
+first_fault ledger who grants txn = commit_fault (is_open who ledger.sessions) who grants txn (length ledger.log) ledger.cap
 
 -- the ledger of a new store
 abbrev pub opened : Tables → ℕ → Ledger

@@ -1,8 +1,8 @@
-ghost use Rattle.std.specs.Prelude.{◌≡◌, ℕ, ◌≤◌, Option, Some, IfOk, OnOk, OnErr, IsSome};
+ghost use Rattle.std.specs.Prelude.{◌≡◌, ℕ, ◌≤◌, Option, Some, IfOk, OnOk, OnErr};
 ghost use Rattle.std.specs.Option.{ForSome};
-ghost use Rattle.rows_model.specs.Rows.{Tables, start_tables};
+ghost use Rattle.rows_model.specs.Rows.{Tables};
 ghost use Rattle.rows_model.specs.Query.{answer};
-ghost use Rattle.sql_keeper.specs.Keepers.{Commits, AnswersAfter};
+ghost use Rattle.sql_keeper.specs.Keepers.{AreHeld, HoldsFresh, Commits, AnswersAfter};
 ghost use Rattle.sql_keeper.specs.Faults.{Counts, keep_failed, staged_failed};
 
 use crate::faults::{AfterFault, KeepFault};
@@ -38,15 +38,16 @@ pub trait Keeper {
     ghost is_started: { Self → Type 0 };
 
     /// Starts the keeper, and answers the rows that it has: those of the place. A fresh place has so
-    /// many members, and no links.
+    /// many members, and no links. After a refusal the keeper is started only where it was before.
     fn start(&mut self, alloc: Global, place: &Place, members: u32) -> Result<Rows, KeepFault>
         requires some { 1 ≤ members }
         requires few { members ≤ 100000 }
         ensures started { OnOk result (is_started self.new) }
         ensures tells { IfOk result (λ opening. ForSome (rows self.new) (λ told. told ≡ opening)) }
-        ensures held { IfOk result (λ opening. IsSome (rows self.new) → ForSome (holds self.old place.now members) (λ held. opening ≡ held)) }
-        ensures fresh { place.now ≡ Place.Fresh → holds self.old place.now members ≡ Some (start_tables members) }
+        ensures held { IfOk result (AreHeld (rows self.new) (holds self.old place.now members)) }
+        ensures fresh { HoldsFresh place.now members (holds self.old place.now members) }
         ensures kept { OnErr result (rows self.new ≡ rows self.old) }
+        ensures unstarted { OnErr result (is_started self.new → is_started self.old) }
         ensures counts { Counts (keep_failed result) (faults self.old) (faults self.new) }
         ensures never_falls { faults self.old ≤ faults self.new };
 
@@ -54,7 +55,10 @@ pub trait Keeper {
     fn ask(&mut self, alloc: Global, key: &QKey) -> Result<Value, KeepFault>
         requires { is_started self.old }
         ensures started { is_started self.new }
-        ensures tells { (told : Tables) → rows self.new ≡ Some told → (rows self.old ≡ Some told) × IfOk result (λ value. value ≡ answer key.now told) }
+        ensures tells {
+            (told : Tables) → rows self.new ≡ Some told
+            → (rows self.old ≡ Some told) × IfOk result (λ value. value ≡ answer key.now told)
+        }
         ensures counts { Counts (keep_failed result) (faults self.old) (faults self.new) }
         ensures never_falls { faults self.old ≤ faults self.new };
 
@@ -62,7 +66,10 @@ pub trait Keeper {
     fn ask_after(&mut self, alloc: Global, txn: &Txn, key: &QKey) -> Result<Value, AfterFault>
         requires { is_started self.old }
         ensures started { is_started self.new }
-        ensures tells { (told : Tables) → rows self.new ≡ Some told → (rows self.old ≡ Some told) × AnswersAfter txn.now key.now told result }
+        ensures tells {
+            (told : Tables) → rows self.new ≡ Some told
+            → (rows self.old ≡ Some told) × AnswersAfter txn.now key.now told result
+        }
         ensures counts { Counts (staged_failed result) (faults self.old) (faults self.new) }
         ensures never_falls { faults self.old ≤ faults self.new };
 
@@ -70,7 +77,10 @@ pub trait Keeper {
     fn commit(&mut self, alloc: Global, txn: &Txn) -> Result<(), AfterFault>
         requires { is_started self.old }
         ensures started { is_started self.new }
-        ensures tells { (told : Tables) → rows self.new ≡ Some told → (before : Tables) × (rows self.old ≡ Some before) × Commits txn.now before told result }
+        ensures tells {
+            (told : Tables) → rows self.new ≡ Some told
+            → (before : Tables) × (rows self.old ≡ Some before) × Commits txn.now before told result
+        }
         ensures counts { Counts (staged_failed result) (faults self.old) (faults self.new) }
         ensures never_falls { faults self.old ≤ faults self.new };
 }

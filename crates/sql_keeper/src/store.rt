@@ -1,15 +1,13 @@
 ghost use Rattle.std.specs.Prelude.{◌≡◌, ◌≢◌, ◌+◌, ◌≤◌, ℕ, Option, Some, None, Ok, All, AllPairs, length, MatchResult, IfOk, IfErr, OnOk, OnErr, IsSome};
 ghost use Rattle.std.specs.Bool.{IsFalse};
 ghost use Rattle.std.specs.Option.{ForSome};
-ghost use Rattle.rows_model.specs.Rows.{Tables, start_tables};
+ghost use Rattle.rows_model.specs.Rows.{Tables};
 ghost use Rattle.rows_model.specs.Query.{answer};
 ghost use Rattle.rows_model.specs.Changes.{apply_all};
-ghost use Rattle.sql_keeper.specs.Keepers.{AnswersAfter};
-ghost use Rattle.sql_keeper.specs.Log.{rows_after};
+ghost use Rattle.sql_keeper.specs.Keepers.{AreHeld, HoldsFresh, AnswersAfter};
 ghost use Rattle.sql_keeper.specs.Sessions.{is_open};
-ghost use Rattle.sql_keeper.specs.Commits.{commit_fault};
 ghost use Rattle.sql_keeper.specs.Faults.{has_failed, keep_failed, staged_failed, is_failure, Counts, FewFailed};
-ghost use Rattle.sql_keeper.specs.Stores.{opened, with_session, with_end, with_commit, with_call, IsRefusal, IsTrueFault};
+ghost use Rattle.sql_keeper.specs.Stores.{rows_of, first_fault, opened, with_session, with_end, with_commit, with_call, IsRefusal, IsTrueFault};
 
 use crate::faults::{AfterFault, CommitFault, KeepFault};
 use crate::keepers::{Keeper, Place};
@@ -73,19 +71,23 @@ impl<K: Keeper, N: Start> Model for Store<K, N> {
     ghost Value = { StoreView };
 
     ghost view = { λ s. record {
-      ledger = record { opening = s.opening; log = s.log.items; sessions = s.sessions; cap = s.cap; failed = s.failed };
+      ledger = record {
+        opening = s.opening; log = s.log.items; sessions = s.sessions; cap = s.cap; failed = s.failed
+      };
       told = K.rows s.keeper;
       faults = K.faults s.keeper;
     } };
 
     ghost invariant = { λ s. K.is_started s.keeper
-        × IsLedger (record { opening = s.opening; log = s.log.items; sessions = s.sessions; cap = s.cap; failed = s.failed })
+        × IsLedger (record {
+          opening = s.opening; log = s.log.items; sessions = s.sessions; cap = s.cap; failed = s.failed
+        })
         × ForSome (K.rows s.keeper) (λ told. told ≡ rows_after s.opening s.log.items)
         × FewFailed N.count s.failed (K.faults s.keeper) };
 }
 
 /// A keeper that didn't start, and why. Its rows are as before, and its count of faults too, unless it
-/// failed.
+/// failed. It is started only where it was before.
 #[derive(Drop)]
 pub struct NoStore<K: Keeper> {
     pub keeper: K,
@@ -107,11 +109,18 @@ impl<K: Keeper> Store<K> {
         requires cap { cap ≤ 8000000 }
         ensures opened { IfOk result (λ store. store.ledger ≡ opened store.ledger.opening cap) }
         ensures told { IfOk result (λ store. ForSome store.told (λ told. told ≡ store.ledger.opening)) }
-        ensures held { IfOk result (λ store. IsSome store.told → ForSome (K.holds keeper place.now members) (λ held. store.ledger.opening ≡ held)) }
-        ensures fresh { place.now ≡ Place.Fresh → K.holds keeper place.now members ≡ Some (start_tables members) }
-        ensures counts { MatchResult result (λ store. store.faults ≡ K.faults keeper) (λ none. Counts (has_failed none.cause) (K.faults keeper) (K.faults none.keeper)) }
-        ensures never_falls { MatchResult result (λ store. K.faults keeper ≤ store.faults) (λ none. K.faults keeper ≤ K.faults none.keeper) }
+        ensures held {
+            IfOk result (λ store. AreHeld store.told (K.holds keeper place.now members) store.ledger.opening)
+        }
+        ensures fresh { HoldsFresh place.now members (K.holds keeper place.now members) }
+        ensures counts {
+            MatchResult result
+            (λ store. store.faults ≡ K.faults keeper)
+            (λ none. Counts (has_failed none.cause) (K.faults keeper) (K.faults none.keeper))
+        }
+        ensures never_falls { IfErr result (λ none. K.faults keeper ≤ K.faults none.keeper) }
         ensures kept { IfErr result (λ none. K.rows none.keeper ≡ K.rows keeper) }
+        ensures unstarted { IfErr result (λ none. K.is_started none.keeper → K.is_started keeper) }
     {
         let mut keeper = keeper;
         match keeper.start(alloc, place, members) {
@@ -171,8 +180,13 @@ impl<K: Keeper, N: Start> Store<K, N> {
     /// only where the keeper's count of faults rose, and is counted.
     pub fn ask(&mut self, key: &QKey) -> Result<Answer, KeepFault>
         ensures ledger { self.new.ledger ≡ with_call (keep_failed result) self.old.ledger }
-        ensures answer { IfOk result (λ given. (given.key ≡ key.now) × (given.stamp ≡ length self.old.ledger.log)) }
-        ensures tells { IsSome self.new.told → (IsSome self.old.told) × IfOk result (λ given. given.value ≡ answer key.now (rows_after self.old.ledger.opening self.old.ledger.log)) }
+        ensures answer {
+            IfOk result (λ given. (given.key ≡ key.now) × (given.stamp ≡ length self.old.ledger.log))
+        }
+        ensures tells {
+            IsSome self.new.told
+            → (IsSome self.old.told) × IfOk result (λ given. given.value ≡ answer key.now (rows_of self.old.ledger))
+        }
         ensures counts { Counts (keep_failed result) self.old.faults self.new.faults }
         ensures never_falls { self.old.faults ≤ self.new.faults }
     {
@@ -195,7 +209,10 @@ impl<K: Keeper, N: Start> Store<K, N> {
     /// comes only where the keeper's count of faults rose, and is counted.
     pub fn ask_staged(&mut self, txn: &Txn, key: &QKey) -> Result<Value, AfterFault>
         ensures ledger { self.new.ledger ≡ with_call (staged_failed result) self.old.ledger }
-        ensures tells { IsSome self.new.told → (IsSome self.old.told) × AnswersAfter txn.now key.now (rows_after self.old.ledger.opening self.old.ledger.log) result }
+        ensures tells {
+            IsSome self.new.told
+            → (IsSome self.old.told) × AnswersAfter txn.now key.now (rows_of self.old.ledger) result
+        }
         ensures counts { Counts (staged_failed result) self.old.faults self.new.faults }
         ensures never_falls { self.old.faults ≤ self.new.faults }
     {
@@ -221,16 +238,30 @@ impl<K: Keeper, N: Start> Store<K, N> {
         txn: Txn,
         grants: &[Grant],
     ) -> Result<u64, (CommitFault, Txn)>
-        ensures admitted { OnOk result (commit_fault (is_open sid self.old.ledger.sessions) sid grants.now txn (length self.old.ledger.log) self.old.ledger.cap ≡ None) }
-        ensures refusal { IfErr result (λ back. IsRefusal (commit_fault (is_open sid self.old.ledger.sessions) sid grants.now txn (length self.old.ledger.log) self.old.ledger.cap) back.0) }
+        ensures admitted { OnOk result (first_fault self.old.ledger sid grants.now txn ≡ None) }
+        ensures refusal {
+            IfErr result (λ back. IsRefusal (first_fault self.old.ledger sid grants.now txn) back.0)
+        }
         ensures ledger { OnOk result (self.new.ledger ≡ with_commit sid txn self.old.ledger) }
         ensures number { IfOk result (λ number. number ≡ length self.old.ledger.log + 1) }
-        ensures err { IfErr result (λ back. self.new.ledger ≡ with_call (is_failure back.0) self.old.ledger) }
+        ensures err {
+            IfErr result (λ back. self.new.ledger ≡ with_call (is_failure back.0) self.old.ledger)
+        }
         ensures back { IfErr result (λ back. back.1 ≡ txn) }
         ensures tells { IsSome self.new.told → IsSome self.old.told }
-        ensures applied { IsSome self.new.told → OnOk result ((after : Tables) × (apply_all txn (rows_after self.old.ledger.opening self.old.ledger.log) ≡ Ok after)) }
-        ensures rejected { IsSome self.new.told → IfErr result (λ back. IsTrueFault txn (rows_after self.old.ledger.opening self.old.ledger.log) back.0) }
-        ensures counts { MatchResult result (λ _. self.new.faults ≡ self.old.faults) (λ back. Counts (is_failure back.0) self.old.faults self.new.faults) }
+        ensures applied {
+            IsSome self.new.told
+            → OnOk result ((after : Tables) × (apply_all txn (rows_of self.old.ledger) ≡ Ok after))
+        }
+        ensures rejected {
+            IsSome self.new.told
+            → IfErr result (λ back. IsTrueFault txn (rows_of self.old.ledger) back.0)
+        }
+        ensures counts {
+            MatchResult result
+            (λ _. self.new.faults ≡ self.old.faults)
+            (λ back. Counts (is_failure back.0) self.old.faults self.new.faults)
+        }
         ensures never_falls { self.old.faults ≤ self.new.faults }
     {
         if let Err(fault) = admit(&self.sessions, &mut self.log, self.cap, sid, &txn, grants) {
@@ -279,7 +310,7 @@ impl<K: Keeper, N: Start> Store<K, N> {
         ensures few { length result.now ≤ self.now.ledger.cap }
         ensures once { AllPairs (λ commit later. commit.sid.number ≢ later.sid.number) result.now }
         ensures closed { All (λ commit. IsFalse (is_open commit.sid self.now.ledger.sessions)) result.now }
-        ensures told { ForSome self.now.told (λ told. told ≡ rows_after self.now.ledger.opening result.now) }
+        ensures told { ForSome self.now.told (λ told. told ≡ rows_of self.now.ledger) }
     {
         self.log.as_slice()
     }
@@ -300,7 +331,7 @@ impl<K: Keeper, N: Start> Store<K, N> {
         ensures started { K.is_started result.0 }
         ensures opening { result.1 ≡ self.ledger.opening }
         ensures log { result.2.items ≡ self.ledger.log }
-        ensures told { ForSome self.told (λ told. told ≡ rows_after self.ledger.opening self.ledger.log) }
+        ensures told { ForSome self.told (λ told. told ≡ rows_of self.ledger) }
         ensures few { FewFailed N.count self.ledger.failed self.faults }
     {
         let Store {

@@ -8,7 +8,7 @@ use Rattle.sql_keeper.proofs.StoreLemmas.{told-at, rows-committed, ledger-commit
 use Rattle.sql_keeper.proofs.store.Store.commit.Goals as goal
 
 pub returns-in-Err-clause-rejected : goal.returns-in-Err-clause-rejected
-returns-in-Err-clause-rejected g c = λ _. c.in-Err.ensures.unasked.1 _
+returns-in-Err-clause-rejected g c = λ _. c.in-Err.ensures.any_rows _
 
 pub invariant_of-self-2 : goal.invariant_of-self-2
 invariant_of-self-2 g c =
