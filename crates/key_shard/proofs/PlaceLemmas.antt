@@ -43,7 +43,7 @@ find-lost-step : (p : Quar → Bool) (x : Quar) (ys : List Quar) (b : Bool) → 
 find-lost-step p x ys true e none = none
 find-lost-step p x ys false e none = rw e none
 
-find-lost : (p : Quar → Bool) (xs : List Quar) → find p (filter (λ x. not (p x)) xs) ≡ None
+pub find-lost : (p : Quar → Bool) (xs : List Quar) → find p (filter (λ x. not (p x)) xs) ≡ None
 find-lost p [] = refl
 find-lost p (x ∷ xs) = find-lost-step p x (filter (λ y. not (p y)) xs) (p x) refl (find-lost p xs)
 

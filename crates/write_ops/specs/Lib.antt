@@ -1,0 +1,2 @@
+pub use Rattle.key_shard.specs.Shards
+pub mod Releases
