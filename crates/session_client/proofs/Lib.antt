@@ -1,3 +1,4 @@
+pub mod DeskLemmas
 pub mod HeardLemmas
 pub mod RoomLemmas
 pub mod WantCases

@@ -8,3 +8,4 @@ pub mod Belongs
 pub mod Outcomes
 pub mod Writers
 pub mod Follows
+pub mod Desks

@@ -10,6 +10,8 @@ pub use sessions::Session;
 mod changes;
 pub mod desks;
 pub mod grant_lists;
+#[cfg(test)]
+mod memory_desk;
 mod notes;
 pub mod plans;
 mod readers;

@@ -94,15 +94,24 @@ impl Reader {
     pub fn takes(&self, reply: &Reply) -> bool
         ensures { IsTrue result ↔ ReadAwaits self.now.key self.now.stage reply.now }
     {
-        match (&self.stage, reply) {
-            (ReadStage::Getting { .. }, Reply::Got { .. }) => true,
-            (ReadStage::Getting { .. }, Reply::Fault { fault }) => fault.is_of_shard(),
-            (ReadStage::Asking { .. }, Reply::Answer { answer }) => answer.key == self.key,
-            (ReadStage::Asking { .. }, Reply::Fault { fault }) => fault.is_of_store(),
-            (ReadStage::Storing, Reply::Set { .. }) => true,
-            (ReadStage::Storing, Reply::Fault { fault }) => *fault == Fault::Memory,
-            (ReadStage::Done { .. }, Reply::Nothing) => true,
-            _ => false,
+        match reply {
+            Reply::Got { .. } => matches!(self.stage, ReadStage::Getting { .. }),
+            Reply::Answer { answer } => {
+                matches!(self.stage, ReadStage::Asking { .. }) && answer.key == self.key
+            }
+            Reply::Set { .. } => matches!(self.stage, ReadStage::Storing),
+            Reply::Fault { fault } => match self.stage {
+                ReadStage::Getting { .. } => fault.is_of_shard(),
+                ReadStage::Asking { .. } => fault.is_of_store(),
+                ReadStage::Storing => *fault == Fault::Memory,
+                ReadStage::Holding { .. } | ReadStage::Done { .. } => false,
+            },
+            Reply::Nothing => matches!(self.stage, ReadStage::Done { .. }),
+            Reply::Quar { .. }
+            | Reply::Committed { .. }
+            | Reply::NotCommitted { .. }
+            | Reply::End { .. }
+            | Reply::Rel { .. } => false,
         }
     }
 
@@ -164,7 +173,12 @@ fn next_stage(key: QKey, stage: ReadStage, reply: Reply) -> ReadStage
         Reply::Fault { fault } => ReadStage::Done {
             outcome: Outcome::Failed { fault },
         },
-        other => {
+        other @ (Reply::Quar { .. }
+        | Reply::Committed { .. }
+        | Reply::NotCommitted { .. }
+        | Reply::End { .. }
+        | Reply::Rel { .. }
+        | Reply::Nothing) => {
             other.let_go();
             stage
         }

@@ -140,7 +140,19 @@ impl Writer {
             (WriteStage::Ending { .. }, Reply::End { .. }) => true,
             (WriteStage::Returning { .. }, Reply::Rel { .. }) => true,
             (WriteStage::Done { .. }, Reply::Nothing) => true,
-            _ => false,
+            (
+                _,
+                Reply::Got { .. }
+                | Reply::Answer { .. }
+                | Reply::Set { .. }
+                | Reply::Quar { .. }
+                | Reply::Committed { .. }
+                | Reply::NotCommitted { .. }
+                | Reply::End { .. }
+                | Reply::Rel { .. }
+                | Reply::Fault { .. }
+                | Reply::Nothing,
+            ) => false,
         }
     }
 
@@ -209,7 +221,14 @@ fn answers_quarantine(who: Sid, key: &QKey, reply: &Reply) -> bool
         }
         Reply::Quar { .. } => true,
         Reply::Fault { fault } => fault.is_of_shard(),
-        _ => false,
+        Reply::Got { .. }
+        | Reply::Answer { .. }
+        | Reply::Set { .. }
+        | Reply::Committed { .. }
+        | Reply::NotCommitted { .. }
+        | Reply::End { .. }
+        | Reply::Rel { .. }
+        | Reply::Nothing => false,
     }
 }
 

@@ -1,0 +1,18 @@
+-- What a desk tells: lists that only grow, by one member at a time. The latest member is in front.
+use Rattle.std.specs.Prelude.{ℕ, zero, suc, ◌≢◌, List, [], ◌∷◌, All, Option, Some, None}
+use Rattle.std.specs.Option.{ForSome}
+use Rattle.rows_model.specs.declared.keys.Sid.{Sid}
+
+-- A list with one more member. One that isn't told stays untold.
+abbrev pub with_member : {X : Type 0} → X → Option (List X) → Option (List X)
+with_member member (Some told) = Some (member ∷ told)
+with_member member None = None
+
+-- The member is not in the list, where that is told.
+abbrev pub IsNew : {X : Type 0} → X → Option (List X) → Type 0
+IsNew member told = ForSome told (λ members. All (λ other. other ≢ member) members)
+
+-- The first so many sessions, numbered from 1.
+abbrev pub sids_to : ℕ → List Sid
+sids_to zero = []
+sids_to (suc count) = record { number = suc count } ∷ sids_to count

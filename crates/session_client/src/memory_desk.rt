@@ -1,0 +1,288 @@
+// A desk over a store and shards in memory, and sessions that are driven over it.
+ghost use Rattle.std.specs.Prelude.{◌≡◌, ℕ, ◌≤◌, ◌<◌, List, Some, length, IfOk, Contains};
+ghost use Rattle.key_shard.specs.Answers.{FitsMode};
+ghost use Rattle.session_client.specs.Belongs.{Belongs};
+ghost use Rattle.session_client.specs.Desks.{sids_to};
+ghost use Rattle.session_client.specs.Follows.{Follows, IsReady, sid_of};
+ghost use Rattle.session_client.specs.Plans.{IsPlan};
+ghost use Rattle.session_client.specs.declared.replies.Reply.{Reply};
+ghost use Rattle.session_client.specs.declared.replies.Wanted.TheVariants as wanted;
+
+use crate::{Desk, Fault, Grants, Outcome, Plan, Reply, Session, Wanted};
+use key_shard::{Got, Grant, How, Shard, ShardFault};
+use lease_table::Mode;
+use rows_model::{Change, Kind, Memory, QKey, Sid, Txn, Value, shard_number};
+use sql_keeper::{CommitFault, KeepFault, MapKeeper, Place, Store};
+use std::alloc::Global;
+use std::marker::Model;
+use std::process::Abort;
+use std::test::Fail;
+
+/// A store and shards in memory, whose clock stands still at 0. Contracts see how many sessions it
+/// began.
+#[derive(Drop)]
+struct MemoryDesk {
+    store: Store<MapKeeper>,
+    shards: Vec<Shard>,
+}
+
+impl Model for MemoryDesk {
+    ghost use Rattle.std.specs.Prelude.{ℕ, ◌≤◌, length};
+
+    ghost Value = { ℕ };
+
+    ghost view = { λ desk. length desk.store.ledger.sessions };
+
+    ghost invariant = { λ desk. (1 ≤ length desk.shards.items) × (length desk.shards.items ≤ 64) };
+}
+
+impl MemoryDesk {
+    /// A desk of two shards, over three members.
+    fn new(rt: &impl Abort, alloc: Global) -> Result<MemoryDesk, Fail> {
+        let keeper = MapKeeper::new(Vec::new(alloc));
+        let store = match Store::new(alloc, keeper, &Place::Fresh, 3, 100) {
+            Ok(store) => store,
+            Err(none) => panic!(rt; "{:?}", none.cause),
+        };
+        let first = Shard::new(alloc, 0, 2, 8, 100, 1)?;
+        let second = Shard::new(alloc, 1, 2, 8, 100, 1)?;
+        let shards = vec![in alloc; first, second]?;
+        Ok(MemoryDesk { store, shards })
+    }
+}
+
+impl Desk for MemoryDesk {
+    ghost begun = { λ desk. Some (sids_to desk) };
+
+    fn begin(&mut self, writes: bool) -> Result<Sid, Memory> {
+        self.store.begin(writes)
+    }
+
+    fn call(&mut self, sid: Sid, wanted: Wanted) -> Reply {
+        match wanted {
+            Wanted::Get { key, floor } => get(&mut self.shards, sid, key, floor),
+            Wanted::Ask { key } => ask(&mut self.store, key),
+            Wanted::Set {
+                key,
+                token,
+                value,
+                stamp,
+            } => set(&mut self.shards, key, token, value, stamp),
+            Wanted::QaReg { key } => quarantine(&mut self.shards, sid, key),
+            Wanted::Commit { txn, grants } => commit(&mut self.store, sid, txn, grants),
+            Wanted::End => end(&mut self.store, sid),
+            Wanted::Dar { grant } => release(&mut self.shards, grant, How::Drop),
+            Wanted::Abort { grant } => release(&mut self.shards, grant, How::Keep),
+            Wanted::Nothing => Reply::Nothing,
+        }
+    }
+
+    fn tend(&mut self) {}
+}
+
+/// The place of a key's shard.
+fn home_of(shards: &Vec<Shard>, key: &QKey) -> usize
+    requires some { 1 ≤ length shards.now.items }
+    requires few { length shards.now.items ≤ 64 }
+    ensures { result < length shards.now.items }
+{
+    shard_number(key, shards.len() as u32) as usize % shards.len()
+}
+
+/// What a session is told where a shard made no request that draws a token. Each key goes to its own
+/// shard, which is never a stranger to it.
+fn fault_of(fault: ShardFault) -> Reply
+    ensures get { (who : Sid) (key : QKey) (floor : ℕ) → Belongs who (wanted.Get key floor) result }
+    ensures quarantine { (who : Sid) (key : QKey) → Belongs who (wanted.QaReg key) result }
+{
+    let fault = match fault {
+        ShardFault::Stranger { shard: _ } | ShardFault::Spent { next: _ } => Fault::Spent,
+        ShardFault::Memory => Fault::Memory,
+    };
+    Reply::Fault { fault }
+}
+
+fn get(shards: &mut Vec<Shard>, who: Sid, key: QKey, floor: u64) -> Reply
+    requires some { 1 ≤ length shards.old.items }
+    requires few { length shards.old.items ≤ 64 }
+    ensures as_many { length shards.new.items ≡ length shards.old.items }
+    ensures belongs { Belongs who (wanted.Get key floor) result }
+{
+    let place = home_of(shards, &key);
+    match shards[place].get(key, who, floor, 0) {
+        Ok(got) => Reply::Got { got },
+        Err(fault) => fault_of(fault),
+    }
+}
+
+fn set(shards: &mut Vec<Shard>, key: QKey, token: u64, value: Value, stamp: u64) -> Reply
+    requires some { 1 ≤ length shards.old.items }
+    requires few { length shards.old.items ≤ 64 }
+    ensures as_many { length shards.new.items ≡ length shards.old.items }
+    ensures belongs { (who : Sid) → Belongs who (wanted.Set key token value stamp) result }
+{
+    let place = home_of(shards, &key);
+    match shards[place].set(key, token, value, stamp, 0) {
+        Ok(told) => Reply::Set { told },
+        Err(
+            ShardFault::Stranger { shard: _ } | ShardFault::Spent { next: _ } | ShardFault::Memory,
+        ) => Reply::Fault {
+            fault: Fault::Memory,
+        },
+    }
+}
+
+fn quarantine(shards: &mut Vec<Shard>, who: Sid, key: QKey) -> Reply
+    requires some { 1 ≤ length shards.old.items }
+    requires few { length shards.old.items ≤ 64 }
+    ensures as_many { length shards.new.items ≡ length shards.old.items }
+    ensures belongs { Belongs who (wanted.QaReg key) result }
+{
+    let place = home_of(shards, &key);
+    match shards[place].quarantine(key, who, Mode::Invalidate, 0, 0) {
+        Ok(told) => Reply::Quar { told },
+        Err(fault) => fault_of(fault),
+    }
+}
+
+fn release(shards: &mut Vec<Shard>, grant: Grant, how: How) -> Reply
+    requires some { 1 ≤ length shards.old.items }
+    requires few { length shards.old.items ≤ 64 }
+    requires fits { FitsMode grant.mode how }
+    ensures as_many { length shards.new.items ≡ length shards.old.items }
+    ensures drop { (who : Sid) → Belongs who (wanted.Dar grant) result }
+    ensures keep { (who : Sid) → Belongs who (wanted.Abort grant) result }
+{
+    let place = home_of(shards, &grant.key());
+    Reply::Rel {
+        told: shards[place].release(grant, how),
+    }
+}
+
+#[tactic(auto, using(crate::proofs::DeskLemmas::as_many-called))]
+fn ask(store: &mut Store<MapKeeper>, key: QKey) -> Reply
+    ensures as_many { length store.new.ledger.sessions ≡ length store.old.ledger.sessions }
+    ensures belongs { (who : Sid) → Belongs who (wanted.Ask key) result }
+{
+    match store.ask(&key) {
+        Ok(answer) => Reply::Answer { answer },
+        Err(KeepFault::Failed) => Reply::Fault { fault: Fault::Keep },
+        Err(KeepFault::Memory) => Reply::Fault {
+            fault: Fault::Memory,
+        },
+    }
+}
+
+fn commit(store: &mut Store<MapKeeper>, who: Sid, txn: Txn, grants: Grants) -> Reply
+    ensures as_many { length store.new.ledger.sessions ≡ length store.old.ledger.sessions }
+    ensures belongs { Belongs who (wanted.Commit txn grants) result }
+{
+    let Ok(copy) = txn.copy() else {
+        return Reply::NotCommitted {
+            fault: CommitFault::Memory,
+            txn,
+            grants,
+        };
+    };
+    match store.commit(who, copy, grants.items()) {
+        Ok(number) => Reply::Committed {
+            number,
+            txn,
+            grants,
+        },
+        Err((fault, _)) => Reply::NotCommitted { fault, txn, grants },
+    }
+}
+
+fn end(store: &mut Store<MapKeeper>, who: Sid) -> Reply
+    ensures as_many { length store.new.ledger.sessions ≡ length store.old.ledger.sessions }
+    ensures belongs { Belongs who wanted.End result }
+{
+    Reply::End {
+        was: store.end(who),
+    }
+}
+
+/// The session makes its next request at the desk, and takes the reply as it comes.
+fn step<D: Desk>(desk: &mut D, session: &mut Session)
+    requires ready { IsReady session.old }
+    requires follows { (heard : List Reply) × Follows session.old heard }
+    ensures ready { IsReady session.new }
+    ensures follows { (heard : List Reply) × Follows session.new heard }
+    ensures begun { D.begun desk.new ≡ D.begun desk.old }
+{
+    let sid = session.sid();
+    let wanted = session.wants();
+    let reply = desk.call(sid, wanted);
+    session.told(reply);
+    desk.tend();
+}
+
+/// The session makes four requests.
+fn four_steps<D: Desk>(desk: &mut D, session: &mut Session)
+    requires ready { IsReady session.old }
+    requires follows { (heard : List Reply) × Follows session.old heard }
+    ensures ready { IsReady session.new }
+    ensures follows { (heard : List Reply) × Follows session.new heard }
+    ensures begun { D.begun desk.new ≡ D.begun desk.old }
+{
+    step(desk, session);
+    step(desk, session);
+    step(desk, session);
+    step(desk, session);
+}
+
+/// A session of this plan begins and makes eight requests, Nothing among them once it is done.
+fn drive<D: Desk>(alloc: Global, desk: &mut D, plan: Plan) -> Result<(Sid, Option<Outcome>), Memory>
+    requires { IsPlan plan }
+{
+    let sid = desk.begin(!plan.changes().is_empty())?;
+    let mut session = Session::new(alloc, sid, plan)?;
+    four_steps(desk, &mut session);
+    four_steps(desk, &mut session);
+    let outcome = session.done();
+    session.let_go();
+    Ok((sid, outcome))
+}
+
+/// Drives a session at a desk, and compares its number and how it ended.
+fn check(
+    rt: &impl Abort,
+    alloc: Global,
+    desk: &mut MemoryDesk,
+    plan: Plan,
+    number: u64,
+    outcome: Outcome,
+) -> Result<(), Fail>
+    requires { IsPlan plan }
+{
+    assert_eq!(rt; drive(alloc, desk, plan)?, (Sid { number }, Some(outcome)));
+    Ok(())
+}
+
+#[test]
+fn reads_and_writes_to_their_ends(rt: HostRuntime) -> Result<(), Fail> {
+    let alloc = rt.alloc();
+    let mut desk = MemoryDesk::new(&rt, alloc)?;
+    let key = QKey {
+        kind: Kind::NPending,
+        id: 2,
+    };
+    let txn = Txn::of(alloc, &[Change::Invite { a: 1, b: 2 }])?;
+    let mode = Mode::Invalidate;
+    let committed = Outcome::Committed { number: 1 };
+    check(&rt, alloc, &mut desk, Plan::Read { key, floor: 0 }, 1, Outcome::Stored)?;
+    check(&rt, alloc, &mut desk, Plan::Read { key, floor: 0 }, 2, Outcome::Hit)?;
+    check(&rt, alloc, &mut desk, Plan::Write { mode, txn }, 3, committed)?;
+    check(&rt, alloc, &mut desk, Plan::Read { key, floor: 0 }, 4, Outcome::Stored)?;
+    match desk.call(Sid { number: 5 }, Wanted::Get { key, floor: 1 }) {
+        Reply::Got {
+            got: Got::Hit { value, stamp: 1 },
+        } => assert_eq!(rt; value.bytes(), b"1".as_slice()),
+        other => {
+            other.let_go();
+            panic!(rt; "no hit")
+        }
+    }
+    Ok(())
+}
