@@ -1,7 +1,7 @@
 -- The sessions of a store that gives them numbers in turn.
 use Rattle.std.proofs.Common.{◌≡◌, ◌≢◌, ◌-◌, ◌<◌, ℕ, zero, suc, Bool, true, false, if◌then◌else◌, List, [], ◌∷◌, length, All, Some, refl, ap, subst, ◌∙◌, length-append, arith}
 use Rattle.std.proofs.lemmas.List.{length-set}
-use Rattle.std.proofs.Math.Option.{some-injective}
+use Rattle.std.specs.Prelude.{Option, unwrap_or}
 use Rattle.rows_model.specs.declared.keys.Sid.{Sid}
 use Rattle.sql_keeper.specs.declared.stores.Phase.{Phase}
 use Rattle.sql_keeper.specs.Sessions.{begun, first_phase, is_open, with_phase, ended}
@@ -25,10 +25,10 @@ pub sid_is_new : (writes : Bool) (phases : List Phase) (sid : Sid) → sid.numbe
 sid_is_new writes phases sid h =
     let more = one_more writes phases in
     let new = sids_to-less (length phases) sid (omega (arith, h, more)) in
-    λ told e. subst (λ (sids : List Sid). All (λ other. other ≢ sid) sids) (some-injective _ _ e) new
+    λ told e. subst (λ (sids : List Sid). All (λ other. other ≢ sid) sids) (ap (λ (o : Option (List Sid)). unwrap_or o []) e) new
 
-pub sids_to-begun : (writes : Bool) (phases : List Phase) (sid : Sid) → sid.number ≡ length (begun writes phases) → Some (sids_to (length (begun writes phases))) ≡ with_member sid (Some (sids_to (length phases)))
-sids_to-begun writes phases sid h =
+pub sids_to_begun : (writes : Bool) (phases : List Phase) (sid : Sid) → sid.number ≡ length (begun writes phases) → Some (sids_to (length (begun writes phases))) ≡ with_member sid (Some (sids_to (length phases)))
+sids_to_begun writes phases sid h =
     let more = one_more writes phases in
     let number : suc (length phases) ≡ sid.number = omega (arith, h, more) in
     ap (λ (n : ℕ). Some (sids_to n)) more ∙ ap (λ (n : ℕ). Some (record { number = n } ∷ sids_to (length phases))) number
@@ -37,12 +37,12 @@ end_by : (b : Bool) (who : Sid) (phases : List Phase) → length (if b then with
 end_by true who phases = length-set phases (who.number - 1) Ended
 end_by false who phases = refl
 
-pub as_many-ended : (who : Sid) (phases : List Phase) → length (ended who phases) ≡ length phases
-as_many-ended who phases = end_by (is_open who phases) who phases
+pub as_many_ended : (who : Sid) (phases : List Phase) → length (ended who phases) ≡ length phases
+as_many_ended who phases = end_by (is_open who phases) who phases
 
-pub as_many-committed : (who : Sid) (phases : List Phase) → length (with_phase who Committed phases) ≡ length phases
-as_many-committed who phases = length-set phases (who.number - 1) Committed
+pub as_many_committed : (who : Sid) (phases : List Phase) → length (with_phase who Committed phases) ≡ length phases
+as_many_committed who phases = length-set phases (who.number - 1) Committed
 
-pub as_many-called : (b : Bool) (ledger : Ledger) → length (with_call b ledger).sessions ≡ length ledger.sessions
-as_many-called true ledger = refl
-as_many-called false ledger = refl
+pub as_many_called : (b : Bool) (ledger : Ledger) → length (with_call b ledger).sessions ≡ length ledger.sessions
+as_many_called true ledger = refl
+as_many_called false ledger = refl

@@ -159,7 +159,7 @@ fn release(shards: &mut Vec<Shard>, grant: Grant, how: How) -> Reply
     }
 }
 
-#[tactic(auto, using(crate::proofs::DeskLemmas::as_many-called))]
+#[tactic(auto, using(crate::proofs::DeskLemmas::as_many_called))]
 fn ask(store: &mut Store<MapKeeper>, key: QKey) -> Reply
     ensures as_many { length store.new.ledger.sessions ≡ length store.old.ledger.sessions }
     ensures belongs { (who : Sid) → Belongs who (wanted.Ask key) result }
