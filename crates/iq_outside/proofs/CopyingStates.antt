@@ -1,40 +1,40 @@
-use Rattle.std.proofs.Common.{ℕ, ◌+◌, ◌-◌, ◌≤◌, List, length, take, drop, arith, length-drop}
+use Rattle.std.proofs.Common.{ℕ, ◌+◌, ◌-◌, ◌≤◌, ◌≡◌, ◌∙◌, ◌++◌, List, length, take, drop, arith, length-drop, length-append}
 use Rattle.std.specs.Prelude.{Option}
 use Rattle.std.proofs.Math.Seq.{take-add}
 use Rattle.std.proofs.lemmas.List.{take_rest}
-use Rattle.iq_outside.specs.Outside.{Takes, TakesSome, Gains}
+use Rattle.iq_outside.specs.Outside.{Takes, TakesAtMost, Gains}
 use Rattle.iq_outside.proofs.OutsideLemmas.{Takes-append, Gains-append}
 
--- a sink has taken the first bytes, as many as were written, and its count never fell
+-- a sink has taken the first bytes, as many as were written, and its count stands
 pub record HasWritten (taken_old taken_new : Option (List ℕ)) (faults_old faults_new : ℕ) (bytes : List ℕ) (written : ℕ) : Type 0 where
   pub gains : Gains taken_old taken_new (take written bytes)
   pub within : written ≤ length bytes
-  pub never_falls : faults_old ≤ faults_new
+  pub stands : faults_new ≡ faults_old
 
 -- a write of the first bytes of the rest takes that many more
 pub HasWritten-more : (a b c : Option (List ℕ)) (e f g : ℕ) (bytes : List ℕ) (written count : ℕ)
     → HasWritten a b e f bytes written
     → Gains b c (take count (take (length bytes - written) (drop written bytes)))
     → count ≤ length (take (length bytes - written) (drop written bytes))
-    → f ≤ g
+    → g ≡ f
     → HasWritten a c e g bytes (written + count)
 HasWritten-more a b c e f g bytes written count so_far more within up =
     let more' : Gains b c (take count (drop written bytes)) = rw take_rest at more in
     let within' : count ≤ length (drop written bytes) = rw take_rest at within in
     let so_far_within = so_far.within in
-    let so_far_up = so_far.never_falls in
     record {
       gains = rw take-add (Gains-append a b c _ _ so_far.gains more');
       within = omega (arith, length-drop {A = ℕ});
-      never_falls = omega arith;
+      stands = up ∙ so_far.stands;
     }
 
--- a source gave this text, of no more bytes than the limit, and its count never fell
+-- a source gave this text, of no more bytes than the limit, and its count stands
 pub record HasRead (left_old left_new : Option (List ℕ)) (faults_old faults_new : ℕ) (text : List ℕ) (limit : ℕ) : Type 0 where
   pub takes : Takes left_old left_new text
   pub within : length text ≤ limit
-  pub never_falls : faults_old ≤ faults_new
+  pub stands : faults_new ≡ faults_old
 
--- what a source gives in two calls is some bytes
-pub TakesSome-append : (a b c : Option (List ℕ)) (xs ys : List ℕ) → Takes a b xs → Takes b c ys → TakesSome a c
-TakesSome-append a b c xs ys e f = (_, Takes-append a b c xs ys e f)
+-- what a source gives in two calls is no more than the limit
+pub TakesAtMost-append : (limit : ℕ) (a b c : Option (List ℕ)) (xs ys : List ℕ) → Takes a b xs → Takes b c ys → length xs + length ys ≤ limit → TakesAtMost limit a c
+TakesAtMost-append limit a b c xs ys e f few =
+    (xs ++ ys, Takes-append a b c xs ys e f, omega (arith, length-append {A = ℕ}, few))

@@ -1,7 +1,7 @@
 use Rattle.std.proofs.Common.{◌≡◌, ℕ, ◌≤◌, List, [], ◌++◌, take, refl, sym, ◌∙◌, ap, arith, append_assoc, append-nil, inl, inr}
 use Rattle.std.specs.Prelude.{Option, Some, None}
 use Rattle.std.specs.Option.{option_map}
-use Rattle.iq_outside.specs.Outside.{Rose, Takes, AtEnd, ZeroAtEnd, Gains}
+use Rattle.iq_outside.specs.Outside.{Rose, Takes, TakesSome, TakesAtMost, AtEnd, ZeroAtEnd, Gains}
 
 -- a count that never falls before and rises then has risen over both calls
 pub Rose-later : (a b c : ℕ) → a ≤ b → Rose b c → Rose a c
@@ -50,3 +50,7 @@ pub Gains-append : (a b c : Option (List ℕ)) (xs ys : List ℕ) → Gains a b 
 Gains-append None b c xs ys e f = f ∙ ap (option_map (λ t. t ++ ys)) e
 Gains-append (Some t) b c xs ys e f =
     f ∙ ap (option_map (λ t. t ++ ys)) e ∙ ap Some (append_assoc t xs ys)
+
+-- no more bytes than a limit are some bytes
+pub TakesAtMost-some : (limit : ℕ) (a b : Option (List ℕ)) → TakesAtMost limit a b → TakesSome a b
+TakesAtMost-some limit a b h = (h.0, h.1)

@@ -1,2 +1,4 @@
 pub mod Outside
 pub mod MemoryForms
+pub mod Adapters
+pub mod Failures

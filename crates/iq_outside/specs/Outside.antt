@@ -1,4 +1,4 @@
-use Rattle.std.specs.Prelude.{◌≡◌, ℕ, ◌+◌, ◌-◌, ◌^◌, ◌<◌, ◌⊎◌, ◌↔◌, min, List, [], ◌++◌, Option}
+use Rattle.std.specs.Prelude.{◌≡◌, ℕ, ◌+◌, ◌-◌, ◌^◌, ◌<◌, ◌≤◌, ◌⊎◌, ◌↔◌, min, List, [], ◌++◌, length, Option}
 use Rattle.std.specs.Option.{option_map, ForSome}
 
 -- a count of faults rose in a call: it is greater after it, or stands at the end of its type
@@ -16,6 +16,10 @@ Takes left_old left_new bytes = left_old ≡ option_map (λ rest. bytes ++ rest)
 -- some bytes were the next of a source
 abbrev pub TakesSome : Option (List ℕ) → Option (List ℕ) → Type 0
 TakesSome left_old left_new = (bytes : List ℕ) × Takes left_old left_new bytes
+
+-- some bytes, no more than the limit, were the next of a source
+abbrev pub TakesAtMost : ℕ → Option (List ℕ) → Option (List ℕ) → Type 0
+TakesAtMost limit left_old left_new = (bytes : List ℕ) × Takes left_old left_new bytes × (length bytes ≤ limit)
 
 -- no byte is left, where a source tells its bytes
 abbrev pub AtEnd : Option (List ℕ) → Type 0

@@ -1,4 +1,5 @@
 ghost use Rattle.std.specs.Prelude.{◌≡◌, ◌<◌, ◌≤◌, None, Option, List, ℕ, length, take, IfOk, OnOk, OnErr};
+ghost use Rattle.std.specs.Io.KnownBytes.{ReadConsumes, WriteAppends};
 ghost use Rattle.iq_outside.specs.Outside.{Rose, Takes, ZeroAtEnd, Gains, count_up};
 
 use crate::failures::Failed;
@@ -7,8 +8,9 @@ use crate::sources::Source;
 use std::io::{Read, Write};
 use std::marker::Model;
 
-/// A source over one of std's readers. It tells nothing of the bytes, and counts each error of the
-/// reader, an interrupted read too, as a fault. Contracts see that count.
+/// A source over one of std's readers. It hands on what the reader gives, and counts each error of the
+/// reader, an interrupted read too, as a fault. As a source it tells nothing of the bytes. Contracts
+/// see the reader, which may tell them, and the count.
 #[derive(Drop)]
 pub struct ReaderSource<R: Read + Drop> {
     reader: R,
@@ -16,23 +18,23 @@ pub struct ReaderSource<R: Read + Drop> {
 }
 
 impl<R: Read + Drop> Model for ReaderSource<R> {
-    ghost use Rattle.std.specs.Prelude.{ℕ};
+    ghost use Rattle.iq_outside.specs.Adapters.{ReaderView};
 
-    ghost Value = { ℕ };
+    ghost Value = { ReaderView R };
 
-    ghost view = { λ s. s.faults };
+    ghost view = { λ s. record { reader = s.reader; faults = s.faults } };
 }
 
 impl<R: Read + Drop> ReaderSource<R> {
     pub fn new(reader: R) -> ReaderSource<R>
-        ensures { result ≡ 0 }
+        ensures { result ≡ record { reader = reader; faults = 0 } }
     {
         ReaderSource { reader, faults: 0 }
     }
 
     /// How often the reader failed.
     pub fn faults(&self) -> u64
-        ensures { result ≡ self.now }
+        ensures { result ≡ self.now.faults }
     {
         self.faults
     }
@@ -41,15 +43,20 @@ impl<R: Read + Drop> ReaderSource<R> {
 impl<R: Read + Drop> Source for ReaderSource<R> {
     ghost left = { λ _. None };
 
-    ghost faults = { λ faults. faults };
+    ghost faults = { λ s. s.faults };
 
+    /// Gives what the reader gives, and 0 only where the reader is at its end. `Failed` comes where the
+    /// reader answers an error, and then it has given nothing.
     fn read(&mut self, room: &mut [u8]) -> Result<usize, Failed>
         requires { 0 < length room.old }
         ensures within { IfOk result (λ n. n ≤ length room.new) }
-        ensures failed_rose { OnErr result (Rose self.old self.new) }
-        ensures never_falls { self.old ≤ self.new }
-        ensures ok { OnOk result (self.new ≡ self.old) }
-        ensures err { OnErr result (self.new ≡ count_up self.old) }
+        ensures failed_rose { OnErr result (Rose self.old.faults self.new.faults) }
+        ensures never_falls { self.old.faults ≤ self.new.faults }
+        ensures no_fault { OnOk result (self.new.faults ≡ self.old.faults) }
+
+        ensures bytes { ReadConsumes
+            (R.remaining self.old.reader) (R.remaining self.new.reader) result room.new }
+        ensures err { OnErr result (self.new.faults ≡ count_up self.old.faults) }
     {
         match self.reader.read(room) {
             Ok(count) => Ok(count),
@@ -61,9 +68,9 @@ impl<R: Read + Drop> Source for ReaderSource<R> {
     }
 }
 
-/// A sink over one of std's writers. It tells nothing of the bytes, and counts each error of the
-/// writer, an interrupted write too, and each write that takes no byte as a fault. Contracts see that
-/// count.
+/// A sink over one of std's writers. It hands the bytes on to the writer, and counts each error of the
+/// writer, an interrupted write too, and each write that takes no byte as a fault. As a sink it tells
+/// nothing of the bytes. Contracts see the writer, which may tell them, and the count.
 ///
 /// It never flushes. Hand in a writer without a buffer: one with a buffer reports an error only after
 /// it has taken the bytes, or not at all.
@@ -74,23 +81,23 @@ pub struct WriterSink<W: Write + Drop> {
 }
 
 impl<W: Write + Drop> Model for WriterSink<W> {
-    ghost use Rattle.std.specs.Prelude.{ℕ};
+    ghost use Rattle.iq_outside.specs.Adapters.{WriterView};
 
-    ghost Value = { ℕ };
+    ghost Value = { WriterView W };
 
-    ghost view = { λ s. s.faults };
+    ghost view = { λ s. record { writer = s.writer; faults = s.faults } };
 }
 
 impl<W: Write + Drop> WriterSink<W> {
     pub fn new(writer: W) -> WriterSink<W>
-        ensures { result ≡ 0 }
+        ensures { result ≡ record { writer = writer; faults = 0 } }
     {
         WriterSink { writer, faults: 0 }
     }
 
     /// How often the writer failed.
     pub fn faults(&self) -> u64
-        ensures { result ≡ self.now }
+        ensures { result ≡ self.now.faults }
     {
         self.faults
     }
@@ -99,16 +106,21 @@ impl<W: Write + Drop> WriterSink<W> {
 impl<W: Write + Drop> Sink for WriterSink<W> {
     ghost taken = { λ _. None };
 
-    ghost faults = { λ faults. faults };
+    ghost faults = { λ s. s.faults };
 
+    /// Takes what the writer takes, and answers how much that is. `Failed` comes where the writer answers
+    /// an error or takes no byte, and then it has taken nothing.
     fn write(&mut self, piece: &[u8]) -> Result<usize, Failed>
         requires { 0 < length piece.now }
         ensures progress { IfOk result (λ n. 1 ≤ n) }
         ensures within { IfOk result (λ n. n ≤ length piece.now) }
-        ensures failed_rose { OnErr result (Rose self.old self.new) }
-        ensures never_falls { self.old ≤ self.new }
-        ensures ok { OnOk result (self.new ≡ self.old) }
-        ensures err { OnErr result (self.new ≡ count_up self.old) }
+        ensures failed_rose { OnErr result (Rose self.old.faults self.new.faults) }
+        ensures never_falls { self.old.faults ≤ self.new.faults }
+        ensures no_fault { OnOk result (self.new.faults ≡ self.old.faults) }
+
+        ensures bytes { WriteAppends
+            (W.contents self.old.writer) (W.contents self.new.writer) result piece.now }
+        ensures err { OnErr result (self.new.faults ≡ count_up self.old.faults) }
     {
         match self.writer.write(piece) {
             Ok(count) if count > 0 => Ok(count),

@@ -1,6 +1,6 @@
 ghost use Rattle.std.specs.Prelude.{◌≡◌, ◌<◌, ◌≤◌, ◌++◌, List, ℕ, Option, length, take, vec_len, IfOk, IfErr, OnOk, OnErr};
 ghost use Rattle.std.specs.Bool.{MatchBool};
-ghost use Rattle.iq_outside.specs.Outside.{Rose, Takes, TakesSome, AtEnd, Gains};
+ghost use Rattle.iq_outside.specs.Outside.{Rose, Takes, TakesAtMost, AtEnd, Gains};
 
 use crate::failures::{Failed, ReadStop, Short};
 use crate::sinks::Sink;
@@ -19,18 +19,23 @@ pub struct TextRead {
     pub at_end: bool,
 }
 
-/// Reads a source to its end, or until `limit` bytes were taken from it. It never takes more.
+/// Reads a source to its end, or until `limit` bytes were taken from it. It never takes more, and the
+/// first read that fails ends it.
 ///
-/// After an error some bytes were taken from the source and are lost.
+/// After an error some bytes, no more than `limit`, were taken from the source and are lost.
 pub fn read_up_to<S: Source>(
     alloc: Global,
     source: &mut S,
     limit: usize,
 ) -> Result<TextRead, ReadStop>
     ensures bytes { IfOk result (λ read. Takes (S.left source.old) (S.left source.new) read.text.items) }
-    ensures end { IfOk result (λ read. MatchBool read.at_end ((vec_len read.text < limit) × AtEnd (S.left source.new)) (vec_len read.text ≡ limit)) }
-    ensures lost { OnErr result (TakesSome (S.left source.old) (S.left source.new)) }
+    ensures end { IfOk result (λ read. MatchBool read.at_end
+        ((vec_len read.text < limit) × AtEnd (S.left source.new))
+        (vec_len read.text ≡ limit)) }
+    ensures lost { OnErr result (TakesAtMost limit (S.left source.old) (S.left source.new)) }
     ensures failed_rose { result ≡ Err ReadStop.Failed → Rose (S.faults source.old) (S.faults source.new) }
+    ensures no_fault { OnOk result (S.faults source.new ≡ S.faults source.old) }
+    ensures memory { result ≡ Err ReadStop.Memory → S.faults source.new ≡ S.faults source.old }
     ensures never_falls { S.faults source.old ≤ S.faults source.new }
 {
     let mut text = Vec::new(alloc);
@@ -49,7 +54,7 @@ pub fn read_up_to<S: Source>(
     })
 }
 
-/// Writes all bytes to a sink, in as many pieces as it takes.
+/// Writes all bytes to a sink, in as many pieces as it takes. The first write that fails ends it.
 ///
 /// After a fault the sink has taken the first bytes, as many as the error tells, and no others.
 pub fn write_all<W: Sink>(sink: &mut W, bytes: &[u8]) -> Result<(), Short>
@@ -57,6 +62,7 @@ pub fn write_all<W: Sink>(sink: &mut W, bytes: &[u8]) -> Result<(), Short>
     ensures some { IfErr result (λ short. Gains (W.taken sink.old) (W.taken sink.new) (take short.written bytes.now)) }
     ensures fewer { IfErr result (λ short. short.written < length bytes.now) }
     ensures failed_rose { OnErr result (Rose (W.faults sink.old) (W.faults sink.new)) }
+    ensures no_fault { OnOk result (W.faults sink.new ≡ W.faults sink.old) }
     ensures never_falls { W.faults sink.old ≤ W.faults sink.new }
 {
     let mut written = 0;

@@ -1,5 +1,6 @@
 ghost use Rattle.iq_outside.specs.declared.failures.ReadStop.TheVariants.{Failed as failed, Memory as memory};
-ghost use Rattle.std.specs.Prelude.{◌≡◌};
+ghost use Rattle.iq_outside.specs.Failures.{stop_text, short_text};
+ghost use Rattle.std.specs.Prelude.{◌≡◌, Some, codes};
 
 use rows_model::Memory;
 use std::alloc::AllocError;
@@ -12,6 +13,8 @@ use std::fmt;
 pub struct Failed;
 
 impl fmt::Display for Failed {
+    ghost output = { λ _. Some (codes "the outside failed") };
+
     fn fmt<W: fmt::Write>(&self, f: &mut fmt::Formatter<W>) -> fmt::Result {
         f.write_str("the outside failed")
     }
@@ -29,6 +32,8 @@ pub enum ReadStop {
 }
 
 impl fmt::Display for ReadStop {
+    ghost output = { λ stop. Some (stop_text stop) };
+
     fn fmt<W: fmt::Write>(&self, f: &mut fmt::Formatter<W>) -> fmt::Result {
         match self {
             ReadStop::Failed => Failed.fmt(f),
@@ -63,6 +68,8 @@ pub struct Short {
 }
 
 impl fmt::Display for Short {
+    ghost output = { λ short. Some (short_text short.written) };
+
     fn fmt<W: fmt::Write>(&self, f: &mut fmt::Formatter<W>) -> fmt::Result {
         write!(f, "a write failed after {} bytes", self.written)
     }

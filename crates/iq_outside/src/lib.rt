@@ -1,7 +1,8 @@
 //! The outside of the program: where its bytes come from and where they go.
 //!
 //! A contract sees a source or a sink as the bytes that it tells, if it tells them, and as a count of
-//! faults that never falls. A call fails only where that count rose.
+//! faults. A call that fails raises that count, unless it stands at the end of its type, and no other
+//! call changes it.
 #![tactic(auto)]
 
 pub use adapters::{ReaderSource, WriterSink};

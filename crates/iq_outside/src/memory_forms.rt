@@ -64,12 +64,12 @@ impl Source for MemSource {
         ensures ends { IfOk result (ZeroAtEnd (Some self.old.left)) }
         ensures keeps { OnErr result (Some self.new.left ≡ Some self.old.left) }
         ensures failed_rose { OnErr result (Rose self.old.faults self.new.faults) }
+        ensures no_fault { OnOk result (self.new.faults ≡ self.old.faults) }
         ensures never_falls { self.old.faults ≤ self.new.faults }
 
         ensures calls { self.new.calls ≡ count_up self.old.calls }
         ensures fails { IsErr result ↔ Contains self.old.fails (count_up self.old.calls) }
         ensures count { IfOk result (λ n. n ≡ min (min self.old.piece (length room.old)) (length self.old.left)) }
-        ensures ok { OnOk result (self.new.faults ≡ self.old.faults) }
         ensures err { OnErr result (self.new.faults ≡ count_up self.old.faults) }
         ensures same { (self.new.piece ≡ self.old.piece) × (self.new.fails ≡ self.old.fails) }
     {
@@ -148,12 +148,12 @@ impl Sink for MemSink {
         ensures takes { IfOk result (λ n. Gains (Some self.old.taken) (Some self.new.taken) (take n piece.now)) }
         ensures keeps { OnErr result (Some self.new.taken ≡ Some self.old.taken) }
         ensures failed_rose { OnErr result (Rose self.old.faults self.new.faults) }
+        ensures no_fault { OnOk result (self.new.faults ≡ self.old.faults) }
         ensures never_falls { self.old.faults ≤ self.new.faults }
 
         ensures calls { self.new.calls ≡ count_up self.old.calls }
         ensures fails { IsErr result ↔ (Contains self.old.fails (count_up self.old.calls) ⊎ (length self.old.taken ≡ self.old.room)) }
         ensures count { IfOk result (λ n. n ≡ min (min self.old.piece (length piece.now)) (self.old.room - length self.old.taken)) }
-        ensures ok { OnOk result (self.new.faults ≡ self.old.faults) }
         ensures err { OnErr result (self.new.faults ≡ count_up self.old.faults) }
         ensures same { (self.new.room ≡ self.old.room) × (self.new.piece ≡ self.old.piece) × (self.new.fails ≡ self.old.fails) }
     {

@@ -1,4 +1,4 @@
-ghost use Rattle.std.specs.Prelude.{◌≡◌, ℕ, ◌<◌, ◌≤◌, List, Option, length, take, IfOk, OnErr};
+ghost use Rattle.std.specs.Prelude.{◌≡◌, ℕ, ◌<◌, ◌≤◌, List, Option, length, take, IfOk, OnOk, OnErr};
 ghost use Rattle.iq_outside.specs.Outside.{Rose, Gains};
 
 use crate::failures::Failed;
@@ -6,8 +6,8 @@ use crate::failures::Failed;
 /// Where bytes go.
 ///
 /// Contracts see two things of a sink: `taken`, the bytes that it has taken so far, or `None` where it
-/// doesn't tell them, and `faults`, how often it failed. No call changes whether the bytes are told,
-/// and the count of faults never falls.
+/// doesn't tell them, and `faults`, how often it failed. No call changes whether the bytes are told.
+/// The count rises at each write that fails, until the end of its type, and at no other.
 pub trait Sink {
     ghost taken: { Self → Option (List ℕ) };
 
@@ -22,5 +22,6 @@ pub trait Sink {
         ensures takes { IfOk result (λ n. Gains (taken self.old) (taken self.new) (take n piece.now)) }
         ensures keeps { OnErr result (taken self.new ≡ taken self.old) }
         ensures failed_rose { OnErr result (Rose (faults self.old) (faults self.new)) }
+        ensures no_fault { OnOk result (faults self.new ≡ faults self.old) }
         ensures never_falls { faults self.old ≤ faults self.new };
 }

@@ -1,4 +1,4 @@
-ghost use Rattle.std.specs.Prelude.{◌≡◌, ℕ, ◌<◌, ◌≤◌, List, Option, length, take, IfOk, OnErr};
+ghost use Rattle.std.specs.Prelude.{◌≡◌, ℕ, ◌<◌, ◌≤◌, List, Option, length, take, IfOk, OnOk, OnErr};
 ghost use Rattle.iq_outside.specs.Outside.{Rose, Takes, ZeroAtEnd};
 
 use crate::failures::Failed;
@@ -7,7 +7,7 @@ use crate::failures::Failed;
 ///
 /// Contracts see two things of a source: `left`, the bytes that it will give from here on, or `None`
 /// where it doesn't tell them, and `faults`, how often it failed. No call changes whether the bytes
-/// are told, and the count of faults never falls.
+/// are told. The count rises at each read that fails, until the end of its type, and at no other.
 pub trait Source {
     ghost left: { Self → Option (List ℕ) };
 
@@ -22,5 +22,6 @@ pub trait Source {
         ensures ends { IfOk result (ZeroAtEnd (left self.old)) }
         ensures keeps { OnErr result (left self.new ≡ left self.old) }
         ensures failed_rose { OnErr result (Rose (faults self.old) (faults self.new)) }
+        ensures no_fault { OnOk result (faults self.new ≡ faults self.old) }
         ensures never_falls { faults self.old ≤ faults self.new };
 }

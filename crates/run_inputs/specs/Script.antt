@@ -198,9 +198,13 @@ pub record HasNoEnd (text : List ℕ) (number : ℕ) : Type 0 where
   pub goes_on : (after_all start said).stage ≢ stage.End
   pub number_is : number ≡ length (lines_in text) + 1
 
+-- The text is longer than a script may be.
+abbrev pub IsLong : List ℕ → Type 0
+IsLong text = 16777216 < length text
+
 -- The text's first fault: the number of its line, and its kind.
 abbrev pub IsFault : List ℕ → ℕ → ScriptKind → Type 0
-IsFault text number kind.LongText = (16777216 < length text) × (number ≡ 0)
+IsFault text number kind.LongText = IsLong text × (number ≡ 0)
 IsFault text number kind.NoEnd = HasNoEnd text number
 IsFault text number other = HasFault text number other
 

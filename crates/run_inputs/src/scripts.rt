@@ -1,5 +1,7 @@
-ghost use Rattle.std.specs.Prelude.{◌≡◌, ◌++◌, OnOk, IfOk, IfErr, option_to_list};
-ghost use Rattle.run_inputs.specs.Script.{plans_in, acts_in, IsScript, ComesFrom};
+ghost use Rattle.std.specs.Prelude.{◌≡◌, ◌++◌, Err, OnOk, IfOk, IfErr, option_to_list};
+ghost use Rattle.run_inputs.specs.Script.{plans_in, acts_in, IsLong, IsScript, ComesFrom};
+ghost use Rattle.run_inputs.specs.declared.faults.ScriptKind.TheVariants.{LongText};
+ghost use Rattle.run_inputs.specs.declared.faults.ScriptFault.TheVariants.{Bad};
 ghost use Rattle.run_inputs.specs.Fit.{IsPlayable};
 
 use crate::cuts::first_line;
@@ -41,10 +43,13 @@ impl Model for Script {
 impl Script {
     /// The script that the text says, or the first fault of its first line that has one. The acts
     /// can be run in a core of the shape: each turn is of a session that an act before began.
+    ///
+    /// A text that is too long is told before any memory is asked for.
     pub fn parse(alloc: Global, text: &[u8]) -> Result<Script, ScriptFault>
         ensures script { IfOk result (λ script. IsScript text.now script.shape script.acts) }
         ensures playable { IfOk result (λ script. IsPlayable script.shape script.acts) }
         ensures fault { IfErr result (λ fault. ComesFrom text.now fault) }
+        ensures long { IsLong text.now → result ≡ Err (Bad 0 LongText) }
     {
         if text.len() > LONGEST_TEXT {
             return Err(ScriptFault::Bad {
