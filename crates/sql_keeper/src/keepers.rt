@@ -38,7 +38,7 @@ pub trait Keeper {
     ghost is_started: { Self → Type 0 };
 
     /// Starts the keeper, and answers the rows that it has: those of the place. A fresh place has so
-    /// many members, and no links.
+    /// many members, and no links. After a refusal the keeper is started only where it was before.
     fn start(&mut self, alloc: Global, place: &Place, members: u32) -> Result<Rows, KeepFault>
         requires some { 1 ≤ members }
         requires few { members ≤ 100000 }
@@ -47,6 +47,7 @@ pub trait Keeper {
         ensures held { IfOk result (λ opening. IsSome (rows self.new) → ForSome (holds self.old place.now members) (λ held. opening ≡ held)) }
         ensures fresh { place.now ≡ Place.Fresh → holds self.old place.now members ≡ Some (start_tables members) }
         ensures kept { OnErr result (rows self.new ≡ rows self.old) }
+        ensures unstarted { OnErr result (is_started self.new → is_started self.old) }
         ensures counts { Counts (keep_failed result) (faults self.old) (faults self.new) }
         ensures never_falls { faults self.old ≤ faults self.new };
 

@@ -88,6 +88,7 @@ impl Keeper for MapKeeper {
         ensures started { OnOk result (IsSome self.new.rows) }
         ensures tells { IfOk result (λ opening. ForSome self.new.rows (λ told. told ≡ opening)) }
         ensures kept { OnErr result (self.new.rows ≡ self.old.rows) }
+        ensures unstarted { OnErr result (IsSome self.new.rows → IsSome self.old.rows) }
         ensures counts { Counts (keep_failed result) self.old.faults self.new.faults }
         ensures never_falls { self.old.faults ≤ self.new.faults }
 

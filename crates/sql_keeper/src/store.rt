@@ -85,7 +85,7 @@ impl<K: Keeper, N: Start> Model for Store<K, N> {
 }
 
 /// A keeper that didn't start, and why. Its rows are as before, and its count of faults too, unless it
-/// failed.
+/// failed. It is started only where it was before.
 #[derive(Drop)]
 pub struct NoStore<K: Keeper> {
     pub keeper: K,
@@ -112,6 +112,7 @@ impl<K: Keeper> Store<K> {
         ensures counts { MatchResult result (λ store. store.faults ≡ K.faults keeper) (λ none. Counts (has_failed none.cause) (K.faults keeper) (K.faults none.keeper)) }
         ensures never_falls { MatchResult result (λ store. K.faults keeper ≤ store.faults) (λ none. K.faults keeper ≤ K.faults none.keeper) }
         ensures kept { IfErr result (λ none. K.rows none.keeper ≡ K.rows keeper) }
+        ensures unstarted { IfErr result (λ none. K.is_started none.keeper → K.is_started keeper) }
     {
         let mut keeper = keeper;
         match keeper.start(alloc, place, members) {
