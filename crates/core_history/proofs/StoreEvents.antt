@@ -86,7 +86,7 @@ rose_more true count before old new (inr h) rose more = inr (h.0, omega (arith, 
 -- it is as at first where no call has failed
 quiet_more : (b : Bool) (count before old new : ℕ) → (count ≡ 0 → old ≡ before) → Counts b old new → tick b + count ≡ 0 → new ≡ before
 quiet_more true count before old new quiet rose none = absurd (omega (arith, none))
-quiet_more false count before old new quiet same none = same ∙ quiet none
+quiet_more false count before old new quiet same none = same ∙ quiet (omega (arith, none))
 
 -- the store after a call that told this
 pub store_called : (old new : StoreView) (b : Bool) (origin : Origin) (past : List Event) (event : Event) → HasStore old origin past → new.ledger ≡ with_call b old.ledger → Counts b old.faults new.faults → old.faults ≤ new.faults →
