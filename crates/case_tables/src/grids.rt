@@ -27,7 +27,10 @@ impl Verdict {
     pub fn is_given(self) -> bool
         ensures { result ≡ is_given self }
     {
-        matches!(self, Verdict::Give | Verdict::Void | Verdict::Join)
+        match self {
+            Verdict::Give | Verdict::Void | Verdict::Join => true,
+            Verdict::Wait | Verdict::Same | Verdict::Own | Verdict::Refuse => false,
+        }
     }
 }
 

@@ -1,7 +1,7 @@
 -- What an event adds to what sessions are told, to the log, and to the steps of each shard.
 use Rattle.std.proofs.Common.{ℕ, ◌≡◌, ◌==◌, Bool, true, false, cond, ◌&&◌, ◌||◌, List, [], ◌∷◌, ◌++◌, count_by, append_assoc, append-nil, refl, sym, ap, subst, ◌∙◌, inl, inr, arith}
 use Rattle.std.specs.List.{list_any}
-use Rattle.std.proofs.lemmas.Bool.{eq-eqb}
+use Rattle.std.proofs.lemmas.Bool.{eq-eqb, eqb-true, false≢true}
 use Rattle.std.proofs.lemmas.List.Folds.{list_any-append}
 use Rattle.rows_model.specs.declared.keys.QKey.{QKey}
 use Rattle.rows_model.specs.declared.keys.Sid.{Sid}
@@ -15,11 +15,12 @@ use Rattle.key_shard.specs.declared.steps.Step.TheVariants as step
 use Rattle.key_shard.specs.declared.replies.QAnswer.TheVariants as quarantine
 use Rattle.sql_keeper.specs.Commits.{covers, is_covered}
 use Rattle.sql_keeper.specs.Fresh.{quarantines}
+use Rattle.key_freshness.specs.Known.{IsAmong, IsLogged, IsOver}
 use Rattle.session_client.specs.declared.replies.Reply.{Reply}
 use Rattle.session_client.specs.declared.replies.Reply.TheVariants as reply
 use Rattle.session_client.specs.Wants.{grants_in, granted, is_commit, was_committed}
-use Rattle.core_history.specs.Events.{Event, Stepped, Called, who_in, reply_in, steps_in, steps_of, told_in, told_to, commits_told, log_of, ends, was_ended, has_committed}
-use Rattle.core_history.proofs.ListLemmas.{choose, or_inl, or_inr, or_elim, not_both, any-front, count-append, count-cons, tick, zero_if}
+use Rattle.core_history.specs.Events.{Event, Stepped, Called, who_in, reply_in, steps_in, steps_of, told_in, told_to, commits_told, log_of, ends_told, ended_of, known_of, was_ended, has_committed}
+use Rattle.core_history.proofs.ListLemmas.{choose, or_inl, or_inr, or_elim, not_both, any-front, any-back, any-at, place_of, count-append, count-cons, tick, zero_if}
 
 pub grants-append : (new heard : List Reply) → granted (new ++ heard) ≡ granted heard ++ granted new
 grants-append [] heard = sym (append-nil (granted heard))
@@ -78,8 +79,45 @@ pub closed-more : (n : ℕ) (event : Event) (past : List Event) → closed n pas
 closed-more n event past h =
     elim (or_elim (has_committed n past) (was_ended n past) h) [
       | inl committed ↦ or_inl (has_committed n (event ∷ past)) (was_ended n (event ∷ past)) (any-front (λ commit. commit.sid.number == n) (log_of past) (commits_told (who_in event) (reply_in event)) committed)
-      | inr ended ↦ or_inr (has_committed n (event ∷ past)) (was_ended n (event ∷ past)) (or_inr (ends n event) (was_ended n past) ended)
+      | inr ended ↦ or_inr (has_committed n (event ∷ past)) (was_ended n (event ∷ past)) (any-back (λ other. other == n) (ends_told (who_in event) (reply_in event)) (ended_of past) ended)
     ]
+
+-- a closed session is over, by what is known of the store, and one that is over is closed
+among_of : (n : ℕ) (numbers : List ℕ) → list_any (λ other. other == n) numbers ≡ true → IsAmong n numbers
+among_of n [] h = absurd (false≢true h)
+among_of n (other ∷ numbers) h =
+    elim (or_elim (other == n) (list_any (λ m. m == n) numbers) h) [
+      | inl here ↦ inl (eqb-true other n here)
+      | inr there ↦ inr (among_of n numbers there)
+    ]
+
+of_among : (n : ℕ) (numbers : List ℕ) → IsAmong n numbers → list_any (λ other. other == n) numbers ≡ true
+of_among n [] h = absurd h
+of_among n (other ∷ numbers) (inl e) = or_inl (other == n) (list_any (λ m. m == n) numbers) (eq-eqb other n e)
+of_among n (other ∷ numbers) (inr h) = or_inr (other == n) (list_any (λ m. m == n) numbers) (of_among n numbers h)
+
+pub ended-among : (n : ℕ) (past : List Event) → closed n past ≡ true → has_committed n past ≡ false → IsAmong n (ended_of past)
+ended-among n past h none =
+    elim (or_elim (has_committed n past) (was_ended n past) h) [
+      | inl committed ↦ absurd (not_both committed none)
+      | inr ended ↦ among_of n (ended_of past) ended
+    ]
+
+pub logged-committed : (n : ℕ) (past : List Event) → IsLogged (log_of past) n → has_committed n past ≡ true
+logged-committed n past h = any-at (λ commit. commit.sid.number == n) (log_of past) h.place h.commit h.at (eq-eqb h.commit.sid.number n h.own)
+
+pub closed-over : (n : ℕ) (past : List Event) → closed n past ≡ true → IsOver (known_of past) n
+closed-over n past h =
+    elim (or_elim (has_committed n past) (was_ended n past) h) [
+      | inl committed ↦
+          let found = place_of (λ commit. commit.sid.number == n) (log_of past) committed in
+          inl (record { place = found.0; commit = found.1; at = found.2; own = eqb-true found.1.sid.number n found.3 })
+      | inr ended ↦ inr (among_of n (ended_of past) ended)
+    ]
+
+pub over-closed : (n : ℕ) (past : List Event) → IsOver (known_of past) n → closed n past ≡ true
+over-closed n past (inl logged) = or_inl (has_committed n past) (was_ended n past) (logged-committed n past logged)
+over-closed n past (inr among) = or_inr (has_committed n past) (was_ended n past) (of_among n (ended_of past) among)
 
 -- a closed session isn't told of a commit
 abbrev pub IsLate : Event → List Event → Type 0

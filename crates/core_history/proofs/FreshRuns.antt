@@ -1,98 +1,125 @@
--- Every run whose replies were true is fresh: by its moves, the latest first.
-use Rattle.std.proofs.Common.{ℕ, zero, suc, ◌-◌, ◌+◌, ◌≡◌, ◌≢◌, ◌<◌, List, [], ◌∷◌, ◌++◌, reverse, Option, None, slice_get, refl, sym, subst, ◌∙◌, ◌⊎◌, inl, inr, ⊎_elim, arith}
-use Rattle.std.specs.List.{range_with_len}
+-- Every run keeps the rule of each key and its entries held, and where its replies were true it is fresh: by its moves, the latest first.
+use Rattle.std.proofs.Common.{ℕ, ◌+◌, ◌≡◌, ◌≢◌, ◌<◌, ◌≤◌, Bool, true, false, ◌==◌, ◌&&◌, List, [], ◌∷◌, reverse, length, Option, Some, None, slice_get, refl, sym, ap, subst, ◌∙◌, ◌⊎◌, inl, inr, ⊎_elim, arith}
+use Rattle.std.specs.List.{range_with_len, list_any, AllByRecursion}
+use Rattle.std.proofs.lemmas.Bool.{cases_Bool, cases_lt}
 use Rattle.std.proofs.lemmas.List.{reverse-reverse}
 use Rattle.std.proofs.lemmas.List.Elements.{All-map}
 use Rattle.std.proofs.lemmas.List.FromFn.{length-range_with_len, get_or-range_with_len}
 use Rattle.rows_model.specs.declared.keys.QKey.{QKey}
 use Rattle.rows_model.specs.Rows.{Tables}
+use Rattle.rows_model.specs.Changes.{touches}
+use Rattle.lease_table.specs.declared.records.Quar.{Quar}
+use Rattle.lease_table.specs.declared.records.ReadLease.{ReadLease}
 use Rattle.key_shard.specs.declared.steps.Step.{Step}
+use Rattle.key_shard.specs.Past.{standing, recorded, entry}
+use Rattle.sql_keeper.specs.declared.stores.Answer.{Answer}
 use Rattle.sql_keeper.specs.declared.stores.Commit.{Commit}
 use Rattle.sql_keeper.specs.Fresh.{IsFreshPast, Fresh}
-use Rattle.session_client.specs.declared.plans.Plan.{Plan}
+use Rattle.key_freshness.specs.Marks.{marks_of}
+use Rattle.key_freshness.specs.Held.{IsEntryHeld, IsEntryRight, stands_as}
+use Rattle.key_freshness.proofs.HitLemmas.{lacking_stands}
+use Rattle.key_freshness.proofs.MomentLemmas.{known_then, stored_is_latest}
 use Rattle.session_client.specs.declared.plans.Shape.{Shape}
 use Rattle.session_client.specs.declared.plans.Turn.TheVariants as turn
-use Rattle.core_history.specs.Events.{steps_of, told_to, log_of}
-use Rattle.core_history.specs.Machine.{World, Move, Begin, Take, start, begun, plan_at, wanted_of, world_of, HasPlans}
+use Rattle.core_history.specs.Events.{Event, steps_of, log_of, known_of}
+use Rattle.core_history.specs.Machine.{World, Move, Begin, Take, start, begun, turn_event, world_of, HasPlans}
 use Rattle.core_history.specs.Truth.{IsTruePast}
-use Rattle.core_history.specs.Facts.{Facts, IsCurrent, held_under}
+use Rattle.core_history.specs.Facts.{Facts, IsAnswer, ArePending, IsCurrent, IsQuiet, steps_on, stands_for, answers_under}
 use Rattle.core_history.specs.Freshness.{RunsAreFresh, histories_of}
+use Rattle.core_history.proofs.EventLemmas.{closed-over}
 use Rattle.core_history.proofs.GrantFacts.{GrantFacts}
 use Rattle.core_history.proofs.GrantLemmas.{grant_facts}
-use Rattle.core_history.proofs.Invariant.{Holds}
-use Rattle.core_history.proofs.WantLemmas.{wants_may}
-use Rattle.core_history.proofs.TurnLemmas.{turn_holds}
+use Rattle.core_history.proofs.HeldEvents.{steps_at, IsBetween, IsLeased, Holds, good_holds, start_holds}
+use Rattle.core_history.proofs.InnerLemmas.{Inner}
+use Rattle.core_history.proofs.ListLemmas.{any-weaker, and_elim, not_true}
+use Rattle.core_history.proofs.RightEvents.{answer_after, IsRightAnswer, Rights, good_rights, start_rights}
+use Rattle.core_history.proofs.WorldLemmas.{inner_of, taken-inner}
 
--- one more plan leaves each plan that is there
-plan_stays : (plans : List Plan) (plan : Plan) (i : ℕ) → (slice_get (plans ++ plan ∷ []) i ≡ slice_get plans i) ⊎ (slice_get plans i ≡ None)
-plan_stays [] plan i = inr refl
-plan_stays (first ∷ plans) plan zero = inl refl
-plan_stays (first ∷ plans) plan (suc i) = plan_stays plans plan i
-
-none_held : (opening : Tables) (log : List Commit) (world : World) (key : QKey) (token number : ℕ) → held_under token (told_to number world.past) ≡ None → IsCurrent opening log key (held_under token (told_to number world.past))
-none_held opening log world key token number none =
-    subst (λ (o : Option _). IsCurrent opening log key o) (sym none) tt
-
-not_begun : (plans : List Plan) (plan : Plan) (i : ℕ) → slice_get (plans ++ plan ∷ []) i ≡ None → slice_get plans i ≡ None
-not_begun [] plan i e = refl
-not_begun (first ∷ plans) plan zero e = absurd cc
-not_begun (first ∷ plans) plan (suc i) e = not_begun plans plan i e
-
-begun_holds : (opening : Tables) (shape : Shape) (world : World) (plan : Plan) → Holds opening (log_of world.past) shape world → Holds opening (log_of world.past) shape (begun world plan)
-begun_holds opening shape world plan holds =
-    record {
-      right = holds.right;
-      quiet = λ key lease is.
-          let was = holds.quiet key lease is in (
-            was.0,
-            λ number floor reads.
-                ⊎_elim (λ same. was.1 number floor (sym same ∙ reads))
-                (λ none. none_held opening (log_of world.past) world key lease.token number (holds.idle number lease.token none))
-                (plan_stays world.plans plan (number - 1)),
-          );
-      idle = λ number token none. holds.idle number token (not_begun world.plans plan (number - 1) none);
-      fresh = holds.fresh;
-    }
-
-start_holds : (opening : Tables) (shape : Shape) → Holds opening [] shape start
-start_holds opening shape =
-    record {
-      right = λ key. (tt, tt);
-      quiet = λ key lease is. absurd cc;
-      idle = λ number token none. refl;
-      fresh = λ place lt. tt;
-    }
-
-run_holds : (shape : Shape) (opening : Tables) (moves : List Move) → shape.shards ≢ 0 → HasPlans moves → IsTruePast opening (world_of shape moves).past → Holds opening (log_of (world_of shape moves).past) shape (world_of shape moves)
-run_holds shape opening [] some plans word = start_holds opening shape
-run_holds shape opening (Begin plan ∷ moves) some plans word =
-    begun_holds opening shape (world_of shape moves) plan (run_holds shape opening moves some plans.1 word)
-run_holds shape opening (Take (turn.Session who) said ∷ moves) some plans word =
+-- the rule, the tie and held entries, whatever the keeper says
+pub run_holds : (shape : Shape) (moves : List Move) → Holds shape (world_of shape moves).past (known_of (world_of shape moves).past)
+run_holds shape [] = start_holds shape
+run_holds shape (Begin plan ∷ moves) = run_holds shape moves
+run_holds shape (Take (turn.Session who) said ∷ moves) =
     let world = world_of shape moves in
-    turn_holds opening shape world who said (wanted_of world who) some (wants_may (plan_at who.number world.plans) (told_to who.number world.past)) (grant_facts shape moves some plans) (grant_facts shape (Take (turn.Session who) said ∷ moves) some plans) word.0 (run_holds shape opening moves some plans word.1)
+    good_holds shape world.past (turn_event shape world (turn.Session who) said) (taken-inner shape world who said (inner_of shape moves)).1 (run_holds shape moves)
 
-facts_from : (opening : Tables) (shape : Shape) (world : World) → GrantFacts shape world → Holds opening (log_of world.past) shape world → Facts opening shape world
-facts_from opening shape world grants holds =
+-- what is right, where the keeper's word was true
+run_rights : (opening : Tables) (shape : Shape) (moves : List Move) → IsTruePast opening (world_of shape moves).past → Rights opening shape (world_of shape moves).past (log_of (world_of shape moves).past)
+run_rights opening shape [] word = start_rights opening shape
+run_rights opening shape (Begin plan ∷ moves) word = run_rights opening shape moves word
+run_rights opening shape (Take (turn.Session who) said ∷ moves) word =
+    let world = world_of shape moves in
+    let inner = inner_of shape moves in
+    good_rights opening shape world.past (turn_event shape world (turn.Session who) said) (λ n shut. closed-over n world.past shut) inner.known (taken-inner shape world who said inner).1 word.0 (run_holds shape moves) (run_rights opening shape moves word.1)
+
+module _ (opening : Tables) (shape : Shape) (world : World) (holds : Holds shape world.past (known_of world.past)) (rights : Rights opening shape world.past (log_of world.past)) where
+  answer_of : (key : QKey) (found : Option (List ℕ × ℕ)) → IsEntryHeld key (marks_of key (steps_on shape world key)) (known_of world.past) found → IsEntryRight (answer_after opening key) (log_of world.past) found → IsAnswer opening (log_of world.past) key found
+  answer_of key None held right = tt
+  answer_of key (Some found) held right = (held.within, right)
+
+  stood_for : (who token : ℕ) (quars : List Quar) → stands_as who token quars ≡ true → list_any (λ quar. quar.sid.number == who) quars ≡ true
+  stood_for who token quars h =
+      any-weaker (λ quar. (quar.sid.number == who) && (quar.token == token)) (λ quar. quar.sid.number == who) quars (λ quar both. (and_elim (quar.sid.number == who) (quar.token == token) both).0) h
+
+  pending_of : (key : QKey) (found : Option (List ℕ × ℕ)) → entry key (steps_on shape world key) ≡ found → ArePending (log_of world.past) key (standing key (steps_on shape world key)) found
+  pending_of key None is = tt
+  pending_of key (Some found) is = λ place commit at late touched.
+      let marks = marks_of key (steps_on shape world key) in
+      let held = subst (IsEntryHeld key marks (known_of world.past)) is (holds.held key) in
+      let stands = lacking_stands key marks (known_of world.past) None (standing key (steps_on shape world key)) (entry key (steps_on shape world key)) found.1 (holds.ruled key) (holds.tied key) held place commit at late touched in
+      stood_for commit.sid.number stands.0 (standing key (steps_on shape world key)) stands.1
+
+  current_of : (key : QKey) (lease : ReadLease) (least : ℕ) (leased : IsLeased key lease.token world.past (marks_of key (steps_on shape world key)) (known_of world.past)) → least ≡ length leased.then_known.log → (answers : List Answer) → AllByRecursion (IsBetween least (length (log_of world.past))) answers → AllByRecursion (IsRightAnswer opening (log_of world.past) key) answers → AllByRecursion (IsCurrent opening (log_of world.past) key least) answers
+  current_of key lease least leased is [] between right = tt
+  current_of key lease least leased is (answered ∷ answers) between right = (
     record {
-      answers = λ key. (holds.right key).0;
-      pending = λ key. (holds.right key).1;
-      apart = grants.apart;
-      quiet = λ key lease is. let was = holds.quiet key lease is in record { untouched = was.0; held = was.1 };
-      once = grants.once;
-      order = grants.order;
-    }
+      since = between.0.0;
+      within = between.0.1;
+      right = right.0.1;
+      latest = λ place commit at late. not_true (touches commit.txn key) (λ touched.
+          stored_is_latest key leased.then_marks (marks_of key (steps_on shape world key)) leased.then_known (known_of world.past) answered.stamp leased.moment leased.since leased.more (holds.ruled key) (let h = between.0.0 in omega (arith, h, is)) place commit at late touched);
+    },
+    current_of key lease least leased is answers between.1 right.1,
+  )
 
-fresh_from : (opening : Tables) (shape : Shape) (world : World) → Holds opening (log_of world.past) shape world → Fresh opening (log_of world.past) (histories_of shape world.past)
-fresh_from opening shape world holds =
-    let P : List Step → Type 0 = λ history. IsFreshPast opening (log_of world.past) (reverse history) in
-    let Q : List Step → Type 0 = λ past. IsFreshPast opening (log_of world.past) past in
-    All-map P (λ place. reverse (steps_of place world.past)) (range_with_len 0 shape.shards) (λ k d lt.
-    let within : k < shape.shards = subst (λ (n : ℕ). k < n) (length-range_with_len 0 shape.shards) lt in
-    let at = get_or-range_with_len 0 shape.shards k d within in
-    let R : ℕ → Type 0 = λ place. P (reverse (steps_of place world.past)) in
-    subst R (sym at) (subst Q (sym (reverse-reverse (steps_of (0 + k) world.past))) (holds.fresh (0 + k) (omega (arith, within)))))
+  quiet_of : (key : QKey) (lease : ReadLease) → recorded key (steps_on shape world key) ≡ Some lease → IsQuiet opening shape world key lease
+  quiet_of key lease is =
+      let leased = holds.leased key lease is in
+      let least = length leased.then_known.log in
+      record {
+        least = least;
+        leased = leased.leased;
+        untouched = λ place commit at late. not_true (touches commit.txn key) (λ touched.
+            ⊎_elim
+            (λ mine. absurd mine)
+            (λ known. absurd (omega (arith, known, late)))
+            (known_then key None leased.then_marks (marks_of key (steps_on shape world key)) leased.then_known (known_of world.past) leased.moment leased.since leased.more (holds.ruled key) place commit at touched));
+        held = λ number. current_of key lease least leased refl (answers_under key lease.token number world.past) (holds.asked key lease.token number least leased.leased).1 (rights.answers key lease.token number);
+      }
+
+  pub facts_from : GrantFacts shape world → Facts opening shape world
+  facts_from grants = record {
+    answers = λ key. answer_of key (entry key (steps_on shape world key)) (holds.held key) (rights.entries key);
+    pending = λ key. pending_of key (entry key (steps_on shape world key)) refl;
+    apart = grants.apart;
+    quiet = quiet_of;
+    once = grants.once;
+    order = grants.order;
+  }
+
+  pub fresh_from : Fresh opening (log_of world.past) (histories_of shape world.past)
+  fresh_from =
+      let P : List Step → Type 0 = λ history. IsFreshPast opening (log_of world.past) (reverse history) in
+      let Q : List Step → Type 0 = λ past. IsFreshPast opening (log_of world.past) past in
+      All-map P (λ place. reverse (steps_of place world.past)) (range_with_len 0 shape.shards) (λ k d lt.
+      let within : k < shape.shards = subst (λ (n : ℕ). k < n) (length-range_with_len 0 shape.shards) lt in
+      let at = get_or-range_with_len 0 shape.shards k d within in
+      let R : ℕ → Type 0 = λ place. P (reverse (steps_of place world.past)) in
+      subst R (sym at) (subst Q (sym (reverse-reverse (steps_of (0 + k) world.past))) (rights.fresh (0 + k))))
 
 pub runs_fresh : RunsAreFresh
 runs_fresh shape opening moves some plans word =
-    let holds = run_holds shape opening moves some plans word in
-    (facts_from opening shape (world_of shape moves) (grant_facts shape moves some plans) holds, fresh_from opening shape (world_of shape moves) holds)
+    let world = world_of shape moves in
+    let holds = run_holds shape moves in
+    let rights = run_rights opening shape moves word in
+    (facts_from opening shape world holds rights (grant_facts shape moves some plans), fresh_from opening shape world holds rights)

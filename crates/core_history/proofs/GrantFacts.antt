@@ -1,24 +1,21 @@
 -- What holds of leases, quarantines and grants after any moves, whatever the keeper says.
-use Rattle.std.specs.Prelude.{ℕ, ◌≡◌, ◌≢◌, ◌<◌, ◌≤◌, true, false, All, AllPairs, count_by, Some}
+use Rattle.std.specs.Prelude.{ℕ, ◌≡◌, ◌<◌, ◌≤◌, true, All, count_by}
 use Rattle.std.specs.List.{list_any}
 use Rattle.rows_model.specs.declared.keys.QKey.{QKey}
 use Rattle.rows_model.specs.declared.keys.Sid.{Sid}
 use Rattle.rows_model.specs.Placement.{shard_of}
-use Rattle.lease_table.specs.declared.records.Mode.TheVariants.{Invalidate}
 use Rattle.key_shard.specs.Permit.{Permit, same_permit}
 use Rattle.key_shard.specs.declared.replies.Got.TheVariants as got
-use Rattle.key_shard.specs.Past.{standing, next_token}
 use Rattle.key_shard.specs.Answers.{IsLegalPast}
-use Rattle.sql_keeper.specs.Fresh.{quarantines, releases}
-use Rattle.session_client.specs.declared.plans.Plan.TheVariants.{Read}
+use Rattle.sql_keeper.specs.Fresh.{quarantines}
 use Rattle.session_client.specs.declared.plans.Shape.{Shape}
 use Rattle.session_client.specs.declared.replies.Reply.{Reply}
 use Rattle.session_client.specs.declared.replies.Reply.TheVariants as reply
 use Rattle.session_client.specs.declared.replies.Wanted.{Wanted}
 use Rattle.session_client.specs.declared.replies.Wanted.TheVariants as wanted
-use Rattle.core_history.specs.Events.{steps_of, told_to}
-use Rattle.core_history.specs.Machine.{World, terms_of, plan_at, wanted_of, out_of}
-use Rattle.core_history.specs.Facts.{steps_on, stands_for, AreApart, IsOrdered}
+use Rattle.core_history.specs.Events.{steps_of}
+use Rattle.core_history.specs.Machine.{World, terms_of, wanted_of, out_of}
+use Rattle.core_history.specs.Facts.{steps_on, AreApart, IsOrdered}
 use Rattle.core_history.specs.Freshness.{AreQuarantined}
 
 -- a lease that a reply gives has a token below this one
@@ -43,13 +40,5 @@ pub record GrantFacts (shape : Shape) (world : World) : Type 0 where
   pub order : (place : ℕ) → place < shape.shards → All (IsOrdered shape world) (steps_of place world.past)
   -- each commit was quarantined on every key when it was made
   pub quarantined : AreQuarantined shape world.past
-  -- a session whose quarantine stands has ended none on that key
-  pub unreleased : (key : QKey) (who : Sid) → stands_for who (standing key (steps_on shape world key)) ≡ true → list_any (releases key who) (steps_on shape world key) ≡ false
-  -- quarantines on one key have different tokens
-  pub tokens : (key : QKey) → AllPairs (λ a b. a.token ≢ b.token) (standing key (steps_on shape world key))
-  -- every quarantine is to invalidate
-  pub modes : (key : QKey) → All (λ quar. quar.mode ≡ Invalidate) (standing key (steps_on shape world key))
-  -- the leases that a reader was told of were drawn
-  pub drawn : (number floor : ℕ) (key : QKey) → plan_at number world.plans ≡ Some (Read key floor) → All (IsDrawnBelow (next_token (terms_of shape (shard_of key shape.shards)) (steps_on shape world key))) (told_to number world.past)
   -- a grant that is to be released is out
   pub out : (who : Sid) (grant : Permit) → IsReleaseOf grant (wanted_of world who) → list_any (same_permit grant) (out_of shape (shard_of grant.key shape.shards) world.past) ≡ true

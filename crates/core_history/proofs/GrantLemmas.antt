@@ -13,15 +13,15 @@ use Rattle.rows_model.specs.Key.{same_key, key_text}
 use Rattle.rows_model.proofs.SameKey.{same_key-true}
 use Rattle.rows_model.specs.Changes.{footprint}
 use Rattle.rows_model.specs.Placement.{shard_of, hash_of}
-use Rattle.lease_table.specs.declared.records.Mode.TheVariants.{Invalidate}
 use Rattle.lease_table.specs.declared.records.Quar.{Quar}
-use Rattle.lease_table.specs.Leases.{is_of}
 use Rattle.key_shard.specs.Permit.{Permit, same_permit}
 use Rattle.key_shard.specs.declared.steps.Step.{Step}
 use Rattle.key_shard.specs.declared.steps.Step.TheVariants as step
-use Rattle.key_shard.specs.Past.{Terms, standing, recorded, next_token}
+use Rattle.key_shard.specs.Past.{standing, recorded}
+use Rattle.key_shard.specs.LegalStands.{StandsWell}
+use Rattle.key_shard.proofs.LegalLemmas.{alone}
 use Rattle.sql_keeper.specs.Commits.{covers, is_covered}
-use Rattle.sql_keeper.specs.Fresh.{quarantines, releases, Covered}
+use Rattle.sql_keeper.specs.Fresh.{quarantines, Covered}
 use Rattle.session_client.specs.declared.plans.Plan.{Plan}
 use Rattle.session_client.specs.declared.plans.Plan.TheVariants.{Read, Write, Skip}
 use Rattle.session_client.specs.declared.plans.Shape.{Shape}
@@ -32,31 +32,25 @@ use Rattle.core_history.specs.Events.{Event, steps_of, told_to, log_of}
 use Rattle.core_history.specs.Machine.{World, Move, world_of, HasPlans, terms_of, plan_at, wanted_by, is_open, out_of}
 use Rattle.core_history.specs.Facts.{steps_on, stands_for, AreApart, IsOrdered}
 use Rattle.core_history.specs.Freshness.{histories_of, RunsAreLawful}
-use Rattle.core_history.proofs.GrantFacts.{GrantFacts, IsDrawnBelow, IsReleaseOf}
+use Rattle.core_history.proofs.GrantFacts.{GrantFacts, IsReleaseOf}
 use Rattle.core_history.proofs.ListLemmas.{and_elim, not_true, any-reverse, count-once, count-some, every-weaker}
-use Rattle.core_history.proofs.KeyLemmas.{KeyFacts, Distinct}
 use Rattle.core_history.proofs.EventLemmas.{IsKnown}
 use Rattle.core_history.proofs.SessionLemmas.{Writer}
 use Rattle.core_history.proofs.WriterLemmas.{write_cases, read_cases}
-use Rattle.core_history.proofs.InnerLemmas.{Inner, IsSession, IsCovered}
+use Rattle.core_history.proofs.InnerLemmas.{Inner, IsSession, IsCovered, stands_well}
 use Rattle.core_history.proofs.WriteTurnLemmas.{open-closed, granted-stands}
 use Rattle.core_history.proofs.WorldLemmas.{idle-grants, inner_of}
 
 -- quarantines stand apart from readers
-apart-key : (terms : Terms) (key : QKey) (steps : List Step) → KeyFacts terms key steps → AreApart steps key
-apart-key terms key steps facts = record {
-  no_reader = λ quar quars e. by quar quars e facts.apart;
-  alone = All-from_recursion (λ quar. quar.mode ≢ Invalidate → length (standing key steps) ≡ 1) (standing key steps) (every-weaker (λ quar. quar.mode ≡ Invalidate) (λ quar. quar.mode ≢ Invalidate → length (standing key steps) ≡ 1) (standing key steps) (λ quar is isnt. absurd (isnt is)) facts.modes);
+apart-key : (shape : Shape) (world : World) (key : QKey) → StandsWell (terms_of shape (shard_of key shape.shards)) (steps_on shape world key) key → AreApart (steps_on shape world key) key
+apart-key shape world key well = record {
+  no_reader = λ quar quars e. by quar quars e well.apart;
+  alone = alone (terms_of shape (shard_of key shape.shards)) (steps_on shape world key) key well;
 }
   where
-    by : (quar : Quar) (quars : List Quar) → standing key steps ≡ quar ∷ quars → (recorded key steps ≡ None) ⊎ (standing key steps ≡ []) → recorded key steps ≡ None
+    by : (quar : Quar) (quars : List Quar) → standing key (steps_on shape world key) ≡ quar ∷ quars → (recorded key (steps_on shape world key) ≡ None) ⊎ (standing key (steps_on shape world key) ≡ []) → recorded key (steps_on shape world key) ≡ None
     by quar quars e (inl none) = none
     by quar quars e (inr none) = let clash : quar ∷ quars ≡ [] = sym e ∙ none in cc
-
-tokens-key : (xs : List Quar) → Distinct xs → AllPairs (λ a b. a.token ≢ b.token) xs
-tokens-key [] h = λ i j d low within. absurd (omega arith)
-tokens-key (x ∷ xs) h =
-    AllPairs-cons (λ a b. a.token ≢ b.token) x xs (All-from_recursion (λ b. x.token ≢ b.token) xs h.0) (tokens-key xs h.1)
 
 -- a session has one grant on a key at most
 writer-once : (shape : Shape) (past : List Event) (who : Sid) (heard : List Reply) (keys : List QKey) (key : QKey) → Writer shape past who.number heard keys → count_by (covers who key) (granted heard) ≤ 1
@@ -123,28 +117,17 @@ writer-out shape world n grant keys txn w =
 session-out : (shape : Shape) (world : World) (n : ℕ) (grant : Permit) (plan : Option Plan) → IsSession shape world.past n (told_to n world.past) plan → IsOutFor shape world grant (wanted_by plan (told_to n world.past))
 session-out shape world n grant None h = λ e. absurd e
 session-out shape world n grant (Some (Read key floor)) h =
-    read_cases (IsOutFor shape world grant) key floor (told_to n world.past) (λ e. absurd e) (λ e. absurd e) (λ token value stamp e. absurd e) (λ e. absurd e)
+    read_cases (IsOutFor shape world grant) key floor (told_to n world.past) (λ e. absurd e) (λ e. absurd e) (λ token answer rest e r. absurd r) (λ e. absurd e)
 session-out shape world n grant (Some (Write mode txn)) h = writer-out shape world n grant (footprint txn) txn h
 session-out shape world n grant (Some (Skip key txn)) h = writer-out shape world n grant (without_key key (footprint txn)) txn h
 
 pub facts_of : (shape : Shape) (world : World) → Inner shape world → GrantFacts shape world
 facts_of shape world inner = record {
   legal = inner.legal;
-  apart = λ key. apart-key (terms_of shape (shard_of key shape.shards)) key (steps_on shape world key) (inner.keys key);
+  apart = λ key. apart-key shape world key (stands_well shape world inner key);
   once = once-key shape world inner;
   order = λ place within. All-from_recursion (IsOrdered shape world) (steps_of place world.past) (every-weaker (IsKnown world.past) (IsOrdered shape world) (steps_of place world.past) (known-ordered shape world inner) (inner.known place));
   quarantined = inner.quarantined;
-  unreleased = λ key who stands. not_true (list_any (releases key who) (steps_on shape world key)) (λ ended.
-      let a = (inner.keys key).balance who in
-      let b = count-some (is_of who) (standing key (steps_on shape world key)) stands in
-      let c = count-some (releases key who) (steps_on shape world key) ended in
-      let d = once-key shape world inner key who in
-      absurd (omega (arith, a, b, c, d)));
-  tokens = λ key. tokens-key (standing key (steps_on shape world key)) (inner.keys key).distinct;
-  modes = λ key. All-from_recursion (λ quar. quar.mode ≡ Invalidate) (standing key (steps_on shape world key)) (inner.keys key).modes;
-  drawn = λ number floor key plan.
-      let S : Option Plan → Type 0 = λ p. IsSession shape world.past number (told_to number world.past) p in
-      All-from_recursion (IsDrawnBelow (next_token (terms_of shape (shard_of key shape.shards)) (steps_on shape world key))) (told_to number world.past) (subst S plan (inner.sessions number)).0;
   out = λ who grant release. session-out shape world who.number grant (plan_at who.number world.plans) (inner.sessions who.number) release;
 }
 

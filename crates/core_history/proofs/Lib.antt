@@ -1,8 +1,10 @@
 pub mod GrantFacts
 pub mod ListLemmas
 pub mod KeyLemmas
-pub mod CaseLemmas
 pub mod EventLemmas
+pub mod GoodEvents
+pub mod HeldEvents
+pub mod RightEvents
 pub mod SessionLemmas
 pub mod WriterLemmas
 pub mod InnerLemmas
@@ -11,15 +13,6 @@ pub mod WriteTurnLemmas
 pub mod WorldLemmas
 pub mod GrantLemmas
 pub mod LogLemmas
-pub mod Invariant
-pub mod EntrySteps
-pub mod QuietSteps
-pub mod ShardTurns
-pub mod StoreTurns
-pub mod WantLemmas
-pub mod GoodSteps
-pub mod KeepLemmas
-pub mod TurnLemmas
 pub mod FreshRuns
 pub mod DeterminedLemmas
 pub mod ShardsLemmas

@@ -28,12 +28,14 @@ use Rattle.session_client.specs.Wants.{grants_in, granted, is_had, is_release, r
 use Rattle.core_history.specs.Events.{Event, Stepped, Called, steps_of}
 use Rattle.core_history.specs.Machine.{terms_of, out_by, out_of}
 use Rattle.core_history.proofs.ListLemmas.{choose, or_inl, and_intro, not_both, not_true, any-filter, any-front, any-back, count-cons, zero_if}
-use Rattle.core_history.proofs.KeyLemmas.{QuietStep, Distinct, is_quar, stays-of}
+use Rattle.key_shard.proofs.LegalLemmas.{AllOfOwnToken}
+use Rattle.core_history.proofs.KeyLemmas.{QuietStep, is_of_permit, stays_permit}
 use Rattle.core_history.proofs.EventLemmas.{closed, closed-more}
 
--- the quarantine of a grant stands, the grant is out, and it was given
+-- a grant is the session's, its quarantine stands, it is out, and it was given
 pub record Stood (shape : Shape) (past : List Event) (n : ℕ) (grant : Permit) : Type 0 where
-  pub stands : list_any (is_quar n grant.token) (standing grant.key (steps_of (shard_of grant.key shape.shards) past)) ≡ true
+  pub own : grant.sid.number ≡ n
+  pub stands : list_any (is_of_permit grant) (standing grant.key (steps_of (shard_of grant.key shape.shards) past)) ≡ true
   pub out : list_any (same_permit grant) (out_of shape (shard_of grant.key shape.shards) past) ≡ true
   pub was : list_any (grants grant) (steps_of (shard_of grant.key shape.shards) past) ≡ true
 
@@ -50,13 +52,14 @@ stood-quiet shape place who request s told past quiet same n grant h =
     let home = shard_of grant.key shape.shards in
     let steps = steps_of home past in
     record {
-      stands = maybe-step (λ l. list_any (is_quar n grant.token) (standing grant.key l) ≡ true) (place == home) s steps (λ _. ap (list_any (is_quar n grant.token)) (quiet.stands grant.key steps) ∙ h.stands) (λ _. h.stands);
+      own = h.own;
+      stands = maybe-step (λ l. list_any (is_of_permit grant) (standing grant.key l) ≡ true) (place == home) s steps (λ _. ap (list_any (is_of_permit grant)) (quiet.stands grant.key steps) ∙ h.stands) (λ _. h.stands);
       out = choose (λ l. list_any (same_permit grant) l ≡ true) (place == home) (out_by (terms_of shape home) request s (out_of shape home past)) (out_of shape home past) (λ _. ap (list_any (same_permit grant)) (same (terms_of shape home) (out_of shape home past)) ∙ h.out) (λ _. h.out);
       was = was-more shape place who request s told past n grant h;
     }
 
 pub stood-called : (shape : Shape) (who : Sid) (request : Wanted) (told : Reply) (past : List Event) (n : ℕ) (grant : Permit) → Stood shape past n grant → Stood shape (Called who request told ∷ past) n grant
-stood-called shape who request told past n grant h = record { stands = h.stands; out = h.out; was = h.was }
+stood-called shape who request told past n grant h = record { own = h.own; stands = h.stands; out = h.out; was = h.was }
 
 pub stood-granted : (shape : Shape) (place : ℕ) (who : Sid) (on asked : QKey) (by : Sid) (mode : _) (shift : _) (now token deadline : ℕ) (told : Reply) (past : List Event) (n : ℕ) (grant : Permit) → Stood shape past n grant → Stood shape (Stepped place who (wanted.QaReg asked) (step.Granted on by mode shift now token deadline) told ∷ past) n grant
 stood-granted shape place who on asked by mode shift now token deadline told past n grant h =
@@ -67,7 +70,8 @@ stood-granted shape place who on asked by mode shift now token deadline told pas
     let made : Permit = record { shard = home; key = on; sid = by; mode = mode; token = token } in
     let xs = standing grant.key steps in
     record {
-      stands = maybe-step (λ l. list_any (is_quar n grant.token) (standing grant.key l) ≡ true) (place == home) s steps (λ _. choose (λ l. list_any (is_quar n grant.token) l ≡ true) (same_key grant.key on) (xs ++ quar ∷ []) xs (λ _. any-front (is_quar n grant.token) xs (quar ∷ []) h.stands) (λ _. h.stands)) (λ _. h.stands);
+      own = h.own;
+      stands = maybe-step (λ l. list_any (is_of_permit grant) (standing grant.key l) ≡ true) (place == home) s steps (λ _. choose (λ l. list_any (is_of_permit grant) l ≡ true) (same_key grant.key on) (xs ++ quar ∷ []) xs (λ _. any-front (is_of_permit grant) xs (quar ∷ []) h.stands) (λ _. h.stands)) (λ _. h.stands);
       out = choose (λ l. list_any (same_permit grant) l ≡ true) (place == home) (out_of shape home past ++ made ∷ []) (out_of shape home past) (λ _. any-front (same_permit grant) (out_of shape home past) (made ∷ []) h.out) (λ _. h.out);
       was = was-more shape place who (wanted.QaReg asked) s told past n grant h;
     }
@@ -95,9 +99,10 @@ stood-new shape who on asked shift now token deadline told past =
     let xs = standing on steps in
     let here : (home == home) ≡ true = eq-eqb home home refl in
     record {
-      stands = maybe-step (λ l. list_any (is_quar who.number token) (standing on l) ≡ true) (home == home) s steps (λ _. choose (λ l. list_any (is_quar who.number token) l ≡ true) (same_key on on) (xs ++ quar ∷ []) xs (λ _. any-back (is_quar who.number token) xs (quar ∷ []) (any_one (is_quar who.number token) quar (and_intro _ _ (eq-eqb who.number who.number refl) (eq-eqb token token refl)))) (λ other. absurd (not_both (same_key-refl on) other))) (λ other. absurd (not_both here other));
+      own = refl;
+      stands = maybe-step (λ l. list_any (is_of_permit made) (standing on l) ≡ true) (home == home) s steps (λ _. choose (λ l. list_any (is_of_permit made) l ≡ true) (same_key on on) (xs ++ quar ∷ []) xs (λ _. any-back (is_of_permit made) xs (quar ∷ []) (any_one (is_of_permit made) quar (and_intro _ _ (and_intro _ _ (eq-eqb who.number who.number refl) refl) (eq-eqb token token refl)))) (λ other. absurd (not_both (same_key-refl on) other))) (λ other. absurd (not_both here other));
       out = choose (λ l. list_any (same_permit made) l ≡ true) (home == home) (out_of shape home past ++ made ∷ []) (out_of shape home past) (λ _. any-back (same_permit made) (out_of shape home past) (made ∷ []) (any_one (same_permit made) made (same_permit-refl made))) (λ other. absurd (not_both here other));
-      was = maybe-step (λ l. list_any (grants made) l ≡ true) (home == home) s steps (λ _. or_inl (grants made s) (list_any (grants made) steps) (and_intro _ _ (and_intro _ _ (and_intro _ _ (same_key-refl on) (eq-eqb who.number who.number refl)) refl) (eq-eqb token token refl))) (λ other. absurd (not_both here other));
+      was = maybe-step (λ l. list_any (grants made) l ≡ true) (home == home) s steps (λ _. or_inl (grants made s) (list_any (grants made) steps) (and_intro _ _ (and_intro _ _ (same_key-refl on) (eq-eqb who.number who.number refl)) (eq-eqb token token refl))) (λ other. absurd (not_both here other));
     }
 
 -- the end of one grant leaves each that is of another session or on another key
@@ -110,17 +115,18 @@ without-other grant gone out other h =
     each (x ∷ l) =
         ((λ mine. ap not (not_true (same_permit gone x) (λ theirs. other (sym (same_permit-true gone x theirs) ∙ same_permit-true grant x mine)))), each l)
 
-pub stood-released : (shape : Shape) (place : ℕ) (who : Sid) (request : Wanted) (gone : Permit) (by : Sid) (how : Ended) (told : Reply) (past : List Event) (n m : ℕ) (grant : Permit) → ((terms : Terms) (s : Step) (out : List Permit) → out_by terms request s out ≡ without_permit gone out) → Distinct (standing gone.key (steps_of (shard_of gone.key shape.shards) past)) → gone.sid.number ≡ m → grant.sid.number ≡ n → Stood shape past m gone → (same_key grant.key gone.key ≡ true → n ≢ m) → Stood shape past n grant → Stood shape (Stepped place who request (step.Released gone.key by gone.token how) told ∷ past) n grant
+pub stood-released : (shape : Shape) (place : ℕ) (who : Sid) (request : Wanted) (gone : Permit) (by : Sid) (how : Ended) (told : Reply) (past : List Event) (n m : ℕ) (grant : Permit) → ((terms : Terms) (s : Step) (out : List Permit) → out_by terms request s out ≡ without_permit gone out) → AllOfOwnToken (standing gone.key (steps_of (shard_of gone.key shape.shards) past)) → gone.sid.number ≡ m → grant.sid.number ≡ n → Stood shape past m gone → (same_key grant.key gone.key ≡ true → n ≢ m) → Stood shape past n grant → Stood shape (Stepped place who request (step.Released gone.key by gone.token how) told ∷ past) n grant
 stood-released shape place who request gone by how told past n m grant without distinct of_gone of_grant theirs apart h =
     let home = shard_of grant.key shape.shards in
     let steps = steps_of home past in
     let s = step.Released gone.key by gone.token how in
     let xs = standing grant.key steps in
-    let P : QKey → Type 0 = λ k. list_any (is_quar m gone.token) (standing k (steps_of (shard_of k shape.shards) past)) ≡ true in
-    let D : QKey → Type 0 = λ k. Distinct (standing k (steps_of (shard_of k shape.shards) past)) in
+    let P : QKey → Type 0 = λ k. list_any (is_of_permit gone) (standing k (steps_of (shard_of k shape.shards) past)) ≡ true in
+    let D : QKey → Type 0 = λ k. AllOfOwnToken (standing k (steps_of (shard_of k shape.shards) past)) in
     let other : gone ≡ grant → ⊥ = λ e. apart (subst (λ k. same_key grant.key k ≡ true) (sym (ap (λ g. g.key) e)) (same_key-refl grant.key)) (sym of_grant ∙ sym (ap (λ g. g.sid.number) e) ∙ of_gone) in
     record {
-      stands = maybe-step (λ l. list_any (is_quar n grant.token) (standing grant.key l) ≡ true) (place == home) s steps (λ _. choose (λ l. list_any (is_quar n grant.token) l ≡ true) (same_key grant.key gone.key) (filter (λ q. not (has_token gone.token q)) xs) xs (λ same. let e = sym (same_key-true grant.key gone.key same) in stays-of n grant.token m gone.token xs (subst D e distinct) h.stands (subst P e theirs.stands) (apart same)) (λ _. h.stands)) (λ _. h.stands);
+      own = h.own;
+      stands = maybe-step (λ l. list_any (is_of_permit grant) (standing grant.key l) ≡ true) (place == home) s steps (λ _. choose (λ l. list_any (is_of_permit grant) l ≡ true) (same_key grant.key gone.key) (filter (λ q. not (has_token gone.token q)) xs) xs (λ same. let e = sym (same_key-true grant.key gone.key same) in stays_permit grant gone xs (subst D e distinct) h.stands (subst P e theirs.stands) (λ same_sid. apart same (sym of_grant ∙ same_sid ∙ of_gone))) (λ _. h.stands)) (λ _. h.stands);
       out = choose (λ l. list_any (same_permit grant) l ≡ true) (place == home) (out_by (terms_of shape home) request s (out_of shape home past)) (out_of shape home past) (λ _. subst (λ l. list_any (same_permit grant) l ≡ true) (sym (without (terms_of shape home) s (out_of shape home past))) (without-other grant gone (out_of shape home past) other h.out)) (λ _. h.out);
       was = was-more shape place who request s told past n grant h;
     }

@@ -16,18 +16,18 @@ use Rattle.session_client.specs.declared.replies.Reply.TheVariants as reply
 use Rattle.session_client.specs.declared.replies.Wanted.TheVariants as wanted
 use Rattle.session_client.specs.Wants.{granted, is_had, is_release, without_key}
 use Rattle.core_history.specs.Events.{Event, Called, steps_of, told_to}
-use Rattle.core_history.specs.Machine.{World, Move, Begin, Take, Said, start, world_of, begun, taken, terms_of, plan_at, wanted_by}
+use Rattle.core_history.specs.Machine.{World, Move, Begin, Take, Said, start, world_of, begun, taken, turn_event, terms_of, plan_at, is_writer, wanted_by}
 use Rattle.core_history.proofs.GrantFacts.{IsDrawnBelow}
 use Rattle.core_history.proofs.ListLemmas.{zero_if, count-cons, not_both, every-weaker}
-use Rattle.core_history.proofs.KeyLemmas.{KeyFacts-start}
 use Rattle.core_history.proofs.SessionLemmas.{AreOnce, Writer, is_ending}
 use Rattle.core_history.proofs.WriterLemmas.{footprint-once, skipped-once}
-use Rattle.core_history.proofs.InnerLemmas.{Inner, IsIdle, IsSession, IsCovered}
+use Rattle.core_history.proofs.InnerLemmas.{Inner, IsIdle, IsSession, IsHolding, IsCovered}
+use Rattle.core_history.proofs.GoodEvents.{IsGoodEvent}
 use Rattle.core_history.proofs.ReadTurnLemmas.{After, idle-turn, read-turn}
 use Rattle.core_history.proofs.WriteTurnLemmas.{write-turn}
 
--- a turn keeps the facts
-taken-inner : (shape : Shape) (world : World) (who : Sid) (said : Said) → Inner shape world → Inner shape (taken shape world (turn.Session who) said)
+-- a turn keeps the facts, and its event is good
+pub taken-inner : (shape : Shape) (world : World) (who : Sid) (said : Said) → Inner shape world → Inner shape (taken shape world (turn.Session who) said) × IsGoodEvent shape world.past (turn_event shape world (turn.Session who) said)
 taken-inner shape world who said inner = by (plan_at who.number world.plans) refl
   where
     by : (plan : Option Plan) → plan_at who.number world.plans ≡ plan → After shape world who said (wanted_by plan (told_to who.number world.past))
@@ -35,14 +35,14 @@ taken-inner shape world who said inner = by (plan_at who.number world.plans) ref
         let S : Option Plan → Type 0 = λ p. IsSession shape world.past who.number (told_to who.number world.past) p in
         let T : Option Plan → Type 0 = λ p. IsSession shape (Called who wanted.Nothing reply.Nothing ∷ world.past) who.number (reply.Nothing ∷ told_to who.number world.past) p in
         idle-turn shape world who said inner (subst T (sym is) (tt, subst S is (inner.sessions who.number)))
-    by (Some (Read key floor)) is = read-turn shape world who said key floor (told_to who.number world.past) inner is
+    by (Some (Read key floor)) is = read-turn shape world who said key floor inner is
     by (Some (Write mode txn)) is =
         let S : Option Plan → Type 0 = λ p. IsSession shape world.past who.number (told_to who.number world.past) p in
-        write-turn shape world who said (footprint txn) txn inner
+        write-turn shape world who said (footprint txn) txn inner (ap is_writer is)
         (subst S is (inner.sessions who.number), λ event told w. let T : Option Plan → Type 0 = λ p. IsSession shape (event ∷ world.past) who.number (told ∷ told_to who.number world.past) p in subst T (sym is) w)
     by (Some (Skip key txn)) is =
         let S : Option Plan → Type 0 = λ p. IsSession shape world.past who.number (told_to who.number world.past) p in
-        write-turn shape world who said (without_key key (footprint txn)) txn inner
+        write-turn shape world who said (without_key key (footprint txn)) txn inner (ap is_writer is)
         (subst S is (inner.sessions who.number), λ event told w. let T : Option Plan → Type 0 = λ p. IsSession shape (event ∷ world.past) who.number (told ∷ told_to who.number world.past) p in subst T (sym is) w)
 
 -- a session that was told nothing is as one of any plan
@@ -99,11 +99,15 @@ idle-writer shape past n heard keys once h =
     empty : (i : ℕ) (grant : Permit) → slice_get [] i ≡ Some grant → ⊥
     empty i grant e = cc
 
+idle-holding : (key : QKey) (n : ℕ) (past : List Event) (heard : List Reply) → AllByRecursion IsIdle heard → IsHolding key n past heard
+idle-holding key n past [] h = tt
+idle-holding key n past (told ∷ heard) h = idle-reply (λ r. IsHolding key n past (r ∷ heard)) tt told h.0
+
 idle-session : (shape : Shape) (past : List Event) (n : ℕ) (heard : List Reply) (plan : Option Plan) → AllByRecursion IsIdle heard → IsSession shape past n heard plan
 idle-session shape past n heard None h = h
 idle-session shape past n heard (Some (Read key floor)) h =
     let next = next_token (terms_of shape (shard_of key shape.shards)) (steps_of (shard_of key shape.shards) past) in
-    (every-weaker IsIdle (IsDrawnBelow next) heard (idle-reply (IsDrawnBelow next) tt) h, idle-grants heard h)
+    (every-weaker IsIdle (IsDrawnBelow next) heard (idle-reply (IsDrawnBelow next) tt) h, idle-grants heard h, idle-holding key n past heard h)
 idle-session shape past n heard (Some (Write mode txn)) h = idle-writer shape past n heard (footprint txn) (footprint-once txn) h
 idle-session shape past n heard (Some (Skip key txn)) h = idle-writer shape past n heard (without_key key (footprint txn)) (skipped-once key txn) h
 
@@ -116,7 +120,6 @@ plan_stays (first ∷ plans) plan (suc i) = plan_stays plans plan i
 begun-inner : (shape : Shape) (world : World) (plan : Plan) → Inner shape world → Inner shape (begun world plan)
 begun-inner shape world plan inner = record {
   legal = inner.legal;
-  keys = inner.keys;
   known = inner.known;
   counts = inner.counts;
   covered = inner.covered;
@@ -136,7 +139,6 @@ start-covered shape place commit key at touched = cc
 start-inner : (shape : Shape) → Inner shape start
 start-inner shape = record {
   legal = λ place. tt;
-  keys = λ key. KeyFacts-start (terms_of shape (shard_of key shape.shards)) key;
   known = λ place. tt;
   counts = λ key who. refl;
   covered = start-covered shape;
@@ -147,4 +149,4 @@ start-inner shape = record {
 pub inner_of : (shape : Shape) (moves : List Move) → Inner shape (world_of shape moves)
 inner_of shape [] = start-inner shape
 inner_of shape (Begin plan ∷ moves) = begun-inner shape (world_of shape moves) plan (inner_of shape moves)
-inner_of shape (Take (turn.Session who) said ∷ moves) = taken-inner shape (world_of shape moves) who said (inner_of shape moves)
+inner_of shape (Take (turn.Session who) said ∷ moves) = (taken-inner shape (world_of shape moves) who said (inner_of shape moves)).0

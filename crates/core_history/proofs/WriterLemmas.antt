@@ -103,39 +103,20 @@ write_cases P keys txn (reply.Answer answer ∷ heard) ask commit end dar abort 
 write_cases P keys txn (reply.Set told ∷ heard) ask commit end dar abort nothing = nothing
 write_cases P keys txn (reply.Nothing ∷ heard) ask commit end dar abort nothing = nothing
 
--- what a reader wants
-set_cases : (P : Wanted → Type 0) (key : QKey) (answer : Answer) (heard : List Reply) → ((token : ℕ) (value : List ℕ) (stamp : ℕ) → P (wanted.Set key token value stamp)) → P wanted.Nothing → P (set_after key answer heard)
-set_cases P key answer [] set nothing = nothing
-set_cases P key answer (reply.Got (got.Lease token) ∷ heard) set nothing = set token answer.value answer.stamp
-set_cases P key answer (reply.Got (got.Hit value stamp) ∷ heard) set nothing = nothing
-set_cases P key answer (reply.Got (got.Again stands) ∷ heard) set nothing = nothing
-set_cases P key answer (reply.Got got.Own ∷ heard) set nothing = nothing
-set_cases P key answer (reply.Answer other ∷ heard) set nothing = nothing
-set_cases P key answer (reply.Set told ∷ heard) set nothing = nothing
-set_cases P key answer (reply.Quar told ∷ heard) set nothing = nothing
-set_cases P key answer (reply.Committed number txn grants ∷ heard) set nothing = nothing
-set_cases P key answer (reply.NotCommitted fault txn grants ∷ heard) set nothing = nothing
-set_cases P key answer (reply.End was ∷ heard) set nothing = nothing
-set_cases P key answer (reply.Rel told ∷ heard) set nothing = nothing
-set_cases P key answer (reply.Fault fault ∷ heard) set nothing = nothing
-set_cases P key answer (reply.Nothing ∷ heard) set nothing = nothing
+-- what a reader wants: what it sets is an answer that followed a lease
+set_cases : (P : Wanted → Type 0) (key : QKey) (answer : Answer) (heard : List Reply) → ((token : ℕ) (rest : List Reply) → heard ≡ reply.Got (got.Lease token) ∷ rest → P (wanted.Set key token answer.value answer.stamp)) → P wanted.Nothing → P (set_after key answer heard)
+set_cases P key answer (reply.Got (got.Lease token) ∷ heard) set nothing = set token heard refl
+set_cases P key answer heard set nothing = nothing
 
-pub read_cases : (P : Wanted → Type 0) (key : QKey) (floor : ℕ) (heard : List Reply) → P (wanted.Get key floor) → P (wanted.Ask key) → ((token : ℕ) (value : List ℕ) (stamp : ℕ) → P (wanted.Set key token value stamp)) → P wanted.Nothing → P (read_wants key floor heard)
+pub read_cases : (P : Wanted → Type 0) (key : QKey) (floor : ℕ) (heard : List Reply) → P (wanted.Get key floor) → P (wanted.Ask key) → ((token : ℕ) (answer : Answer) (rest : List Reply) → heard ≡ reply.Answer answer ∷ reply.Got (got.Lease token) ∷ rest → P (wanted.Set key token answer.value answer.stamp)) → P wanted.Nothing → P (read_wants key floor heard)
 read_cases P key floor [] get ask set nothing = get
 read_cases P key floor (reply.Got (got.Lease token) ∷ heard) get ask set nothing = ask
 read_cases P key floor (reply.Got (got.Again stands) ∷ heard) get ask set nothing =
     choose P (nat_lt (agains heard + 1) 16) (wanted.Get key floor) (wanted.Ask key) (λ _. get) (λ _. ask)
 read_cases P key floor (reply.Got got.Own ∷ heard) get ask set nothing = ask
-read_cases P key floor (reply.Got (got.Hit value stamp) ∷ heard) get ask set nothing = nothing
-read_cases P key floor (reply.Answer answer ∷ heard) get ask set nothing = set_cases P key answer heard set nothing
-read_cases P key floor (reply.Set told ∷ heard) get ask set nothing = nothing
-read_cases P key floor (reply.Quar told ∷ heard) get ask set nothing = nothing
-read_cases P key floor (reply.Committed number txn grants ∷ heard) get ask set nothing = nothing
-read_cases P key floor (reply.NotCommitted fault txn grants ∷ heard) get ask set nothing = nothing
-read_cases P key floor (reply.End was ∷ heard) get ask set nothing = nothing
-read_cases P key floor (reply.Rel told ∷ heard) get ask set nothing = nothing
-read_cases P key floor (reply.Fault fault ∷ heard) get ask set nothing = nothing
-read_cases P key floor (reply.Nothing ∷ heard) get ask set nothing = nothing
+read_cases P key floor (reply.Answer answer ∷ heard) get ask set nothing =
+    set_cases P key answer heard (λ token rest e. set token answer rest (ap (λ l. reply.Answer answer ∷ l) e)) nothing
+read_cases P key floor (other ∷ heard) get ask set nothing = nothing
 
 -- keys that ascend stand once each
 some_same : {X : Type 0} {a b : X} → Some a ≡ Some b → a ≡ b

@@ -1,3 +1,4 @@
+-- The entries as they are kept, the most recent last, against the list that callers see.
 use Rattle.std.proofs.Common.{◌≡◌, ◌≢◌, ℕ, suc, ◌+◌, ◌<◌, ◌≤◌, Bool, true, false, cond, Some, None, List, [], ◌∷◌, ◌++◌, length, get_or, take, drop, set, map, refl, sym, ap, subst, ◌∙◌, arith, append_assoc}
 use Rattle.std.specs.List.{position, position_or_len, remove}
 use Rattle.std.specs.Prelude.{nat_lt, not}

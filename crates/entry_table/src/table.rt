@@ -88,9 +88,9 @@ impl Entries {
         }
     }
 
-    /// Puts an entry in front. It takes the place of the key's own; a new key in a full table drops
-    /// the last entry, which is returned. Only a new key in a table that isn't full may want memory.
-    /// Where that is refused, the value comes back and nothing changes.
+    /// Puts an entry in front. It takes the place of the key's own, which wants no memory; a new key in
+    /// a full table drops the last entry, which is returned. A new key may want memory, also in a full
+    /// table. Where that is refused, the value comes back and nothing changes.
     pub fn put(
         &mut self,
         key: QKey,
@@ -103,9 +103,8 @@ impl Entries {
         ensures drops { IfOk result (λ dropped. IsSome dropped
             ↔ (IsNone (lookup key self.old.list) × (length self.old.list ≡ self.old.room))) }
 
-        // No memory is wanted for a key that is there, or in a full table.
+        // No memory is wanted for a key that is there.
         ensures there { IsSome (lookup key self.old.list) → IsOk result }
-        ensures full { length self.old.list ≡ self.old.room → IsOk result }
         ensures returned { IfErr result (λ back. back ≡ value) }
         ensures err { OnErr result (self.new ≡ self.old) }
 

@@ -1,5 +1,5 @@
 -- A hit on a held and right entry is fresh, and what it lacks still stands quarantined.
-use Rattle.std.proofs.Common.{ℕ, ◌≡◌, ◌≤◌, ◌<◌, lt_of_not-le, ⊎_elim}
+use Rattle.std.proofs.Common.{lt_of_not-le, ⊎_elim}
 use Rattle.key_freshness.specs.Laws.{HitIsFresh, LackingStands}
 use Rattle.key_freshness.proofs.MarkLemmas.{released-ended}
 

@@ -1,10 +1,10 @@
 -- Places of a log, and what stays where more is known.
-use Rattle.std.proofs.Common.{ℕ, zero, suc, ◌≡◌, ◌+◌, ◌≤◌, ◌<◌, List, [], ◌∷◌, ◌++◌, length, length-append, take, Some, slice_get, refl, sym, ap, subst, ◌∙◌, ◌⊎◌, inl, inr, ⊎_elim, append-nil, append_assoc, arith}
+use Rattle.std.proofs.Common.{ℕ, zero, suc, ◌≡◌, ◌≤◌, ◌<◌, List, [], ◌∷◌, ◌++◌, length, length-append, take, Some, slice_get, refl, sym, ap, subst, ◌∙◌, ◌⊎◌, inl, inr, ⊎_elim, append-nil, append_assoc, arith}
 use Rattle.std.proofs.lemmas.Option.{slice_get_within}
 use Rattle.rows_model.specs.declared.keys.QKey.{QKey}
 use Rattle.sql_keeper.specs.declared.stores.Commit.{Commit}
 use Rattle.key_freshness.specs.Marks.{Mark}
-use Rattle.key_freshness.specs.Known.{Known, StandsAt, IsAmong, IsOver, IsMore, IsRuled}
+use Rattle.key_freshness.specs.Known.{Known, StandsAt, IsOver, IsMore, IsRuled}
 
 pub stands-front : {X : Type 0} (xs ys : List X) (place : ℕ) (x : X) → slice_get xs place ≡ Some x → slice_get (xs ++ ys) place ≡ Some x
 stands-front [] ys place x e = absurd cc
@@ -67,8 +67,15 @@ more-stood {old} {new} more place commit at lt =
 pub more-take : {old new : Known} → IsMore old new → (n : ℕ) → n ≤ length old.log → take n new.log ≡ take n old.log
 more-take {old} {new} more n le = ap (λ l. take n l) more.goes_on ∙ take-front old.log more.more n le
 
+-- a session that was over is over still
+pub over-more : {old new : Known} → IsMore old new → (who : ℕ) → IsOver old who → IsOver new who
+over-more {old} {new} more who (inl logged) =
+    inl (record { place = logged.place; commit = logged.commit; at = more-stands more logged.place logged.commit logged.at; own = logged.own })
+over-more {old} {new} more who (inr ended) = inr (more.kept who ended)
+
 -- a commit that is known now, of a session that was over then, was known then
-pub over-then : {old new : Known} (key : QKey) (marks : List Mark) → IsMore old new → IsRuled key marks new → (place : ℕ) (commit : Commit) → StandsAt new.log place commit → IsOver old commit.sid.number → place < length old.log
+pub over-then : {old new : Known} (key : QKey) (marks : List Mark) → IsMore old new → IsRuled key marks new
+    → (place : ℕ) (commit : Commit) → StandsAt new.log place commit → IsOver old commit.sid.number → place < length old.log
 over-then {old} {new} key marks more ruled place commit at (inl logged) =
     let e = ruled.once place logged.place commit logged.commit at (more-stands more logged.place logged.commit logged.at) (sym logged.own) in
     let lt = slice_get_within old.log logged.place logged.commit logged.at in omega (arith, e, lt)

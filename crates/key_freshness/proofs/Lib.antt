@@ -8,3 +8,5 @@ pub mod StepLemmas
 pub mod TieLemmas
 pub mod StoreLemmas
 pub mod RunningLemmas
+pub mod MomentSteps
+pub mod GrantMarks

@@ -1,18 +1,30 @@
 -- What stays held and right where more is known, what was known at a moment, and what is stored under a lease.
-use Rattle.std.proofs.Common.{ℕ, ◌≡◌, ◌+◌, ◌≤◌, ◌<◌, List, [], ◌∷◌, ◌++◌, length, take, None, Some, sym, ap, subst, ◌∙◌, ◌⊎◌, inl, inr, ⊎_elim, arith}
-use Rattle.key_freshness.specs.Marks.{Mark, Granted, Ended, Wrote, Has}
-use Rattle.key_freshness.specs.Known.{Known, IsMore}
+use Rattle.std.proofs.Common.{ℕ, List, [], ◌++◌, length, None, sym, ap, subst, ◌∙◌, inl, inr, ⊎_elim, arith}
+use Rattle.rows_model.specs.declared.keys.QKey.{QKey}
+use Rattle.key_freshness.specs.Marks.{Mark, Granted, Ended, Has}
+use Rattle.key_freshness.specs.Known.{Known, IsAmong, IsMore, IsRuled}
+use Rattle.key_freshness.specs.Held.{IsHeld}
 use Rattle.key_freshness.specs.Laws.{MoreIsHeld, MoreIsRight, KnownThen, StoredIsHeld, StoredIsLatest, StoredIsRight}
 use Rattle.key_freshness.proofs.MarkLemmas.{has-split}
 use Rattle.key_freshness.proofs.KnownLemmas.{take-whole, more-refl, more-trans, more-length, more-stood, more-take, over-then}
 
-pub more_is_held : MoreIsHeld
-more_is_held key marks old new stamp more ruled_old ruled_new held = record {
-  within = let k = more-length more in let h = held.within in omega (arith, k, h);
+-- a held entry stays held where more is known, and whoever ended since was ended without a commit
+pub held_later : (key : QKey) (more marks : List Mark) (old new : Known) (stamp : ℕ) → IsMore old new → IsRuled key marks old → IsRuled key (more ++ marks) new
+    → ((who token : ℕ) → Has (Ended who token) more → IsAmong who new.ended) → IsHeld key marks old stamp → IsHeld key (more ++ marks) new stamp
+held_later key more marks old new stamp grown ruled_old ruled_new ends held = record {
+  within = let k = more-length grown in let h = held.within in omega (arith, k, h);
   pending = λ place commit token at from touched ended.
-      let lt = over-then key marks more ruled_new place commit at (ruled_old.over commit.sid.number token ended) in
-      held.pending place commit token (more-stood more place commit at lt) from touched ended;
+      ⊎_elim
+      (λ since. ruled_new.apart place commit at (ends commit.sid.number token since))
+      (λ was.
+      let lt = over-then key (more ++ marks) grown ruled_new place commit at (ruled_old.over commit.sid.number token was) in
+      held.pending place commit token (more-stood grown place commit at lt) from touched was)
+      (has-split (Ended commit.sid.number token) more marks ended);
 }
+
+pub more_is_held : MoreIsHeld
+more_is_held key marks old new stamp more ruled_old ruled_new held =
+    held_later key [] marks old new stamp more ruled_old ruled_new (λ who token h. absurd h) held
 
 pub more_is_right : MoreIsRight
 more_is_right answer old new value stamp more within right = right ∙ ap answer (sym (more-take more stamp within))
@@ -24,9 +36,9 @@ known_then key mine then_marks marks then_known known moment since more ruled pl
     ⊎_elim
     (λ new. inl (since.only who granted.token new))
     (λ old. ⊎_elim
-        (λ m. inl m)
-        (λ ended. inr (over-then key marks more ruled place commit at (moment.ruled.over who granted.token ended)))
-        (moment.settled who granted.token old))
+    (λ m. inl m)
+    (λ ended. inr (over-then key marks more ruled place commit at (moment.ruled.over who granted.token ended)))
+    (moment.settled who granted.token old))
     (has-split (Granted who granted.token) since.more then_marks (subst (λ ms. Has (Granted who granted.token) ms) since.goes_on granted.mark))
 
 pub stored_is_latest : StoredIsLatest

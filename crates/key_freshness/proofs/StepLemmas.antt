@@ -1,20 +1,17 @@
 -- An honest step keeps the rule of each key, and its entry held or leaves none.
-use Rattle.std.proofs.Common.{ℕ, ◌≡◌, ◌≤◌, Bool, true, false, cond, List, [], ◌∷◌, ◌++◌, length, Option, None, Some, refl, sym, ap, subst, ◌∙◌, ◌⊎◌, inl, inr, ⊎_elim, ℤ, decimal, option_map}
+use Rattle.std.proofs.Common.{ℕ, ◌≡◌, Bool, true, false, cond, List, [], ◌∷◌, ◌++◌, Option, None, Some, sym, subst, inr, ⊎_elim, ℤ, decimal, option_map}
 use Rattle.rows_model.specs.declared.keys.QKey.{QKey}
-use Rattle.rows_model.specs.Changes.{touches}
 use Rattle.rows_model.specs.Key.{same_key}
 use Rattle.rows_model.specs.Shift.{shifted}
 use Rattle.rows_model.proofs.SameKey.{same_key-true}
 use Rattle.key_shard.specs.declared.steps.Step.{Step}
 use Rattle.key_shard.specs.declared.steps.Step.TheVariants as step
-use Rattle.key_shard.specs.declared.steps.Ended.{Ended as How}
 use Rattle.key_shard.specs.declared.steps.Ended.TheVariants as ended
-use Rattle.key_shard.specs.Past.{entry, entry_ended, entry_shifted, is_evicted, evicted_by}
-use Rattle.sql_keeper.specs.declared.stores.Commit.{Commit}
-use Rattle.key_freshness.specs.Marks.{Mark, Granted, Ended, Leased, Wrote, Has, marks_by, marks_of, writes_by}
-use Rattle.key_freshness.specs.Known.{Known, StandsAt, IsAmong, IsOver, IsRuled}
+use Rattle.key_shard.specs.Past.{entry, entry_shifted, is_evicted}
+use Rattle.key_freshness.specs.Marks.{Mark, Granted, Ended, Leased, Wrote, Has, marks_of}
+use Rattle.key_freshness.specs.Known.{Known, IsAmong, IsRuled}
 use Rattle.key_freshness.specs.Held.{IsHeld, IsEntryHeld}
-use Rattle.key_freshness.specs.Laws.{IsHonest, StepsKeep}
+use Rattle.key_freshness.specs.Laws.{StepsKeep}
 use Rattle.key_freshness.proofs.MarkLemmas.{by_test}
 use Rattle.key_freshness.proofs.RuleLemmas.{ended-same, ruled-append, ruled-wrote, ruled-ended, held-append}
 
@@ -71,14 +68,16 @@ granted_quiet : (who token : ℕ) → IsQuiet (Granted who token ∷ [])
 granted_quiet who token = ((λ other its. ⊎_elim (λ e. absurd cc) (λ h. h)), λ stamp. ⊎_elim (λ e. absurd cc) (λ h. h))
 
 -- an entry stays held where a session that was ended without a commit ends its quarantine
-kept_held : (key : QKey) (known : Known) (marks : List Mark) (who token : ℕ) (found : Option (List ℕ × ℕ)) → IsAmong who known.ended → IsRuled key marks known → IsEntryHeld key marks known found → IsEntryHeld key (Ended who token ∷ marks) known found
+kept_held : (key : QKey) (known : Known) (marks : List Mark) (who token : ℕ) (found : Option (List ℕ × ℕ)) → IsAmong who known.ended
+    → IsRuled key marks known → IsEntryHeld key marks known found → IsEntryHeld key (Ended who token ∷ marks) known found
 kept_held key known marks who token None over ruled held = tt
 kept_held key known marks who token (Some found) over ruled held =
     held-append key (Ended who token ∷ []) marks known found.1
     (λ place commit its at from touched. ⊎_elim (λ e. ruled.apart place commit at (subst (λ n. IsAmong n known.ended) (ended-same e) over)) (λ h. h))
     held
 
-shifted_held : (key : QKey) (known : Known) (marks : List Mark) (by : ℤ) (stamp : ℕ) (found : Option (List ℕ × ℕ)) → IsHeld key marks known stamp → IsEntryHeld key marks known (entry_shifted by stamp found)
+shifted_held : (key : QKey) (known : Known) (marks : List Mark) (by : ℤ) (stamp : ℕ) (found : Option (List ℕ × ℕ)) → IsHeld key marks known stamp
+    → IsEntryHeld key marks known (entry_shifted by stamp found)
 shifted_held key known marks by stamp None held = tt
 shifted_held key known marks by stamp (Some found) held = moved (shifted found.0 by)
   where
@@ -87,12 +86,14 @@ shifted_held key known marks by stamp (Some found) held = moved (shifted found.0
     moved (Some n) = held
 
 -- what was brought for the key that the step is on is brought for this one
-on_key : (key on : QKey) (known : Known) (more : List Mark) (past : List Step) (stamp : ℕ) → same_key key on ≡ true → IsHeld on (more ++ marks_of on past) known stamp → IsHeld key (more ++ marks_of key past) known stamp
+on_key : (key on : QKey) (known : Known) (more : List Mark) (past : List Step) (stamp : ℕ) → same_key key on ≡ true
+    → IsHeld on (more ++ marks_of on past) known stamp → IsHeld key (more ++ marks_of key past) known stamp
 on_key key on known more past stamp same = subst (λ k. IsHeld k (more ++ marks_of k past) known stamp) (sym (same_key-true key on same))
 
 pub steps_keep : StepsKeep
 steps_keep key known past (step.Hit on sid floor value stamp) honest ruled held = quiet_stays key known (marks_of key past) ruled [] (same_key key on) (entry key past) held_quiet held
-steps_keep key known past (step.Lease on sid floor now token deadline) honest ruled held = missed_stays key known (marks_of key past) ruled (Leased token ∷ []) (same_key key on) (entry key past) (leased_quiet token) held
+steps_keep key known past (step.Lease on sid floor now token deadline) honest ruled held =
+    missed_stays key known (marks_of key past) ruled (Leased token ∷ []) (same_key key on) (entry key past) (leased_quiet token) held
 steps_keep key known past (step.Again on sid floor now stands) honest ruled held = missed_stays key known (marks_of key past) ruled [] (same_key key on) (entry key past) held_quiet held
 steps_keep key known past (step.Own on sid) honest ruled held = quiet_stays key known (marks_of key past) ruled [] (same_key key on) (entry key past) held_quiet held
 steps_keep key known past (step.Stored on token now value stamp evicted) honest ruled held =

@@ -1,12 +1,10 @@
 -- A commit that was quarantined, and an end without a commit, keep the rule.
-use Rattle.std.proofs.Common.{ℕ, ◌≡◌, ◌+◌, ◌≤◌, true, List, [], ◌∷◌, ◌++◌, length, length-append, Some, slice_get, sym, ap, subst, ◌∙◌, ◌⊎◌, inl, inr, ⊎_elim, append-nil, arith}
-use Rattle.rows_model.specs.declared.keys.QKey.{QKey}
+use Rattle.std.proofs.Common.{ℕ, ◌≡◌, true, [], ◌∷◌, ◌++◌, length-append, sym, ap, subst, ◌∙◌, inl, inr, ⊎_elim, append-nil, arith}
 use Rattle.rows_model.specs.Changes.{touches}
 use Rattle.sql_keeper.specs.declared.stores.Commit.{Commit}
-use Rattle.key_freshness.specs.Marks.{Mark}
-use Rattle.key_freshness.specs.Known.{Known, IsAmong, IsLogged, IsOver, IsMore, IsRuled, WasGranted}
+use Rattle.key_freshness.specs.Known.{Known, IsAmong, IsMore, WasGranted}
 use Rattle.key_freshness.specs.Laws.{with_commit, with_end, CommitsKeep, EndsKeep}
-use Rattle.key_freshness.proofs.KnownLemmas.{stands-front, stands-pushed}
+use Rattle.key_freshness.proofs.KnownLemmas.{stands-pushed, over-more}
 
 -- one more commit is more
 pub more-commit : (known : Known) (commit : Commit) → IsMore known (with_commit known commit)
@@ -18,19 +16,16 @@ more-end known who = record { more = []; goes_on = sym (append-nil known.log); k
 
 pub commits_keep : CommitsKeep
 commits_keep key marks known commit ongoing granted ruled = record {
-  over = λ who token h. ⊎_elim
-      (λ logged. inl (record { place = logged.place; commit = logged.commit; at = stands-front known.log (commit ∷ []) logged.place logged.commit logged.at; own = logged.own }))
-      (λ ended. inr ended)
-      (ruled.over who token h);
+  over = λ who token h. over-more (more-commit known commit) who (ruled.over who token h);
   once = λ i j a b at bt same. ⊎_elim
       (λ old. ⊎_elim
-          (λ its. ruled.once i j a b old its same)
-          (λ last. absurd (ongoing (inl (record { place = i; commit = a; at = old; own = same ∙ sym (ap (λ c. c.sid.number) last.1) }))))
-          (stands-pushed known.log commit b j bt))
+      (λ its. ruled.once i j a b old its same)
+      (λ last. absurd (ongoing (inl (record { place = i; commit = a; at = old; own = same ∙ sym (ap (λ c. c.sid.number) last.1) }))))
+      (stands-pushed known.log commit b j bt))
       (λ last. ⊎_elim
-          (λ its. absurd (ongoing (inl (record { place = j; commit = b; at = its; own = sym same ∙ sym (ap (λ c. c.sid.number) last.1) }))))
-          (λ its. last.0 ∙ sym its.0)
-          (stands-pushed known.log commit b j bt))
+      (λ its. absurd (ongoing (inl (record { place = j; commit = b; at = its; own = sym same ∙ sym (ap (λ c. c.sid.number) last.1) }))))
+      (λ its. last.0 ∙ sym its.0)
+      (stands-pushed known.log commit b j bt))
       (stands-pushed known.log commit a i at);
   apart = λ place c at h. ⊎_elim
       (λ old. ruled.apart place c old h)
@@ -45,7 +40,7 @@ commits_keep key marks known commit ongoing granted ruled = record {
 
 pub ends_keep : EndsKeep
 ends_keep key marks known who ongoing ruled = record {
-  over = λ other token h. ⊎_elim (λ logged. inl logged) (λ ended. inr (inr ended)) (ruled.over other token h);
+  over = λ other token h. over-more (more-end known who) other (ruled.over other token h);
   once = ruled.once;
   apart = λ place commit at. ⊎_elim
       (λ e. ongoing (record { place = place; commit = commit; at = at; own = sym e }))

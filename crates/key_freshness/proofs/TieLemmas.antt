@@ -1,10 +1,7 @@
 -- A step keeps marks and what a shard holds of a key tied.
-use Rattle.std.proofs.Common.{ℕ, ◌≡◌, ◌==◌, ◌&&◌, Bool, true, false, not, cond, List, [], ◌∷◌, ◌++◌, filter, Option, None, Some, refl, sym, ap, ap₂, subst, ◌∙◌, ◌⊎◌, inl, inr, ⊎_elim, ℤ, decimal, option_map, eq-eqb, append_assoc}
-use Rattle.std.specs.List.{list_any}
+use Rattle.std.proofs.Common.{ℕ, ◌≡◌, ◌==◌, ◌&&◌, Bool, true, false, not, cond, List, [], ◌∷◌, ◌++◌, filter, Option, None, Some, refl, sym, ap₂, subst, ◌∙◌, ◌⊎◌, inl, inr, ⊎_elim, ℤ, decimal, option_map, eq-eqb, append_assoc}
 use Rattle.std.proofs.lemmas.Bool.{cases_Bool, false≢true, eqb-true, and_parts, and_from, or_cases, or_left, or_right}
 use Rattle.std.proofs.lemmas.List.Folds.{list_any-append}
-use Rattle.rows_model.specs.declared.keys.QKey.{QKey}
-use Rattle.rows_model.specs.declared.keys.Sid.{Sid}
 use Rattle.rows_model.specs.Key.{same_key}
 use Rattle.rows_model.specs.Shift.{shifted}
 use Rattle.rows_model.proofs.SameKey.{same_key-true}
@@ -12,10 +9,9 @@ use Rattle.lease_table.specs.declared.records.Quar.{Quar}
 use Rattle.lease_table.specs.Leases.{has_token}
 use Rattle.key_shard.specs.declared.steps.Ended.{Ended as How}
 use Rattle.key_shard.specs.declared.steps.Ended.TheVariants as ended
-use Rattle.key_shard.specs.declared.steps.Step.{Step}
 use Rattle.key_shard.specs.declared.steps.Step.TheVariants as step
 use Rattle.key_shard.specs.Past.{standing, entry, entry_ended, entry_shifted, is_evicted, evicted_by}
-use Rattle.key_freshness.specs.Marks.{Mark, Granted, Ended, Leased, Wrote, Has, writes_by, marks_of, last_wrote}
+use Rattle.key_freshness.specs.Marks.{Mark, Granted, Ended, Leased, Wrote, Has, writes_by, marks_of}
 use Rattle.key_freshness.specs.Held.{IsTied, IsStamped, stands_as}
 use Rattle.key_freshness.specs.Laws.{StepsTie}
 use Rattle.key_freshness.proofs.MarkLemmas.{by_test, has-back, has-split}
@@ -33,13 +29,13 @@ stands-other who token gone [] apart h = h
 stands-other who token gone (x ∷ xs) apart h =
     by_test (λ b. x.token == gone ≡ b → stands_as who token (cond (not b) (x ∷ rest) rest) ≡ true) (x.token == gone)
     (λ e is. ⊎_elim
-        (λ here. absurd (apart (sym (eqb-true x.token token (and_parts (x.sid.number == who) (x.token == token) here).1) ∙ eqb-true x.token gone is)))
-        (λ there. stands-other who token gone xs apart there)
-        cases)
+    (λ here. absurd (apart (sym (eqb-true x.token token (and_parts (x.sid.number == who) (x.token == token) here).1) ∙ eqb-true x.token gone is)))
+    (λ there. stands-other who token gone xs apart there)
+    cases)
     (λ e is. ⊎_elim
-        (λ here. or_left ((x.sid.number == who) && (x.token == token)) (stands_as who token rest) here)
-        (λ there. or_right ((x.sid.number == who) && (x.token == token)) (stands_as who token rest) (stands-other who token gone xs apart there))
-        cases)
+    (λ here. or_left ((x.sid.number == who) && (x.token == token)) (stands_as who token rest) here)
+    (λ there. or_right ((x.sid.number == who) && (x.token == token)) (stands_as who token rest) (stands-other who token gone xs apart there))
+    cases)
     refl
   where
     rest : List Quar
@@ -95,7 +91,9 @@ module _ (marks : List Mark) (start : Option ℕ) (quars : List Quar) where
       → IsTied (cond b (Granted quar.sid.number quar.token ∷ []) [] ++ marks) start (cond b (quars ++ quar ∷ []) quars) found
   granted_tied true quar found tied = record {
     granted = λ who token. ⊎_elim
-        (λ e. inl (stands-back who token quars (quar ∷ []) (or_left _ false (and_from (quar.sid.number == who) (quar.token == token) (eq-eqb quar.sid.number who (same_who e)) (eq-eqb quar.token token (same_token e))))))
+        (λ e.
+        let this = and_from (quar.sid.number == who) (quar.token == token) (eq-eqb quar.sid.number who (same_who e)) (eq-eqb quar.token token (same_token e)) in
+        inl (stands-back who token quars (quar ∷ []) (or_left _ false this)))
         (λ h. ⊎_elim (λ s. inl (stands-front who token quars (quar ∷ []) s)) (λ d. inr (inr d)) (tied.granted who token h));
     stamped = granted_stamped quar.sid.number quar.token found tied.stamped;
   }
@@ -137,27 +135,27 @@ module _ (marks : List Mark) (start : Option ℕ) (quars : List Quar) where
   released_granted how sid token found own tied who its h =
       ⊎_elim
       (λ new. ⊎_elim (λ w. absurd (writes_only how who its w)) (λ k. ⊎_elim (λ e. absurd cc) (λ f. absurd f) k) (has-split (Granted who its) (writes_by how) (Ended sid token ∷ []) new))
-      (λ old. ⊎_elim
-          (λ stands. ⊎_elim
-              (λ is.
-                  let same = eqb-true its token is in
-                  let mine = own who (subst (λ t. stands_as who t quars ≡ true) same stands) in
-                  inr (has-front-ended mine same))
-              (λ other. inl (stands-other who its token quars (λ same. false≢true (sym other ∙ eq-eqb its token same)) stands))
-              (cases_Bool (its == token)))
-          (λ e. inr (has-back (Ended who its) more marks e))
-          (tied.granted who its old))
+      (λ old. ⊎_elim still (λ e. inr (has-back (Ended who its) more marks e)) (tied.granted who its old))
       (has-split (Granted who its) more marks h)
     where
       more : List Mark
       more = writes_by how ++ Ended sid token ∷ []
 
-      has-front-ended : who ≡ sid → its ≡ token → Has (Ended who its) (more ++ marks)
-      has-front-ended mine same =
-          subst (λ ms. Has (Ended who its) ms) (sym (append_assoc (writes_by how) (Ended sid token ∷ []) marks)) (has-back (Ended who its) (writes_by how) (Ended sid token ∷ marks) (inl (ap₂ Ended (sym mine) (sym same))))
+      has-new : who ≡ sid → its ≡ token → Has (Ended who its) (more ++ marks)
+      has-new mine same =
+          subst (λ ms. Has (Ended who its) ms) (sym (append_assoc (writes_by how) (Ended sid token ∷ []) marks))
+          (has-back (Ended who its) (writes_by how) (Ended sid token ∷ marks) (inl (ap₂ Ended (sym mine) (sym same))))
+
+      still : stands_as who its quars ≡ true → (stands_as who its (filter (λ quar. not (has_token token quar)) quars) ≡ true) ⊎ Has (Ended who its) (more ++ marks)
+      still stands =
+          ⊎_elim
+          (λ is. let same = eqb-true its token is in inr (has-new (own who (subst (λ t. stands_as who t quars ≡ true) same stands)) same))
+          (λ other. inl (stands-other who its token quars (λ same. false≢true (sym other ∙ eq-eqb its token same)) stands))
+          (cases_Bool (its == token))
 
   released_tied : (b gone : Bool) (how : How) (sid token : ℕ) (found : Option (List ℕ × ℕ)) → (b ≡ true → (who : ℕ) → stands_as who token quars ≡ true → who ≡ sid) → IsTied marks start quars found
-      → IsTied (cond b (writes_by how ++ Ended sid token ∷ []) [] ++ marks) start (cond b (filter (λ quar. not (has_token token quar)) quars) quars) (cond b (entry_ended how found) (cond gone None found))
+      → IsTied (cond b (writes_by how ++ Ended sid token ∷ []) [] ++ marks) start
+      (cond b (filter (λ quar. not (has_token token quar)) quars) quars) (cond b (entry_ended how found) (cond gone None found))
   released_tied true gone how sid token found own tied = record {
     granted = released_granted how sid token found (own refl) tied;
     stamped = ended_stamped how sid token found tied.stamped;

@@ -1,12 +1,11 @@
 -- What a writer puts or shifts after its own commit is held and right.
-use Rattle.std.proofs.Common.{ℕ, zero, suc, ◌≡◌, ◌+◌, ◌-◌, ◌≤◌, ◌<◌, Bool, true, false, List, [], ◌∷◌, ◌++◌, length, take, Option, None, Some, sym, ap, subst, ◌∙◌, ◌⊎◌, inl, inr, ⊎_elim, arith}
+use Rattle.std.proofs.Common.{ℕ, zero, suc, ◌≡◌, ◌+◌, ◌-◌, ◌≤◌, ◌<◌, Bool, true, false, List, length, take, Option, Some, sym, ap, subst, ◌∙◌, ◌⊎◌, inl, inr, ⊎_elim, arith}
 use Rattle.std.proofs.lemmas.Option.{slice_get_within}
-use Rattle.std.proofs.lemmas.Bool.{cases_Bool}
 use Rattle.rows_model.specs.declared.keys.QKey.{QKey}
 use Rattle.rows_model.specs.declared.changes.Change.{Change}
 use Rattle.rows_model.specs.Changes.{touches}
 use Rattle.sql_keeper.specs.declared.stores.Commit.{Commit}
-use Rattle.key_freshness.specs.Marks.{Mark, Ended, Wrote, Has}
+use Rattle.key_freshness.specs.Marks.{Mark, Ended, Has}
 use Rattle.key_freshness.specs.Known.{Known, StandsAt, IsMore, IsRuled}
 use Rattle.key_freshness.specs.Moments.{IsMoment, IsSince}
 use Rattle.key_freshness.specs.Held.{IsRight, LeavesUntouched, MakesNext}
@@ -66,7 +65,8 @@ made_next key who place stamp own then_marks marks then_known known answer next 
     let late = its.late in
     let lt = slice_get_within known.log place own its.at in
     let e : stamp + (place - stamp) ≡ place = omega (arith, within, late) in
-    let same : answer (take place known.log) ≡ old = ap (λ m. answer (take m known.log)) (sym e) ∙ unmoved key answer known.log stamp (place - stamp) leaves (omega (arith, e, lt)) (λ q commit at from before touched. quiet q commit at from (omega (arith, e, before)) touched) ∙ sym right in
+    let still = unmoved key answer known.log stamp (place - stamp) leaves (omega (arith, e, lt)) (λ q commit at from before touched. quiet q commit at from (omega (arith, e, before)) touched) in
+    let same : answer (take place known.log) ≡ old = ap (λ m. answer (take m known.log)) (sym e) ∙ still ∙ sym right in
     some_same (sym made ∙ ap (λ v. next own.txn v) (sym same) ∙ makes place own its.at)
   where
     quiet : (q : ℕ) (commit : Commit) → StandsAt known.log q commit → stamp ≤ q → q < place → touches commit.txn key ≡ true → ⊥
@@ -74,12 +74,12 @@ made_next key who place stamp own then_marks marks then_known known answer next 
         ⊎_elim
         (λ same. absurd (omega (arith, same, before)))
         (λ lt.
-            let stood = more-stood more q commit at lt in
-            let granted = moment.ruled.covered q commit stood touched in
-            ⊎_elim
-            (λ m. let same = ruled.once q place commit own at its.at (m ∙ sym its.mine) in absurd (omega (arith, same, before)))
-            (λ ended. pending q commit granted.token stood from touched ended)
-            (moment.settled commit.sid.number granted.token granted.mark))
+        let stood = more-stood more q commit at lt in
+        let granted = moment.ruled.covered q commit stood touched in
+        ⊎_elim
+        (λ m. let same = ruled.once q place commit own at its.at (m ∙ sym its.mine) in absurd (omega (arith, same, before)))
+        (λ ended. pending q commit granted.token stood from touched ended)
+        (moment.settled commit.sid.number granted.token granted.mark))
         (own_if_late key who place own then_marks marks then_known known moment since more ruled its q commit at touched)
 
 pub put_is_right : PutIsRight
@@ -91,8 +91,8 @@ pub shift_is_right : ShiftIsRight
 shift_is_right key who place stamp own then_marks marks then_known known answer next old new moment since more ruled held right before its leaves makes made =
     made_next key who place stamp own then_marks marks then_known known answer next old new moment since more ruled its
     (λ q commit token at from touched ended.
-        held.pending q commit token (more-stands more q commit at) from touched
-        (subst (λ ms. Has (Ended commit.sid.number token) ms) (sym since.goes_on) (has-back (Ended commit.sid.number token) since.more then_marks ended)))
+    held.pending q commit token (more-stands more q commit at) from touched
+    (subst (λ ms. Has (Ended commit.sid.number token) ms) (sym since.goes_on) (has-back (Ended commit.sid.number token) since.more then_marks ended)))
     right before leaves makes made
 
 pub written_before : WrittenBefore

@@ -1,6 +1,5 @@
 -- The laws of a key's freshness, over its marks and what is known of the store.
 use Rattle.std.specs.Prelude.{ℕ, ◌≡◌, ◌⊎◌, ◌+◌, ◌≤◌, ◌<◌, true, List, [], ◌∷◌, ◌++◌, length, Option, None, Some}
-use Rattle.std.specs.List.{AllPairs}
 use Rattle.rows_model.specs.declared.keys.QKey.{QKey}
 use Rattle.rows_model.specs.declared.changes.Change.{Change}
 use Rattle.rows_model.specs.Changes.{touches}
@@ -14,10 +13,10 @@ use Rattle.key_shard.specs.Past.{standing, entry}
 use Rattle.sql_keeper.specs.declared.stores.Commit.{Commit}
 use Rattle.sql_keeper.specs.Fresh.{IsFreshHit}
 use Rattle.sql_keeper.specs.Log.{rows_after}
-use Rattle.key_freshness.specs.Marks.{Mark, Granted, Ended, Wrote, Has, marks_of}
+use Rattle.key_freshness.specs.Marks.{Mark, Ended, Wrote, Has, marks_of}
 use Rattle.key_freshness.specs.Known.{Known, IsAmong, StandsAt, IsLogged, IsOver, IsMore, WasGranted, IsRuled}
 use Rattle.key_freshness.specs.Moments.{IsMine, IsMoment, IsSince}
-use Rattle.key_freshness.specs.Held.{IsHeld, IsRight, LeavesUntouched, MakesNext, IsEntryHeld, IsEntryRight, IsTied, IsStamped, stands_as}
+use Rattle.key_freshness.specs.Held.{IsHeld, IsRight, LeavesUntouched, MakesNext, IsEntryHeld, IsTied, IsStamped, stands_as}
 
 -- A held entry stays held where more is known.
 abbrev pub MoreIsHeld : Type 0
@@ -174,13 +173,15 @@ EndsKeep =
     (key : QKey) (marks : List Mark) (known : Known) (who : ℕ) → (IsLogged known.log who → ⊥) → IsRuled key marks known
     → IsRuled key marks (with_end known who)
 
--- The running case: what was known at the lease, asked with and known at the set may each be more than the one before, by commits of whichever sessions. What was stored then is fresh for every hit later, against the most that is known.
+-- The running case: what was known at the lease, asked with and known at the set may each be more than the one before, by commits of whichever sessions.
+-- What was stored then is fresh for every hit later, against the most that is known, where each quarantine that ended since is of a session that was ended without a commit.
 abbrev pub RunningHitIsFresh : Type 0
 RunningHitIsFresh =
-    (key : QKey) (opening : Tables) (then_past past later : List Step) (then_known asked known later_known : Known) (value : List ℕ)
+    (key : QKey) (opening : Tables) (then_past past later : List Step) (then_known asked known later_known : Known) (value : List ℕ) (since : List Mark)
     → IsMoment key None (marks_of key then_past) then_known → IsSince None (marks_of key then_past) (marks_of key past)
     → IsMore then_known asked → IsMore asked known → IsRuled key (marks_of key past) known
     → value ≡ query.answer key (rows_after opening asked.log)
-    → marks_of key later ≡ Wrote (length asked.log) ∷ marks_of key past
+    → marks_of key later ≡ since ++ Wrote (length asked.log) ∷ marks_of key past
+    → ((who token : ℕ) → Has (Ended who token) since → IsAmong who later_known.ended)
     → IsMore known later_known → IsRuled key (marks_of key later) later_known
     → IsFreshHit opening later_known.log later key value (length asked.log)

@@ -1,5 +1,5 @@
 -- What the steps of a shard mark on one key. Marks are listed with the latest first.
-use Rattle.std.specs.Prelude.{ℕ, ◌≡◌, ◌⊎◌, if◌then◌else◌, List, [], ◌∷◌, ◌++◌, flat_map, Option, None, Some}
+use Rattle.std.specs.Prelude.{ℕ, ◌≡◌, ◌⊎◌, if◌then◌else◌, List, [], ◌∷◌, ◌++◌, flat_map, Option, Some}
 use Rattle.rows_model.specs.declared.keys.QKey.{QKey}
 use Rattle.rows_model.specs.Key.{same_key}
 use Rattle.key_shard.specs.declared.steps.Ended.TheVariants as ended
@@ -7,7 +7,8 @@ use Rattle.key_shard.specs.declared.steps.Ended as ends
 use Rattle.key_shard.specs.declared.steps.Step.{Step}
 use Rattle.key_shard.specs.declared.steps.Step.TheVariants as step
 
--- A mark of a key. A session is told by its number: it was granted a quarantine under this token, or that quarantine ended. A lease to read was given under this token. A value was written with this stamp: stored, put, or shifted.
+-- A mark of a key. A session is told by its number: it was granted a quarantine under this token, or that quarantine ended.
+-- A lease to read was given under this token. A value was written with this stamp: stored, put, or shifted.
 pub data Mark : Type 0 where
   Granted : (who token : ℕ) → Mark
   Ended : (who token : ℕ) → Mark

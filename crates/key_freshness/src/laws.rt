@@ -48,7 +48,8 @@ pub fn store_events_keep()
 {}
 
 /// Two knowledges of one store, the shorter at the lease and the longer at the set, with commits of
-/// others between them: the hit is fresh against the longer.
+/// others between them: each hit on what was set is fresh against whatever more is known by then, also
+/// while quarantines stand on the key.
 pub fn running_hits_are_fresh()
     ensures { RunningHitIsFresh }
 {}

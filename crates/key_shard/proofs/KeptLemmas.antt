@@ -89,12 +89,16 @@ IsOut-granted terms past out shift now deadline home next below = record {
   where
     new : Quar
     new = record { sid = out.sid; mode = out.mode; token = out.token; deadline = deadline; shift = shift }
+
     step : Step
     step = Granted out.key out.sid out.mode shift now out.token deadline
+
     one_more : count_by draws (step ∷ past) ≡ 1 + count_by draws past
     one_more = sum_by-cons (λ s. cond (draws s) 1 0) step past
+
     found : quar_of out.key out.token (step ∷ past) ≡ Some new
     found = ap (λ b. find (has_token out.token) (cond b (standing out.key past ++ new ∷ []) (standing out.key past))) (same_key-refl out.key) ∙ found-last new (standing out.key past) below
+
     the_one : (quar : Quar) → Some new ≡ Some quar → IsOf (permit_of terms.no out) quar
     the_one quar e = let same : new ≡ quar = cc in subst (IsOf (permit_of terms.no out)) same (record { sid = refl; mode = refl })
 

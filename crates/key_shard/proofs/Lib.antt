@@ -1,6 +1,10 @@
+pub mod CaseLemmas
 pub mod EndLemmas
 pub mod KeptLemmas
+pub mod LegalLemmas
 pub mod LookLemmas
+pub mod OneStepLemmas
+pub mod ModeLemmas
 pub mod OrderLemmas
 pub mod OutLemmas
 pub mod PlaceLemmas

@@ -92,10 +92,13 @@ stood-granted terms past on sid mode shift now drawn deadline next key token qua
   where
     new : Quar
     new = record { sid = sid; mode = mode; token = drawn; deadline = deadline; shift = shift }
+
     apart : (drawn == token) ≡ false
     apart = let lower : token < drawn = omega (arith, low, next) in below-apart drawn token lower
+
     same : find (has_token token) (standing key past ++ new ∷ []) ≡ find (has_token token) (standing key past)
     same = find-append (has_token token) (standing key past) (new ∷ []) ∙ ap (option_or (find (has_token token) (standing key past))) (found-one token new false apart) ∙ or-none (find (has_token token) (standing key past))
+
     by : (b : Bool) → find (has_token token) (cond b (standing key past ++ new ∷ []) (standing key past)) ≡ Some quar → quar_of key token past ≡ Some quar
     by true h = sym same ∙ h
     by false h = h

@@ -6,6 +6,9 @@ pub use Rattle.lease_table.specs.Leases
 pub mod Permit
 pub mod Past
 pub mod Answers
+pub mod LegalStands
+pub mod OneStep
+pub mod Modes
 pub mod Shards
 pub mod Replies
 pub mod Kept

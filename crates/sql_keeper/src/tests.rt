@@ -1,13 +1,17 @@
-ghost use Rattle.std.specs.Prelude.{◌≤◌};
+ghost use Rattle.std.specs.Prelude.{◌≡◌, ◌≤◌, Some, IfOk};
+ghost use Rattle.sql_keeper.specs.Faults.{FewFailed};
 
-use crate::{AfterFault, CommitFault, KeepFault, MapKeeper, Place, Store};
+use crate::{AfterFault, CommitFault, KeepFault, MapKeeper, Place, Start, Store};
 use key_shard::{Grant, How, QAnswer, Shard};
 use lease_table::Mode;
 use rows_model::{Change, Kind, Memory, Name, QKey, Sid, Txn};
 use std::alloc::Global;
+use std::marker::Brand;
 use std::process::Abort;
 use std::slice;
+use std::sync::{Mutex, Wait};
 use std::test::Fail;
+use std::thread::{Threads, join};
 
 fn profile(id: u32) -> QKey {
     QKey {
@@ -211,5 +215,39 @@ fn hands_back_a_keeper_that_did_not_start(rt: HostRuntime) -> Result<(), Fail> {
     };
     assert_eq!(rt; none.cause, KeepFault::Failed);
     assert!(rt; Store::new(alloc, none.keeper, &Place::Fresh, 3, 8).is_ok());
+    Ok(())
+}
+
+// Two threads ask a store under a lock. How many calls failed is no more than the keeper counted, as
+// the name of the count at the start tells once the threads have ended.
+fn asked_by_two<N: Start + Send + Sync, R: Threads + Wait + Abort + Sync>(
+    rt: &R,
+    alloc: Global,
+    keeper: MapKeeper,
+) -> (u64, MapKeeper)
+    requires { N.count ≡ Some keeper.faults }
+    ensures { FewFailed (Some keeper.faults) result.0 result.1.faults }
+{
+    let store = match Store::new(alloc, keeper, &Place::Fresh, 3, 8) {
+        Ok(store) => Mutex::new(store.named::<N>()),
+        Err(none) => panic!(rt; "{:?}", none.cause),
+    };
+    join(
+        rt,
+        || { let _ = store.lock(rt).ask(&profile(1)); },
+        || { let _ = store.lock(rt).ask(&profile(2)); },
+    );
+    let store = store.into_inner();
+    let failed = store.failed();
+    let (keeper, _, _) = store.into_parts();
+    (failed, keeper)
+}
+
+#[test]
+fn knows_after_the_threads_that_what_failed_was_counted(rt: HostRuntime) -> Result<(), Fail> {
+    let alloc = rt.alloc();
+    let keeper = MapKeeper::new(Vec::from_slice(alloc, &[2, 3])?);
+    let (failed, _) = asked_by_two::<Brand, _>(&rt, alloc, keeper);
+    assert_eq!(rt; failed, 2);
     Ok(())
 }

@@ -72,11 +72,6 @@ returns-in-Err-clause-there c =
     let entry : Entry = record { key = c.args.key; value = c.args.value; stamp = c.args.stamp } in
     rw (← c.self.view_is, absent) (λ h. h)
 
-pub returns-in-Err-clause-full : goal.returns-in-Err-clause-full
-returns-in-Err-clause-full c =
-    let es = c.self.inside.entries.items in
-    rw (← c.self.view_is) (λ h. absurd (omega (arith, h, length-shown_all es, c.self.inside.entries.ok.0)))
-
 pub invariant_of-self-2 : goal.invariant_of-self-2
 invariant_of-self-2 c =
     let es = c.self.inside.entries.items in

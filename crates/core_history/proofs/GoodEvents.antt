@@ -1,0 +1,83 @@
+-- What an event has to bring, so that the rule of each key stands and what is held stays held.
+use Rattle.std.proofs.Common.{ℕ, ◌≡◌, true, false, List, [], ◌∷◌, length, Some, ◌⊎◌}
+use Rattle.rows_model.specs.declared.keys.QKey.{QKey}
+use Rattle.rows_model.specs.declared.keys.Sid.{Sid}
+use Rattle.rows_model.specs.Changes.{touches}
+use Rattle.rows_model.specs.Placement.{shard_of}
+use Rattle.lease_table.specs.declared.records.ReadLease.{ReadLease}
+use Rattle.key_shard.specs.declared.steps.Ended.TheVariants as ended
+use Rattle.key_shard.specs.declared.steps.Step.{Step}
+use Rattle.key_shard.specs.declared.steps.Step.TheVariants as step
+use Rattle.key_shard.specs.Past.{standing, recorded, entry}
+use Rattle.sql_keeper.specs.declared.stores.Answer.{Answer}
+use Rattle.key_freshness.specs.Marks.{key_of, marks_of}
+use Rattle.key_freshness.specs.Known.{IsAmong, IsLogged, IsOver, WasGranted}
+use Rattle.key_freshness.specs.Laws.{EndsItsOwn}
+use Rattle.session_client.specs.declared.plans.Shape.{Shape}
+use Rattle.session_client.specs.declared.replies.Reply.{Reply}
+use Rattle.session_client.specs.declared.replies.Reply.TheVariants as reply
+use Rattle.core_history.specs.Events.{Event, Stepped, Called, steps_of, commits_told, log_of, ends_told, ended_of, known_of}
+use Rattle.core_history.specs.Facts.{answers_under}
+
+-- The answer is among these.
+abbrev pub IsTold : Answer → List Answer → Type 0
+IsTold answered [] = ⊥
+IsTold answered (first ∷ answers) = (first ≡ answered) ⊎ IsTold answered answers
+
+-- A value that is stored is an answer that the session was told under the lease that is recorded.
+pub record SetsTold (past : List Event) (steps : List Step) (who : Sid) (on : QKey) (token : ℕ) (value : List ℕ) (stamp : ℕ) : Type 0 where
+  pub lease : ReadLease
+  pub is_recorded : recorded on steps ≡ Some lease
+  pub mine : lease.token ≡ token
+  pub answered : Answer
+  pub told : IsTold answered (answers_under on token who.number past)
+  pub value_is : value ≡ answered.value
+  pub stamp_is : stamp ≡ answered.stamp
+
+-- A step is good: a hit is the entry, what is stored was told, a lease is given where nothing stands, and whose quarantine ends is over, without a commit where the value is kept.
+abbrev pub IsGoodStep : List Event → List Step → Sid → Step → Type 0
+IsGoodStep past steps who (step.Stored on token now value stamp evicted) = SetsTold past steps who on token value stamp
+IsGoodStep past steps who (step.Lease on sid floor now token deadline) = standing on steps ≡ []
+IsGoodStep past steps who (step.Released on sid token ended.Keep) = IsAmong sid.number (ended_of past)
+IsGoodStep past steps who (step.Released on sid token ended.Drop) = IsOver (known_of past) sid.number
+IsGoodStep past steps who (step.Released on sid token (ended.Put value stamp evicted)) = ⊥
+IsGoodStep past steps who (step.Released on sid token (ended.Shift by stamp)) = ⊥
+IsGoodStep past steps who (step.Hit on sid floor value stamp) = entry on steps ≡ Some (value, stamp)
+IsGoodStep past steps who (step.Again on sid floor now stands) = Unit {0}
+IsGoodStep past steps who (step.Own on sid) = Unit {0}
+IsGoodStep past steps who (step.Void on token now) = Unit {0}
+IsGoodStep past steps who (step.Granted on sid mode shift now token deadline) = Unit {0}
+IsGoodStep past steps who (step.Held on sid mode) = Unit {0}
+IsGoodStep past steps who (step.Refused on sid mode holder held) = Unit {0}
+IsGoodStep past steps who (step.Gone on sid token) = Unit {0}
+
+-- So is its event, on the shard of its key: nothing is committed and nobody ended.
+pub record IsGoodStepped (shape : Shape) (past : List Event) (place : ℕ) (who : Sid) (s : Step) (told : Reply) : Type 0 where
+  pub home : place ≡ shard_of (key_of s) shape.shards
+  pub good : IsGoodStep past (steps_of place past) who s
+  pub own : EndsItsOwn (steps_of place past) s
+  pub no_commit : commits_told who told ≡ []
+  pub no_end : ends_told who told ≡ []
+
+-- A commit is good: its session isn't over, and was granted each key that it touches.
+pub record IsGoodCommit (shape : Shape) (past : List Event) (who : Sid) (touched : QKey → Type 0) : Type 0 where
+  pub opened : IsOver (known_of past) who.number → ⊥
+  pub granted : (key : QKey) → touched key → WasGranted (marks_of key (steps_of (shard_of key shape.shards) past)) who.number
+
+-- What the store told is good: an answer has the number of commits as its stamp, and who is told that it ended an open session hasn't committed.
+abbrev pub IsGoodCall : Shape → List Event → Sid → Reply → Type 0
+IsGoodCall shape past who (reply.Committed number txn grants) = IsGoodCommit shape past who (λ key. touches txn key ≡ true)
+IsGoodCall shape past who (reply.End true) = IsLogged (log_of past) who.number → ⊥
+IsGoodCall shape past who (reply.End false) = Unit {0}
+IsGoodCall shape past who (reply.Answer answered) = answered.stamp ≡ length (log_of past)
+IsGoodCall shape past who (reply.Got got) = Unit {0}
+IsGoodCall shape past who (reply.Set told) = Unit {0}
+IsGoodCall shape past who (reply.Quar told) = Unit {0}
+IsGoodCall shape past who (reply.NotCommitted fault txn grants) = Unit {0}
+IsGoodCall shape past who (reply.Rel told) = Unit {0}
+IsGoodCall shape past who (reply.Fault fault) = Unit {0}
+IsGoodCall shape past who reply.Nothing = Unit {0}
+
+abbrev pub IsGoodEvent : Shape → List Event → Event → Type 0
+IsGoodEvent shape past (Stepped place who request s told) = IsGoodStepped shape past place who s told
+IsGoodEvent shape past (Called who request told) = IsGoodCall shape past who told
