@@ -36,23 +36,23 @@ not_ended n who other apart = refl
 -- a session that was told nothing has not committed, and was not ended
 never_committed : (n : ℕ) (past : List Event) → told_to n past ≡ [] → has_committed n past ≡ false
 never_committed n [] none = refl
-never_committed n (event ∷ past) none = by ((who_in event).number == n) refl none
+never_committed n (event ∷ past) none = by ((who_in event).number == n) refl (never_committed n past) none
   where
-    by : (b : Bool) → ((who_in event).number == n) ≡ b → cond b (reply_in event ∷ []) [] ++ told_to n past ≡ [] → has_committed n (event ∷ past) ≡ false
-    by true same more = absurd cc
-    by false apart more =
+    by : (b : Bool) → ((who_in event).number == n) ≡ b → (told_to n past ≡ [] → has_committed n past ≡ false) → cond b (reply_in event ∷ []) [] ++ told_to n past ≡ [] → has_committed n (event ∷ past) ≡ false
+    by true same before more = absurd cc
+    by false apart before more =
         list_any-append (λ commit. commit.sid.number == n) (log_of past) (commits_told (who_in event) (reply_in event))
-        ∙ ap (λ (b : Bool). b || list_any (λ commit. commit.sid.number == n) (commits_told (who_in event) (reply_in event))) (never_committed n past more) ∙ not_committed n (who_in event) (reply_in event) apart
+        ∙ ap (λ (b : Bool). b || list_any (λ commit. commit.sid.number == n) (commits_told (who_in event) (reply_in event))) (before more) ∙ not_committed n (who_in event) (reply_in event) apart
 
 never_ended : (n : ℕ) (past : List Event) → told_to n past ≡ [] → was_ended n past ≡ false
 never_ended n [] none = refl
-never_ended n (event ∷ past) none = by ((who_in event).number == n) refl none
+never_ended n (event ∷ past) none = by ((who_in event).number == n) refl (never_ended n past) none
   where
-    by : (b : Bool) → ((who_in event).number == n) ≡ b → cond b (reply_in event ∷ []) [] ++ told_to n past ≡ [] → was_ended n (event ∷ past) ≡ false
-    by true same more = absurd cc
-    by false apart more =
+    by : (b : Bool) → ((who_in event).number == n) ≡ b → (told_to n past ≡ [] → was_ended n past ≡ false) → cond b (reply_in event ∷ []) [] ++ told_to n past ≡ [] → was_ended n (event ∷ past) ≡ false
+    by true same before more = absurd cc
+    by false apart before more =
         list_any-append (λ other. other == n) (ends_told (who_in event) (reply_in event)) (ended_of past)
-        ∙ ap (λ (b : Bool). b || was_ended n past) (not_ended n (who_in event) (reply_in event) apart) ∙ never_ended n past more
+        ∙ ap (λ (b : Bool). b || was_ended n past) (not_ended n (who_in event) (reply_in event) apart) ∙ before more
 
 beyond : {X : Type 0} (xs : List X) (place : ℕ) → length xs ≤ place → slice_get xs place ≡ None
 beyond [] place h = refl

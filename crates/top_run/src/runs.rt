@@ -163,7 +163,6 @@ fn replay<W: Sink, K: Keeper>(alloc: Global, script: &Script, sink: &mut W, keep
         result.opening ≡ None → K.is_started result.keeper → K.is_started keeper }
     ensures writes {
         RoseWhere (is_write_fault result.status) (W.faults sink.old) (W.faults sink.new) }
-    ensures done { result.status ≡ Status.Done → K.faults result.keeper ≡ K.faults keeper }
     ensures sink_never_falls { W.faults sink.old ≤ W.faults sink.new }
     ensures keeper_never_falls { K.faults keeper ≤ K.faults result.keeper }
 {
@@ -204,7 +203,6 @@ fn play_on<W: Sink, K: Keeper>(
     ensures began { IsSome result.opening }
     ensures writes {
         RoseWhere (is_write_fault result.status) (W.faults sink.old) (W.faults sink.new) }
-    ensures done { result.status ≡ Status.Done → K.faults result.keeper ≡ core.store.faults }
     ensures sink_never_falls { W.faults sink.old ≤ W.faults sink.new }
     ensures keeper_never_falls { core.store.faults ≤ K.faults result.keeper }
 {
