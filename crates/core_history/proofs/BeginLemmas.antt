@@ -1,6 +1,8 @@
 -- How a core follows a session that begins.
 use Rattle.std.proofs.Common.{ℕ, zero, suc, ◌+◌, ◌-◌, ◌≡◌, ◌<◌, ◌≤◌, ◌==◌, ◌&&◌, ◌||◌, Bool, true, false, not, cond, List, [], ◌∷◌, ◌++◌, length, map, count_by, Option, Some, None, IsSome, slice_get, refl, sym, ap, subst, ◌∙◌, ⊎_elim, length-append, arith}
+use Rattle.std.specs.List.{list_any}
 use Rattle.std.proofs.lemmas.Bool.{cases_lt}
+use Rattle.std.proofs.lemmas.List.Folds.{list_any-append}
 use Rattle.std.proofs.lemmas.List.{length-map}
 use Rattle.rows_model.specs.declared.keys.Sid.{Sid}
 use Rattle.rows_model.specs.Rows.{Tables}
@@ -9,30 +11,48 @@ use Rattle.sql_keeper.specs.Sessions.{may_commit as may, is_open as may_commit, 
 use Rattle.sql_keeper.specs.Stores.{Ledger, with_session}
 use Rattle.session_client.specs.Follows.{plan_of, sid_of, IsReady, Follows}
 use Rattle.session_client.specs.Plans.{IsPlan, writes}
-use Rattle.session_client.specs.Wants.{was_committed}
+use Rattle.session_client.specs.declared.replies.Reply.{Reply}
+use Rattle.session_client.specs.declared.replies.Reply.TheVariants as reply
 use Rattle.session_client.specs.declared.plans.Plan.{Plan}
 use Rattle.session_client.specs.declared.sessions.Session.{Session}
 use Rattle.key_shard.specs.Shards.{ShardView}
 use Rattle.core_history.specs.Cores.{Origin, CoreView, HasShards, HasPhases, RoseBy, IsAt, AreFollowing}
-use Rattle.core_history.specs.Events.{Event, who_in, request_in, reply_in, is_end, told_to, was_ended, has_committed}
+use Rattle.core_history.specs.Events.{Event, who_in, reply_in, commits_told, ends_told, told_to, log_of, ended_of, was_ended, has_committed}
 use Rattle.core_history.specs.Lines.{is_fault}
 use Rattle.core_history.specs.Machine.{World, Move, Begin, is_writer, is_open, begun, world_of}
 use Rattle.core_history.proofs.CoresLemmas.{NoneUnbegun, follow_begun, none_begun, plans_begun}
-use Rattle.core_history.proofs.EventLemmas.{committed-told}
 use Rattle.core_history.proofs.OpenLemmas.{phase_there}
 use Rattle.core_history.proofs.ShardsLemmas.{slice_get_push, slice_get_pushed}
 
+-- what another session was told is no commit of this one, and no end
+not_committed : (n : ℕ) (who : Sid) (told : Reply) → (who.number == n) ≡ false → list_any (λ commit. commit.sid.number == n) (commits_told who told) ≡ false
+not_committed n who (reply.Committed number txn grants) apart = ap (λ (b : Bool). b || false) apart
+not_committed n who other apart = refl
+
+not_ended : (n : ℕ) (who : Sid) (told : Reply) → (who.number == n) ≡ false → list_any (λ other. other == n) (ends_told who told) ≡ false
+not_ended n who (reply.End true) apart = ap (λ (b : Bool). b || false) apart
+not_ended n who other apart = refl
+
 -- a session that was told nothing has not committed, and was not ended
 never_committed : (n : ℕ) (past : List Event) → told_to n past ≡ [] → has_committed n past ≡ false
-never_committed n past none = committed-told n past ∙ ap was_committed none
+never_committed n [] none = refl
+never_committed n (event ∷ past) none = by ((who_in event).number == n) refl (never_committed n past) none
+  where
+    by : (b : Bool) → ((who_in event).number == n) ≡ b → (told_to n past ≡ [] → has_committed n past ≡ false) → cond b (reply_in event ∷ []) [] ++ told_to n past ≡ [] → has_committed n (event ∷ past) ≡ false
+    by true same before more = absurd cc
+    by false apart before more =
+        list_any-append (λ commit. commit.sid.number == n) (log_of past) (commits_told (who_in event) (reply_in event))
+        ∙ ap (λ (b : Bool). b || list_any (λ commit. commit.sid.number == n) (commits_told (who_in event) (reply_in event))) (before more) ∙ not_committed n (who_in event) (reply_in event) apart
 
 never_ended : (n : ℕ) (past : List Event) → told_to n past ≡ [] → was_ended n past ≡ false
 never_ended n [] none = refl
-never_ended n (event ∷ past) none = by ((who_in event).number == n) (never_ended n past) none
+never_ended n (event ∷ past) none = by ((who_in event).number == n) refl (never_ended n past) none
   where
-    by : (b : Bool) → (told_to n past ≡ [] → was_ended n past ≡ false) → cond b (reply_in event ∷ []) [] ++ told_to n past ≡ [] → (cond b (is_end (request_in event)) false || was_ended n past) ≡ false
-    by true more e = absurd cc
-    by false more e = more e
+    by : (b : Bool) → ((who_in event).number == n) ≡ b → (told_to n past ≡ [] → was_ended n past ≡ false) → cond b (reply_in event ∷ []) [] ++ told_to n past ≡ [] → was_ended n (event ∷ past) ≡ false
+    by true same before more = absurd cc
+    by false apart before more =
+        list_any-append (λ other. other == n) (ends_told (who_in event) (reply_in event)) (ended_of past)
+        ∙ ap (λ (b : Bool). b || was_ended n past) (not_ended n (who_in event) (reply_in event) apart) ∙ before more
 
 beyond : {X : Type 0} (xs : List X) (place : ℕ) → length xs ≤ place → slice_get xs place ≡ None
 beyond [] place h = refl
@@ -108,6 +128,7 @@ core_begun old new origin moves plan session at is_plan plan_is number ready fol
           cap = ap (λ (l : Ledger). l.cap) ledger ∙ store.cap;
           failed = ap (λ (l : Ledger). l.failed) ledger ∙ store.failed;
           faults = subst (λ (n : ℕ). RoseBy (count_by is_fault world.past) origin.faults n) (sym faults) store.faults;
+          quiet = λ none. faults ∙ store.quiet none;
           telling = λ is_told. store.telling (subst (λ (o : Option Tables). IsSome o) told is_told);
           truth = λ is_told. store.truth (subst (λ (o : Option Tables). IsSome o) told is_told);
         };

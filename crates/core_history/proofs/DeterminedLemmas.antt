@@ -1,5 +1,9 @@
 -- Two runs of one script take the same turns: move by move, the latest first.
-use Rattle.std.proofs.Common.{◌≡◌, ℕ, List, [], ◌∷◌, length, map, Option, Some, None, refl, sym, ap, subst, ◌∙◌}
+use Rattle.std.proofs.Common.{◌≡◌, ℕ, suc, ◌+◌, ◌<◌, ◌==◌, ◌||◌, Bool, true, false, cond, List, [], ◌∷◌, ◌++◌, length, map, count_by, Option, Some, None, refl, sym, ap, subst, ◌∙◌, append-nil, length-append, eq-eqb, arith, rules}
+use Rattle.std.specs.List.{list_any}
+use Rattle.std.proofs.lemmas.Bool.{false≢true}
+use Rattle.std.proofs.lemmas.List.{append_cancel_right}
+use Rattle.std.proofs.lemmas.List.Folds.{list_any-append}
 use Rattle.rows_model.specs.declared.keys.QKey.{QKey}
 use Rattle.rows_model.specs.declared.keys.Sid.{Sid}
 use Rattle.rows_model.specs.declared.changes.Change.{Change}
@@ -15,8 +19,9 @@ use Rattle.session_client.specs.declared.replies.Wanted.TheVariants as wanted
 use Rattle.core_history.specs.Events.{Event, Called, reply_in, log_of}
 use Rattle.core_history.specs.Machine.{World, Move, Begin, Take, Said, Value, Made, Rejected, is_open, log_cap, begun, taken, turn_event, event_of, wanted_of, ask_told, commit_said, commit_by, world_of}
 use Rattle.core_history.specs.Truth.{IsTrueReply, IsTruePast}
-use Rattle.core_history.specs.Lines.{tells_fault, is_fault}
+use Rattle.core_history.specs.Lines.{tells_fault, is_fault, fault_turns}
 use Rattle.core_history.specs.Determined.{call_of, Turns, Adds, RunsAreDetermined}
+use Rattle.core_history.proofs.ListLemmas.{count-cons, tick}
 
 module _ {A : Type 0} where
   heads : (x y : A) (xs ys : List A) → x ∷ xs ≡ y ∷ ys → x ≡ y
@@ -98,6 +103,67 @@ module _ (shape : Shape) (opening : Tables) where
       let P : Sid → Type 0 = λ sid. IsTrueTurn other sid word → is_fault (turned world who said) ≡ is_fault (turned other sid word) → taken shape world (turn.Session who) said ≡ taken shape other (turn.Session sid) word in
       subst P same (turn_same world other who said word rest one.0) two.0 (heads _ _ _ _ faults)
 
+-- two runs of one script take as many turns
+turns_same : (shape : Shape) (moves others : List Move) → map call_of moves ≡ map call_of others → length (world_of shape moves).past ≡ length (world_of shape others).past
+turns_same shape [] [] calls = refl
+turns_same shape [] (move ∷ others) calls = absurd cc
+turns_same shape (move ∷ moves) [] calls = absurd cc
+turns_same shape (Begin plan ∷ moves) (Begin again ∷ others) calls = turns_same shape moves others (tails (Adds plan) (Adds again) _ _ calls)
+turns_same shape (Begin plan ∷ moves) (Take turn said ∷ others) calls = absurd (let head = heads (Adds plan) (Turns turn) _ _ calls in cc)
+turns_same shape (Take turn said ∷ moves) (Begin plan ∷ others) calls = absurd (let head = heads (Turns turn) (Adds plan) _ _ calls in cc)
+turns_same shape (Take (turn.Session who) said ∷ moves) (Take (turn.Session again) word ∷ others) calls =
+    ap suc (turns_same shape moves others (tails (Turns (turn.Session who)) (Turns (turn.Session again)) _ _ calls))
+
+-- the turns that were answered FAULT are among those that were taken
+turns_within : (past : List Event) → list_any (λ k. k == length past + 1) (fault_turns past) ≡ false
+turns_within past = beyond past (length past + 1) (omega arith)
+  where
+    beyond : (past : List Event) (number : ℕ) → length past < number → list_any (λ k. k == number) (fault_turns past) ≡ false
+    beyond [] number above = refl
+    beyond (event ∷ past) number above =
+        list_any-append (λ k. k == number) (fault_turns past) (cond (is_fault event) ((length past + 1) ∷ []) [])
+        ∙ ap (λ b. b || list_any (λ k. k == number) (cond (is_fault event) ((length past + 1) ∷ []) [])) (beyond past number (omega (arith, above)))
+        ∙ last (is_fault event)
+      where
+        last : (b : Bool) → list_any (λ k. k == number) (cond b ((length past + 1) ∷ []) []) ≡ false
+        last true = let apart : (length past + 1 == number) ≡ false = grind (arith, rules) in ap (λ b. b || false) apart
+        last false = refl
+
+-- whether a turn was answered FAULT is told by the list
+pub marks_same : (one two : List Event) → length one ≡ length two → fault_turns one ≡ fault_turns two → map is_fault one ≡ map is_fault two
+marks_same [] [] count same = refl
+marks_same [] (event ∷ two) count same = absurd cc
+marks_same (event ∷ one) [] count same = absurd cc
+marks_same (event ∷ one) (other ∷ two) count same =
+    let shorter : length one ≡ length two = omega (arith, count) in
+    let both = by (is_fault event) (is_fault other) (length one) (length two) (fault_turns one) (fault_turns two) shorter (turns_within one) (turns_within two) same in
+    ap (λ b. b ∷ map is_fault one) both.1 ∙ ap (λ l. is_fault other ∷ l) (marks_same one two shorter both.0)
+  where
+    last_of : (n : ℕ) (xs : List ℕ) → list_any (λ k. k == n + 1) (xs ++ (n + 1) ∷ []) ≡ true
+    last_of n xs = list_any-append (λ k. k == n + 1) xs ((n + 1) ∷ []) ∙ ap (λ b. list_any (λ k. k == n + 1) xs || (b || false)) (eq-eqb (n + 1) (n + 1) refl) ∙ or_true (list_any (λ k. k == n + 1) xs)
+      where
+        or_true : (b : Bool) → (b || (true || false)) ≡ true
+        or_true true = refl
+        or_true false = refl
+
+    by : (b c : Bool) (n m : ℕ) (xs ys : List ℕ) → n ≡ m → list_any (λ k. k == n + 1) xs ≡ false → list_any (λ k. k == m + 1) ys ≡ false → xs ++ cond b ((n + 1) ∷ []) [] ≡ ys ++ cond c ((m + 1) ∷ []) [] → (xs ≡ ys) × (b ≡ c)
+    by true true n m xs ys e low high same = (append_cancel_right xs ys ((n + 1) ∷ []) (same ∙ ap (λ k. ys ++ (k + 1) ∷ []) (sym e)), refl)
+    by false false n m xs ys e low high same = (append_cancel_right xs ys [] same, refl)
+    by true false n m xs ys e low high same =
+        absurd (false≢true (sym high ∙ ap (λ l. list_any (λ k. k == m + 1) l) (sym (append-nil ys) ∙ sym same) ∙ ap (λ k. list_any (λ j. j == k + 1) (xs ++ (n + 1) ∷ [])) (sym e) ∙ last_of n xs))
+    by false true n m xs ys e low high same =
+        absurd (false≢true (sym low ∙ ap (λ l. list_any (λ k. k == n + 1) l) (sym (append-nil xs) ∙ same) ∙ ap (λ k. list_any (λ j. j == k + 1) (ys ++ (m + 1) ∷ [])) e ∙ last_of m ys))
+
+-- as many turns were answered FAULT as there are FAULT lines
+pub turns_count : (past : List Event) → length (fault_turns past) ≡ count_by is_fault past
+turns_count [] = refl
+turns_count (event ∷ past) =
+    length-append (fault_turns past) (cond (is_fault event) ((length past + 1) ∷ []) []) ∙ by (is_fault event) (turns_count past) ∙ sym (count-cons is_fault event past)
+  where
+    by : (b : Bool) → length (fault_turns past) ≡ count_by is_fault past → length (fault_turns past) + length (cond b ((length past + 1) ∷ []) []) ≡ tick b + count_by is_fault past
+    by true e = omega (arith, e)
+    by false e = omega (arith, e)
+
 pub runs_determined : RunsAreDetermined
-runs_determined shape opening moves others calls one two faults =
-    ap (λ w. w.past) (worlds_same shape opening moves others calls one two faults)
+runs_determined shape opening moves others calls one two turns =
+    ap (λ w. w.past) (worlds_same shape opening moves others calls one two (marks_same (world_of shape moves).past (world_of shape others).past (turns_same shape moves others calls) turns))

@@ -10,36 +10,34 @@ use Rattle.sql_keeper.specs.declared.stores.Phase.{Phase}
 use Rattle.sql_keeper.specs.declared.stores.Phase.TheVariants.{Committed, Ended}
 use Rattle.sql_keeper.specs.Sessions.{may_commit as may, is_open as may_commit, with_phase, ended}
 use Rattle.session_client.specs.Grants.{GrantsView}
-use Rattle.session_client.specs.declared.replies.Reply.{Reply}
 use Rattle.session_client.specs.declared.replies.Reply.TheVariants as reply
 use Rattle.session_client.specs.declared.replies.Wanted.TheVariants as wanted
 use Rattle.core_history.specs.Cores.{HasPhases}
-use Rattle.core_history.specs.Events.{Event, Called, who_in, request_in, reply_in, commits_told, log_of, is_end, ends, was_ended, has_committed}
+use Rattle.core_history.specs.Events.{Event, Called, who_in, reply_in, commits_told, ends_told, log_of, ended_of, was_ended, has_committed}
 use Rattle.core_history.specs.Machine.{World, plan_at, is_writer, is_open}
 use Rattle.core_history.specs.Requests.{after}
 use Rattle.core_history.proofs.ShardsLemmas.{slice_get-set_same, slice_get-set_other}
-
-same_both : (b : Bool) → cond b false false ≡ false
-same_both true = refl
-same_both false = refl
 
 -- whether the session may commit, by what it is and did
 abbrev opened : Bool → Bool → Bool → Bool
 opened writer committed ended = writer && not committed && not ended
 
--- an event that is no commit and no end leaves each session as it was
-pub opens_same : (world : World) (event : Event) (who : Sid) → commits_told (who_in event) (reply_in event) ≡ [] → is_end (request_in event) ≡ false → is_open (after world event) who ≡ is_open world who
+-- whether this number is that
+abbrev same : ℕ → ℕ → Bool
+same number other = other == number
+
+-- an event that tells of no commit and of no end leaves each session as it was
+pub opens_same : (world : World) (event : Event) (who : Sid) → commits_told (who_in event) (reply_in event) ≡ [] → ends_told (who_in event) (reply_in event) ≡ [] → is_open (after world event) who ≡ is_open world who
 opens_same world event who no_commit no_end =
     let n = who.number in
     let writer = is_writer (plan_at n world.plans) in
     let mine : Commit → Bool = λ commit. commit.sid.number == n in
     let committed : has_committed n (event ∷ world.past) ≡ has_committed n world.past =
     ap (λ (l : List Commit). list_any mine (log_of world.past ++ l)) no_commit ∙ ap (list_any mine) (append-nil (log_of world.past)) in
-    let ended : ends n event ≡ false = ap (λ (b : Bool). cond ((who_in event).number == n) b false) no_end ∙ same_both ((who_in event).number == n) in
-    ap (λ (b : Bool). opened writer b (was_ended n (event ∷ world.past))) committed
-    ∙ ap (λ (b : Bool). opened writer (has_committed n world.past) (b || was_ended n world.past)) ended
+    let ended : was_ended n (event ∷ world.past) ≡ was_ended n world.past = ap (λ (l : List ℕ). list_any (same n) (l ++ ended_of world.past)) no_end in
+    ap (λ (b : Bool). opened writer b (was_ended n (event ∷ world.past))) committed ∙ ap (λ (b : Bool). opened writer (has_committed n world.past) b) ended
 
-pub phases_same : (phases : List Phase) (world : World) (event : Event) → HasPhases phases world → commits_told (who_in event) (reply_in event) ≡ [] → is_end (request_in event) ≡ false → HasPhases phases (after world event)
+pub phases_same : (phases : List Phase) (world : World) (event : Event) → HasPhases phases world → commits_told (who_in event) (reply_in event) ≡ [] → ends_told (who_in event) (reply_in event) ≡ [] → HasPhases phases (after world event)
 phases_same phases world event has no_commit no_end =
     record {
       count = has.count;
@@ -109,9 +107,6 @@ phases_committed phases world who txn grants number has some is_so =
     commits : (other : Sid) → has_committed other.number (event ∷ world.past) ≡ (has_committed other.number world.past || ((who.number == other.number) || false))
     commits other = list_any-append (λ commit. commit.sid.number == other.number) (log_of world.past) (record { sid = who; txn = txn } ∷ [])
 
-    ended_as : (other : Sid) → was_ended other.number (event ∷ world.past) ≡ was_ended other.number world.past
-    ended_as other = ap (λ (b : Bool). b || was_ended other.number world.past) (same_both (who.number == other.number))
-
     mine : (other : Sid) → 1 ≤ other.number → (who.number == other.number) ≡ true → may_commit other (with_phase who Committed phases) ≡ is_open (after world event) other
     mine other more same =
         let n : who.number ≡ other.number = eqb-true who.number other.number same in
@@ -126,37 +121,35 @@ phases_committed phases world who txn grants number has some is_so =
         let writer = is_writer (plan_at other.number world.plans) in
         let kept : has_committed other.number (event ∷ world.past) ≡ has_committed other.number world.past = commits other ∙ ap (λ (b : Bool). has_committed other.number world.past || (b || false)) apart ∙ or_none (has_committed other.number world.past) in
         phase_other who other Committed phases some more apart ∙ has.opens other more
-        ∙ sym (ap (λ (b : Bool). opened writer b (was_ended other.number (event ∷ world.past))) kept ∙ ap (λ (b : Bool). opened writer (has_committed other.number world.past) b) (ended_as other))
+        ∙ sym (ap (λ (b : Bool). opened writer b (was_ended other.number (event ∷ world.past))) kept)
 
--- the sessions after one was ended
-pub phases_ended : (phases : List Phase) (world : World) (who : Sid) (told : Reply) → commits_told who told ≡ [] → HasPhases phases world → 1 ≤ who.number →
-    HasPhases (ended who phases) (after world (Called who wanted.End told))
-phases_ended phases world who told no_commit has some = by (cases_Bool (may_commit who phases))
+-- the sessions after one was ended, and told whether it was open
+pub phases_ended : (phases : List Phase) (world : World) (who : Sid) → HasPhases phases world → 1 ≤ who.number →
+    HasPhases (ended who phases) (after world (Called who wanted.End (reply.End (is_open world who))))
+phases_ended phases world who has some = by (is_open world who) (has.opens who some)
   where
-    event : Event
-    event = Called who wanted.End told
+    event : Bool → Event
+    event was = Called who wanted.End (reply.End was)
 
-    committed_as : (n : ℕ) → has_committed n (event ∷ world.past) ≡ has_committed n world.past
-    committed_as n =
-        let mine : Commit → Bool = λ commit. commit.sid.number == n in
-        ap (λ (l : List Commit). list_any mine (log_of world.past ++ l)) no_commit ∙ ap (list_any mine) (append-nil (log_of world.past))
+    committed_as : (n : ℕ) → has_committed n (event true ∷ world.past) ≡ has_committed n world.past
+    committed_as n = ap (list_any (λ commit. commit.sid.number == n)) (append-nil (log_of world.past))
 
-    closed : (other : Sid) → (who.number == other.number) ≡ true → is_open (after world event) other ≡ false
+    closed : (other : Sid) → (who.number == other.number) ≡ true → is_open (after world (event true)) other ≡ false
     closed other same =
         let writer = is_writer (plan_at other.number world.plans) in
-        ap (λ (b : Bool). opened writer (has_committed other.number (event ∷ world.past)) (cond b true false || was_ended other.number world.past)) same
-        ∙ no_last writer (not (has_committed other.number (event ∷ world.past)))
+        ap (λ (b : Bool). opened writer (has_committed other.number (event true ∷ world.past)) (b || was_ended other.number world.past)) same
+        ∙ no_last writer (not (has_committed other.number (event true ∷ world.past)))
 
-    as_before : (other : Sid) → (who.number == other.number) ≡ false → is_open (after world event) other ≡ is_open world other
+    as_before : (other : Sid) → (who.number == other.number) ≡ false → is_open (after world (event true)) other ≡ is_open world other
     as_before other apart =
         let writer = is_writer (plan_at other.number world.plans) in
-        ap (λ (b : Bool). opened writer (has_committed other.number (event ∷ world.past)) (cond b true false || was_ended other.number world.past)) apart
+        ap (λ (b : Bool). opened writer (has_committed other.number (event true ∷ world.past)) (b || was_ended other.number world.past)) apart
         ∙ ap (λ (b : Bool). opened writer b (was_ended other.number world.past)) (committed_as other.number)
 
-    by : ((may_commit who phases ≡ true) ⊎ (may_commit who phases ≡ false)) → HasPhases (ended who phases) (after world event)
-    by (inl is_so) =
+    by : (was : Bool) → may_commit who phases ≡ was → HasPhases (ended who phases) (after world (event was))
+    by true is_so =
         let here : ended who phases ≡ with_phase who Ended phases = ap (λ (b : Bool). cond b (with_phase who Ended phases) phases) is_so in
-        let P : List Phase → Type 0 = λ xs. HasPhases xs (after world event) in
+        let P : List Phase → Type 0 = λ xs. HasPhases xs (after world (event true)) in
         let Q : Sid → Type 0 = λ s. may_commit s (with_phase who Ended phases) ≡ false in
         subst P (sym here) (record {
           count = length_phase who Ended phases ∙ has.count;
@@ -165,14 +158,7 @@ phases_ended phases world who told no_commit has some = by (cases_Bool (may_comm
               (λ apart. phase_other who other Ended phases some more apart ∙ has.opens other more ∙ sym (as_before other apart))
               (cases_Bool (who.number == other.number));
         })
-    by (inr isnt) =
+    by false isnt =
         let here : ended who phases ≡ phases = ap (λ (b : Bool). cond b (with_phase who Ended phases) phases) isnt in
-        let P : List Phase → Type 0 = λ xs. HasPhases xs (after world event) in
-        let Q : Sid → Type 0 = λ s. may_commit s phases ≡ false in
-        subst P (sym here) (record {
-          count = has.count;
-          opens = λ other more. ⊎_elim
-              (λ same. subst Q (sid_is who other (eqb-true who.number other.number same)) isnt ∙ sym (closed other same))
-              (λ apart. has.opens other more ∙ sym (as_before other apart))
-              (cases_Bool (who.number == other.number));
-        })
+        let P : List Phase → Type 0 = λ xs. HasPhases xs (after world (event false)) in
+        subst P (sym here) (phases_same phases world (event false) has refl refl)

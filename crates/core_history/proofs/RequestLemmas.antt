@@ -168,8 +168,8 @@ quarantine_belongs terms past key who answer = by (verdict (seen_by key who 0 pa
     by : (v : Verdict) → ShowsQuarantine terms past (quarantine_by terms past key who Invalidate (pos 0) 0 v) answer → IsQuarantineOf who key answer
     by verdicts.Same h = subst P (sym h) tt
     by verdicts.Refuse h = refused (holder_of key who past) h
-    by verdicts.Wait h = granted _ _ refl h
+    by verdicts.Wait h = subst P (sym h) tt
     by verdicts.Give h = granted _ _ refl h
     by verdicts.Void h = granted _ _ refl h
     by verdicts.Join h = granted _ _ refl h
-    by verdicts.Own h = granted _ _ refl h
+    by verdicts.Own h = subst P (sym h) tt

@@ -1,8 +1,11 @@
 -- What is so of a core at every end.
 use Rattle.std.proofs.Common.{ℕ, suc, ◌+◌, ◌≡◌, ◌≢◌, ◌<◌, List, [], ◌∷◌, length, map, reverse, Some, slice_get, refl, ap, subst, ◌∙◌, arith}
 use Rattle.std.specs.List.{range_with_len}
+use Rattle.std.specs.Option.{ForSome}
+use Rattle.rows_model.specs.Rows.{Tables}
 use Rattle.key_shard.specs.declared.steps.Step.{Step}
 use Rattle.key_shard.specs.Shards.{ShardView}
+use Rattle.sql_keeper.specs.Log.{rows_after}
 use Rattle.session_client.specs.declared.plans.Shape.{Shape}
 use Rattle.core_history.specs.Cores.{Origin, CoreView, HasShards, HasKept, IsSound, shard_after}
 use Rattle.core_history.specs.Events.{Event, steps_of}
@@ -31,13 +34,14 @@ histories_are shards shape past has =
     each_history shape past shards 0 (λ place below. has.each place (omega (arith, below, has.count)) ∙ ap (λ (n : ℕ). Some (shard_after shape past n)) (omega arith))
     ∙ ap (λ (n : ℕ). map (λ place. reverse (steps_of place past)) (range_with_len 0 n)) has.count
 
-pub sound : (core : CoreView) (origin : Origin) (moves : List Move) → HasKept core origin moves → IsSound core origin moves
-sound core origin moves kept =
+pub sound : (core : CoreView) (origin : Origin) (moves : List Move) → HasKept core origin moves → ForSome core.store.told (λ told. told ≡ rows_after core.store.ledger.opening core.store.ledger.log) → IsSound core origin moves
+sound core origin moves kept rows =
     let shape = origin.shape in
     let some : shape.shards ≢ 0 = λ e. absurd (omega (arith, kept.shards.fit.some_shards, e)) in
     record {
       log = kept.store.log;
       histories = histories_are core.shards shape (world_of shape moves).past kept.shards;
       lawful = runs_are_lawful_is shape moves some kept.plans;
+      rows = λ told is. rows told is ∙ ap (λ (t : Tables). rows_after t core.store.ledger.log) kept.store.opening ∙ ap (rows_after origin.opening) kept.store.log;
       fresh = λ told. (runs_fresh shape origin.opening moves some kept.plans (kept.store.truth told)).1;
     }

@@ -1,5 +1,5 @@
 -- How the store of a core follows an event.
-use Rattle.std.proofs.Common.{ℕ, min, ◌-◌, ◌^◌, ◌+◌, ◌≡◌, ◌≢◌, ◌≤◌, Bool, true, false, List, [], ◌∷◌, ◌++◌, length, count_by, Option, Some, None, IsSome, Result, Ok, Err, OnOk, IfOk, IfErr, refl, sym, ap, subst, ◌∙◌, inl, inr, append-nil, arith}
+use Rattle.std.proofs.Common.{ℕ, min, ◌-◌, ◌^◌, ◌+◌, ◌≡◌, ◌≢◌, ◌≤◌, Bool, true, false, List, [], ◌∷◌, ◌++◌, length, count_by, Option, Some, None, IsSome, Result, Ok, Err, OnOk, IfOk, IfErr, MatchResult, refl, sym, ap, subst, ◌∙◌, inl, inr, append-nil, arith}
 use Rattle.rows_model.specs.declared.changes.Change.{Change}
 use Rattle.rows_model.specs.declared.refusals.Memory.{Memory}
 use Rattle.rows_model.specs.declared.keys.Sid.{Sid}
@@ -13,18 +13,18 @@ use Rattle.sql_keeper.specs.declared.faults.CommitFault.{CommitFault}
 use Rattle.sql_keeper.specs.declared.faults.CommitFault.TheVariants as faults
 use Rattle.sql_keeper.specs.Log.{rows_after}
 use Rattle.sql_keeper.specs.Commits.{commit_fault}
-use Rattle.sql_keeper.specs.Stores.{Ledger, StoreView, with_call, with_commit, with_end, RoseIf, IsRefusal, IsTrueFault}
+use Rattle.sql_keeper.specs.Stores.{Ledger, StoreView, with_call, with_commit, with_end, IsRefusal, IsTrueFault}
 use Rattle.key_shard.specs.Permit.{Permit}
 use Rattle.sql_keeper.specs.declared.stores.Phase.{Phase}
 use Rattle.sql_keeper.specs.declared.stores.Phase.TheVariants.{Committed}
-use Rattle.sql_keeper.specs.Faults.{is_failure}
+use Rattle.sql_keeper.specs.Faults.{is_failure, Counts}
 use Rattle.sql_keeper.specs.Sessions.{is_open as may_commit, with_phase}
 use Rattle.session_client.specs.Grants.{GrantsView}
 use Rattle.session_client.specs.declared.replies.Reply.{Reply}
 use Rattle.session_client.specs.declared.replies.Reply.TheVariants as reply
 use Rattle.session_client.specs.declared.replies.Wanted.TheVariants as wanted
 use Rattle.core_history.specs.Cores.{Origin, HasStore, HasPhases, RoseBy}
-use Rattle.core_history.specs.Events.{Event, Called, who_in, reply_in, commits_told, log_of}
+use Rattle.core_history.specs.Events.{Event, Called, who_in, reply_in, commits_told, ends_told, log_of}
 use Rattle.core_history.specs.Lines.{is_fault, tells_fault}
 use Rattle.core_history.specs.Machine.{World, Said, Made, Rejected, Failed, shown, is_open, commit_by, log_cap}
 use Rattle.core_history.specs.Requests.{StandsStore, MakesCall, IsToldOfCommit, after}
@@ -32,25 +32,26 @@ use Rattle.core_history.proofs.OpenLemmas.{phases_same, phases_committed}
 use Rattle.core_history.specs.Truth.{IsTrueReply}
 use Rattle.core_history.proofs.ListLemmas.{count-cons, tick, zero_if}
 
--- a reply that tells of no commit and of no fault, and says nothing of the rows
+-- a reply that tells of no commit, of no end and of no fault, and says nothing of the rows
 pub record IsQuiet (who : Sid) (told : Reply) : Type 0 where
   pub commits : commits_told who told ≡ []
+  pub ends : ends_told who told ≡ []
   pub fault : tells_fault told ≡ false
   pub truth : (rows : Tables) → IsTrueReply rows told
 
 -- what a shard tells is so
 pub quiet_shown : (who : Sid) (terms : Terms) (past : List Step) (s : Step) → IsQuiet who (shown terms past s)
-quiet_shown who terms past (step.Hit key sid floor value stamp) = record { commits = refl; fault = refl; truth = λ rows. tt }
-quiet_shown who terms past (step.Lease key sid floor now token deadline) = record { commits = refl; fault = refl; truth = λ rows. tt }
-quiet_shown who terms past (step.Again key sid floor now standing) = record { commits = refl; fault = refl; truth = λ rows. tt }
-quiet_shown who terms past (step.Own key sid) = record { commits = refl; fault = refl; truth = λ rows. tt }
-quiet_shown who terms past (step.Stored key token now value stamp evicted) = record { commits = refl; fault = refl; truth = λ rows. tt }
-quiet_shown who terms past (step.Void key token now) = record { commits = refl; fault = refl; truth = λ rows. tt }
-quiet_shown who terms past (step.Granted key sid mode shift now token deadline) = record { commits = refl; fault = refl; truth = λ rows. tt }
-quiet_shown who terms past (step.Held key sid mode) = record { commits = refl; fault = refl; truth = λ rows. tt }
-quiet_shown who terms past (step.Refused key sid mode holder held) = record { commits = refl; fault = refl; truth = λ rows. tt }
-quiet_shown who terms past (step.Released key sid token how) = record { commits = refl; fault = refl; truth = λ rows. tt }
-quiet_shown who terms past (step.Gone key sid token) = record { commits = refl; fault = refl; truth = λ rows. tt }
+quiet_shown who terms past (step.Hit key sid floor value stamp) = record { commits = refl; ends = refl; fault = refl; truth = λ rows. tt }
+quiet_shown who terms past (step.Lease key sid floor now token deadline) = record { commits = refl; ends = refl; fault = refl; truth = λ rows. tt }
+quiet_shown who terms past (step.Again key sid floor now standing) = record { commits = refl; ends = refl; fault = refl; truth = λ rows. tt }
+quiet_shown who terms past (step.Own key sid) = record { commits = refl; ends = refl; fault = refl; truth = λ rows. tt }
+quiet_shown who terms past (step.Stored key token now value stamp evicted) = record { commits = refl; ends = refl; fault = refl; truth = λ rows. tt }
+quiet_shown who terms past (step.Void key token now) = record { commits = refl; ends = refl; fault = refl; truth = λ rows. tt }
+quiet_shown who terms past (step.Granted key sid mode shift now token deadline) = record { commits = refl; ends = refl; fault = refl; truth = λ rows. tt }
+quiet_shown who terms past (step.Held key sid mode) = record { commits = refl; ends = refl; fault = refl; truth = λ rows. tt }
+quiet_shown who terms past (step.Refused key sid mode holder held) = record { commits = refl; ends = refl; fault = refl; truth = λ rows. tt }
+quiet_shown who terms past (step.Released key sid token how) = record { commits = refl; ends = refl; fault = refl; truth = λ rows. tt }
+quiet_shown who terms past (step.Gone key sid token) = record { commits = refl; ends = refl; fault = refl; truth = λ rows. tt }
 
 -- a call of the keeper leaves all but the count of its failures
 record CallsSame (before after : Ledger) : Type 0 where
@@ -75,19 +76,20 @@ pub sessions_called : (b : Bool) (before after : Ledger) → after ≡ with_call
 sessions_called b before after is = (called_same b before after is).sessions
 
 -- the count of faults after a call
-rose_more : (b : Bool) (count before old new : ℕ) → RoseBy count before old → RoseIf b old new → old ≤ new → RoseBy (tick b + count) before new
-rose_more false count before old new (inl h) rose more = inl (omega arith)
-rose_more false count before old new (inr h) rose more = inr (h.0, omega (arith, h.1))
-rose_more true count before old new (inl h) (inl less) more = inl (omega arith)
-rose_more true count before old new (inl h) (inr last) more = inr (omega arith, omega arith)
+rose_more : (b : Bool) (count before old new : ℕ) → RoseBy count before old → Counts b old new → old ≤ new → RoseBy (tick b + count) before new
+rose_more false count before old new (inl h) same more = inl (omega arith)
+rose_more false count before old new (inr h) same more = inr (h.0, omega (arith, h.1))
+rose_more true count before old new (inl h) (inl less, most) more = inl (omega arith)
+rose_more true count before old new (inl h) (inr last, most) more = inr (omega arith, omega arith)
 rose_more true count before old new (inr h) rose more = inr (h.0, omega (arith, h.1))
 
-rose_on : (count before old new : ℕ) → RoseBy count before old → old ≤ new → RoseBy count before new
-rose_on count before old new (inl h) more = inl (omega arith)
-rose_on count before old new (inr h) more = inr (h.0, omega (arith, h.1))
+-- it is as at first where no call has failed
+quiet_more : (b : Bool) (count before old new : ℕ) → (count ≡ 0 → old ≡ before) → Counts b old new → tick b + count ≡ 0 → new ≡ before
+quiet_more true count before old new quiet rose none = absurd (omega (arith, none))
+quiet_more false count before old new quiet same none = same ∙ quiet (omega (arith, none))
 
 -- the store after a call that told this
-pub store_called : (old new : StoreView) (b : Bool) (origin : Origin) (past : List Event) (event : Event) → HasStore old origin past → new.ledger ≡ with_call b old.ledger → RoseIf b old.faults new.faults → old.faults ≤ new.faults →
+pub store_called : (old new : StoreView) (b : Bool) (origin : Origin) (past : List Event) (event : Event) → HasStore old origin past → new.ledger ≡ with_call b old.ledger → Counts b old.faults new.faults → old.faults ≤ new.faults →
     is_fault event ≡ b → commits_told (who_in event) (reply_in event) ≡ [] → (IsSome new.told → IsSome old.told) → (IsSome new.told → IsTrueReply (rows_after old.ledger.opening old.ledger.log) (reply_in event)) → HasStore new origin (event ∷ past)
 store_called old new b origin past event has ledger rose more fault no_commit told truth =
     let same = called_same b old.ledger new.ledger ledger in
@@ -101,6 +103,7 @@ store_called old new b origin past event has ledger rose more fault no_commit to
       cap = same.cap ∙ has.cap;
       failed = ap (λ (l : Ledger). l.failed) ledger ∙ failed_more b (count_by is_fault past) old.ledger has.failed ∙ ap (λ (n : ℕ). min n (2 ^ 64 - 1)) (sym count);
       faults = subst F (sym count) (rose_more b (count_by is_fault past) origin.faults old.faults new.faults has.faults rose more);
+      quiet = λ none. quiet_more b (count_by is_fault past) origin.faults old.faults new.faults has.quiet rose (sym count ∙ none);
       telling = λ is_told. has.telling (told is_told);
       truth = λ is_told. (subst T (ap (λ (rows : Tables). rows_after rows old.ledger.log) has.opening ∙ ap (rows_after origin.opening) has.log) (truth is_told), has.truth (told is_told));
     }
@@ -108,55 +111,58 @@ store_called old new b origin past event has ledger rose more fault no_commit to
 -- an event that asks the store nothing
 pub store_quiet : (store : StoreView) (origin : Origin) (past : List Event) (event : Event) → HasStore store origin past → IsQuiet (who_in event) (reply_in event) → HasStore store origin (event ∷ past)
 store_quiet store origin past event has quiet =
-    store_called store store false origin past event has refl tt (omega arith) quiet.fault quiet.commits (λ h. h) (λ h. quiet.truth _)
+    store_called store store false origin past event has refl refl (omega arith) quiet.fault quiet.commits (λ h. h) (λ h. quiet.truth _)
 
--- a store of which nothing but the count of faults has changed
-pub store_stays : (old new : StoreView) (origin : Origin) (past : List Event) → HasStore old origin past → new.ledger ≡ old.ledger → old.faults ≤ new.faults → (IsSome new.told → IsSome old.told) → HasStore new origin past
-store_stays old new origin past has ledger more told =
+-- a store of which nothing has changed, but perhaps that it tells its rows no more
+pub store_stays : (old new : StoreView) (origin : Origin) (past : List Event) → HasStore old origin past → new.ledger ≡ old.ledger → new.faults ≡ old.faults → (IsSome new.told → IsSome old.told) → HasStore new origin past
+store_stays old new origin past has ledger same told =
     record {
       opening = ap (λ (l : Ledger). l.opening) ledger ∙ has.opening;
       log = ap (λ (l : Ledger). l.log) ledger ∙ has.log;
       cap = ap (λ (l : Ledger). l.cap) ledger ∙ has.cap;
       failed = ap (λ (l : Ledger). l.failed) ledger ∙ has.failed;
-      faults = rose_on _ origin.faults old.faults new.faults has.faults more;
+      faults = subst (λ (n : ℕ). RoseBy (count_by is_fault past) origin.faults n) (sym same) has.faults;
+      quiet = λ none. same ∙ has.quiet none;
       telling = λ is_told. has.telling (told is_told);
       truth = λ is_told. has.truth (told is_told);
     }
 
 -- the store after a commit
-pub store_committed : (old new : StoreView) (origin : Origin) (past : List Event) (who : Sid) (txn : List Change) (event : Event) → HasStore old origin past → new.ledger ≡ with_commit who txn old.ledger → old.faults ≤ new.faults →
+pub store_committed : (old new : StoreView) (origin : Origin) (past : List Event) (who : Sid) (txn : List Change) (event : Event) → HasStore old origin past → new.ledger ≡ with_commit who txn old.ledger → new.faults ≡ old.faults →
     is_fault event ≡ false → commits_told (who_in event) (reply_in event) ≡ record { sid = who; txn = txn } ∷ [] → (IsSome new.told → IsSome old.told) → (IsSome new.told → IsTrueReply (rows_after old.ledger.opening old.ledger.log) (reply_in event)) → HasStore new origin (event ∷ past)
-store_committed old new origin past who txn event has ledger more fault commits told truth =
+store_committed old new origin past who txn event has ledger same fault commits told truth =
     let e = count-cons is_fault event past in
     let z = zero_if (is_fault event) fault in
     let count : count_by is_fault (event ∷ past) ≡ count_by is_fault past = omega (arith, e, z) in
-    let F : ℕ → Type 0 = λ n. RoseBy n origin.faults new.faults in
+    let F : ℕ → ℕ → Type 0 = λ n faults. RoseBy n origin.faults faults in
     let T : Tables → Type 0 = λ rows. IsTrueReply rows (reply_in event) in
     record {
       opening = ap (λ (l : Ledger). l.opening) ledger ∙ has.opening;
       log = ap (λ (l : Ledger). l.log) ledger ∙ ap (λ (l : List Commit). l ++ record { sid = who; txn = txn } ∷ []) has.log ∙ sym (ap (λ (l : List Commit). log_of past ++ l) commits);
       cap = ap (λ (l : Ledger). l.cap) ledger ∙ has.cap;
       failed = ap (λ (l : Ledger). l.failed) ledger ∙ has.failed ∙ ap (λ (n : ℕ). min n (2 ^ 64 - 1)) (sym count);
-      faults = subst F (sym count) (rose_on (count_by is_fault past) origin.faults old.faults new.faults has.faults more);
+      faults = subst (λ (n : ℕ). F n new.faults) (sym count) (subst (F (count_by is_fault past)) (sym same) has.faults);
+      quiet = λ none. same ∙ has.quiet (sym count ∙ none);
       telling = λ is_told. has.telling (told is_told);
       truth = λ is_told. (subst T (ap (λ (rows : Tables). rows_after rows old.ledger.log) has.opening ∙ ap (rows_after origin.opening) has.log) (truth is_told), has.truth (told is_told));
     }
 
 -- the store after a session was ended
-pub store_ended : (old new : StoreView) (origin : Origin) (past : List Event) (who : Sid) (told : Reply) → HasStore old origin past → new.ledger ≡ with_end who old.ledger → new.told ≡ old.told → new.faults ≡ old.faults →
-    commits_told who told ≡ [] → tells_fault told ≡ false → ((rows : Tables) → IsTrueReply rows told) → HasStore new origin (Called who wanted.End told ∷ past)
-store_ended old new origin past who told has ledger rows faults no_commit fault truth =
-    let P : Option Tables → Type 0 = λ o. IsSome o in
-    let between : HasStore new origin past = record {
+pub store_ended : (old new : StoreView) (origin : Origin) (past : List Event) (who : Sid) (was : Bool) → HasStore old origin past → new.ledger ≡ with_end who old.ledger → new.told ≡ old.told → new.faults ≡ old.faults → HasStore new origin (Called who wanted.End (reply.End was) ∷ past)
+store_ended old new origin past who was has ledger rows faults =
+    store_called new new false origin past (Called who wanted.End (reply.End was)) between refl refl (omega arith) refl refl (λ h. h) (λ is_told. tt)
+  where
+    between : HasStore new origin past
+    between = record {
       opening = ap (λ (l : Ledger). l.opening) ledger ∙ has.opening;
       log = ap (λ (l : Ledger). l.log) ledger ∙ has.log;
       cap = ap (λ (l : Ledger). l.cap) ledger ∙ has.cap;
       failed = ap (λ (l : Ledger). l.failed) ledger ∙ has.failed;
-      faults = rose_on _ origin.faults old.faults new.faults has.faults (omega (arith, faults));
-      telling = λ is_told. has.telling (subst P rows is_told);
-      truth = λ is_told. has.truth (subst P rows is_told);
-    } in
-    store_quiet new origin past (Called who wanted.End told) between (record { commits = no_commit; fault = fault; truth = truth })
+      faults = subst (λ (n : ℕ). RoseBy (count_by is_fault past) origin.faults n) (sym faults) has.faults;
+      quiet = λ none. faults ∙ has.quiet none;
+      telling = λ is_told. has.telling (subst (λ (o : Option Tables). IsSome o) rows is_told);
+      truth = λ is_told. has.truth (subst (λ (o : Option Tables). IsSome o) rows is_told);
+    }
 
 -- a reply of this fault tells of the keeper where the fault is that of one that failed
 fault_is : (fault : CommitFault) (txn : List Change) (grants : GrantsView) → tells_fault (reply.NotCommitted fault txn grants) ≡ is_failure fault
@@ -202,7 +208,7 @@ first_is store origin world who txn grants items stands some same =
 
 -- a commit was refused
 pub commit_refused : (old new : StoreView) (origin : Origin) (world : World) (who : Sid) (txn : List Change) (grants : GrantsView) (items : List Permit) (fault : CommitFault) → StandsStore old origin world → 1 ≤ who.number → items ≡ grants.items → fault ≢ faults.Memory →
-    IsRefusal (commit_fault (may_commit who old.ledger.sessions) who items txn (length old.ledger.log) old.ledger.cap) fault → new.ledger ≡ with_call (is_failure fault) old.ledger → RoseIf (is_failure fault) old.faults new.faults → old.faults ≤ new.faults →
+    IsRefusal (commit_fault (may_commit who old.ledger.sessions) who items txn (length old.ledger.log) old.ledger.cap) fault → new.ledger ≡ with_call (is_failure fault) old.ledger → Counts (is_failure fault) old.faults new.faults → old.faults ≤ new.faults →
     (IsSome new.told → IsSome old.told) → (IsSome new.told → IsTrueFault txn (rows_after old.ledger.opening old.ledger.log) fault) →
     MakesCall origin world who (wanted.Commit txn grants) new (Ok (reply.NotCommitted fault txn grants))
 commit_refused old new origin world who txn grants items fault stands some same more refusal ledger rose no_less told truth =
@@ -227,10 +233,10 @@ is_opened false who items txn count cap h = absurd cc
 
 -- a transaction was committed
 pub commit_made : (old new : StoreView) (origin : Origin) (world : World) (who : Sid) (txn : List Change) (grants : GrantsView) (items : List Permit) (number : ℕ) → StandsStore old origin world → 1 ≤ who.number → items ≡ grants.items →
-    commit_fault (may_commit who old.ledger.sessions) who items txn (length old.ledger.log) old.ledger.cap ≡ None → number ≡ length old.ledger.log + 1 → new.ledger ≡ with_commit who txn old.ledger → old.faults ≤ new.faults →
+    commit_fault (may_commit who old.ledger.sessions) who items txn (length old.ledger.log) old.ledger.cap ≡ None → number ≡ length old.ledger.log + 1 → new.ledger ≡ with_commit who txn old.ledger → new.faults ≡ old.faults →
     (IsSome new.told → IsSome old.told) → (IsSome new.told → (rows : Tables) × (apply_all txn (rows_after old.ledger.opening old.ledger.log) ≡ Ok rows)) →
     MakesCall origin world who (wanted.Commit txn grants) new (Ok (reply.Committed number txn grants))
-commit_made old new origin world who txn grants items number stands some same admitted numbered ledger no_less told truth =
+commit_made old new origin world who txn grants items number stands some same admitted numbered ledger same_count told truth =
     let request = wanted.Commit txn grants in
     let count = length (log_of world.past) in
     let none = sym (first_is old origin world who txn grants items stands some same) ∙ admitted in
@@ -244,7 +250,7 @@ commit_made old new origin world who txn grants items number stands some same ad
     let H : List Phase → Type 0 = λ xs. HasPhases xs (after world event) in
     let sessions : new.ledger.sessions ≡ with_phase who Committed old.ledger.sessions = ap (λ (l : Ledger). l.sessions) ledger in
     let there : StandsStore new origin (after world event) = (
-      store_committed old new origin world.past who txn event stands.0 ledger no_less refl refl told truth,
+      store_committed old new origin world.past who txn event stands.0 ledger same_count refl refl told truth,
       subst H (sym sessions) (phases_committed old.ledger.sessions world who txn grants number stands.1 some is_so),
     ) in
     (Made, is, subst S is there)
@@ -259,7 +265,7 @@ pub record SaysCommit (old new : StoreView) (who : Sid) (items : List Permit) (t
   pub tells : IsSome new.told → IsSome old.told
   pub applied : IsSome new.told → OnOk made ((rows : Tables) × (apply_all txn (rows_after old.ledger.opening old.ledger.log) ≡ Ok rows))
   pub rejected : IsSome new.told → IfErr made (λ back. IsTrueFault txn (rows_after old.ledger.opening old.ledger.log) back.0)
-  pub failed_rose : IfErr made (λ back. RoseIf (is_failure back.0) old.faults new.faults)
+  pub counts : MatchResult made (λ _. new.faults ≡ old.faults) (λ back. Counts (is_failure back.0) old.faults new.faults)
   pub never_falls : old.faults ≤ new.faults
 
 -- a commit was asked for
@@ -267,13 +273,14 @@ pub commit_makes : (old new : StoreView) (origin : Origin) (world : World) (who 
     SaysCommit old new who items txn made → IsToldOfCommit made txn grants told → MakesCall origin world who (wanted.Commit txn grants) new told
 commit_makes old new origin world who txn grants items (Ok number) told stands some same says is =
     let P : Result Reply Memory → Type 0 = λ r. MakesCall origin world who (wanted.Commit txn grants) new r in
-    subst P (sym is) (commit_made old new origin world who txn grants items number stands some same says.admitted says.number says.ledger says.never_falls says.tells says.applied)
+    subst P (sym is) (commit_made old new origin world who txn grants items number stands some same says.admitted says.number says.ledger says.counts says.tells says.applied)
 commit_makes old new origin world who txn grants items (Err back) (Ok told) stands some same says is =
     let P : Reply → Type 0 = λ r. MakesCall origin world who (wanted.Commit txn grants) new (Ok r) in
-    subst P (sym is.0) (commit_refused old new origin world who txn grants items back.0 stands some same is.1 says.refusal says.err says.failed_rose says.never_falls says.tells says.rejected)
+    subst P (sym is.0) (commit_refused old new origin world who txn grants items back.0 stands some same is.1 says.refusal says.err says.counts says.never_falls says.tells says.rejected)
 commit_makes old new origin world who txn grants items (Err back) (Err memory) stands some same says is =
     let ledger : new.ledger ≡ old.ledger = says.err ∙ ap (λ (f : CommitFault). with_call (is_failure f) old.ledger) is in
+    let same : new.faults ≡ old.faults = subst (λ (f : CommitFault). Counts (is_failure f) old.faults new.faults) is says.counts in
     let H : List Phase → Type 0 = λ xs. HasPhases xs world in (
-      store_stays old new origin world.past stands.0 ledger says.never_falls says.tells,
+      store_stays old new origin world.past stands.0 ledger same says.tells,
       subst H (sym (ap (λ (l : Ledger). l.sessions) ledger)) stands.1,
     )

@@ -1,5 +1,6 @@
 -- After which moves a core stands.
 use Rattle.std.specs.Prelude.{ℕ, min, ◌≡◌, ◌+◌, ◌-◌, ◌^◌, ◌≤◌, ◌<◌, ◌⊎◌, List, [], length, map, reverse, count_by, Some, slice_get, IsSome, Option}
+use Rattle.std.specs.Option.{ForSome}
 use Rattle.rows_model.specs.declared.keys.QKey.{QKey}
 use Rattle.rows_model.specs.declared.keys.Sid.{Sid}
 use Rattle.rows_model.specs.Rows.{Tables, Fit}
@@ -10,6 +11,7 @@ use Rattle.key_shard.specs.Answers.{IsAtHome}
 use Rattle.key_shard.specs.Shards.{ShardView, past_of}
 use Rattle.sql_keeper.specs.declared.stores.Phase.{Phase}
 use Rattle.sql_keeper.specs.Fresh.{Fresh}
+use Rattle.sql_keeper.specs.Log.{rows_after}
 use Rattle.sql_keeper.specs.Sessions.{is_open as may_commit}
 use Rattle.sql_keeper.specs.Stores.{StoreView}
 use Rattle.session_client.specs.declared.plans.Shape.{Shape}
@@ -46,6 +48,11 @@ pub record CoreView : Type 0 where
   pub shards : List ShardView
   pub sessions : List Session
 
+-- what a core of this shape was made with, that is new
+abbrev pub origin_of : Shape → CoreView → Origin
+origin_of shape core =
+    record { shape = shape; opening = core.store.ledger.opening; told = core.store.told; faults = core.store.faults }
+
 -- the shard of this number after these events
 abbrev pub shard_after : Shape → List Event → ℕ → ShardView
 shard_after shape past place =
@@ -61,13 +68,14 @@ pub record HasShards (shards : List ShardView) (shape : Shape) (past : List Even
 abbrev pub RoseBy : ℕ → ℕ → ℕ → Type 0
 RoseBy count before after = (before + count ≤ after) ⊎ ((before ≤ 2 ^ 64 - 1) × (2 ^ 64 - 1 ≤ after))
 
--- the store began with the opening rows, its log is that of these events, each call that failed was told as FAULT, and the keeper's count of faults rose with it. Where the keeper tells its rows, it told them from the start, and each of its replies was true
+-- the store began with the opening rows, its log is that of these events, each call that failed was told as FAULT, the keeper's count of faults rose with it, and is as at first where none failed. Where the keeper tells its rows, it told them from the start, and each of its replies was true
 pub record HasStore (store : StoreView) (origin : Origin) (past : List Event) : Type 0 where
   pub opening : store.ledger.opening ≡ origin.opening
   pub log : store.ledger.log ≡ log_of past
   pub cap : store.ledger.cap ≡ log_cap
   pub failed : store.ledger.failed ≡ min (count_by is_fault past) (2 ^ 64 - 1)
   pub faults : RoseBy (count_by is_fault past) origin.faults store.faults
+  pub quiet : count_by is_fault past ≡ 0 → store.faults ≡ origin.faults
   pub telling : IsSome store.told → IsSome origin.told
   pub truth : IsSome store.told → IsTruePast origin.opening past
 
@@ -101,11 +109,12 @@ pub record IsAt (core : CoreView) (origin : Origin) (moves : List Move) : Type 0
   pub phases : HasPhases core.store.ledger.sessions (world_of origin.shape moves)
   pub sessions : HasSessions core.sessions (world_of origin.shape moves)
 
--- what is so of the log and the histories of a core that stands after these moves, whatever its keeper said, and that no hit is stale where it tells its rows
+-- what is so of the log and the histories of a core that stands after these moves, whatever its keeper said. Where it tells its rows, they are the opening rows after the log, and no hit is stale
 pub record IsSound (core : CoreView) (origin : Origin) (moves : List Move) : Type 0 where
   pub log : core.store.ledger.log ≡ log_of (world_of origin.shape moves).past
   pub histories : map (λ shard. shard.history) core.shards ≡ histories_of origin.shape (world_of origin.shape moves).past
   pub lawful : IsLawful origin.shape (world_of origin.shape moves).past
+  pub rows : ForSome core.store.told (λ rows. rows ≡ rows_after origin.opening (log_of (world_of origin.shape moves).past))
   pub fresh : IsSome core.store.told → Fresh origin.opening (log_of (world_of origin.shape moves).past) (histories_of origin.shape (world_of origin.shape moves).past)
 
 -- how many shards the core has

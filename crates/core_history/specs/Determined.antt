@@ -6,7 +6,7 @@ use Rattle.session_client.specs.declared.plans.Shape.{Shape}
 use Rattle.session_client.specs.declared.plans.Turn.{Turn}
 use Rattle.core_history.specs.Machine.{Move, Begin, Take, world_of}
 use Rattle.core_history.specs.Truth.{IsTruePast}
-use Rattle.core_history.specs.Lines.{is_fault}
+use Rattle.core_history.specs.Lines.{fault_turns}
 
 -- What a script says of a move: a session begins, or a turn is taken. What the keeper says in it is no part of a script.
 pub data Call : Type 0 where
@@ -18,10 +18,10 @@ abbrev pub call_of : Move → Call
 call_of (Begin plan) = Adds plan
 call_of (Take turn said) = Turns turn
 
--- Two runs of one script have the same events, each with the same reply, where the keeper's word was true in both and the same turns were answered FAULT.
+-- Two runs of one script have the same events, each with the same reply, where the keeper's word was true in both over the same opening rows and the same turns were answered FAULT.
 abbrev pub RunsAreDetermined : Type 0
 RunsAreDetermined =
     (shape : Shape) (opening : Tables) (moves others : List Move) → map call_of moves ≡ map call_of others
     → IsTruePast opening (world_of shape moves).past → IsTruePast opening (world_of shape others).past
-    → map is_fault (world_of shape moves).past ≡ map is_fault (world_of shape others).past
+    → fault_turns (world_of shape moves).past ≡ fault_turns (world_of shape others).past
     → (world_of shape moves).past ≡ (world_of shape others).past

@@ -1,5 +1,5 @@
 -- What is printed: one line an event, and a last line that counts.
-use Rattle.std.specs.Prelude.{ℕ, Bool, true, false, List, [], ◌∷◌, ◌++◌, flat_map, reverse, length, count_by, Option, Some, None, codes, decimal}
+use Rattle.std.specs.Prelude.{ℕ, ◌+◌, Bool, true, false, if◌then◌else◌, List, [], ◌∷◌, ◌++◌, flat_map, reverse, length, count_by, Option, Some, None, codes, decimal}
 use Rattle.std.specs.List.{join_with_byte}
 use Rattle.rows_model.specs.declared.keys.QKey.{QKey}
 use Rattle.rows_model.specs.Key.{key_text}
@@ -137,6 +137,11 @@ tells_fault other = false
 
 abbrev pub is_fault : Event → Bool
 is_fault event = tells_fault (reply_in event)
+
+-- The turns that were answered FAULT, by their numbers, which count from 1: the lowest first.
+abbrev pub fault_turns : List Event → List ℕ
+fault_turns [] = []
+fault_turns (event ∷ past) = fault_turns past ++ (if is_fault event then (length past + 1) ∷ [] else [])
 
 abbrev pub is_hit : Step → Bool
 is_hit (step.Hit key sid floor value stamp) = true

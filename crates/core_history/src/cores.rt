@@ -1,10 +1,11 @@
 ghost use Rattle.std.specs.Prelude.{◌≡◌, ◌≢◌, ℕ, ◌+◌, ◌<◌, ◌≤◌, ◌^◌, ◌∷◌, ◌⊎◌, [], List, length, slice_get, Some, map, IfOk, IfErr, OnOk, OnErr, MatchResult, IsSome};
-ghost use Rattle.iq_outside.specs.Outside.{Rose};
+ghost use Rattle.std.specs.Option.{ForSome};
 ghost use Rattle.rows_model.specs.Rows.{start_tables};
 ghost use Rattle.session_client.specs.declared.plans.Turn.{Turn};
 ghost use Rattle.session_client.specs.Plans.{IsPlan, writes};
-ghost use Rattle.core_history.specs.Cores.{Origin, IsShape, HasShards, HasKept, IsAt, IsSound, IsRunning, HasBegun, shards_in, histories_in};
+ghost use Rattle.core_history.specs.Cores.{Origin, origin_of, IsShape, HasShards, HasKept, IsAt, IsSound, IsRunning, HasBegun, shards_in, histories_in};
 ghost use Rattle.core_history.specs.Machine.{Said, Move, Begin, Take, world_of, turn_event, log_cap};
+ghost use Rattle.sql_keeper.specs.Faults.{Counts, has_failed};
 ghost use Rattle.sql_keeper.specs.Stores.{opened};
 ghost use Rattle.core_history.specs.Told.{IsToldOf};
 
@@ -37,46 +38,48 @@ impl<K: Keeper> Model for Core<K> {
 }
 
 impl<K: Keeper> Core<K> {
-    /// A core of this shape, with no session. Its keeper is started at this place. Where that fails, or
-    /// memory runs out, the keeper comes back, with the cause.
+    /// A core of this shape, with no session. What needs memory is made before its keeper is started
+    /// at this place: so where memory runs out before, the keeper comes back as it was. Where it
+    /// doesn't start, it comes back with the cause, as `Store::new` gives it.
     pub fn new(alloc: Global, keeper: K, place: &Place, shape: Shape) -> Result<Core<K>, NoStore<K>>
         requires { IsShape shape }
-        ensures begins { IfOk result (λ core. IsAt core (record { shape = shape; opening = core.store.ledger.opening; told = core.store.told; faults = core.store.faults }) []) }
-        ensures fresh { place.now ≡ Place.Fresh → IfOk result (λ core. IsSome core.store.told → core.store.ledger.opening ≡ start_tables shape.members) }
-        ensures never_falls { MatchResult result (λ core. K.faults keeper ≤ core.store.faults) (λ none. K.faults keeper ≤ K.faults none.keeper) }
-        ensures kept { IfErr result (λ none. none.cause ≡ KeepFault.Failed → K.rows none.keeper ≡ K.rows keeper) }
-        ensures failed_rose { IfErr result (λ none. none.cause ≡ KeepFault.Failed → Rose (K.faults keeper) (K.faults none.keeper)) }
+        ensures begins { IfOk result (λ core. IsAt core (origin_of shape core) []) }
+        ensures held { IfOk result (λ core. IsSome core.store.told →
+            ForSome (K.holds keeper place.now shape.members) (λ held. core.store.ledger.opening ≡ held)) }
+        ensures fresh { place.now ≡ Place.Fresh →
+            OnOk result (K.holds keeper place.now shape.members ≡ Some (start_tables shape.members)) }
+        ensures counts { MatchResult result (λ core. core.store.faults ≡ K.faults keeper)
+            (λ none. Counts (has_failed none.cause) (K.faults keeper) (K.faults none.keeper)) }
+        ensures never_falls { IfErr result (λ none. K.faults keeper ≤ K.faults none.keeper) }
+        ensures kept { IfErr result (λ none. K.rows none.keeper ≡ K.rows keeper) }
+        ensures unstarted { IfErr result (λ none. K.is_started none.keeper → K.is_started keeper) }
     {
+        let Ok(shards) = shards_of(alloc, shape) else {
+            return Err(NoStore {
+                keeper,
+                cause: KeepFault::Memory,
+            });
+        };
         match Store::new(alloc, keeper, place, shape.members, LOG_CAP) {
-            Ok(store) => Core::over(alloc, store, shape),
+            Ok(store) => Ok(Core::over(alloc, store, shards, shape)),
             Err(none) => Err(none),
         }
     }
 
-    /// A core of this shape over a new store.
-    fn over(alloc: Global, store: Store<K>, shape: Shape) -> Result<Core<K>, NoStore<K>>
-        requires shape { IsShape shape }
+    /// A core over a new store and the shards of this shape.
+    fn over(alloc: Global, store: Store<K>, shards: Vec<Shard>, _shape: Shape) -> Core<K>
         requires opened { store.ledger ≡ opened store.ledger.opening log_cap }
-        ensures store { IfOk result (λ core. core.store ≡ store) }
-        ensures begins { IfOk result (λ core. IsAt core (record { shape = shape; opening = store.ledger.opening; told = store.told; faults = store.faults }) []) }
-        ensures err { IfErr result (λ none. (none.cause ≡ KeepFault.Memory) × (K.faults none.keeper ≡ store.faults)) }
+        requires shards { HasShards shards.items _shape [] }
+        ensures store { result.store ≡ store }
+        ensures begins { IsAt result (origin_of _shape result) [] }
     {
         // That the rows are fit is a clause of their reader.
         let _members = store.opening().members();
-        match shards_of(alloc, shape) {
-            Ok(shards) => Ok(Core {
-                alloc,
-                store,
-                shards,
-                sessions: Vec::new(alloc),
-            }),
-            Err(Memory) => {
-                let (keeper, _, _) = store.into_parts();
-                Err(NoStore {
-                    keeper,
-                    cause: KeepFault::Memory,
-                })
-            }
+        Core {
+            alloc,
+            store,
+            shards,
+            sessions: Vec::new(alloc),
         }
     }
 
@@ -172,6 +175,7 @@ impl<K: Keeper> Core<K> {
     /// Takes the core apart into its keeper, the rows that the keeper started with, the log and the
     /// shards. It takes no memory.
     pub fn into_parts(self) -> (K, Rows, Vec<Commit>, Vec<Shard>)
+        ensures started { K.is_started result.0 }
         ensures rows { K.rows result.0 ≡ self.store.told }
         ensures faults { K.faults result.0 ≡ self.store.faults }
         ensures opening { result.1 ≡ self.store.ledger.opening }

@@ -1,23 +1,28 @@
-use Rattle.std.proofs.Common.{ℕ, ◌≡◌, ◌^◌, ◌-◌, ◌<◌, ◌≤◌, List, [], map, reverse, arith, refl, sym, ap, ◌∙◌, subst, inl, inr}
-use Rattle.std.specs.Prelude.{Option, Some, IsSome, slice_get, option_map}
+use Rattle.std.proofs.Common.{ℕ, ◌≡◌, ◌^◌, ◌-◌, ◌<◌, ◌≤◌, List, [], ◌∷◌, ◌++◌, length, map, reverse, arith, refl, sym, ap, ◌∙◌, subst, inl, inr}
+use Rattle.std.specs.Prelude.{Option, Some, None, IsSome, slice_get, option_map, count_by}
 use Rattle.std.specs.Option.{ForSome}
-use Rattle.std.proofs.lemmas.List.{ext_get_or, length-map, reverse-reverse}
+use Rattle.std.proofs.lemmas.List.{ext_get_or, length-map, map-append, nil_from_length, reverse-append, reverse-reverse}
 use Rattle.std.proofs.lemmas.List.FromFn.{length-map-range_with_len, get_or-map-range_with_len}
 use Rattle.std.proofs.lemmas.Option.{get_or_from_slice_get, slice_get_within, slice_get-map}
 use Rattle.iq_outside.specs.Outside.{Rose}
-use Rattle.rows_model.specs.Rows.{Tables, start_tables}
+use Rattle.rows_model.specs.Rows.{Tables}
 use Rattle.key_shard.specs.declared.steps.Step.{Step}
 use Rattle.key_shard.specs.Shards.{ShardView}
 use Rattle.key_shard.specs.Answers.{IsLegalPast}
 use Rattle.sql_keeper.specs.declared.stores.Commit.{Commit}
 use Rattle.sql_keeper.specs.Fresh.{Fresh, Covered}
+use Rattle.sql_keeper.specs.Log.{rows_after}
 use Rattle.session_client.specs.declared.plans.Shape.{Shape}
+use Rattle.run_inputs.specs.declared.scripts.Act.{Act}
 use Rattle.core_history.specs.Events.{Event, steps_of, log_of}
-use Rattle.core_history.specs.Lines.{end_line}
+use Rattle.core_history.specs.Lines.{lines_of, end_line, is_fault, fault_turns}
 use Rattle.core_history.specs.Cores.{CoreView, Origin, HasShards, HasKept, IsSound, RoseBy, histories_in}
 use Rattle.core_history.specs.Freshness.{histories_of}
 use Rattle.core_history.specs.Machine.{Move, terms_of}
-use Rattle.top_run.specs.Runs.{past_of, Keeps, FewFaults}
+use Rattle.core_history.specs.Determined.{Call, call_of}
+use Rattle.core_history.specs.Truth.{IsTruePast}
+use Rattle.core_history.proofs.DeterminedLemmas.{runs_determined, turns_count}
+use Rattle.top_run.specs.Runs.{AreMoves, past_of, out, IsTheText, Held, IsOpened, Keeps, FewFaults}
 
 -- the history of a shard
 history_in : Shape → List Event → ℕ → List Step
@@ -58,9 +63,8 @@ for_some rows h = λ told is. h (subst (λ (r : Option Tables). IsSome r) (sym i
 
 -- what is kept of a run
 pub keeps : (core : CoreView) (origin : Origin) (moves : List Move) (rows : Option Tables) → HasKept core origin moves → IsSound core origin moves → rows ≡ core.store.told
-    → (IsSome origin.told → origin.opening ≡ start_tables origin.shape.members)
     → Keeps origin.shape origin.opening moves rows core.store.ledger.log (histories_in core)
-keeps core origin moves rows kept sound told fresh =
+keeps core origin moves rows kept sound told =
     let past = past_of origin.shape moves in
     record {
       log_is = sound.log;
@@ -72,12 +76,55 @@ keeps core origin moves rows kept sound told fresh =
           subst (λ (log : List Commit). Covered log (histories_in core)) (sym sound.log)
           (subst (Covered (log_of past)) (sym sound.histories) sound.lawful.covered);
       quarantined = sound.lawful.quarantined;
-      opened = for_some rows (λ some. fresh (kept.store.telling (subst (λ (r : Option Tables). IsSome r) told some)));
+      rows_are = λ tables is. sound.rows tables (sym told ∙ is) ∙ ap (rows_after origin.opening) (sym sound.log);
       truth = for_some rows (λ some. kept.store.truth (subst (λ (r : Option Tables). IsSome r) told some));
       fresh = for_some rows (λ some.
           subst (λ (log : List Commit). Fresh origin.opening log (histories_in core)) (sym sound.log)
           (subst (Fresh origin.opening (log_of past)) (sym sound.histories) (sound.fresh (subst (λ (r : Option Tables). IsSome r) told some))));
     }
+
+-- what holds where rows are told holds of rows that are told
+from_some : {P : Type 0} (rows : Option Tables) → ForSome rows (λ _. P) → IsSome rows → P
+from_some None h some = absurd cc
+from_some (Some tables) h some = h tables refl
+
+-- the opening rows are those of the place at the end too
+pub opened_still : (held : Held) (core : CoreView) (origin : Origin) (moves : List Move) (rows : Option Tables) → HasKept core origin moves → rows ≡ core.store.told
+    → IsOpened held origin.shape origin.opening origin.told → IsOpened held origin.shape origin.opening rows
+opened_still held core origin moves rows kept told h = record {
+  fresh = h.fresh;
+  opened = for_some rows (λ some. from_some origin.told h.opened (kept.store.telling (subst (λ (r : Option Tables). IsSome r) told some)));
+}
+
+-- two lists that do the same in reverse do the same
+unreversed : (moves others : List Move) → map call_of (reverse moves) ≡ map call_of (reverse others) → map call_of moves ≡ map call_of others
+unreversed moves others same = sym (backwards moves) ∙ ap reverse same ∙ backwards others
+  where
+    backwards : (moves : List Move) → reverse (map call_of (reverse moves)) ≡ map call_of moves
+    backwards [] = refl
+    backwards (move ∷ moves) =
+        ap (λ (l : List Move). reverse (map call_of l)) (reverse-append (move ∷ []) moves)
+        ∙ ap reverse (map-append call_of (reverse moves) (move ∷ []))
+        ∙ reverse-append (map call_of (reverse moves)) (call_of move ∷ [])
+        ∙ ap (λ (l : List Call). call_of move ∷ l) (backwards moves)
+
+-- what is printed is told by the script, the opening rows and the turns that were answered FAULT
+pub the_text_is : (shape : Shape) (acts : List Act) (opening : Tables) (turns : List ℕ) (moves : List Move) → AreMoves acts moves → IsTruePast opening (past_of shape moves) → turns ≡ fault_turns (past_of shape moves) → IsTheText shape acts opening turns (out shape moves)
+the_text_is shape acts opening turns moves made truth are others also true_too same =
+    ap (λ (past : List Event). lines_of past ++ end_line (log_of past) (histories_of shape past))
+    (runs_determined shape opening others moves (unreversed others moves (also ∙ sym made)) true_too truth (same ∙ are))
+
+-- there are FAULT lines exactly where some turn was answered so
+pub no_turns : (past : List Event) → count_by is_fault past ≡ 0 → [] ≡ fault_turns past
+no_turns past none = sym (nil_from_length (fault_turns past) (turns_count past ∙ none))
+
+pub some_turns : (past : List Event) → 1 ≤ count_by is_fault past → fault_turns past ≡ [] → ⊥
+some_turns past some none =
+    let count : 0 ≡ count_by is_fault past = ap length (sym none) ∙ turns_count past in
+    omega (arith, some, count)
+
+pub none_told : (past : List Event) → [] ≡ fault_turns past → count_by is_fault past ≡ 0
+none_told past none = sym (turns_count past) ∙ ap length (sym none)
 
 -- a count that rose since an earlier time
 pub rose_since : (count earlier before after : ℕ) → earlier ≤ before → RoseBy count before after → FewFaults count earlier after

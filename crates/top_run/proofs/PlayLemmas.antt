@@ -16,7 +16,7 @@ use Rattle.core_history.specs.Cores.{CoreView, Origin, IsAt, HasKept, IsRunning,
 use Rattle.core_history.specs.Machine.{Said, Move, Begin, Take, turn_event, world_of}
 use Rattle.top_run.specs.declared.plays.Tally.{Tally}
 use Rattle.core_history.specs.Determined.{Call, Adds, Turns, call_of}
-use Rattle.top_run.specs.Runs.{calls_in, calls_of, past_of, Prints}
+use Rattle.top_run.specs.Runs.{calls_in, calls_of, past_of, earlier, Prints}
 use Rattle.top_run.specs.Plays.{begun_in, taken_in, is_add, is_turn, IsNoted, CanPlay, Stands, Stops}
 use Rattle.top_run.proofs.PrintLemmas.{lines_more}
 
@@ -79,6 +79,11 @@ pub noted_more : (was fault : Bool) (event : Event) (past : List Event) → faul
 noted_more was fault event past is h =
     subst (λ (n : ℕ). IsNoted (was || fault) n) (ap (λ (b : Bool). cond b 1 0 + count_by is_fault past) is ∙ sym (count_fault event past)) (noted was fault (count_by is_fault past) h)
 
+-- the lines of some events begin with those of all but the latest
+pub lines_split : (past : List Event) → (last : List ℕ) × (lines_of past ≡ lines_of (earlier past) ++ last)
+lines_split [] = ([], sym (append-nil (lines_of [])))
+lines_split (event ∷ past) = (line_of event, lines_more event past)
+
 -- a turn that wasn't told
 pub stopped_at_turn : (core new : CoreView) (origin : Origin) (calls : List Call) (turn : Turn) (taken_old taken_new : Option (List ℕ)) (tally : Tally)
     → (h : Stands core origin calls taken_old taken_new tally)
@@ -92,6 +97,8 @@ stopped_at_turn core new origin calls turn taken_old taken_new tally h (inl kept
   printed = lines_of (past_of origin.shape h.moves);
   more = [];
   parts = append-nil (lines_of (past_of origin.shape h.moves));
+  last = (lines_split (past_of origin.shape h.moves)).0;
+  prompt = (lines_split (past_of origin.shape h.moves)).1;
   prints = h.prints;
 }
 stopped_at_turn core new origin calls turn taken_old taken_new tally h (inr kept) =
@@ -104,6 +111,8 @@ stopped_at_turn core new origin calls turn taken_old taken_new tally h (inr kept
       printed = lines_of (past_of origin.shape h.moves);
       more = line_of event;
       parts = sym (lines_more event (past_of origin.shape h.moves));
+      last = [];
+      prompt = sym (append-nil (lines_of (past_of origin.shape h.moves)));
       prints = h.prints;
     }
 
@@ -125,6 +134,8 @@ stopped_at_line core new origin calls turn said taken_old taken_was taken_new wa
       parts = append_assoc (lines_of past) cut.0 cut.1
           ∙ ap (λ (bytes : List ℕ). lines_of past ++ bytes) (cut.2 ∙ is)
           ∙ sym (lines_more (turn_event origin.shape (world_of origin.shape h.moves) turn said) past);
+      last = cut.0;
+      prompt = refl;
       prints = cut.3;
     }
 
@@ -161,6 +172,8 @@ stops_within core origin calls after taken_old taken_new tally h = record {
   printed = h.printed;
   more = h.more;
   parts = h.parts;
+  last = h.last;
+  prompt = h.prompt;
   prints = h.prints;
 }
 
@@ -189,6 +202,8 @@ stops_here core origin calls others taken_old taken_new tally h = record {
   printed = lines_of (past_of origin.shape h.moves);
   more = [];
   parts = append-nil (lines_of (past_of origin.shape h.moves));
+  last = (lines_split (past_of origin.shape h.moves)).0;
+  prompt = (lines_split (past_of origin.shape h.moves)).1;
   prints = h.prints;
 }
 

@@ -1,4 +1,4 @@
-use Rattle.std.proofs.Common.{ℕ, ◌-◌, ◌≤◌, List, [], ◌∷◌, ◌++◌, take, drop}
+use Rattle.std.proofs.Common.{ℕ, ◌≡◌, ◌-◌, List, [], ◌∷◌, ◌++◌, take, drop}
 use Rattle.std.specs.Prelude.{Option, replicate}
 use Rattle.session_client.specs.declared.plans.Turn.{Turn}
 use Rattle.run_inputs.specs.declared.scripts.Act.{Act}
@@ -13,10 +13,10 @@ use Rattle.top_run.specs.Plays.{CanPlay, Stands}
 pub record HasTaken (old now : CoreView) (turn : Turn) (count done : ℕ) (taken_was taken_is : Option (List ℕ)) (faults_was faults_is : ℕ) (was is : Tally) : Type 0 where
   pub can : CanPlay now (act.Run turn (count - done) ∷ []) taken_is is
   pub so_far : (origin : Origin) (calls : List Call) (taken : Option (List ℕ)) → Stands old origin calls taken taken_was was → Stands now origin (calls ++ replicate done (Turns turn)) taken taken_is is
-  pub up : faults_was ≤ faults_is
+  pub same : faults_is ≡ faults_was
 
 -- so many of the acts were played, and the others are left
 pub record HasPlayed (old now : CoreView) (acts : List Act) (count : ℕ) (taken_was taken_is : Option (List ℕ)) (faults_was faults_is : ℕ) (was is : Tally) : Type 0 where
   pub can : CanPlay now (drop count acts) taken_is is
   pub so_far : (origin : Origin) (calls : List Call) (taken : Option (List ℕ)) → Stands old origin calls taken taken_was was → Stands now origin (calls ++ calls_of (take count acts)) taken taken_is is
-  pub up : faults_was ≤ faults_is
+  pub same : faults_is ≡ faults_was

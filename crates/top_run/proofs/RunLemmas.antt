@@ -1,13 +1,12 @@
 use Rattle.std.proofs.Common.{get_or, ℕ, ◌≡◌, ◌+◌, ◌-◌, ◌^◌, ◌<◌, ◌≤◌, List, [], ◌∷◌, ◌++◌, length, map, arith, refl, sym, ap, ◌∙◌, subst, inl, inr, append_assoc, append-nil}
-use Rattle.std.specs.Prelude.{Bool, true, false, Option, Some, Result, OnErr, OnOk, Ok, Err, IsSome, sum_by}
+use Rattle.std.specs.Prelude.{Bool, true, false, Option, Some, Result, OnErr, OnOk, Ok, Err, sum_by}
 use Rattle.iq_outside.specs.Outside.{Rose}
 use Rattle.iq_outside.proofs.OutsideLemmas.{Gains-none}
-use Rattle.rows_model.specs.Rows.{start_tables}
 use Rattle.session_client.specs.declared.plans.Shape.{Shape}
 use Rattle.run_inputs.specs.declared.scripts.Act.{Act}
 use Rattle.run_inputs.specs.Fit.{IsPlayable, turns_of}
-use Rattle.core_history.specs.Lines.{lines_of, end_line}
-use Rattle.core_history.specs.Cores.{CoreView, Origin, IsAt, HasKept, IsSound, IsShape, histories_in}
+use Rattle.core_history.specs.Lines.{lines_of, end_line, fault_turns}
+use Rattle.core_history.specs.Cores.{CoreView, Origin, origin_of, IsAt, HasKept, IsSound, IsShape, histories_in}
 use Rattle.core_history.specs.Machine.{Move}
 use Rattle.top_run.specs.declared.plays.Stop.{Stop}
 use Rattle.top_run.specs.declared.plays.Stop.TheVariants as stop
@@ -15,17 +14,18 @@ use Rattle.top_run.specs.declared.plays.Tally.{Tally}
 use Rattle.top_run.specs.declared.runs.Status.{Status}
 use Rattle.top_run.specs.declared.runs.Status.TheVariants as status
 use Rattle.core_history.specs.Determined.{Call}
-use Rattle.top_run.specs.Runs.{calls_of, past_of, faults_in, Prints, IsRead, Tells, Left, IsWhole, IsCutOff, Keeps, FewFaults, Ended}
-use Rattle.top_run.specs.Plays.{CanPlay, Stands, Stops, IsNoted, IsNew, IsFinished, IsStopped, origin_of, status_of}
+use Rattle.top_run.specs.Runs.{calls_of, past_of, faults_in, earlier, Held, Prints, IsRead, Tells, Left, IsOpened, AreTold, IsWhole, IsCutOff, Keeps, Ended, is_read_fault, is_write_fault}
+use Rattle.top_run.specs.Plays.{CanPlay, Stands, Stops, IsNoted, IsNew, IsFinished, IsStopped, status_of, at_write}
 use Rattle.top_run.proofs.PrintLemmas.{lines_none}
-use Rattle.top_run.proofs.KeepLemmas.{end_line_of, keeps, rose_since, rose_of, never_fell}
+use Rattle.top_run.proofs.KeepLemmas.{end_line_of, keeps, opened_still, the_text_is, no_turns, some_turns, none_told, rose_since, rose_of, never_fell}
+use Rattle.top_run.proofs.PlayLemmas.{lines_split}
 
 -- a new core stands at the start
 pub stands_new : (core : CoreView) (shape : Shape) (taken : Option (List ℕ)) (tally : Tally) → IsNew core shape → tally ≡ record { written = 0; faulted = false } → Stands core (origin_of shape core) [] taken taken tally
 stands_new core shape taken tally h none =
     subst (λ (t : Tally). Stands core (origin_of shape core) [] taken taken t) (sym none) (record {
       moves = [];
-      at = h.at;
+      at = h;
       made = refl;
       prints = record { gains = rw lines_none (Gains-none taken); counted = rw lines_none refl };
       noted = refl;
@@ -57,7 +57,14 @@ shape_of shape acts h =
 pub stopped_at_act : (core : CoreView) (origin : Origin) (acts : List Act) (taken_old taken_new : Option (List ℕ)) (tally : Tally)
     → Stops core origin ([] ++ calls_of acts) taken_old taken_new tally → IsStopped core origin acts taken_old taken_new tally
 stopped_at_act core origin acts taken_old taken_new tally h =
-    record { moves = h.moves; made = (h.others, h.made); kept = h.kept; printed = h.printed; more = h.more; parts = inl h.parts; prints = h.prints }
+    record {
+      moves = h.moves;
+      made = (h.others, h.made);
+      kept = h.kept;
+      printed = h.printed;
+      part = record { more = h.more; first = inl h.parts; last = h.last; prompt = h.prompt };
+      prints = h.prints;
+    }
 
 -- a stop at the last line
 pub stopped_at_end : (core : CoreView) (origin : Origin) (acts : List Act) (taken_old taken_was taken_new : Option (List ℕ)) (was tally : Tally) (front rest : List ℕ)
@@ -72,8 +79,12 @@ stopped_at_end core origin acts taken_old taken_was taken_new was tally front re
       made = ([], append-nil _ ∙ h.made);
       kept = h.at.kept;
       printed = lines_of past ++ front;
-      more = rest;
-      parts = inr (h.made, append_assoc (lines_of past) front rest ∙ ap (λ (bytes : List ℕ). lines_of past ++ bytes) (parts ∙ end_line_of core origin h.moves h.at.kept));
+      part = record {
+        more = rest;
+        first = inr (h.made, append_assoc (lines_of past) front rest ∙ ap (λ (bytes : List ℕ). lines_of past ++ bytes) (parts ∙ end_line_of core origin h.moves h.at.kept));
+        last = (lines_split past).0 ++ front;
+        prompt = ap (λ (bytes : List ℕ). bytes ++ front) (lines_split past).1 ∙ append_assoc (lines_of (earlier past)) (lines_split past).0 front;
+      };
       prints = prints;
     }
 
@@ -84,8 +95,12 @@ stopped_before_end core origin acts taken_old taken_new tally h = record {
   made = ([], append-nil _ ∙ h.made);
   kept = h.at.kept;
   printed = lines_of (past_of origin.shape h.moves);
-  more = [];
-  parts = inl (append-nil (lines_of (past_of origin.shape h.moves)));
+  part = record {
+    more = [];
+    first = inl (append-nil (lines_of (past_of origin.shape h.moves)));
+    last = (lines_split (past_of origin.shape h.moves)).0;
+    prompt = (lines_split (past_of origin.shape h.moves)).1;
+  };
   prints = h.prints;
 }
 
@@ -113,81 +128,79 @@ abbrev pub left_by : CoreView → Left
 left_by core = record { opening = Some core.store.ledger.opening; log = core.store.ledger.log; histories = histories_in core }
 
 -- what is known of a run that began
-pub record HasBegunRun (core new : CoreView) (shape : Shape) (acts : List Act) (before after : Tells) : Type 0 where
+pub record HasBegunRun (held : Held) (core new : CoreView) (shape : Shape) (acts : List Act) (before after : Tells) : Type 0 where
   pub is_new : IsNew core shape
   pub sound : (origin : Origin) (moves : List Move) → HasKept new origin moves → IsSound new origin moves
   pub read : IsRead before.left after.left shape acts
-  pub up : before.keeps_failed ≤ core.store.faults
+  pub opened : IsOpened held shape core.store.ledger.opening core.store.told
+  pub start : before.keeps_failed ≡ core.store.faults
   pub rows : after.rows ≡ new.store.told
   pub count : after.keeps_failed ≡ new.store.faults
 
-kept_of : (core new : CoreView) (shape : Shape) (acts : List Act) (before after : Tells) (moves : List Move) → HasBegunRun core new shape acts before after → HasKept new (origin_of shape core) moves
-    → Keeps shape core.store.ledger.opening moves after.rows new.store.ledger.log (histories_in new)
-kept_of core new shape acts before after moves h kept =
-    keeps new (origin_of shape core) moves after.rows kept (h.sound (origin_of shape core) moves kept) h.rows h.is_new.fresh
+module _ (held : Held) (core new : CoreView) (shape : Shape) (acts : List Act) (before after : Tells) (h : HasBegunRun held core new shape acts before after) where
+  kept_of : (moves : List Move) → HasKept new (origin_of shape core) moves → Keeps shape core.store.ledger.opening moves after.rows new.store.ledger.log (histories_in new)
+  kept_of moves kept = keeps new (origin_of shape core) moves after.rows kept (h.sound (origin_of shape core) moves kept) h.rows
 
-few_of : (core new : CoreView) (shape : Shape) (acts : List Act) (before after : Tells) (moves : List Move) → HasBegunRun core new shape acts before after → HasKept new (origin_of shape core) moves
-    → FewFaults (faults_in shape moves) before.keeps_failed after.keeps_failed
-few_of core new shape acts before after moves h kept =
-    subst (λ (n : ℕ). FewFaults (faults_in shape moves) before.keeps_failed n) (sym h.count)
-    (rose_since (faults_in shape moves) before.keeps_failed core.store.faults new.store.faults h.up kept.store.faults)
+  told_of : (moves : List Move) → HasKept new (origin_of shape core) moves → AreTold shape moves before.keeps_failed after.keeps_failed
+  told_of moves kept =
+      let P : ℕ → ℕ → Type 0 = λ one two. AreTold shape moves one two in
+      subst (λ (n : ℕ). P n after.keeps_failed) (sym h.start) (subst (P core.store.faults) (sym h.count)
+      (record { few = rose_since (faults_in shape moves) core.store.faults core.store.faults new.store.faults (omega arith) kept.store.faults; none = kept.store.quiet }))
 
-whole : (core new : CoreView) (shape : Shape) (acts : List Act) (before after : Tells) (tally : Tally) (faults : ℕ) → HasBegunRun core new shape acts before after
-    → (done : IsFinished new (origin_of shape core) acts before.taken after.taken tally) → faults ≡ faults_in shape done.moves
-    → IsWhole before after (left_by new) tally.written faults
-whole core new shape acts before after tally faults h done is = record {
-  shape = shape;
-  acts = acts;
-  read = h.read;
-  opening = core.store.ledger.opening;
-  opened = ap (λ rows. Some rows) done.kept.store.opening;
-  moves = done.moves;
-  made = done.made;
-  prints = done.prints;
-  keeps = kept_of core new shape acts before after done.moves h done.kept;
-  faults_are = is;
-  few =
-      subst (λ (n : ℕ). FewFaults n before.keeps_failed after.keeps_failed) (sym is)
-      (few_of core new shape acts before after done.moves h done.kept);
-}
+  whole : (tally : Tally) (turns : List ℕ) → (done : IsFinished new (origin_of shape core) acts before.taken after.taken tally) → turns ≡ fault_turns (past_of shape done.moves)
+      → IsWhole held before after (left_by new) tally.written turns
+  whole tally turns done are =
+      let keeps = kept_of done.moves done.kept in
+      record {
+        shape = shape;
+        acts = acts;
+        read = h.read;
+        opening = core.store.ledger.opening;
+        opening_is = ap (λ rows. Some rows) done.kept.store.opening;
+        opened = opened_still held new (origin_of shape core) done.moves after.rows done.kept h.rows h.opened;
+        moves = done.moves;
+        made = done.made;
+        turns_are = are;
+        prints = done.prints;
+        the_text = λ tables is. the_text_is shape acts core.store.ledger.opening turns done.moves done.made (keeps.truth tables is) are;
+        keeps = keeps;
+        told = told_of done.moves done.kept;
+      }
 
-cut_off : (core new : CoreView) (shape : Shape) (acts : List Act) (before after : Tells) (tally : Tally) → HasBegunRun core new shape acts before after
-    → IsStopped new (origin_of shape core) acts before.taken after.taken tally → IsCutOff before after (left_by new) tally.written
-cut_off core new shape acts before after tally h stopped = record {
-  shape = shape;
-  acts = acts;
-  read = h.read;
-  opening = core.store.ledger.opening;
-  opened = ap (λ rows. Some rows) stopped.kept.store.opening;
-  moves = stopped.moves;
-  made = stopped.made;
-  printed = stopped.printed;
-  more = stopped.more;
-  parts = stopped.parts;
-  prints = stopped.prints;
-  keeps = kept_of core new shape acts before after stopped.moves h stopped.kept;
-  few = few_of core new shape acts before after stopped.moves h stopped.kept;
-}
+  cut_off : (tally : Tally) → IsStopped new (origin_of shape core) acts before.taken after.taken tally → IsCutOff held before after (left_by new) tally.written
+  cut_off tally stopped = record {
+    shape = shape;
+    acts = acts;
+    read = h.read;
+    opening = core.store.ledger.opening;
+    opening_is = ap (λ rows. Some rows) stopped.kept.store.opening;
+    opened = opened_still held new (origin_of shape core) stopped.moves after.rows stopped.kept h.rows h.opened;
+    moves = stopped.moves;
+    made = stopped.made;
+    printed = stopped.printed;
+    part = stopped.part;
+    prints = stopped.prints;
+    keeps = kept_of stopped.moves stopped.kept;
+    told = told_of stopped.moves stopped.kept;
+  }
 
-done_is : (faulted : Bool) (core new : CoreView) (shape : Shape) (acts : List Act) (before after : Tells) (tally : Tally) → HasBegunRun core new shape acts before after
-    → (done : IsFinished new (origin_of shape core) acts before.taken after.taken tally) → IsNoted faulted (faults_in shape done.moves)
-    → Ended (status_of (Ok tt) faulted) before after (left_by new) tally.written
-done_is false core new shape acts before after tally h done noted = whole core new shape acts before after tally 0 h done (sym noted)
-done_is true core new shape acts before after tally h done noted =
-    let faults = faults_in shape done.moves in (
-      rose_of faults before.keeps_failed after.keeps_failed noted (few_of core new shape acts before after done.moves h done.kept),
-      inr (faults, noted, whole core new shape acts before after tally faults h done refl),
-    )
+  done_is : (faulted : Bool) (tally : Tally) → (done : IsFinished new (origin_of shape core) acts before.taken after.taken tally) → IsNoted faulted (faults_in shape done.moves)
+      → Ended (status_of (Ok tt) faulted) held before after (left_by new) tally.written
+  done_is false tally done noted = whole tally [] done (no_turns (past_of shape done.moves) noted)
+  done_is true tally done noted =
+      let past = past_of shape done.moves in (
+        rose_of (faults_in shape done.moves) before.keeps_failed after.keeps_failed noted (told_of done.moves done.kept).few,
+        inr (fault_turns past, some_turns past noted, whole tally (fault_turns past) done refl),
+      )
 
--- the end of a run that began
-pub ended_is : (ended : Result (Unit {0}) Stop) (core new : CoreView) (shape : Shape) (acts : List Act) (before after : Tells) (tally : Tally) → HasBegunRun core new shape acts before after
-    → OnOk ended (IsFinished new (origin_of shape core) acts before.taken after.taken tally)
-    → OnErr ended (IsStopped new (origin_of shape core) acts before.taken after.taken tally)
-    → (ended ≡ Err stop.WriteFault → Rose before.writes_failed after.writes_failed)
-    → Ended (status_of ended tally.faulted) before after (left_by new) tally.written
-ended_is (Ok done) core new shape acts before after tally h all some rose = done_is tally.faulted core new shape acts before after tally h all all.noted
-ended_is (Err stop.WriteFault) core new shape acts before after tally h all some rose = (rose refl, cut_off core new shape acts before after tally h some)
-ended_is (Err stop.Memory) core new shape acts before after tally h all some rose = inr (cut_off core new shape acts before after tally h some)
+  -- the end of a run that began
+  pub ended_is : (ended : Result (Unit {0}) Stop) (tally : Tally)
+      → OnOk ended (IsFinished new (origin_of shape core) acts before.taken after.taken tally)
+      → OnErr ended (IsStopped new (origin_of shape core) acts before.taken after.taken tally)
+      → Ended (status_of ended tally.faulted) held before after (left_by new) tally.written
+  ended_is (Ok done) tally all some = done_is tally.faulted tally all all.noted
+  ended_is (Err stop.WriteFault) tally all some = cut_off tally some
+  ended_is (Err stop.Memory) tally all some = inr (cut_off tally some)
 
 -- however a run ended, its core has kept what it did
 pub kept_at_end : (ended : Result (Unit {0}) Stop) (core : CoreView) (origin : Origin) (acts : List Act) (taken_old taken_new : Option (List ℕ)) (tally : Tally)
@@ -214,11 +227,18 @@ not_rose : (before after : ℕ) → Rose before after → after ≡ before → b
 not_rose before after (inl up) same below = omega (arith, up, same)
 not_rose before after (inr end) same below = omega (arith, end, same, below)
 
-pub not_failed : (ended : Status) (before after : Tells) (left : Left) (written : ℕ) → Ended ended before after left written
+pub not_failed : (ended : Status) (held : Held) (before after : Tells) (left : Left) (written : ℕ) → Ended ended held before after left written
     → after.keeps_failed ≡ before.keeps_failed → before.keeps_failed < 2 ^ 64 - 1 → ended ≡ status.KeepFault → ⊥
-not_failed ended before after left written h same below is =
-    let failed = subst (λ (e : Status). Ended e before after left written) is h in
+not_failed ended held before after left written h same below is =
+    let failed = subst (λ (e : Status). Ended e held before after left written) is h in
     not_rose before.keeps_failed after.keeps_failed failed.0 same below
+
+-- where no turn was answered FAULT the keeper's count is as before
+pub done_quiet : (ended : Status) (held : Held) (before after : Tells) (left : Left) (written : ℕ) → Ended ended held before after left written
+    → ended ≡ status.Done → after.keeps_failed ≡ before.keeps_failed
+done_quiet ended held before after left written h is =
+    let whole = subst (λ (e : Status). Ended e held before after left written) is h in
+    whole.told.none (none_told (past_of whole.shape whole.moves) whole.turns_are)
 
 -- however a run ended, there is room for its histories
 pub room_at_end : (ended : Result (Unit {0}) Stop) (core : CoreView) (origin : Origin) (acts : List Act) (taken_old taken_new : Option (List ℕ)) (tally : Tally) (room : ℕ)
@@ -236,6 +256,20 @@ other_end (Ok done) false is = cc
 other_end (Err stop.WriteFault) faulted is = cc
 other_end (Err stop.Memory) faulted is = cc
 
+-- nor at a read
+pub no_read_end : (ended : Result (Unit {0}) Stop) (faulted : Bool) → is_read_fault (status_of ended faulted) ≡ false
+no_read_end (Ok done) true = refl
+no_read_end (Ok done) false = refl
+no_read_end (Err stop.WriteFault) faulted = refl
+no_read_end (Err stop.Memory) faulted = refl
+
+-- it ended at a write where it stopped at one
+pub write_end : (ended : Result (Unit {0}) Stop) (faulted : Bool) → is_write_fault (status_of ended faulted) ≡ at_write ended
+write_end (Ok done) true = refl
+write_end (Ok done) false = refl
+write_end (Err stop.WriteFault) faulted = refl
+write_end (Err stop.Memory) faulted = refl
+
 -- a keeper's count doesn't fall in a run
 pub faults_at_end : (ended : Result (Unit {0}) Stop) (core : CoreView) (origin : Origin) (acts : List Act) (taken_old taken_new : Option (List ℕ)) (tally : Tally)
     → OnOk ended (IsFinished core origin acts taken_old taken_new tally)
@@ -246,5 +280,5 @@ faults_at_end ended core origin acts taken_old taken_new tally all some =
     never_fell (faults_in origin.shape kept.0) origin.faults origin.faults core.store.faults (omega arith) kept.1.store.faults
 
 -- a core that was just made is new
-pub new_core : (core : CoreView) (made shape : Shape) → made ≡ shape → IsAt core (origin_of made core) [] → (IsSome core.store.told → core.store.ledger.opening ≡ start_tables made.members) → IsNew core shape
-new_core core made shape is at fresh = subst (IsNew core) is (record { at = at; fresh = fresh })
+pub new_core : (core : CoreView) (made shape : Shape) → made ≡ shape → IsAt core (origin_of made core) [] → IsNew core shape
+new_core core made shape is at = subst (IsNew core) is at

@@ -1,17 +1,16 @@
 -- Where a run stands while it goes on.
-use Rattle.std.specs.Prelude.{ℕ, Bool, true, false, ◌≡◌, ◌+◌, ◌^◌, ◌≤◌, ◌<◌, ◌⊎◌, List, [], ◌++◌, map, reverse, count_by, sum_by, Option, Result, Ok, Err, IsSome}
-use Rattle.iq_outside.specs.Outside.{Rose, TakesSome}
-use Rattle.rows_model.specs.Rows.{start_tables}
+use Rattle.std.specs.Prelude.{ℕ, Bool, true, false, ◌≡◌, ◌+◌, ◌^◌, ◌≤◌, ◌<◌, List, [], ◌++◌, map, reverse, count_by, sum_by, Option, Result, Ok, Err}
+use Rattle.iq_outside.specs.Outside.{TakesAtMost}
 use Rattle.session_client.specs.declared.plans.Shape.{Shape}
 use Rattle.sql_keeper.specs.declared.faults.KeepFault.{KeepFault}
 use Rattle.sql_keeper.specs.declared.faults.KeepFault.TheVariants as keep
 use Rattle.run_inputs.specs.declared.scripts.Act.{Act}
 use Rattle.run_inputs.specs.Fit.{AreFit, turns_of}
-use Rattle.core_history.specs.Cores.{CoreView, Origin, IsAt, HasKept}
+use Rattle.core_history.specs.Cores.{CoreView, Origin, origin_of, IsAt, HasKept}
 use Rattle.core_history.specs.Lines.{lines_of}
 use Rattle.core_history.specs.Machine.{Move}
 use Rattle.core_history.specs.Determined.{Call, Adds, Turns, call_of}
-use Rattle.top_run.specs.Runs.{AreMoves, AreFirstMoves, past_of, out, faults_in, Prints, IsReadInVain}
+use Rattle.top_run.specs.Runs.{AreMoves, AreFirstMoves, past_of, out, faults_in, earlier, most_taken, Prints, IsFirstPart, IsReadInVain}
 use Rattle.top_run.specs.declared.plays.Stop.{Stop}
 use Rattle.top_run.specs.declared.plays.Stop.TheVariants as stop
 use Rattle.top_run.specs.declared.plays.Tally.{Tally}
@@ -56,7 +55,7 @@ pub record CanPlay (core : CoreView) (acts : List Act) (taken_new : Option (List
   pub fit : AreFit (begun_in calls) acts
   pub few : taken_in calls + sum_by turns_of acts < 2 ^ 32
 
--- The core stopped after moves that do the first of these calls, and the sink took the first bytes of their lines.
+-- The core stopped after moves that do the first of these calls, and the sink took the first bytes of their lines, those of all events but the latest among them.
 pub record Stops (core : CoreView) (origin : Origin) (calls : List Call) (taken_old taken_new : Option (List ℕ)) (tally : Tally) : Type 0 where
   pub moves : List Move
   pub others : List Call
@@ -65,17 +64,13 @@ pub record Stops (core : CoreView) (origin : Origin) (calls : List Call) (taken_
   pub printed : List ℕ
   pub more : List ℕ
   pub parts : printed ++ more ≡ lines_of (past_of origin.shape moves)
+  pub last : List ℕ
+  pub prompt : printed ≡ lines_of (earlier (past_of origin.shape moves)) ++ last
   pub prints : Prints taken_old taken_new printed tally.written
 
--- What a core of this shape was made with, that is new.
-abbrev pub origin_of : Shape → CoreView → Origin
-origin_of shape core =
-    record { shape = shape; opening = core.store.ledger.opening; told = core.store.told; faults = core.store.faults }
-
--- The core is new, and of this shape. Where its keeper tells its rows, they are those of a start with so many members.
-pub record IsNew (core : CoreView) (shape : Shape) : Type 0 where
-  pub at : IsAt core (origin_of shape core) []
-  pub fresh : IsSome core.store.told → core.store.ledger.opening ≡ start_tables shape.members
+-- The core is new, and of this shape.
+abbrev pub IsNew : CoreView → Shape → Type 0
+IsNew core shape = IsAt core (origin_of shape core) []
 
 -- The core made all moves of the script, and the sink took all that it prints.
 pub record IsFinished (core : CoreView) (origin : Origin) (acts : List Act) (taken_old taken_new : Option (List ℕ)) (tally : Tally) : Type 0 where
@@ -91,8 +86,7 @@ pub record IsStopped (core : CoreView) (origin : Origin) (acts : List Act) (take
   pub made : AreFirstMoves acts moves
   pub kept : HasKept core origin moves
   pub printed : List ℕ
-  pub more : List ℕ
-  pub parts : (printed ++ more ≡ lines_of (past_of origin.shape moves)) ⊎ (AreMoves acts moves × (printed ++ more ≡ out origin.shape moves))
+  pub part : IsFirstPart origin.shape acts moves printed
   pub prints : Prints taken_old taken_new printed tally.written
 
 -- How a script ends, by what ended it and whether there was a FAULT.
@@ -108,8 +102,14 @@ start_status keep.Failed = status.KeepFault
 start_status keep.Memory = status.Memory
 
 -- Why no script was read.
-abbrev pub IsUnread : Status → Option (List ℕ) → Option (List ℕ) → ℕ → ℕ → Type 0
-IsUnread (status.Script line kind) left_old left_new faults_old faults_new = IsReadInVain left_old left_new line kind
-IsUnread status.ReadFault left_old left_new faults_old faults_new = Rose faults_old faults_new × TakesSome left_old left_new
-IsUnread status.Memory left_old left_new faults_old faults_new = TakesSome left_old left_new
-IsUnread other left_old left_new faults_old faults_new = ⊥
+abbrev pub IsUnread : Status → Option (List ℕ) → Option (List ℕ) → Type 0
+IsUnread (status.Script line kind) left_old left_new = IsReadInVain left_old left_new line kind
+IsUnread status.ReadFault left_old left_new = TakesAtMost most_taken left_old left_new
+IsUnread status.Memory left_old left_new = TakesAtMost most_taken left_old left_new
+IsUnread other left_old left_new = ⊥
+
+-- Whether a write ended it.
+abbrev pub at_write : Result (Unit {0}) Stop → Bool
+at_write (Ok done) = false
+at_write (Err stop.WriteFault) = true
+at_write (Err stop.Memory) = false

@@ -1,12 +1,13 @@
 -- What a run reads, prints and keeps.
-use Rattle.std.specs.Prelude.{ℕ, ◌≡◌, ◌+◌, ◌-◌, ◌^◌, ◌≤◌, ◌⊎◌, min, List, [], ◌∷◌, ◌++◌, length, map, reverse, replicate, flat_map, count_by, Option, Some, None, slice_get, codes}
+use Rattle.std.specs.Prelude.{ℕ, ◌≡◌, ◌≢◌, ◌+◌, ◌-◌, ◌^◌, ◌≤◌, ◌⊎◌, Bool, true, false, min, List, [], ◌∷◌, ◌++◌, length, map, reverse, replicate, flat_map, count_by, Option, Some, None, slice_get, codes}
 use Rattle.std.specs.Option.{ForSome}
-use Rattle.iq_outside.specs.Outside.{Rose, Takes, TakesSome, AtEnd, Gains}
+use Rattle.iq_outside.specs.Outside.{Rose, Takes, TakesAtMost, AtEnd, Gains}
 use Rattle.rows_model.specs.Rows.{Tables, start_tables}
 use Rattle.key_shard.specs.declared.steps.Step.{Step}
 use Rattle.key_shard.specs.Answers.{Legal}
 use Rattle.sql_keeper.specs.declared.stores.Commit.{Commit}
 use Rattle.sql_keeper.specs.Fresh.{Fresh, Covered}
+use Rattle.sql_keeper.specs.Log.{rows_after}
 use Rattle.session_client.specs.declared.plans.Shape.{Shape}
 use Rattle.run_inputs.specs.declared.scripts.Act.{Act}
 use Rattle.run_inputs.specs.declared.scripts.Act.TheVariants as act
@@ -14,7 +15,7 @@ use Rattle.run_inputs.specs.declared.faults.ScriptKind.{ScriptKind}
 use Rattle.run_inputs.specs.Script.{IsScript, IsFault}
 use Rattle.core_history.specs.Determined.{Call, Adds, Turns, call_of}
 use Rattle.core_history.specs.Events.{Event, log_of}
-use Rattle.core_history.specs.Lines.{lines_of, end_line, is_fault}
+use Rattle.core_history.specs.Lines.{lines_of, end_line, is_fault, fault_turns}
 use Rattle.core_history.specs.Machine.{Move, world_of, terms_of}
 use Rattle.core_history.specs.Freshness.{histories_of, AreQuarantined}
 use Rattle.core_history.specs.Truth.{IsTruePast}
@@ -51,6 +52,12 @@ abbrev pub out : Shape → List Move → List ℕ
 out shape moves =
     let past = past_of shape moves in lines_of past ++ end_line (log_of past) (histories_of shape past)
 
+-- The text of a script over these opening rows, where these turns are answered FAULT: whatever moves do what it says, with a keeper whose word is true, this is what they print.
+abbrev pub IsTheText : Shape → List Act → Tables → List ℕ → List ℕ → Type 0
+IsTheText shape acts opening turns text =
+    (moves : List Move) → AreMoves acts moves → IsTruePast opening (past_of shape moves) → fault_turns (past_of shape moves) ≡ turns
+    → out shape moves ≡ text
+
 -- How many turns were answered FAULT.
 abbrev pub faults_in : Shape → List Move → ℕ
 faults_in shape moves = count_by is_fault (past_of shape moves)
@@ -64,11 +71,30 @@ pub record Tells : Type 0 where
   pub rows : Option Tables
   pub keeps_failed : ℕ
 
+-- The moment of which these are known.
+abbrev pub moment : Option (List ℕ) → ℕ → Option (List ℕ) → ℕ → Option Tables → ℕ → Tells
+moment left reads_failed taken writes_failed rows keeps_failed = record {
+  left = left;
+  reads_failed = reads_failed;
+  taken = taken;
+  writes_failed = writes_failed;
+  rows = rows;
+  keeps_failed = keeps_failed;
+}
+
 -- What a run leaves: the rows that it began with, its log and its histories.
 pub record Left : Type 0 where
   pub opening : Option Tables
   pub log : List Commit
   pub histories : List (List Step)
+
+-- The rows that the place of a run holds where it is made with so many members, where that is told.
+abbrev pub Held : Type 0
+Held = ℕ → Option Tables
+
+-- The most bytes that are taken from a source: one more than the longest script has.
+abbrev pub most_taken : ℕ
+most_taken = 16777217
 
 -- The source was read to its end, and its bytes say these acts of this shape.
 pub record IsRead (left_old left_new : Option (List ℕ)) (shape : Shape) (acts : List Act) : Type 0 where
@@ -81,8 +107,8 @@ pub record IsRead (left_old left_new : Option (List ℕ)) (shape : Shape) (acts 
 pub record IsReadInVain (left_old left_new : Option (List ℕ)) (line : ℕ) (kind : ScriptKind) : Type 0 where
   pub text : List ℕ
   pub takes : Takes left_old left_new text
-  pub far : AtEnd left_new ⊎ (length text ≡ 16777217)
-  pub within : length text ≤ 16777217
+  pub far : AtEnd left_new ⊎ (length text ≡ most_taken)
+  pub within : length text ≤ most_taken
   pub is_fault : IsFault text line kind
 
 -- The sink took these bytes, and they were counted, as far as a count goes.
@@ -90,51 +116,80 @@ pub record Prints (taken_old taken_new : Option (List ℕ)) (printed : List ℕ)
   pub gains : Gains taken_old taken_new printed
   pub counted : written ≡ min (length printed) (2 ^ 64 - 1)
 
+-- A count of faults rose where it is said that this failed, and else it is as before.
+abbrev pub RoseWhere : Bool → ℕ → ℕ → Type 0
+RoseWhere true before after = Rose before after
+RoseWhere false before after = after ≡ before
+
 -- There are no more FAULT lines than the keeper's count of faults rose by, unless it came to the end of its type.
 abbrev pub FewFaults : ℕ → ℕ → ℕ → Type 0
 FewFaults faults failed_old failed_new =
     (failed_old + faults ≤ failed_new) ⊎ ((failed_old ≤ 2 ^ 64 - 1) × (2 ^ 64 - 1 ≤ failed_new))
 
--- The log and the histories are those after these moves over these opening rows. Each history is legal, each commit was quarantined when it was made and is covered. Where the keeper tells its rows, its word was true, and each hit is fresh.
+-- The keeper's count of faults rose with the turns that were answered FAULT, and is as before where none was.
+pub record AreTold (shape : Shape) (moves : List Move) (failed_old failed_new : ℕ) : Type 0 where
+  pub few : FewFaults (faults_in shape moves) failed_old failed_new
+  pub none : faults_in shape moves ≡ 0 → failed_new ≡ failed_old
+
+-- The opening rows are those of the place, a fresh one: where the keeper tells its rows, and the place's rows are told.
+pub record IsOpened (held : Held) (shape : Shape) (opening : Tables) (rows : Option Tables) : Type 0 where
+  pub fresh : held shape.members ≡ Some (start_tables shape.members)
+  pub opened : ForSome rows (λ _. ForSome (held shape.members) (λ there. opening ≡ there))
+
+-- The log and the histories are those after these moves over these opening rows. Each history is legal, each commit was quarantined when it was made and is covered. Where the keeper tells its rows, they are the opening rows after the log, its word was true, and each hit is fresh.
 pub record Keeps (shape : Shape) (opening : Tables) (moves : List Move) (rows : Option Tables) (log : List Commit) (histories : List (List Step)) : Type 0 where
   pub log_is : log ≡ log_of (past_of shape moves)
   pub histories_are : histories ≡ histories_of shape (past_of shape moves)
   pub legal : (place : ℕ) (history : List Step) → slice_get histories place ≡ Some history → Legal (terms_of shape place) history
   pub covered : Covered log histories
   pub quarantined : AreQuarantined shape (past_of shape moves)
-  pub opened : ForSome rows (λ _. opening ≡ start_tables shape.members)
+  pub rows_are : ForSome rows (λ told. told ≡ rows_after opening log)
   pub truth : ForSome rows (λ _. IsTruePast opening (past_of shape moves))
   pub fresh : ForSome rows (λ _. Fresh opening log histories)
 
--- A script was read, and what it says was done to its end: all is printed.
-pub record IsWhole (before after : Tells) (left : Left) (written : ℕ) (faults : ℕ) : Type 0 where
+-- A script was read, and what it says was done to its end, with these turns answered FAULT: all is printed. Where the keeper tells its rows, it is the one text of the script over the opening rows and these turns.
+pub record IsWhole (held : Held) (before after : Tells) (left : Left) (written : ℕ) (turns : List ℕ) : Type 0 where
   pub shape : Shape
   pub acts : List Act
   pub read : IsRead before.left after.left shape acts
   pub opening : Tables
-  pub opened : left.opening ≡ Some opening
+  pub opening_is : left.opening ≡ Some opening
+  pub opened : IsOpened held shape opening after.rows
   pub moves : List Move
   pub made : AreMoves acts moves
+  pub turns_are : turns ≡ fault_turns (past_of shape moves)
   pub prints : Prints before.taken after.taken (out shape moves) written
+  pub the_text : ForSome after.rows (λ _. IsTheText shape acts opening turns (out shape moves))
   pub keeps : Keeps shape opening moves after.rows left.log left.histories
-  pub faults_are : faults ≡ faults_in shape moves
-  pub few : FewFaults faults before.keeps_failed after.keeps_failed
+  pub told : AreTold shape moves before.keeps_failed after.keeps_failed
 
--- A script was read, and what it says was done up to some point: the first bytes of the lines so far are printed, and of the end line where all was done.
-pub record IsCutOff (before after : Tells) (left : Left) (written : ℕ) : Type 0 where
+-- The events but the latest.
+abbrev pub earlier : List Event → List Event
+earlier [] = []
+earlier (event ∷ past) = past
+
+-- These bytes are the first of the lines of these events, or where all was done of all that is printed, and the lines of all events but the latest are among them.
+pub record IsFirstPart (shape : Shape) (acts : List Act) (moves : List Move) (printed : List ℕ) : Type 0 where
+  pub more : List ℕ
+  pub first : (printed ++ more ≡ lines_of (past_of shape moves)) ⊎ (AreMoves acts moves × (printed ++ more ≡ out shape moves))
+  pub last : List ℕ
+  pub prompt : printed ≡ lines_of (earlier (past_of shape moves)) ++ last
+
+-- A script was read, and what it says was done up to some point, where the run stopped at once: the first bytes of the lines so far are printed, and of the end line where all was done.
+pub record IsCutOff (held : Held) (before after : Tells) (left : Left) (written : ℕ) : Type 0 where
   pub shape : Shape
   pub acts : List Act
   pub read : IsRead before.left after.left shape acts
   pub opening : Tables
-  pub opened : left.opening ≡ Some opening
+  pub opening_is : left.opening ≡ Some opening
+  pub opened : IsOpened held shape opening after.rows
   pub moves : List Move
   pub made : AreFirstMoves acts moves
   pub printed : List ℕ
-  pub more : List ℕ
-  pub parts : (printed ++ more ≡ lines_of (past_of shape moves)) ⊎ (AreMoves acts moves × (printed ++ more ≡ out shape moves))
+  pub part : IsFirstPart shape acts moves printed
   pub prints : Prints before.taken after.taken printed written
   pub keeps : Keeps shape opening moves after.rows left.log left.histories
-  pub few : FewFaults (faults_in shape moves) before.keeps_failed after.keeps_failed
+  pub told : AreTold shape moves before.keeps_failed after.keeps_failed
 
 -- Nothing was run: the sink took nothing, and nothing is kept.
 pub record IsNotStarted (before after : Tells) (left : Left) (written : ℕ) : Type 0 where
@@ -143,12 +198,12 @@ pub record IsNotStarted (before after : Tells) (left : Left) (written : ℕ) : T
   pub no_log : left.log ≡ []
   pub no_histories : left.histories ≡ []
 
--- The keeper is as before.
+-- The keeper is as before, in its rows and in its count of faults.
 pub record IsUnasked (before after : Tells) : Type 0 where
   pub rows : after.rows ≡ before.rows
   pub count : after.keeps_failed ≡ before.keeps_failed
 
--- A script was read, but the keeper didn't start: its rows are as before.
+-- A script was read, but the keeper failed at its start: its rows are as before.
 pub record IsFailedStart (before after : Tells) (left : Left) (written : ℕ) : Type 0 where
   pub shape : Shape
   pub acts : List Act
@@ -157,17 +212,27 @@ pub record IsFailedStart (before after : Tells) (left : Left) (written : ℕ) : 
   pub nothing : IsNotStarted before after left written
 
 -- What is so at an end of a run.
-abbrev pub Ended : Status → Tells → Tells → Left → ℕ → Type 0
-Ended status.Done before after left written = IsWhole before after left written 0
-Ended status.Usage before after left written = (after ≡ before) × IsNotStarted before after left written
-Ended (status.Script line kind) before after left written =
+abbrev pub Ended : Status → Held → Tells → Tells → Left → ℕ → Type 0
+Ended status.Done held before after left written = IsWhole held before after left written []
+Ended status.Usage held before after left written = (after ≡ before) × IsNotStarted before after left written
+Ended (status.Script line kind) held before after left written =
     IsReadInVain before.left after.left line kind × IsUnasked before after × IsNotStarted before after left written
-Ended status.ReadFault before after left written =
-    Rose before.reads_failed after.reads_failed × TakesSome before.left after.left × IsUnasked before after × IsNotStarted before after left written
-Ended status.WriteFault before after left written =
-    Rose before.writes_failed after.writes_failed × IsCutOff before after left written
-Ended status.KeepFault before after left written =
+Ended status.ReadFault held before after left written =
+    TakesAtMost most_taken before.left after.left × IsUnasked before after × IsNotStarted before after left written
+Ended status.WriteFault held before after left written = IsCutOff held before after left written
+Ended status.KeepFault held before after left written =
     Rose before.keeps_failed after.keeps_failed
-    × (IsFailedStart before after left written ⊎ ((faults : ℕ) × (1 ≤ faults) × IsWhole before after left written faults))
-Ended status.Memory before after left written =
-    (TakesSome before.left after.left × IsNotStarted before after left written) ⊎ IsCutOff before after left written
+    × (IsFailedStart before after left written ⊎ ((turns : List ℕ) × (turns ≢ []) × IsWhole held before after left written turns))
+Ended status.Memory held before after left written =
+    (TakesAtMost most_taken before.left after.left × IsUnasked before after × IsNotStarted before after left written)
+    ⊎ IsCutOff held before after left written
+
+-- Whether a run ended at a read that failed.
+abbrev pub is_read_fault : Status → Bool
+is_read_fault status.ReadFault = true
+is_read_fault other = false
+
+-- Whether a run ended at a write that failed.
+abbrev pub is_write_fault : Status → Bool
+is_write_fault status.WriteFault = true
+is_write_fault other = false

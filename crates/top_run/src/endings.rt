@@ -40,6 +40,7 @@ pub(crate) fn ended_run<K: Keeper>(
     requires none { histories.items ≡ [] }
     requires room { shards_in core ≤ vec_capacity histories }
     ensures status { result.status ≡ status_of ended tally.faulted }
+    ensures started { K.is_started result.keeper }
     ensures rows { K.rows result.keeper ≡ core.store.told }
     ensures faults { K.faults result.keeper ≡ core.store.faults }
     ensures opening { result.opening ≡ Some core.store.ledger.opening }

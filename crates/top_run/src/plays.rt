@@ -1,12 +1,11 @@
 // A script's acts, one after the other, and the line of each turn as it comes.
-ghost use Rattle.std.specs.Prelude.{◌≡◌, ◌≤◌, ◌<◌, ◌^◌, ◌+◌, ◌∷◌, ◌++◌, ◌||◌, [], ℕ, List, Option, OnOk, OnErr, IfOk, Err, replicate, length};
-ghost use Rattle.iq_outside.specs.Outside.{Rose};
+ghost use Rattle.std.specs.Prelude.{◌≡◌, ◌≤◌, ◌<◌, ◌^◌, ◌+◌, ◌∷◌, ◌++◌, ◌||◌, [], ℕ, List, Option, OnOk, OnErr, IfOk, replicate, length};
 ghost use Rattle.session_client.specs.Plans.{IsPlan};
 ghost use Rattle.run_inputs.specs.declared.scripts.Act.TheVariants as act;
 ghost use Rattle.core_history.specs.Cores.{Origin, IsRunning, HasBegun};
 ghost use Rattle.core_history.specs.Determined.{Call, Turns};
-ghost use Rattle.top_run.specs.Runs.{calls_in, calls_of};
-ghost use Rattle.top_run.specs.Plays.{CanPlay, Stands, Stops};
+ghost use Rattle.top_run.specs.Runs.{calls_in, calls_of, RoseWhere};
+ghost use Rattle.top_run.specs.Plays.{CanPlay, Stands, Stops, at_write};
 
 use crate::printing::print;
 use core_history::Core;
@@ -75,7 +74,7 @@ pub(crate) fn play<W: Sink, K: Keeper>(
     requires { CanPlay core.old acts.now (W.taken sink.old) tally.old }
     ensures all { (origin : Origin) (calls : List Call) (taken : Option (List ℕ)) → Stands core.old origin calls taken (W.taken sink.old) tally.old → OnOk result (Stands core.new origin (calls ++ calls_of acts.now) taken (W.taken sink.new) tally.new) }
     ensures some { (origin : Origin) (calls : List Call) (taken : Option (List ℕ)) → Stands core.old origin calls taken (W.taken sink.old) tally.old → OnErr result (Stops core.new origin (calls ++ calls_of acts.now) taken (W.taken sink.new) tally.new) }
-    ensures failed_rose { result ≡ Err Stop.WriteFault → Rose (W.faults sink.old) (W.faults sink.new) }
+    ensures counts { RoseWhere (at_write result) (W.faults sink.old) (W.faults sink.new) }
     ensures never_falls { W.faults sink.old ≤ W.faults sink.new }
 {
     for act in acts {
@@ -94,7 +93,7 @@ fn play_act<W: Sink, K: Keeper>(
     requires { CanPlay core.old (act.now ∷ []) (W.taken sink.old) tally.old }
     ensures all { (origin : Origin) (calls : List Call) (taken : Option (List ℕ)) → Stands core.old origin calls taken (W.taken sink.old) tally.old → OnOk result (Stands core.new origin (calls ++ calls_in act.now) taken (W.taken sink.new) tally.new) }
     ensures some { (origin : Origin) (calls : List Call) (taken : Option (List ℕ)) → Stands core.old origin calls taken (W.taken sink.old) tally.old → OnErr result (Stops core.new origin (calls ++ calls_in act.now) taken (W.taken sink.new) tally.new) }
-    ensures failed_rose { result ≡ Err Stop.WriteFault → Rose (W.faults sink.old) (W.faults sink.new) }
+    ensures counts { RoseWhere (at_write result) (W.faults sink.old) (W.faults sink.new) }
     ensures never_falls { W.faults sink.old ≤ W.faults sink.new }
 {
     match act {
@@ -138,7 +137,7 @@ fn take_turns<W: Sink, K: Keeper>(
     requires { CanPlay core.old (act.Run turn count ∷ []) (W.taken sink.old) tally.old }
     ensures all { (origin : Origin) (calls : List Call) (taken : Option (List ℕ)) → Stands core.old origin calls taken (W.taken sink.old) tally.old → OnOk result (Stands core.new origin (calls ++ replicate count (Turns turn)) taken (W.taken sink.new) tally.new) }
     ensures some { (origin : Origin) (calls : List Call) (taken : Option (List ℕ)) → Stands core.old origin calls taken (W.taken sink.old) tally.old → OnErr result (Stops core.new origin (calls ++ replicate count (Turns turn)) taken (W.taken sink.new) tally.new) }
-    ensures failed_rose { result ≡ Err Stop.WriteFault → Rose (W.faults sink.old) (W.faults sink.new) }
+    ensures counts { RoseWhere (at_write result) (W.faults sink.old) (W.faults sink.new) }
     ensures never_falls { W.faults sink.old ≤ W.faults sink.new }
 {
     for _taken in 0..count {
@@ -158,7 +157,7 @@ fn take_turn<W: Sink, K: Keeper>(
     requires begun { HasBegun core.old turn }
     ensures all { (origin : Origin) (calls : List Call) (taken : Option (List ℕ)) → Stands core.old origin calls taken (W.taken sink.old) tally.old → OnOk result (Stands core.new origin (calls ++ Turns turn ∷ []) taken (W.taken sink.new) tally.new) }
     ensures some { (origin : Origin) (calls : List Call) (taken : Option (List ℕ)) → Stands core.old origin calls taken (W.taken sink.old) tally.old → OnErr result (Stops core.new origin (calls ++ Turns turn ∷ []) taken (W.taken sink.new) tally.new) }
-    ensures failed_rose { result ≡ Err Stop.WriteFault → Rose (W.faults sink.old) (W.faults sink.new) }
+    ensures counts { RoseWhere (at_write result) (W.faults sink.old) (W.faults sink.new) }
     ensures never_falls { W.faults sink.old ≤ W.faults sink.new }
 {
     let told = core.step(turn)?;

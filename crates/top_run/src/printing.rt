@@ -18,6 +18,7 @@ pub(crate) fn print<W: Sink>(sink: &mut W, written: &mut u64, bytes: &[u8]) -> R
     ensures all { (taken : Option (List ℕ)) (printed : List ℕ) → Prints taken (W.taken sink.old) printed written.old → OnOk result (Prints taken (W.taken sink.new) (printed ++ bytes.now) written.new) }
     ensures some { (taken : Option (List ℕ)) (printed : List ℕ) → Prints taken (W.taken sink.old) printed written.old → OnErr result ((front : List ℕ) × (rest : List ℕ) × (front ++ rest ≡ bytes.now) × Prints taken (W.taken sink.new) (printed ++ front) written.new) }
     ensures failed_rose { OnErr result (Rose (W.faults sink.old) (W.faults sink.new)) }
+    ensures no_fault { OnOk result (W.faults sink.new ≡ W.faults sink.old) }
     ensures never_falls { W.faults sink.old ≤ W.faults sink.new }
 {
     match write_all(sink, bytes) {

@@ -1,11 +1,11 @@
-ghost use Rattle.std.specs.Prelude.{◌≡◌, ◌≢◌, false, ◌≤◌, ◌<◌, ◌-◌, ◌^◌, ◌↔◌, ◌∷◌, [], ℕ, List, Option, OnOk, Result, IsTrue, IsSome, codes, map, IfOk, IfErr, OnErr, Err, vec_capacity};
-ghost use Rattle.iq_outside.specs.Outside.{Rose};
+ghost use Rattle.std.specs.Prelude.{◌≡◌, ◌≢◌, false, ◌≤◌, ◌<◌, ◌-◌, ◌^◌, ◌↔◌, ◌∷◌, [], ℕ, List, Option, None, OnOk, IsTrue, IsSome, codes, map, IfOk, IfErr, OnErr, vec_capacity};
+ghost use Rattle.std.specs.Bool.{IsFalse};
 ghost use Rattle.rows_model.specs.Rows.{Tables};
 ghost use Rattle.run_inputs.specs.Fit.{IsPlayable};
-ghost use Rattle.core_history.specs.Cores.{shards_in};
+ghost use Rattle.core_history.specs.Cores.{shards_in, origin_of};
 ghost use Rattle.top_run.specs.declared.runs.Status.{Status};
-ghost use Rattle.top_run.specs.Runs.{AreReplay, Ended, Tells, IsRead};
-ghost use Rattle.top_run.specs.Plays.{IsNew, IsFinished, IsStopped, IsUnread, origin_of};
+ghost use Rattle.top_run.specs.Runs.{AreReplay, Ended, Held, Left, moment, IsRead, IsOpened, RoseWhere, is_read_fault, is_write_fault};
+ghost use Rattle.top_run.specs.Plays.{IsNew, IsFinished, IsStopped, IsUnread, at_write};
 
 use crate::endings::{ended_run, not_started, start_status};
 use crate::plays::{Stop, Tally, play};
@@ -63,7 +63,9 @@ pub struct RunEnd<K> {
 ///
 /// The script is read whole before anything is printed; of a text that is too long 16,777,217 bytes
 /// are taken. The bytes printed are always the first of what the whole run prints. A keeper that fails
-/// in a turn is told as FAULT, and the run goes on.
+/// in a turn is told as FAULT, and the run goes on. At a write that fails, or where memory runs out,
+/// it stops at once. What comes before the keeper is started leaves it as it was, and a run that began
+/// is never thrown away.
 pub fn run<S: Source, W: Sink, K: Keeper>(
     alloc: Global,
     words: &[Vec<u8>],
@@ -71,9 +73,26 @@ pub fn run<S: Source, W: Sink, K: Keeper>(
     sink: &mut W,
     keeper: K,
 ) -> RunEnd<K>
-    ensures usage { (result.status ≡ Status.Usage) ↔ (AreReplay (map (λ word. word.items) words.now) → ⊥) }
-    ensures ended { Ended result.status (record { left = S.left source.old; reads_failed = S.faults source.old; taken = W.taken sink.old; writes_failed = W.faults sink.old; rows = K.rows keeper; keeps_failed = K.faults keeper }) (record { left = S.left source.new; reads_failed = S.faults source.new; taken = W.taken sink.new; writes_failed = W.faults sink.new; rows = K.rows result.keeper; keeps_failed = K.faults result.keeper }) (record { opening = result.opening; log = result.log.items; histories = map (λ history. history.items) result.histories.items }) result.written }
-    ensures faultless { K.faults result.keeper ≡ K.faults keeper → K.faults keeper < 2 ^ 64 - 1 → result.status ≢ Status.KeepFault }
+    ensures usage {
+        (result.status ≡ Status.Usage) ↔ (AreReplay (map (λ word. word.items) words.now) → ⊥) }
+    ensures ended {
+        let before = moment (S.left source.old) (S.faults source.old)
+            (W.taken sink.old) (W.faults sink.old) (K.rows keeper) (K.faults keeper) in
+        let after = moment (S.left source.new) (S.faults source.new)
+            (W.taken sink.new) (W.faults sink.new) (K.rows result.keeper) (K.faults result.keeper) in
+        let left : Left = record { opening = result.opening; log = result.log.items;
+            histories = map (λ history. history.items) result.histories.items } in
+        Ended result.status (K.holds keeper Place.Fresh) before after left result.written }
+    ensures started { IsSome result.opening → K.is_started result.keeper }
+    ensures unstarted {
+        result.opening ≡ None → K.is_started result.keeper → K.is_started keeper }
+    ensures reads {
+        RoseWhere (is_read_fault result.status) (S.faults source.old) (S.faults source.new) }
+    ensures writes {
+        RoseWhere (is_write_fault result.status) (W.faults sink.old) (W.faults sink.new) }
+    ensures done { result.status ≡ Status.Done → K.faults result.keeper ≡ K.faults keeper }
+    ensures faultless { K.faults result.keeper ≡ K.faults keeper → K.faults keeper < 2 ^ 64 - 1 →
+        result.status ≢ Status.KeepFault }
     ensures source_never_falls { S.faults source.old ≤ S.faults source.new }
     ensures sink_never_falls { W.faults sink.old ≤ W.faults sink.new }
     ensures keeper_never_falls { K.faults keeper ≤ K.faults result.keeper }
@@ -102,9 +121,14 @@ fn is_replay(word: &[u8]) -> bool
 
 /// Reads the script that the source gives, or tells how the run ends without one.
 fn read_script<S: Source>(alloc: Global, source: &mut S) -> Result<Script, Status>
-    ensures read { IfOk result (λ script. IsRead (S.left source.old) (S.left source.new) script.shape script.acts) }
+    ensures read { IfOk result (λ script.
+        IsRead (S.left source.old) (S.left source.new) script.shape script.acts) }
     ensures playable { IfOk result (λ script. IsPlayable script.shape script.acts) }
-    ensures unread { IfErr result (λ status. IsUnread status (S.left source.old) (S.left source.new) (S.faults source.old) (S.faults source.new)) }
+    ensures unread { IfErr result (λ status.
+        IsUnread status (S.left source.old) (S.left source.new)) }
+    ensures no_fault { OnOk result (S.faults source.new ≡ S.faults source.old) }
+    ensures counts { IfErr result (λ status.
+        RoseWhere (is_read_fault status) (S.faults source.old) (S.faults source.new)) }
     ensures never_falls { S.faults source.old ≤ S.faults source.new }
 {
     let read = match read_up_to(alloc, source, LONGEST_TEXT + 1) {
@@ -123,8 +147,23 @@ fn read_script<S: Source>(alloc: Global, source: &mut S) -> Result<Script, Statu
 /// that nothing that the run did is lost for want of memory.
 fn replay<W: Sink, K: Keeper>(alloc: Global, script: &Script, sink: &mut W, keeper: K) -> RunEnd<K>
     requires { IsPlayable script.now.shape script.now.acts }
-    ensures ended { (left_old left_new : Option (List ℕ)) (reads_old reads_new : ℕ) → IsRead left_old left_new script.now.shape script.now.acts → Ended result.status (record { left = left_old; reads_failed = reads_old; taken = W.taken sink.old; writes_failed = W.faults sink.old; rows = K.rows keeper; keeps_failed = K.faults keeper }) (record { left = left_new; reads_failed = reads_new; taken = W.taken sink.new; writes_failed = W.faults sink.new; rows = K.rows result.keeper; keeps_failed = K.faults result.keeper }) (record { opening = result.opening; log = result.log.items; histories = map (λ history. history.items) result.histories.items }) result.written }
+    ensures ended {
+        (left_old left_new : Option (List ℕ)) (reads : ℕ) →
+        IsRead left_old left_new script.now.shape script.now.acts →
+        let before = moment left_old reads
+            (W.taken sink.old) (W.faults sink.old) (K.rows keeper) (K.faults keeper) in
+        let after = moment left_new reads
+            (W.taken sink.new) (W.faults sink.new) (K.rows result.keeper) (K.faults result.keeper) in
+        let left : Left = record { opening = result.opening; log = result.log.items;
+            histories = map (λ history. history.items) result.histories.items } in
+        Ended result.status (K.holds keeper Place.Fresh) before after left result.written }
     ensures other { result.status ≢ Status.Usage }
+    ensures no_read_fault { IsFalse (is_read_fault result.status) }
+    ensures started { IsSome result.opening → K.is_started result.keeper }
+    ensures unstarted {
+        result.opening ≡ None → K.is_started result.keeper → K.is_started keeper }
+    ensures writes {
+        RoseWhere (is_write_fault result.status) (W.faults sink.old) (W.faults sink.new) }
     ensures sink_never_falls { W.faults sink.old ≤ W.faults sink.new }
     ensures keeper_never_falls { K.faults keeper ≤ K.faults result.keeper }
 {
@@ -149,8 +188,23 @@ fn play_on<W: Sink, K: Keeper>(
     requires new { IsNew core script.now.shape }
     requires none { histories.items ≡ [] }
     requires room { script.now.shape.shards ≤ vec_capacity histories }
-    ensures ended { (left_old left_new : Option (List ℕ)) (reads_old reads_new : ℕ) (rows : Option Tables) (faults : ℕ) → IsRead left_old left_new script.now.shape script.now.acts → faults ≤ core.store.faults → Ended result.status (record { left = left_old; reads_failed = reads_old; taken = W.taken sink.old; writes_failed = W.faults sink.old; rows = rows; keeps_failed = faults }) (record { left = left_new; reads_failed = reads_new; taken = W.taken sink.new; writes_failed = W.faults sink.new; rows = K.rows result.keeper; keeps_failed = K.faults result.keeper }) (record { opening = result.opening; log = result.log.items; histories = map (λ history. history.items) result.histories.items }) result.written }
+    ensures ended {
+        (left_old left_new : Option (List ℕ)) (reads : ℕ) (rows : Option Tables) (held : Held) →
+        IsRead left_old left_new script.now.shape script.now.acts →
+        IsOpened held script.now.shape core.store.ledger.opening core.store.told →
+        let before = moment left_old reads
+            (W.taken sink.old) (W.faults sink.old) rows core.store.faults in
+        let after = moment left_new reads
+            (W.taken sink.new) (W.faults sink.new) (K.rows result.keeper) (K.faults result.keeper) in
+        let left : Left = record { opening = result.opening; log = result.log.items;
+            histories = map (λ history. history.items) result.histories.items } in
+        Ended result.status held before after left result.written }
     ensures other { result.status ≢ Status.Usage }
+    ensures no_read_fault { IsFalse (is_read_fault result.status) }
+    ensures started { K.is_started result.keeper }
+    ensures began { IsSome result.opening }
+    ensures writes {
+        RoseWhere (is_write_fault result.status) (W.faults sink.old) (W.faults sink.new) }
     ensures sink_never_falls { W.faults sink.old ≤ W.faults sink.new }
     ensures keeper_never_falls { core.store.faults ≤ K.faults result.keeper }
 {
@@ -176,7 +230,7 @@ fn play_whole<W: Sink, K: Keeper>(
     requires nothing { tally.old ≡ record { written = 0; faulted = false } }
     ensures all { OnOk result (IsFinished core.new (origin_of script.now.shape core.old) script.now.acts (W.taken sink.old) (W.taken sink.new) tally.new) }
     ensures some { OnErr result (IsStopped core.new (origin_of script.now.shape core.old) script.now.acts (W.taken sink.old) (W.taken sink.new) tally.new) }
-    ensures failed_rose { result ≡ Err Stop.WriteFault → Rose (W.faults sink.old) (W.faults sink.new) }
+    ensures counts { RoseWhere (at_write result) (W.faults sink.old) (W.faults sink.new) }
     ensures never_falls { W.faults sink.old ≤ W.faults sink.new }
 {
     play(core, script.acts(), sink, tally)?;

@@ -181,6 +181,43 @@ const FAULTS: [(&str, &[u8], &[u64], &[u8]); 4] = [
     ),
 ];
 
+/// A script with a reader, a writer, and a reader behind it: nine turns, of which the second, the
+/// fifth and the eighth ask the keeper.
+const NINE_TURNS: &[u8] =
+    b"members 3\nread 1 profile:2\nwrite 2 invalidate rename 2 bob\nread 3 profile:2\nturn 1 3\nturn 2 3\nturn 3 3\nend\n";
+
+/// What it prints where nothing fails.
+const NINE_LINES: &[u8] =
+    b"1 get profile:2 LEASE 1\n1 ask profile:2 0 m2 0 0\n1 set profile:2 STORED\n2 qareg profile:2 GRANTED 2\n2 commit COMMITTED 1\n2 dar profile:2 RELEASED\n3 get profile:2 LEASE 3\n3 ask profile:2 1 bob 0 0\n3 set profile:2 STORED\nend commits 1 hits 0 stores 2 agains 0\n";
+
+/// What is printed of it where this write fails, each line being one write.
+const WRITES_FAIL: [(u64, &[u8]); 3] = [
+    (1, b""),
+    (2, b"1 get profile:2 LEASE 1\n"),
+    (3, b"1 get profile:2 LEASE 1\n1 ask profile:2 0 m2 0 0\n"),
+];
+
+/// What is printed of it where this call of the keeper fails, counted from 1 and with its start, and
+/// how many commits there are.
+const KEEPS_FAIL: [(u64, &[u8], usize); 4] = [
+    (1, b"", 0),
+    (
+        2,
+        b"1 get profile:2 LEASE 1\n1 ask profile:2 FAULT\n1 done\n2 qareg profile:2 GRANTED 2\n2 commit COMMITTED 1\n2 dar profile:2 RELEASED\n3 get profile:2 LEASE 3\n3 ask profile:2 1 bob 0 0\n3 set profile:2 STORED\nend commits 1 hits 0 stores 1 agains 0\n",
+        1,
+    ),
+    (
+        3,
+        b"1 get profile:2 LEASE 1\n1 ask profile:2 0 m2 0 0\n1 set profile:2 STORED\n2 qareg profile:2 GRANTED 2\n2 commit FAULT\n2 end YES\n3 get profile:2 HIT 0 m2 0 0\n3 done\n3 done\nend commits 0 hits 1 stores 1 agains 0\n",
+        0,
+    ),
+    (
+        4,
+        b"1 get profile:2 LEASE 1\n1 ask profile:2 0 m2 0 0\n1 set profile:2 STORED\n2 qareg profile:2 GRANTED 2\n2 commit COMMITTED 1\n2 dar profile:2 RELEASED\n3 get profile:2 LEASE 3\n3 ask profile:2 FAULT\n3 done\nend commits 1 hits 0 stores 1 agains 0\n",
+        1,
+    ),
+];
+
 /// What came of a run.
 #[derive(Drop)]
 struct Ran {
@@ -400,4 +437,53 @@ fn a_write_that_fails_ends_the_run_there(rt: HostRuntime) -> Result<(), Fail> {
         assert_eq!(rt; (ran.written, ran.histories), (taken as u64, 1));
     }
     Ok(())
+}
+
+#[test]
+fn whichever_write_fails_the_lines_before_it_are_printed(rt: HostRuntime) -> Result<(), Fail> {
+    for (at, out) in WRITES_FAIL {
+        let ran = nine_turns(rt.alloc(), &[at], &[])?;
+        assert_eq!(rt; ran.status, Status::WriteFault, "at write {at}");
+        assert_eq!(rt; ran.printed.as_slice(), out, "at write {at}");
+        assert_eq!(rt; (ran.written, ran.commits), (out.len() as u64, 0));
+    }
+    for at in 4..=10 {
+        let ran = nine_turns(rt.alloc(), &[at], &[])?;
+        assert_eq!(rt; ran.status, Status::WriteFault, "at write {at}");
+        assert!(rt; NINE_LINES.starts_with(ran.printed.as_slice()), "at write {at}");
+        // The fifth turn commits, and its line is the fifth write.
+        assert_eq!(rt; ran.commits, if at < 5 { 0 } else { 1 }, "at write {at}");
+    }
+    let ran = nine_turns(rt.alloc(), &[11], &[])?;
+    assert_eq!(rt; (ran.status, ran.printed.as_slice()), (Status::Done, NINE_LINES));
+    Ok(())
+}
+
+#[test]
+fn whichever_call_the_keeper_fails_is_printed_and_the_run_goes_on(
+    rt: HostRuntime,
+) -> Result<(), Fail> {
+    for (at, out, commits) in KEEPS_FAIL {
+        let ran = nine_turns(rt.alloc(), &[], &[at])?;
+        assert_eq!(rt; ran.status, Status::KeepFault, "at call {at}");
+        assert_eq!(rt; ran.printed.as_slice(), out, "at call {at}");
+        assert_eq!(rt; (ran.commits, ran.started), (commits, at > 1), "at call {at}");
+    }
+    let ran = nine_turns(rt.alloc(), &[], &[5])?;
+    assert_eq!(rt; (ran.status, ran.printed.as_slice()), (Status::Done, NINE_LINES));
+    Ok(())
+}
+
+/// Runs the nine turns, a line at a write, with these writes and calls of the keeper failing.
+fn nine_turns(alloc: Global, writes_fail: &[u64], keeps_fail: &[u64]) -> Result<Ran, Fail> {
+    run_over(
+        alloc,
+        &["replay"],
+        NINE_TURNS,
+        4096,
+        &[],
+        writes_fail,
+        keeps_fail,
+        4096,
+    )
 }

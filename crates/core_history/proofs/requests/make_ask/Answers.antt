@@ -25,7 +25,7 @@ returns-in-Ok-clause-makes g c origin world who stands =
       Value given.value,
       ap (λ (a : Answer). reply.Answer a) (answer_is given key (length (log_of world.past)) c.in-Ok.ensures.answer.0 stamp),
       (
-        store_called old new false origin world.past event stands.0 c.in-Ok.ensures.ledger c.in-Ok.ensures.failed_rose c.in-Ok.ensures.never_falls refl refl (λ told. (c.in-Ok.ensures.tells told).0) (λ told. (c.in-Ok.ensures.tells told).1),
+        store_called old new false origin world.past event stands.0 c.in-Ok.ensures.ledger c.in-Ok.ensures.counts c.in-Ok.ensures.never_falls refl refl (λ told. (c.in-Ok.ensures.tells told).0) (λ told. (c.in-Ok.ensures.tells told).1),
         subst P (sym sessions) (phases_same old.ledger.sessions world event stands.1 refl refl),
       ),
     )

@@ -1,4 +1,4 @@
-use Rattle.std.proofs.Common.{◌+◌, ◌++◌, drop, arith, subst, List}
+use Rattle.std.proofs.Common.{◌+◌, ◌++◌, ◌∙◌, drop, subst, List}
 use Rattle.std.proofs.lemmas.List.{take_all}
 use Rattle.run_inputs.specs.declared.scripts.Act.{Act}
 use Rattle.top_run.specs.Runs.{calls_of}
@@ -22,13 +22,11 @@ pub loop-act-preserved : goal.loop-act-preserved
 loop-act-preserved g c =
     let acts = c.args.acts.now in
     let i = c.loop-act.act-index in
-    let up = c.loop-act.invariant.up in
-    let up' = c.play_act.ensures.never_falls in
     record {
       can = can_rest c.loop-act.core c.play_act.new.core c.act-item.result (drop (i + 1) acts) _ _ _ _ (can_act c.loop-act.core acts i c.act-item.result _ _ c.loop-act-test.true c.act-item.is c.loop-act.invariant.can) c.in_ok-play_act.ensures.all;
       so_far = λ origin calls taken h.
           stands_at c.loop-act.core c.play_act.new.core acts i c.act-item.result origin calls taken _ _ _ _ c.loop-act-test.true c.act-item.is (c.loop-act.invariant.so_far origin calls taken h) c.in_ok-play_act.ensures.all;
-      up = omega arith;
+      same = c.in_ok-play_act.ensures.counts ∙ c.loop-act.invariant.same;
     }
 
 pub returns-clause-all : goal.returns-clause-all

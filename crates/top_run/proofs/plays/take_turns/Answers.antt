@@ -1,4 +1,4 @@
-use Rattle.std.proofs.Common.{◌≡◌, ◌-◌, ◌+◌, arith}
+use Rattle.std.proofs.Common.{◌≡◌, ◌-◌, ◌+◌, ◌∙◌, arith}
 use Rattle.top_run.proofs.PlayLemmas.{can_take, can_turn, stands_turn, stops_turn, on_err}
 use Rattle.top_run.proofs.plays.take_turns.Goals as goal
 
@@ -15,13 +15,11 @@ returns-in_err-take_turn-clause-some g c = λ origin calls taken h.
 
 pub loop-taken-preserved : goal.loop-taken-preserved
 loop-taken-preserved g c =
-    let up = c.loop-taken.invariant.up in
-    let up' = c.take_turn.ensures.never_falls in
     record {
       can = can_turn c.loop-taken.core c.take_turn.new.core c.args.turn (c.args.count - c.loop-taken._taken) (c.args.count - (c.loop-taken._taken + 1)) _ _ _ _ (omega arith) c.loop-taken.invariant.can c.in_ok-take_turn.ensures.all;
       so_far = λ origin calls taken h.
           stands_turn c.loop-taken.core c.take_turn.new.core c.args.turn c.loop-taken._taken origin calls taken _ _ _ _ (c.loop-taken.invariant.so_far origin calls taken h) c.in_ok-take_turn.ensures.all;
-      up = omega arith;
+      same = c.in_ok-take_turn.ensures.counts ∙ c.loop-taken.invariant.same;
     }
 
 pub returns-clause-all : goal.returns-clause-all

@@ -1,6 +1,7 @@
-use Rattle.std.proofs.Common.{sym, ◌∙◌}
-use Rattle.top_run.specs.Plays.{origin_of}
-use Rattle.top_run.proofs.RunLemmas.{ended_is, room_at_end, other_end, faults_at_end}
+use Rattle.std.proofs.Common.{sym, refl, ap, subst, ◌≡◌, ◌∙◌, Bool}
+use Rattle.core_history.specs.Cores.{origin_of}
+use Rattle.top_run.specs.Runs.{RoseWhere, is_read_fault, is_write_fault}
+use Rattle.top_run.proofs.RunLemmas.{ended_is, room_at_end, other_end, no_read_end, write_end, faults_at_end}
 use Rattle.top_run.proofs.runs.play_on.Goals as goal
 
 pub ended_run-requires-clause-room : goal.ended_run-requires-clause-room
@@ -9,15 +10,24 @@ ended_run-requires-clause-room g c =
     c.play_whole-ended.ensures.all c.play_whole-ended.ensures.some c.requires.room
 
 pub returns-clause-ended : goal.returns-clause-ended
-returns-clause-ended g c = λ left_old left_new reads_old reads_new rows faults read up.
+returns-clause-ended g c = λ left_old left_new reads rows held read opened.
     rw (c.ended_run.ensures.status, c.ended_run.ensures.opening, c.ended_run.ensures.log, c.ended_run.ensures.histories, c.ended_run.ensures.written)
-    (ended_is c.play_whole-ended.result c.args.core c.play_whole-ended.new.core c.args.script.now.shape c.args.script.now.acts _ _ c.play_whole-ended.new.tally
-    (record { is_new = c.requires.new; sound = c.ended_run.ensures.sound; read = read; up = up; rows = c.ended_run.ensures.rows; count = c.ended_run.ensures.faults })
-    c.play_whole-ended.ensures.all c.play_whole-ended.ensures.some c.play_whole-ended.ensures.failed_rose)
+    (ended_is held c.args.core c.play_whole-ended.new.core c.args.script.now.shape c.args.script.now.acts _ _
+    (record { is_new = c.requires.new; sound = c.ended_run.ensures.sound; read = read; opened = opened; start = refl; rows = c.ended_run.ensures.rows; count = c.ended_run.ensures.faults })
+    c.play_whole-ended.result c.play_whole-ended.new.tally c.play_whole-ended.ensures.all c.play_whole-ended.ensures.some)
 
 pub returns-clause-other : goal.returns-clause-other
 returns-clause-other g c = λ is.
     other_end c.play_whole-ended.result c.play_whole-ended.new.tally.faulted (sym c.ended_run.ensures.status ∙ is)
+
+pub returns-clause-no_read_fault : goal.returns-clause-no_read_fault
+returns-clause-no_read_fault g c =
+    ap is_read_fault c.ended_run.ensures.status ∙ no_read_end c.play_whole-ended.result c.play_whole-ended.new.tally.faulted
+
+pub returns-clause-writes : goal.returns-clause-writes
+returns-clause-writes g c =
+    let is = ap is_write_fault c.ended_run.ensures.status ∙ write_end c.play_whole-ended.result c.play_whole-ended.new.tally.faulted in
+    subst (λ (b : Bool). RoseWhere b (g.W.Sink.faults c.args.sink.now) (g.W.Sink.faults c.play_whole-ended.new.sink)) (sym is) c.play_whole-ended.ensures.counts
 
 pub returns-clause-keeper_never_falls : goal.returns-clause-keeper_never_falls
 returns-clause-keeper_never_falls g c =

@@ -1,7 +1,8 @@
 use Rattle.std.proofs.Common.{List, [], ◌++◌, subst, refl, ◌∙◌}
 use Rattle.run_inputs.specs.declared.scripts.Act.{Act}
 use Rattle.top_run.specs.Runs.{calls_of}
-use Rattle.top_run.specs.Plays.{Stands, Stops, IsStopped, origin_of}
+use Rattle.core_history.specs.Cores.{origin_of}
+use Rattle.top_run.specs.Plays.{Stands, Stops, IsStopped}
 use Rattle.top_run.proofs.PlayLemmas.{on_err}
 use Rattle.top_run.proofs.RunLemmas.{can_start, stands_new, stopped_at_act, stopped_before_end, stopped_at_end, finished, few_shards}
 use Rattle.top_run.proofs.runs.play_whole.Goals as goal

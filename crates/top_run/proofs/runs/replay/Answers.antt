@@ -7,4 +7,4 @@ new-requires g c = rw c.shape-2.ensures (shape_of c.args.script.now.shape c.args
 
 pub play_on-requires-clause-new : goal.play_on-requires-clause-new
 play_on-requires-clause-new g c =
-    new_core c.in-Ok-new.core c.shape-2.result c.args.script.now.shape c.shape-2.ensures c.in-Ok-new.ensures.begins (c.in-Ok-new.ensures.fresh refl)
+    new_core c.in-Ok-new.core c.shape-2.result c.args.script.now.shape c.shape-2.ensures c.in-Ok-new.ensures.begins
