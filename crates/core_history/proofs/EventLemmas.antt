@@ -155,7 +155,9 @@ abbrev pub IsCounted : ℕ → Event → Type 0
 IsCounted shards event =
     (key : QKey) (who : Sid) → count_by (quarantines key who) (steps_in (shard_of key shards) event) ≡ count_by (covers who key) (granted (told_in who.number event))
 
-pub counts-more : (shards : ℕ) (event : Event) (past : List Event) → IsCounted shards event → (key : QKey) (who : Sid) → count_by (quarantines key who) (steps_of (shard_of key shards) past) ≡ count_by (covers who key) (granted (told_to who.number past)) → count_by (quarantines key who) (steps_of (shard_of key shards) (event ∷ past)) ≡ count_by (covers who key) (granted (told_to who.number (event ∷ past)))
+pub counts-more : (shards : ℕ) (event : Event) (past : List Event) → IsCounted shards event → (key : QKey) (who : Sid)
+    → count_by (quarantines key who) (steps_of (shard_of key shards) past) ≡ count_by (covers who key) (granted (told_to who.number past))
+    → count_by (quarantines key who) (steps_of (shard_of key shards) (event ∷ past)) ≡ count_by (covers who key) (granted (told_to who.number (event ∷ past)))
 counts-more shards event past counted key who h =
     let a = count-append (quarantines key who) (steps_in (shard_of key shards) event) (steps_of (shard_of key shards) past) in
     let b = ap (count_by (covers who key)) (grants-append (told_in who.number event) (told_to who.number past)) in
@@ -172,7 +174,8 @@ no_step : (b : Bool) (p : Step → Bool) (s : Step) → p s ≡ false → count_
 no_step true p s e = let a = count-cons p s [] in let b = zero_if (p s) e in omega (arith, a, b)
 no_step false p s e = refl
 
-pub counted-mild : (shards place : ℕ) (who : Sid) (request : _) (s : Step) (told : Reply) → ((key : QKey) (by : Sid) → quarantines key by s ≡ false) → grants_in told ≡ [] → IsCounted shards (Stepped place who request s told)
+pub counted-mild : (shards place : ℕ) (who : Sid) (request : _) (s : Step) (told : Reply) → ((key : QKey) (by : Sid) → quarantines key by s ≡ false) → grants_in told ≡ []
+    → IsCounted shards (Stepped place who request s told)
 counted-mild shards place who request s told none mild key by =
     no_step (place == shard_of key shards) (quarantines key by) s (none key by) ∙ sym (ap (count_by (covers by key)) (no_grants (who.number == by.number) told mild))
 
@@ -197,7 +200,8 @@ same_ticks false true mine h = absurd (not_both (h refl) refl)
 same_ticks false false true h = refl
 same_ticks false false false h = refl
 
-pub counted-granted : (shards : ℕ) (key : QKey) (who : Sid) (request : _) (mode : _) (shift : _) (now token deadline place : ℕ) (old : _) → IsCounted shards (Stepped (shard_of key shards) who request (step.Granted key who mode shift now token deadline) (reply.Quar (quarantine.Granted (record { shard = place; key = key; sid = who; mode = mode; token = token }) old)))
+pub counted-granted : (shards : ℕ) (key : QKey) (who : Sid) (request : _) (mode : _) (shift : _) (now token deadline place : ℕ) (old : _)
+    → IsCounted shards (Stepped (shard_of key shards) who request (step.Granted key who mode shift now token deadline) (reply.Quar (quarantine.Granted (record { shard = place; key = key; sid = who; mode = mode; token = token }) old)))
 counted-granted shards key who request mode shift now token deadline place old on by =
     let s = step.Granted key who mode shift now token deadline in
     let grant : Permit = record { shard = place; key = key; sid = who; mode = mode; token = token } in

@@ -44,7 +44,8 @@ run_holds shape (Take (turn.Session who) said ∷ moves) =
     good_holds shape world.past (turn_event shape world (turn.Session who) said) (taken-inner shape world who said (inner_of shape moves)).1 (run_holds shape moves)
 
 -- what is right, where the keeper's word was true
-run_rights : (opening : Tables) (shape : Shape) (moves : List Move) → IsTruePast opening (world_of shape moves).past → Rights opening shape (world_of shape moves).past (log_of (world_of shape moves).past)
+run_rights : (opening : Tables) (shape : Shape) (moves : List Move) → IsTruePast opening (world_of shape moves).past
+    → Rights opening shape (world_of shape moves).past (log_of (world_of shape moves).past)
 run_rights opening shape [] word = start_rights opening shape
 run_rights opening shape (Begin plan ∷ moves) word = run_rights opening shape moves word
 run_rights opening shape (Take (turn.Session who) said ∷ moves) word =
@@ -53,7 +54,8 @@ run_rights opening shape (Take (turn.Session who) said ∷ moves) word =
     good_rights opening shape world.past (turn_event shape world (turn.Session who) said) (λ n shut. closed-over n world.past shut) inner.known (taken-inner shape world who said inner).1 word.0 (run_holds shape moves) (run_rights opening shape moves word.1)
 
 module _ (opening : Tables) (shape : Shape) (world : World) (holds : Holds shape world.past (known_of world.past)) (rights : Rights opening shape world.past (log_of world.past)) where
-  answer_of : (key : QKey) (found : Option (List ℕ × ℕ)) → IsEntryHeld key (marks_of key (steps_on shape world key)) (known_of world.past) found → IsEntryRight (answer_after opening key) (log_of world.past) found → IsAnswer opening (log_of world.past) key found
+  answer_of : (key : QKey) (found : Option (List ℕ × ℕ)) → IsEntryHeld key (marks_of key (steps_on shape world key)) (known_of world.past) found
+      → IsEntryRight (answer_after opening key) (log_of world.past) found → IsAnswer opening (log_of world.past) key found
   answer_of key None held right = tt
   answer_of key (Some found) held right = (held.within, right)
 
@@ -69,7 +71,9 @@ module _ (opening : Tables) (shape : Shape) (world : World) (holds : Holds shape
       let stands = lacking_stands key marks (known_of world.past) None (standing key (steps_on shape world key)) (entry key (steps_on shape world key)) found.1 (holds.ruled key) (holds.tied key) held place commit at late touched in
       stood_for commit.sid.number stands.0 (standing key (steps_on shape world key)) stands.1
 
-  current_of : (key : QKey) (lease : ReadLease) (least : ℕ) (leased : IsLeased key lease.token world.past (marks_of key (steps_on shape world key)) (known_of world.past)) → least ≡ length leased.then_known.log → (answers : List Answer) → AllByRecursion (IsBetween least (length (log_of world.past))) answers → AllByRecursion (IsRightAnswer opening (log_of world.past) key) answers → AllByRecursion (IsCurrent opening (log_of world.past) key least) answers
+  current_of : (key : QKey) (lease : ReadLease) (least : ℕ) (leased : IsLeased key lease.token world.past (marks_of key (steps_on shape world key)) (known_of world.past))
+      → least ≡ length leased.then_known.log → (answers : List Answer) → AllByRecursion (IsBetween least (length (log_of world.past))) answers
+      → AllByRecursion (IsRightAnswer opening (log_of world.past) key) answers → AllByRecursion (IsCurrent opening (log_of world.past) key least) answers
   current_of key lease least leased is [] between right = tt
   current_of key lease least leased is (answered ∷ answers) between right = (
     record {

@@ -48,12 +48,14 @@ apart-key shape world key well = record {
   alone = alone (terms_of shape (shard_of key shape.shards)) (steps_on shape world key) key well;
 }
   where
-    by : (quar : Quar) (quars : List Quar) → standing key (steps_on shape world key) ≡ quar ∷ quars → (recorded key (steps_on shape world key) ≡ None) ⊎ (standing key (steps_on shape world key) ≡ []) → recorded key (steps_on shape world key) ≡ None
+    by : (quar : Quar) (quars : List Quar) → standing key (steps_on shape world key) ≡ quar ∷ quars
+        → (recorded key (steps_on shape world key) ≡ None) ⊎ (standing key (steps_on shape world key) ≡ []) → recorded key (steps_on shape world key) ≡ None
     by quar quars e (inl none) = none
     by quar quars e (inr none) = let clash : quar ∷ quars ≡ [] = sym e ∙ none in cc
 
 -- a session has one grant on a key at most
-writer-once : (shape : Shape) (past : List Event) (who : Sid) (heard : List Reply) (keys : List QKey) (key : QKey) → Writer shape past who.number heard keys → count_by (covers who key) (granted heard) ≤ 1
+writer-once : (shape : Shape) (past : List Event) (who : Sid) (heard : List Reply) (keys : List QKey) (key : QKey) → Writer shape past who.number heard keys
+    → count_by (covers who key) (granted heard) ≤ 1
 writer-once shape past who heard keys key w =
     count-once (covers who key) (granted heard) (λ i j a b at_i at_j on_a on_b.
     let one = same_key-true key a.key (and_elim (same_key key a.key) (a.sid.number == who.number) on_a).0 in
@@ -63,7 +65,8 @@ writer-once shape past who heard keys key w =
 none-once : (who : Sid) (key : QKey) (grants : List Permit) → grants ≡ [] → count_by (covers who key) grants ≤ 1
 none-once who key grants e = let z : count_by (covers who key) grants ≡ 0 = ap (count_by (covers who key)) e in omega (arith, z)
 
-session-once : (shape : Shape) (past : List Event) (who : Sid) (heard : List Reply) (key : QKey) (plan : Option Plan) → IsSession shape past who.number heard plan → count_by (covers who key) (granted heard) ≤ 1
+session-once : (shape : Shape) (past : List Event) (who : Sid) (heard : List Reply) (key : QKey) (plan : Option Plan) → IsSession shape past who.number heard plan
+    → count_by (covers who key) (granted heard) ≤ 1
 session-once shape past who heard key None h = none-once who key (granted heard) (idle-grants heard h)
 session-once shape past who heard key (Some (Read on floor)) h = none-once who key (granted heard) h.1
 session-once shape past who heard key (Some (Write mode txn)) h = writer-once shape past who heard (footprint txn) key h
@@ -79,7 +82,8 @@ once-key shape world inner key who =
 none-covered : (who : Sid) (key : QKey) (grants : List Permit) → grants ≡ [] → is_covered who grants key ≡ true → ⊥
 none-covered who key grants e h = false≢true (sym (ap (λ l. is_covered who l key) e) ∙ h)
 
-open-stands : (shape : Shape) (world : World) (who : Sid) (key : QKey) (plan : Option Plan) → IsSession shape world.past who.number (told_to who.number world.past) plan → is_covered who (granted (told_to who.number world.past)) key ≡ true → is_open world who ≡ true → stands_for who (standing key (steps_on shape world key)) ≡ true
+open-stands : (shape : Shape) (world : World) (who : Sid) (key : QKey) (plan : Option Plan) → IsSession shape world.past who.number (told_to who.number world.past) plan
+    → is_covered who (granted (told_to who.number world.past)) key ≡ true → is_open world who ≡ true → stands_for who (standing key (steps_on shape world key)) ≡ true
 open-stands shape world who key None h covered is_so = absurd (none-covered who key (granted (told_to who.number world.past)) (idle-grants (told_to who.number world.past) h) covered)
 open-stands shape world who key (Some (Read on floor)) h covered is_so = absurd (none-covered who key (granted (told_to who.number world.past)) h.1 covered)
 open-stands shape world who key (Some (Write mode txn)) h covered is_so = granted-stands shape world.past who (told_to who.number world.past) (footprint txn) h (open-closed world who is_so) key covered
@@ -104,7 +108,8 @@ abbrev IsOutFor : Shape → World → Permit → Wanted → Type 0
 IsOutFor shape world grant request =
     IsReleaseOf grant request → list_any (same_permit grant) (out_of shape (shard_of grant.key shape.shards) world.past) ≡ true
 
-writer-out : (shape : Shape) (world : World) (n : ℕ) (grant : Permit) (keys : List QKey) (txn : List Change) → Writer shape world.past n (told_to n world.past) keys → IsOutFor shape world grant (write_wants keys txn (told_to n world.past))
+writer-out : (shape : Shape) (world : World) (n : ℕ) (grant : Permit) (keys : List QKey) (txn : List Change) → Writer shape world.past n (told_to n world.past) keys
+    → IsOutFor shape world grant (write_wants keys txn (told_to n world.past))
 writer-out shape world n grant keys txn w =
     let heard = told_to n world.past in
     let O : Permit → Type 0 = λ g. list_any (same_permit g) (out_of shape (shard_of g.key shape.shards) world.past) ≡ true in
@@ -114,7 +119,8 @@ writer-out shape world n grant keys txn w =
     (λ other at ending done same. subst O same ((w.stood (released heard) other at (omega arith)).out))
     (λ h. absurd h)
 
-session-out : (shape : Shape) (world : World) (n : ℕ) (grant : Permit) (plan : Option Plan) → IsSession shape world.past n (told_to n world.past) plan → IsOutFor shape world grant (wanted_by plan (told_to n world.past))
+session-out : (shape : Shape) (world : World) (n : ℕ) (grant : Permit) (plan : Option Plan) → IsSession shape world.past n (told_to n world.past) plan
+    → IsOutFor shape world grant (wanted_by plan (told_to n world.past))
 session-out shape world n grant None h = λ e. absurd e
 session-out shape world n grant (Some (Read key floor)) h =
     read_cases (IsOutFor shape world grant) key floor (told_to n world.past) (λ e. absurd e) (λ e. absurd e) (λ token answer rest e r. absurd r) (λ e. absurd e)

@@ -60,7 +60,8 @@ pub record Holds (shape : Shape) (past : List Event) (known : Known) : Type 0 wh
   pub tied : (key : QKey) → IsTied (marks_of key (steps_at shape past key)) None (standing key (steps_at shape past key)) (entry key (steps_at shape past key))
   pub held : (key : QKey) → IsEntryHeld key (marks_of key (steps_at shape past key)) known (entry key (steps_at shape past key))
   pub leased : (key : QKey) (lease : ReadLease) → recorded key (steps_at shape past key) ≡ Some lease → IsLeased key lease.token past (marks_of key (steps_at shape past key)) known
-  pub asked : (key : QKey) (token number least : ℕ) → leased_at key token past ≡ Some least → (least ≤ length known.log) × AllByRecursion (IsBetween least (length known.log)) (answers_under key token number past)
+  pub asked : (key : QKey) (token number least : ℕ) → leased_at key token past ≡ Some least
+      → (least ≤ length known.log) × AllByRecursion (IsBetween least (length known.log)) (answers_under key token number past)
 
 -- no mark is among none
 none_in : (mark : Mark) (b : Bool) → Has mark (cond b [] []) → ⊥
@@ -91,7 +92,9 @@ abbrev pub Gives : QKey → ReadLease → Step → Type 0
 Gives key lease (step.Lease on sid floor now token deadline) = (same_key key on ≡ true) × (token ≡ lease.token)
 Gives key lease other = ⊥
 
-lease_cases : (key on : QKey) (lease new : ReadLease) (past : List Step) (sid : Sid) (floor now token deadline : ℕ) (b : Bool) → same_key key on ≡ b → new.token ≡ token → cond b (Some new) (recorded key past) ≡ Some lease → IsKeptLease key lease past (step.Lease on sid floor now token deadline) ⊎ ((same_key key on ≡ true) × (token ≡ lease.token))
+lease_cases : (key on : QKey) (lease new : ReadLease) (past : List Step) (sid : Sid) (floor now token deadline : ℕ) (b : Bool) → same_key key on ≡ b → new.token ≡ token
+    → cond b (Some new) (recorded key past) ≡ Some lease
+    → IsKeptLease key lease past (step.Lease on sid floor now token deadline) ⊎ ((same_key key on ≡ true) × (token ≡ lease.token))
 lease_cases key on lease new past sid floor now token deadline true same mine e =
     let is : new ≡ lease = cc in inr (same, sym mine ∙ ap (λ (l : ReadLease). l.token) is)
 lease_cases key on lease new past sid floor now token deadline false same mine e =
@@ -101,11 +104,13 @@ lease_cases key on lease new past sid floor now token deadline false same mine e
       grants_none = λ who t h. subst (λ b. Has (Granted who t) (cond b (Leased token ∷ []) [])) same h;
     })
 
-grant_cases : (key on : QKey) (lease : ReadLease) (past : List Step) (number token : ℕ) (b : Bool) → same_key key on ≡ b → cond b None (recorded key past) ≡ Some lease → (recorded key past ≡ Some lease) × ((who t : ℕ) → Has (Granted who t) (cond (same_key key on) (Granted number token ∷ []) []) → ⊥)
+grant_cases : (key on : QKey) (lease : ReadLease) (past : List Step) (number token : ℕ) (b : Bool) → same_key key on ≡ b → cond b None (recorded key past) ≡ Some lease
+    → (recorded key past ≡ Some lease) × ((who t : ℕ) → Has (Granted who t) (cond (same_key key on) (Granted number token ∷ []) []) → ⊥)
 grant_cases key on lease past number token true same e = absurd cc
 grant_cases key on lease past number token false same e = (e, λ who t h. subst (λ b. Has (Granted who t) (cond b (Granted number token ∷ []) [])) same h)
 
-store_cases : (key on : QKey) (lease : ReadLease) (past : List Step) (stamp : ℕ) (b : Bool) → same_key key on ≡ b → cond b None (recorded key past) ≡ Some lease → (recorded key past ≡ Some lease) × ((who t : ℕ) → Has (Granted who t) (cond (same_key key on) (Wrote stamp ∷ []) []) → ⊥)
+store_cases : (key on : QKey) (lease : ReadLease) (past : List Step) (stamp : ℕ) (b : Bool) → same_key key on ≡ b → cond b None (recorded key past) ≡ Some lease
+    → (recorded key past ≡ Some lease) × ((who t : ℕ) → Has (Granted who t) (cond (same_key key on) (Wrote stamp ∷ []) []) → ⊥)
 store_cases key on lease past stamp true same e = absurd cc
 store_cases key on lease past stamp false same e = (e, λ who t h. subst (λ b. Has (Granted who t) (cond b (Wrote stamp ∷ []) [])) same h)
 
@@ -159,7 +164,8 @@ between_told least most answered (first ∷ answers) h (inl e) = subst (IsBetwee
 between_told least most answered (first ∷ answers) h (inr t) = between_told least most answered answers h.1 t
 between_told least most answered [] h t = absurd t
 
-set_held : (shape : Shape) (past : List Event) (who : Sid) (on : QKey) (token : ℕ) (value : List ℕ) (stamp : ℕ) → Holds shape past (known_of past) → SetsTold past (steps_at shape past on) who on token value stamp → IsHeld on (Wrote stamp ∷ marks_of on (steps_at shape past on)) (known_of past) stamp
+set_held : (shape : Shape) (past : List Event) (who : Sid) (on : QKey) (token : ℕ) (value : List ℕ) (stamp : ℕ) → Holds shape past (known_of past)
+    → SetsTold past (steps_at shape past on) who on token value stamp → IsHeld on (Wrote stamp ∷ marks_of on (steps_at shape past on)) (known_of past) stamp
 set_held shape past who on token value stamp holds sets =
     let lease = holds.leased on sets.lease sets.is_recorded in
     let L : ℕ → Type 0 = λ t. leased_at on t past ≡ Some (length lease.then_known.log) in
@@ -173,7 +179,8 @@ set_held shape past who on token value stamp holds sets =
     }
 
 -- so a good step is honest
-honest_is : (shape : Shape) (past : List Event) (who : Sid) (s : Step) → Holds shape past (known_of past) → IsGoodStep past (steps_at shape past (key_of s)) who s → IsHonest (known_of past) (steps_at shape past (key_of s)) s
+honest_is : (shape : Shape) (past : List Event) (who : Sid) (s : Step) → Holds shape past (known_of past) → IsGoodStep past (steps_at shape past (key_of s)) who s
+    → IsHonest (known_of past) (steps_at shape past (key_of s)) s
 honest_is shape past who (step.Stored on token now value stamp evicted) holds good = set_held shape past who on token value stamp holds good
 honest_is shape past who (step.Released on sid token ended.Keep) holds good = good
 honest_is shape past who (step.Released on sid token ended.Drop) holds good = good
@@ -197,21 +204,25 @@ module _ (shape : Shape) (past : List Event) (who : Sid) (request : Wanted) (s :
   event = Stepped place who request s told
 
   -- at another shard, and at this one
-  at_shard : (P : QKey → List Step → Type 0) (key : QKey) → (place ≡ shard_of key shape.shards → P key (s ∷ steps_at shape past key)) → P key (steps_at shape past key) → P key (steps_at shape (event ∷ past) key)
+  at_shard : (P : QKey → List Step → Type 0) (key : QKey) → (place ≡ shard_of key shape.shards → P key (s ∷ steps_at shape past key)) → P key (steps_at shape past key)
+      → P key (steps_at shape (event ∷ past) key)
   at_shard P key here there =
       choose (λ l. P key (l ++ steps_at shape past key)) (place == shard_of key shape.shards) (s ∷ []) [] (λ same. here (eqb-true place (shard_of key shape.shards) same)) (λ other. there)
 
   honest : (key : QKey) → place ≡ shard_of key shape.shards → IsHonest (known_of past) (steps_at shape past key) s
   honest key same = subst (λ (p : ℕ). IsHonest (known_of past) (steps_of p past) s) same (honest_is shape past who s holds good)
 
-  kept : (key : QKey) → place ≡ shard_of key shape.shards → IsRuled key (marks_of key (s ∷ steps_at shape past key)) (known_of past) × IsEntryHeld key (marks_of key (s ∷ steps_at shape past key)) (known_of past) (entry key (s ∷ steps_at shape past key))
+  kept : (key : QKey) → place ≡ shard_of key shape.shards
+      → IsRuled key (marks_of key (s ∷ steps_at shape past key)) (known_of past) × IsEntryHeld key (marks_of key (s ∷ steps_at shape past key)) (known_of past) (entry key (s ∷ steps_at shape past key))
   kept key same = steps_keep key (known_of past) (steps_at shape past key) s (honest key same) (holds.ruled key) (holds.held key)
 
   not_leased : (key : QKey) (token : ℕ) → (place == shard_of key shape.shards) ≡ false → leases key token s ≡ false
   not_leased key token other =
       not_so (leases key token s) (λ gives. not_both (eq-eqb place (shard_of key shape.shards) (ap (λ k. shard_of k shape.shards) (sym (leases-on key token s gives)))) other)
 
-  same_lease : (key : QKey) (lease : ReadLease) (marks : List Mark) → leases key lease.token s ≡ false → ((by t : ℕ) → Has (Granted by t) marks → ⊥) → IsLeased key lease.token past (marks_of key (steps_at shape past key)) (known_of past) → IsLeased key lease.token (event ∷ past) (marks ++ marks_of key (steps_at shape past key)) (known_of past)
+  same_lease : (key : QKey) (lease : ReadLease) (marks : List Mark) → leases key lease.token s ≡ false → ((by t : ℕ) → Has (Granted by t) marks → ⊥)
+      → IsLeased key lease.token past (marks_of key (steps_at shape past key)) (known_of past)
+      → IsLeased key lease.token (event ∷ past) (marks ++ marks_of key (steps_at shape past key)) (known_of past)
   same_lease key lease marks none grants was = record {
     then_marks = was.then_marks;
     then_known = was.then_known;
@@ -230,7 +241,8 @@ module _ (shape : Shape) (past : List Event) (who : Sid) (request : Wanted) (s :
     asked = λ key token number least is. asked_after key token number least (leases key token s) refl is;
   }
     where
-      given : (key : QKey) (lease : ReadLease) (x : Step) → (x ≡ s) → place ≡ shard_of key shape.shards → Gives key lease x → IsLeased key lease.token (event ∷ past) (marks_in key x ++ marks_of key (steps_at shape past key)) (known_of past)
+      given : (key : QKey) (lease : ReadLease) (x : Step) → (x ≡ s) → place ≡ shard_of key shape.shards → Gives key lease x
+          → IsLeased key lease.token (event ∷ past) (marks_in key x ++ marks_of key (steps_at shape past key)) (known_of past)
       given key lease (step.Lease on sid floor now token deadline) is same gives =
           let k : key ≡ on = same_key-true key on gives.0 in
           let G : Step → Type 0 = λ y. IsGoodStep past (steps_at shape past (key_of y)) who y in
@@ -255,7 +267,9 @@ module _ (shape : Shape) (past : List Event) (who : Sid) (request : Wanted) (s :
           only_leased by t token (inr h) = h
       given key lease other is same gives = absurd gives
 
-      leased_after : (key : QKey) (lease : ReadLease) (b : Bool) → (place == shard_of key shape.shards) ≡ b → recorded key (cond b (s ∷ []) [] ++ steps_at shape past key) ≡ Some lease → IsLeased key lease.token (event ∷ past) (marks_of key (cond b (s ∷ []) [] ++ steps_at shape past key)) (known_of past)
+      leased_after : (key : QKey) (lease : ReadLease) (b : Bool) → (place == shard_of key shape.shards) ≡ b
+          → recorded key (cond b (s ∷ []) [] ++ steps_at shape past key) ≡ Some lease
+          → IsLeased key lease.token (event ∷ past) (marks_of key (cond b (s ∷ []) [] ++ steps_at shape past key)) (known_of past)
       leased_after key lease true here e = ⊎_elim
           (λ old. same_lease key lease (marks_in key s) (old.gives_none lease.token) old.grants_none (holds.leased key lease old.was))
           (λ new. given key lease s refl (eqb-true place (shard_of key shape.shards) here) new)
@@ -263,13 +277,17 @@ module _ (shape : Shape) (past : List Event) (who : Sid) (request : Wanted) (s :
       leased_after key lease false here e =
           same_lease key lease [] (not_leased key lease.token here) (λ by t h. h) (holds.leased key lease e)
 
-      asked_after : (key : QKey) (token number least : ℕ) (b : Bool) → leases key token s ≡ b → cond b (Some (length (log_of past))) (leased_at key token past) ≡ Some least → (least ≤ length (log_of past)) × AllByRecursion (IsBetween least (length (log_of past))) (cond b [] (answers_under key token number past))
+      asked_after : (key : QKey) (token number least : ℕ) (b : Bool) → leases key token s ≡ b → cond b (Some (length (log_of past))) (leased_at key token past) ≡ Some least
+          → (least ≤ length (log_of past)) × AllByRecursion (IsBetween least (length (log_of past))) (cond b [] (answers_under key token number past))
       asked_after key token number least true gives e =
           let is : length (log_of past) ≡ least = cc in (omega (arith, is), tt)
       asked_after key token number least false gives e = holds.asked key token number least e
 
 -- a call of the store by which more is known
-called_holds : (shape : Shape) (past : List Event) (who : Sid) (request : Wanted) (told : Reply) (known : Known) → IsMore (known_of past) known → ((key : QKey) → IsRuled key (marks_of key (steps_at shape past key)) known) → ((key : QKey) (number least : ℕ) → least ≤ length (log_of past) → AllByRecursion (IsBetween least (length known.log)) (answers_in key number who told)) → Holds shape past (known_of past) → Holds shape (Called who request told ∷ past) known
+called_holds : (shape : Shape) (past : List Event) (who : Sid) (request : Wanted) (told : Reply) (known : Known) → IsMore (known_of past) known
+    → ((key : QKey) → IsRuled key (marks_of key (steps_at shape past key)) known)
+    → ((key : QKey) (number least : ℕ) → least ≤ length (log_of past) → AllByRecursion (IsBetween least (length known.log)) (answers_in key number who told))
+    → Holds shape past (known_of past) → Holds shape (Called who request told ∷ past) known
 called_holds shape past who request told known grows ruled new holds = record {
   ruled = ruled;
   tied = holds.tied;
@@ -290,13 +308,15 @@ called_holds shape past who request told known grows ruled new holds = record {
       );
 }
   where
-    entry_more : (key : QKey) (found : Option (List ℕ × ℕ)) → IsEntryHeld key (marks_of key (steps_at shape past key)) (known_of past) found → IsEntryHeld key (marks_of key (steps_at shape past key)) known found
+    entry_more : (key : QKey) (found : Option (List ℕ × ℕ)) → IsEntryHeld key (marks_of key (steps_at shape past key)) (known_of past) found
+        → IsEntryHeld key (marks_of key (steps_at shape past key)) known found
     entry_more key None h = tt
     entry_more key (Some found) h =
         more_is_held key (marks_of key (steps_at shape past key)) (known_of past) known found.1 grows (holds.ruled key) (ruled key) h
 
 -- a call that tells of no commit, no end and no answer
-plain_holds : (shape : Shape) (past : List Event) (who : Sid) (request : Wanted) (told : Reply) → ((key : QKey) (number : ℕ) → answers_in key number who told ≡ []) → Holds shape past (known_of past) → Holds shape (Called who request told ∷ past) (known_of past)
+plain_holds : (shape : Shape) (past : List Event) (who : Sid) (request : Wanted) (told : Reply) → ((key : QKey) (number : ℕ) → answers_in key number who told ≡ [])
+    → Holds shape past (known_of past) → Holds shape (Called who request told ∷ past) (known_of past)
 plain_holds shape past who request told none holds =
     called_holds shape past who request told (known_of past) (more-refl (known_of past)) holds.ruled (λ key number least le. subst (AllByRecursion (IsBetween least (length (log_of past)))) (sym (none key number)) tt) holds
 

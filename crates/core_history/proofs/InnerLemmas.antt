@@ -83,14 +83,17 @@ told-back answered [] ys h = h
 told-back answered (x ∷ xs) ys h = inr (told-back answered xs ys h)
 
 -- what is held under a lease stays so
-holding-more : (shape : Shape) (event : Event) (past : List Event) (key : QKey) (n : ℕ) (heard : List Reply) → DrawsLate shape past event → AllByRecursion (IsDrawnBelow (next_token (terms_of shape (shard_of key shape.shards)) (steps_of (shard_of key shape.shards) past))) heard → IsHolding key n past heard → IsHolding key n (event ∷ past) heard
+holding-more : (shape : Shape) (event : Event) (past : List Event) (key : QKey) (n : ℕ) (heard : List Reply) → DrawsLate shape past event
+    → AllByRecursion (IsDrawnBelow (next_token (terms_of shape (shard_of key shape.shards)) (steps_of (shard_of key shape.shards) past))) heard → IsHolding key n past heard
+    → IsHolding key n (event ∷ past) heard
 holding-more shape (Stepped place who request s told) past key n (reply.Answer answered ∷ reply.Got (got.Lease token) ∷ heard) late drawn h =
     subst (λ b. IsTold answered (cond b [] (answers_under key token n past))) (sym (late key token drawn.1.0)) h
 holding-more shape (Called who request told) past key n (reply.Answer answered ∷ reply.Got (got.Lease token) ∷ heard) late drawn h =
     told-back answered (answers_in key n who told) (answers_under key token n past) h
 holding-more shape event past key n heard late drawn h = tt
 
-pub session-more : (shape : Shape) (event : Event) (past : List Event) (n : ℕ) (heard : List Reply) (plan : Option Plan) → DrawsLate shape past event → Keeps shape event past n → IsSession shape past n heard plan → IsSession shape (event ∷ past) n heard plan
+pub session-more : (shape : Shape) (event : Event) (past : List Event) (n : ℕ) (heard : List Reply) (plan : Option Plan) → DrawsLate shape past event → Keeps shape event past n
+    → IsSession shape past n heard plan → IsSession shape (event ∷ past) n heard plan
 session-more shape event past n heard None late keeps h = h
 session-more shape event past n heard (Some (Read key floor)) late keeps h =
     let home = shard_of key shape.shards in
@@ -123,7 +126,8 @@ covered-more shape event past quarantined covered place commit key at touched =
     old : (log : List Commit) → log ≡ log_of past → slice_get log place ≡ Some commit → list_any (quarantines key commit.sid) (steps_of (shard_of key shape.shards) past) ≡ true
     old log same e = covered place commit key (sym (ap (λ l. slice_get l place) same) ∙ e) touched
 
-    by : (who : Sid) (told : Reply) → IsQuarantinedReply shape past who told → slice_get (log_of past ++ commits_told who told) place ≡ Some commit → list_any (quarantines key commit.sid) (steps_of (shard_of key shape.shards) past) ≡ true
+    by : (who : Sid) (told : Reply) → IsQuarantinedReply shape past who told → slice_get (log_of past ++ commits_told who told) place ≡ Some commit
+        → list_any (quarantines key commit.sid) (steps_of (shard_of key shape.shards) past) ≡ true
     by who (reply.Committed number txn grants) q e =
         elim (push-place (log_of past) (record { sid = who; txn = txn }) place commit e) [
           | inl before ↦ covered place commit key before touched
@@ -148,7 +152,10 @@ abbrev pub HasTold : Shape → World → Event → Type 0
 HasTold shape world event =
     IsSession shape (event ∷ world.past) (who_in event).number (reply_in event ∷ told_to (who_in event).number world.past) (plan_at (who_in event).number world.plans)
 
-inner-event : (shape : Shape) (world : World) (event : Event) → Inner shape world → ((place : ℕ) → IsLegalPast (terms_of shape place) (steps_of place (event ∷ world.past))) → ((place : ℕ) → AllByRecursion (IsKnown (event ∷ world.past)) (steps_in place event)) → IsLate event world.past → DrawsLate shape world.past event → IsCounted shape.shards event → IsQuarantinedReply shape world.past (who_in event) (reply_in event) → ((n : ℕ) → ((who_in event).number ≡ n → ⊥) → Keeps shape event world.past n) → HasTold shape world event → Inner shape (with_event world event)
+inner-event : (shape : Shape) (world : World) (event : Event) → Inner shape world → ((place : ℕ) → IsLegalPast (terms_of shape place) (steps_of place (event ∷ world.past)))
+    → ((place : ℕ) → AllByRecursion (IsKnown (event ∷ world.past)) (steps_in place event)) → IsLate event world.past → DrawsLate shape world.past event
+    → IsCounted shape.shards event → IsQuarantinedReply shape world.past (who_in event) (reply_in event)
+    → ((n : ℕ) → ((who_in event).number ≡ n → ⊥) → Keeps shape event world.past n) → HasTold shape world event → Inner shape (with_event world event)
 inner-event shape world event inner legal known late draws counted quarantined keeps mine = record {
   legal = legal;
   known = λ place. every-append (IsKnown (event ∷ world.past)) (steps_in place event) (steps_of place world.past) (known place) (every-weaker (IsKnown world.past) (IsKnown (event ∷ world.past)) (steps_of place world.past) (known-more event world.past late) (inner.known place));
@@ -167,7 +174,9 @@ inner-event shape world event inner legal known late draws counted quarantined k
 }
 
 -- a call of the store, or none
-pub called-inner : (shape : Shape) (world : World) (who : Sid) (request : Wanted) (told : Reply) → Inner shape world → grants_in told ≡ [] → IsLate (Called who request told) world.past → IsQuarantinedReply shape world.past who told → HasTold shape world (Called who request told) → Inner shape (with_event world (Called who request told))
+pub called-inner : (shape : Shape) (world : World) (who : Sid) (request : Wanted) (told : Reply) → Inner shape world → grants_in told ≡ []
+    → IsLate (Called who request told) world.past → IsQuarantinedReply shape world.past who told → HasTold shape world (Called who request told)
+    → Inner shape (with_event world (Called who request told))
 called-inner shape world who request told inner brings late quarantined mine =
     inner-event shape world (Called who request told) inner inner.legal (λ place. tt) late tt (counted-called shape.shards who request told brings) quarantined (λ n other grant own. stood-called shape who request told world.past n grant) mine
 
@@ -184,7 +193,11 @@ mild-quarantined shape past who (reply.Fault fault) h = tt
 mild-quarantined shape past who reply.Nothing h = tt
 
 -- a step of a shard
-pub stepped-inner : (shape : Shape) (world : World) (home : ℕ) (who : Sid) (request : Wanted) (s : Step) (told : Reply) → Inner shape world → Answers (terms_of shape home) (steps_of home world.past) s → IsKnown (Stepped home who request s told ∷ world.past) s → DrawsLate shape world.past (Stepped home who request s told) → is_commit told ≡ false → IsCounted shape.shards (Stepped home who request s told) → ((n : ℕ) → (who.number ≡ n → ⊥) → Keeps shape (Stepped home who request s told) world.past n) → HasTold shape world (Stepped home who request s told) → Inner shape (with_event world (Stepped home who request s told))
+pub stepped-inner : (shape : Shape) (world : World) (home : ℕ) (who : Sid) (request : Wanted) (s : Step) (told : Reply) → Inner shape world
+    → Answers (terms_of shape home) (steps_of home world.past) s → IsKnown (Stepped home who request s told ∷ world.past) s
+    → DrawsLate shape world.past (Stepped home who request s told) → is_commit told ≡ false → IsCounted shape.shards (Stepped home who request s told)
+    → ((n : ℕ) → (who.number ≡ n → ⊥) → Keeps shape (Stepped home who request s told) world.past n) → HasTold shape world (Stepped home who request s told)
+    → Inner shape (with_event world (Stepped home who request s told))
 stepped-inner shape world home who request s told inner answers known draws mild counted keeps mine =
     let event = Stepped home who request s told in
     let past = world.past in
@@ -200,12 +213,16 @@ stepped-inner shape world home who request s told inner answers known draws mild
     known-one P false x h = tt
 
 -- a step that neither grants nor ends a quarantine
-pub quiet-inner : (shape : Shape) (world : World) (home : ℕ) (who : Sid) (request : Wanted) (s : Step) (told : Reply) → Inner shape world → Answers (terms_of shape home) (steps_of home world.past) s → QuietStep s → ((terms : Terms) (out : List _) → out_by terms request s out ≡ out) → IsKnown (Stepped home who request s told ∷ world.past) s → DrawsLate shape world.past (Stepped home who request s told) → is_commit told ≡ false → grants_in told ≡ [] → HasTold shape world (Stepped home who request s told) → Inner shape (with_event world (Stepped home who request s told))
+pub quiet-inner : (shape : Shape) (world : World) (home : ℕ) (who : Sid) (request : Wanted) (s : Step) (told : Reply) → Inner shape world
+    → Answers (terms_of shape home) (steps_of home world.past) s → QuietStep s → ((terms : Terms) (out : List _) → out_by terms request s out ≡ out)
+    → IsKnown (Stepped home who request s told ∷ world.past) s → DrawsLate shape world.past (Stepped home who request s told) → is_commit told ≡ false → grants_in told ≡ []
+    → HasTold shape world (Stepped home who request s told) → Inner shape (with_event world (Stepped home who request s told))
 quiet-inner shape world home who request s told inner answers quiet same known draws mild brings mine =
     stepped-inner shape world home who request s told inner answers known draws mild (counted-mild shape.shards home who request s told (λ key by. quiet.no_grant key by) brings) (λ n other grant own. stood-quiet shape home who request s told world.past quiet same n grant) mine
 
 -- a lease of the next token draws late
-pub lease-late : (shape : Shape) (past : List Event) (who : Sid) (request : Wanted) (told : Reply) (on : QKey) (floor now deadline : ℕ) → DrawsLate shape past (Stepped (shard_of on shape.shards) who request (step.Lease on who floor now (next_token (terms_of shape (shard_of on shape.shards)) (steps_of (shard_of on shape.shards) past)) deadline) told)
+pub lease-late : (shape : Shape) (past : List Event) (who : Sid) (request : Wanted) (told : Reply) (on : QKey) (floor now deadline : ℕ)
+    → DrawsLate shape past (Stepped (shard_of on shape.shards) who request (step.Lease on who floor now (next_token (terms_of shape (shard_of on shape.shards)) (steps_of (shard_of on shape.shards) past)) deadline) told)
 lease-late shape past who request told on floor now deadline key token low =
     not_true (leases key token (step.Lease on who floor now (next_token (terms_of shape (shard_of on shape.shards)) (steps_of (shard_of on shape.shards) past)) deadline)) (λ gives.
     let parts = and_elim (same_key key on) (next_token (terms_of shape (shard_of on shape.shards)) (steps_of (shard_of on shape.shards) past) == token) gives in

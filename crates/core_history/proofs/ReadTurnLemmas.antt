@@ -43,12 +43,17 @@ After shape world who said request =
     Inner shape (with_event world (event_of shape world who request said)) × IsGoodEvent shape world.past (event_of shape world who request said)
 
 -- a session that wants nothing
-pub idle-turn : (shape : Shape) (world : World) (who : Sid) (said : Said) → Inner shape world → HasTold shape world (Called who wanted.Nothing reply.Nothing) → After shape world who said wanted.Nothing
+pub idle-turn : (shape : Shape) (world : World) (who : Sid) (said : Said) → Inner shape world → HasTold shape world (Called who wanted.Nothing reply.Nothing)
+    → After shape world who said wanted.Nothing
 idle-turn shape world who said inner mine =
     (called-inner shape world who wanted.Nothing reply.Nothing inner refl (late-mild (Called who wanted.Nothing reply.Nothing) world.past refl) tt mine, tt)
 
 -- what a reader is told
-told-reader : (shape : Shape) (world : World) (event : Event) (key : QKey) (floor : ℕ) → Inner shape world → plan_at (who_in event).number world.plans ≡ Some (Read key floor) → DrawsLate shape world.past event → Keeps shape event world.past (who_in event).number → IsDrawnBelow (next_token (terms_of shape (shard_of key shape.shards)) (steps_of (shard_of key shape.shards) (event ∷ world.past))) (reply_in event) → grants_in (reply_in event) ≡ [] → IsHolding key (who_in event).number (event ∷ world.past) (reply_in event ∷ told_to (who_in event).number world.past) → HasTold shape world event
+told-reader : (shape : Shape) (world : World) (event : Event) (key : QKey) (floor : ℕ) → Inner shape world → plan_at (who_in event).number world.plans ≡ Some (Read key floor)
+    → DrawsLate shape world.past event → Keeps shape event world.past (who_in event).number
+    → IsDrawnBelow (next_token (terms_of shape (shard_of key shape.shards)) (steps_of (shard_of key shape.shards) (event ∷ world.past))) (reply_in event)
+    → grants_in (reply_in event) ≡ [] → IsHolding key (who_in event).number (event ∷ world.past) (reply_in event ∷ told_to (who_in event).number world.past)
+    → HasTold shape world event
 told-reader shape world event key floor inner plan draws keeps drawn brings holding =
     let n = (who_in event).number in
     let heard = told_to n world.past in
@@ -76,14 +81,21 @@ quiet-void : (key : QKey) (token now : ℕ) → QuietStep (step.Void key token n
 quiet-void key token now = record { stands = λ k past. refl; no_grant = λ k w. refl }
 
 -- a quiet step of a reader's
-reader-step : (shape : Shape) (world : World) (who : Sid) (key : QKey) (floor : ℕ) (request : Wanted) (s : Step) (told : Reply) → Inner shape world → plan_at who.number world.plans ≡ Some (Read key floor) → Answers (terms_of shape (shard_of key shape.shards)) (steps_of (shard_of key shape.shards) world.past) s → QuietStep s → ((terms : Terms) (out : List _) → out_by terms request s out ≡ out) → IsKnown (Stepped (shard_of key shape.shards) who request s told ∷ world.past) s → DrawsLate shape world.past (Stepped (shard_of key shape.shards) who request s told) → is_commit told ≡ false → grants_in told ≡ [] → IsDrawnBelow (next_token (terms_of shape (shard_of key shape.shards)) (steps_of (shard_of key shape.shards) (Stepped (shard_of key shape.shards) who request s told ∷ world.past))) told → IsHolding key who.number (Stepped (shard_of key shape.shards) who request s told ∷ world.past) (told ∷ told_to who.number world.past) → Inner shape (with_event world (Stepped (shard_of key shape.shards) who request s told))
+reader-step : (shape : Shape) (world : World) (who : Sid) (key : QKey) (floor : ℕ) (request : Wanted) (s : Step) (told : Reply) → Inner shape world
+    → plan_at who.number world.plans ≡ Some (Read key floor) → Answers (terms_of shape (shard_of key shape.shards)) (steps_of (shard_of key shape.shards) world.past) s
+    → QuietStep s → ((terms : Terms) (out : List _) → out_by terms request s out ≡ out) → IsKnown (Stepped (shard_of key shape.shards) who request s told ∷ world.past) s
+    → DrawsLate shape world.past (Stepped (shard_of key shape.shards) who request s told) → is_commit told ≡ false → grants_in told ≡ []
+    → IsDrawnBelow (next_token (terms_of shape (shard_of key shape.shards)) (steps_of (shard_of key shape.shards) (Stepped (shard_of key shape.shards) who request s told ∷ world.past))) told
+    → IsHolding key who.number (Stepped (shard_of key shape.shards) who request s told ∷ world.past) (told ∷ told_to who.number world.past)
+    → Inner shape (with_event world (Stepped (shard_of key shape.shards) who request s told))
 reader-step shape world who key floor request s told inner plan answers quiet same known draws mild brings drawn holding =
     let home = shard_of key shape.shards in
     let event = Stepped home who request s told in
     quiet-inner shape world home who request s told inner answers quiet same known draws mild brings
     (told-reader shape world event key floor inner plan draws (λ grant own. stood-quiet shape home who request s told world.past quiet same who.number grant) drawn brings holding)
 
-get-turn : (shape : Shape) (world : World) (who : Sid) (said : Said) (key : QKey) (floor : ℕ) → Inner shape world → plan_at who.number world.plans ≡ Some (Read key floor) → After shape world who said (wanted.Get key floor)
+get-turn : (shape : Shape) (world : World) (who : Sid) (said : Said) (key : QKey) (floor : ℕ) → Inner shape world → plan_at who.number world.plans ≡ Some (Read key floor)
+    → After shape world who said (wanted.Get key floor)
 get-turn shape world who said key floor inner plan =
     let home = shard_of key shape.shards in
     let terms = terms_of shape home in
@@ -111,7 +123,7 @@ get-turn shape world who said key floor inner plan =
     let one = count-cons draws s steps in
     let here : (home == home) ≡ true = eq-eqb home home refl in (
       reader-step shape world who key floor request s told inner plan (record { request = Get key who floor 0; at_home = refl; owed = tt; answer = is }) (quiet-lease key who floor 0 token deadline) (λ t out. refl) tt (lease-late shape world.past who request told key floor 0 deadline) refl refl
-      (maybe-step (λ l. token < next_token terms l) (home == home) s steps (λ _. omega (arith, one)) (λ other. absurd (false≢true (sym other ∙ here)))) tt,
+          (maybe-step (λ l. token < next_token terms l) (home == home) s steps (λ _. omega (arith, one)) (λ other. absurd (false≢true (sym other ∙ here)))) tt,
       record { home = refl; good = none; own = tt; no_commit = refl; no_end = refl },
     ))
     refl
@@ -121,7 +133,9 @@ lease_of : (token now : ℕ) (lease : Option ReadLease) → is_current token now
 lease_of token now None e = absurd (false≢true e)
 lease_of token now (Some lease) e = (lease, refl, eqb-true lease.token token (and_elim (lease.token == token) _ e).0)
 
-set-turn : (shape : Shape) (world : World) (who : Sid) (said : Said) (key : QKey) (floor : ℕ) (token : ℕ) (answer : Answer) (rest : List Reply) → Inner shape world → plan_at who.number world.plans ≡ Some (Read key floor) → told_to who.number world.past ≡ reply.Answer answer ∷ reply.Got (got.Lease token) ∷ rest → After shape world who said (wanted.Set key token answer.value answer.stamp)
+set-turn : (shape : Shape) (world : World) (who : Sid) (said : Said) (key : QKey) (floor : ℕ) (token : ℕ) (answer : Answer) (rest : List Reply) → Inner shape world
+    → plan_at who.number world.plans ≡ Some (Read key floor) → told_to who.number world.past ≡ reply.Answer answer ∷ reply.Got (got.Lease token) ∷ rest
+    → After shape world who said (wanted.Set key token answer.value answer.stamp)
 set-turn shape world who said key floor token answer rest inner plan heard =
     let home = shard_of key shape.shards in
     let terms = terms_of shape home in
@@ -153,21 +167,26 @@ set-turn shape world who said key floor token answer rest inner plan heard =
     refl
 
 -- an answer that follows a lease is held under it
-ask-holding : (key : QKey) (who : Sid) (request : Wanted) (past : List Event) (answered : Answer) (heard : List Reply) → key ≡ answered.key → IsHolding key who.number (Called who request (reply.Answer answered) ∷ past) (reply.Answer answered ∷ heard)
+ask-holding : (key : QKey) (who : Sid) (request : Wanted) (past : List Event) (answered : Answer) (heard : List Reply) → key ≡ answered.key
+    → IsHolding key who.number (Called who request (reply.Answer answered) ∷ past) (reply.Answer answered ∷ heard)
 ask-holding key who request past answered (reply.Got (got.Lease token) ∷ heard) same =
     subst (λ b. IsTold answered (cond b (answered ∷ []) [] ++ answers_under key token who.number past)) (sym (and_intro (who.number == who.number) (same_key key answered.key) (eq-eqb who.number who.number refl) (subst (λ k. same_key key k ≡ true) same (same_key-refl key)))) (inl refl)
 ask-holding key who request past answered heard same = tt
 
-ask-turn : (shape : Shape) (world : World) (who : Sid) (said : Said) (key : QKey) (floor : ℕ) → Inner shape world → plan_at who.number world.plans ≡ Some (Read key floor) → After shape world who said (wanted.Ask key)
+ask-turn : (shape : Shape) (world : World) (who : Sid) (said : Said) (key : QKey) (floor : ℕ) → Inner shape world → plan_at who.number world.plans ≡ Some (Read key floor)
+    → After shape world who said (wanted.Ask key)
 ask-turn shape world who said key floor inner plan = by said
   where
-    after : (told : Reply) → grants_in told ≡ [] → is_commit told ≡ false → ((next : ℕ) → IsDrawnBelow next told) → IsHolding key who.number (Called who (wanted.Ask key) told ∷ world.past) (told ∷ told_to who.number world.past) → IsQuarantinedReply shape world.past who told → Inner shape (with_event world (Called who (wanted.Ask key) told))
+    after : (told : Reply) → grants_in told ≡ [] → is_commit told ≡ false → ((next : ℕ) → IsDrawnBelow next told)
+        → IsHolding key who.number (Called who (wanted.Ask key) told ∷ world.past) (told ∷ told_to who.number world.past) → IsQuarantinedReply shape world.past who told
+        → Inner shape (with_event world (Called who (wanted.Ask key) told))
     after told brings mild drawn holding quarantined =
         let event = Called who (wanted.Ask key) told in
         called-inner shape world who (wanted.Ask key) told inner brings (late-mild event world.past mild) quarantined
         (told-reader shape world event key floor inner plan tt (λ grant own. stood-called shape who (wanted.Ask key) told world.past who.number grant) (drawn _) brings holding)
 
-    by : (said : Said) → Inner shape (with_event world (Called who (wanted.Ask key) (ask_told world.past key said))) × IsGoodEvent shape world.past (Called who (wanted.Ask key) (ask_told world.past key said))
+    by : (said : Said)
+        → Inner shape (with_event world (Called who (wanted.Ask key) (ask_told world.past key said))) × IsGoodEvent shape world.past (Called who (wanted.Ask key) (ask_told world.past key said))
     by (Value value) =
         let answered : Answer = record { key = key; value = value; stamp = length (log_of world.past) } in
         (after (reply.Answer answered) refl refl (λ next. tt) (ask-holding key who (wanted.Ask key) world.past answered (told_to who.number world.past) refl) tt, refl)
@@ -175,7 +194,8 @@ ask-turn shape world who said key floor inner plan = by said
     by (Rejected index) = (after _ refl refl (λ next. tt) tt tt, tt)
     by Failed = (after _ refl refl (λ next. tt) tt tt, tt)
 
-pub read-turn : (shape : Shape) (world : World) (who : Sid) (said : Said) (key : QKey) (floor : ℕ) → Inner shape world → plan_at who.number world.plans ≡ Some (Read key floor) → After shape world who said (read_wants key floor (told_to who.number world.past))
+pub read-turn : (shape : Shape) (world : World) (who : Sid) (said : Said) (key : QKey) (floor : ℕ) → Inner shape world → plan_at who.number world.plans ≡ Some (Read key floor)
+    → After shape world who said (read_wants key floor (told_to who.number world.past))
 read-turn shape world who said key floor inner plan =
     let idle = Called who wanted.Nothing reply.Nothing in
     read_cases (After shape world who said) key floor (told_to who.number world.past) (get-turn shape world who said key floor inner plan) (ask-turn shape world who said key floor inner plan)

@@ -55,7 +55,8 @@ module _ (opening : Tables) (log : List Commit) where
   none_or_kept key true found h = tt
   none_or_kept key false found h = h
 
-  stored_or_kept : (key on : QKey) (value : List ℕ) (stamp : ℕ) (b : Bool) (found : Option (List ℕ × ℕ)) → (b ≡ true → key ≡ on) → IsRight (answer_after opening on) log value stamp → IsEntryRight (answer_after opening key) log found → IsEntryRight (answer_after opening key) log (cond b (Some (value, stamp)) found)
+  stored_or_kept : (key on : QKey) (value : List ℕ) (stamp : ℕ) (b : Bool) (found : Option (List ℕ × ℕ)) → (b ≡ true → key ≡ on) → IsRight (answer_after opening on) log value stamp
+      → IsEntryRight (answer_after opening key) log found → IsEntryRight (answer_after opening key) log (cond b (Some (value, stamp)) found)
   stored_or_kept key on value stamp true found same h k =
       subst (λ (q : QKey). IsRight (answer_after opening q) log value stamp) (sym (same refl)) h
   stored_or_kept key on value stamp false found same h k = k
@@ -67,14 +68,17 @@ module _ (opening : Tables) (log : List Commit) where
   IsRightStep (step.Released on sid token (ended.Shift by stamp)) = ⊥
   IsRightStep other = Unit {0}
 
-  ended_or_kept : (key on : QKey) (sid : Sid) (token : ℕ) (how : Ended) (b : Bool) (found : Option (List ℕ × ℕ)) → IsRightStep (step.Released on sid token how) → IsEntryRight (answer_after opening key) log found → IsEntryRight (answer_after opening key) log (cond b (entry_ended how found) (cond (is_evicted key (evicted_by how)) None found))
+  ended_or_kept : (key on : QKey) (sid : Sid) (token : ℕ) (how : Ended) (b : Bool) (found : Option (List ℕ × ℕ)) → IsRightStep (step.Released on sid token how)
+      → IsEntryRight (answer_after opening key) log found
+      → IsEntryRight (answer_after opening key) log (cond b (entry_ended how found) (cond (is_evicted key (evicted_by how)) None found))
   ended_or_kept key on sid token ended.Keep true found good h = h
   ended_or_kept key on sid token ended.Drop true found good h = tt
   ended_or_kept key on sid token (ended.Put value stamp evicted) true found good h = absurd good
   ended_or_kept key on sid token (ended.Shift by stamp) true found good h = absurd good
   ended_or_kept key on sid token how false found good h = none_or_kept key (is_evicted key (evicted_by how)) found h
 
-  entry_after : (key : QKey) (past : List Step) (s : Step) → IsRightStep s → IsEntryRight (answer_after opening key) log (entry key past) → IsEntryRight (answer_after opening key) log (entry key (s ∷ past))
+  entry_after : (key : QKey) (past : List Step) (s : Step) → IsRightStep s → IsEntryRight (answer_after opening key) log (entry key past)
+      → IsEntryRight (answer_after opening key) log (entry key (s ∷ past))
   entry_after key past (step.Stored on token now value stamp evicted) good h =
       stored_or_kept key on value stamp (same_key key on) _ (same_key-true key on) good (none_or_kept key (is_evicted key evicted) (entry key past) h)
   entry_after key past (step.Released on sid token how) good h = ended_or_kept key on sid token how (same_key key on) (entry key past) good h
@@ -94,7 +98,8 @@ told_right P answered (first ∷ answers) h (inr t) = told_right P answered answ
 told_right P answered [] h t = absurd t
 
 -- a good step's value is right
-right_step : (opening : Tables) (shape : Shape) (past : List Event) (place : ℕ) (who : Sid) (s : Step) → Rights opening shape past (log_of past) → IsGoodStep past (steps_of place past) who s → IsRightStep opening (log_of past) s
+right_step : (opening : Tables) (shape : Shape) (past : List Event) (place : ℕ) (who : Sid) (s : Step) → Rights opening shape past (log_of past)
+    → IsGoodStep past (steps_of place past) who s → IsRightStep opening (log_of past) s
 right_step opening shape past place who (step.Stored on token now value stamp evicted) rights good =
     let is = told_right (IsRightAnswer opening (log_of past) on) good.answered _ (rights.answers on token who.number) good.told in
     let P : ℕ → Type 0 = λ n. value ≡ answer on (state opening (log_of past) n) in
@@ -114,13 +119,17 @@ right_step opening shape past place who (step.Refused on sid mode holder held) r
 right_step opening shape past place who (step.Gone on sid token) rights good = tt
 
 -- a hit of a held and right entry is fresh
-entry_fresh : (opening : Tables) (key : QKey) (known : Known) (past : List Step) (value : List ℕ) (stamp : ℕ) → entry key past ≡ Some (value, stamp) → IsEntryHeld key (marks_of key past) known (entry key past) → IsEntryRight (answer_after opening key) known.log (entry key past) → IsFreshHit opening known.log past key value stamp
+entry_fresh : (opening : Tables) (key : QKey) (known : Known) (past : List Step) (value : List ℕ) (stamp : ℕ) → entry key past ≡ Some (value, stamp)
+    → IsEntryHeld key (marks_of key past) known (entry key past) → IsEntryRight (answer_after opening key) known.log (entry key past)
+    → IsFreshHit opening known.log past key value stamp
 entry_fresh opening key known past value stamp is held right =
     hit_is_fresh key opening known past value stamp
     (subst (IsEntryHeld key (marks_of key past) known) is held)
     (subst (IsEntryRight (answer_after opening key) known.log) is right)
 
-fresh_step : (opening : Tables) (shape : Shape) (past : List Event) (who : Sid) (s : Step) → Holds shape past (known_of past) → Rights opening shape past (log_of past) → IsGoodStep past (steps_at shape past (key_of s)) who s → IsFreshPast opening (log_of past) (steps_at shape past (key_of s)) → IsFreshPast opening (log_of past) (s ∷ steps_at shape past (key_of s))
+fresh_step : (opening : Tables) (shape : Shape) (past : List Event) (who : Sid) (s : Step) → Holds shape past (known_of past) → Rights opening shape past (log_of past)
+    → IsGoodStep past (steps_at shape past (key_of s)) who s → IsFreshPast opening (log_of past) (steps_at shape past (key_of s))
+    → IsFreshPast opening (log_of past) (s ∷ steps_at shape past (key_of s))
 fresh_step opening shape past who (step.Hit on sid floor value stamp) holds rights good h =
     (entry_fresh opening on (known_of past) (steps_at shape past on) value stamp good (holds.held on) (rights.entries on), h)
 fresh_step opening shape past who other holds rights good h = (tt, h)
@@ -130,7 +139,9 @@ under_step P true answers h = tt
 under_step P false answers h = h
 
 -- a good step keeps what is right
-stepped_rights : (opening : Tables) (shape : Shape) (past : List Event) (who : Sid) (request : Wanted) (s : Step) (told : Reply) → Holds shape past (known_of past) → Rights opening shape past (log_of past) → IsGoodStep past (steps_at shape past (key_of s)) who s → Rights opening shape (Stepped (shard_of (key_of s) shape.shards) who request s told ∷ past) (log_of past)
+stepped_rights : (opening : Tables) (shape : Shape) (past : List Event) (who : Sid) (request : Wanted) (s : Step) (told : Reply) → Holds shape past (known_of past)
+    → Rights opening shape past (log_of past) → IsGoodStep past (steps_at shape past (key_of s)) who s
+    → Rights opening shape (Stepped (shard_of (key_of s) shape.shards) who request s told ∷ past) (log_of past)
 stepped_rights opening shape past who request s told holds rights good =
     let home = shard_of (key_of s) shape.shards in
     let is_right = right_step opening shape past home who s rights good in
@@ -148,7 +159,8 @@ module _ (opening : Tables) (log : List Commit) (new : Commit) where
   more_length : (n : ℕ) → n ≤ length log → n ≤ length (log ++ new ∷ [])
   more_length n le = let h = length-append log (new ∷ []) in omega (arith, h, le)
 
-  entry_more : (key : QKey) (marks : List Mark) (known : Known) (found : Option (List ℕ × ℕ)) → known.log ≡ log → IsEntryHeld key marks known found → IsEntryRight (answer_after opening key) log found → IsEntryRight (answer_after opening key) (log ++ new ∷ []) found
+  entry_more : (key : QKey) (marks : List Mark) (known : Known) (found : Option (List ℕ × ℕ)) → known.log ≡ log → IsEntryHeld key marks known found
+      → IsEntryRight (answer_after opening key) log found → IsEntryRight (answer_after opening key) (log ++ new ∷ []) found
   entry_more key marks known None is held h = tt
   entry_more key marks known (Some found) is held h =
       same_rows key found.0 found.1 (subst (λ l. found.1 ≤ length l) is held.within) h
@@ -156,7 +168,8 @@ module _ (opening : Tables) (log : List Commit) (new : Commit) where
   answer_more : (key : QKey) (answered : Answer) → IsRightAnswer opening log key answered → IsRightAnswer opening (log ++ new ∷ []) key answered
   answer_more key answered h = (more_length answered.stamp h.0, same_rows key answered.value answered.stamp h.0 h.1)
 
-  hit_more : (past : List Step) (key : QKey) (value : List ℕ) (stamp : ℕ) → list_any (releases key new.sid) past ≡ false → IsFreshHit opening log past key value stamp → IsFreshHit opening (log ++ new ∷ []) past key value stamp
+  hit_more : (past : List Step) (key : QKey) (value : List ℕ) (stamp : ℕ) → list_any (releases key new.sid) past ≡ false → IsFreshHit opening log past key value stamp
+      → IsFreshHit opening (log ++ new ∷ []) past key value stamp
   hit_more past key value stamp none h =
       record {
         known = more_length stamp h.known;
@@ -195,18 +208,24 @@ not_released past who (step.Held on sid mode) still h key = refl
 not_released past who (step.Refused on sid mode holder held) still h key = refl
 not_released past who (step.Gone on sid token) still h key = refl
 
-none_released_by : (past : List Event) (who : Sid) (steps : List Step) → (closed who.number past ≡ true → ⊥) → AllByRecursion (IsKnown past) steps → AllByRecursion (λ s. (key : QKey) → releases key who s ≡ false) steps
+none_released_by : (past : List Event) (who : Sid) (steps : List Step) → (closed who.number past ≡ true → ⊥) → AllByRecursion (IsKnown past) steps
+    → AllByRecursion (λ s. (key : QKey) → releases key who s ≡ false) steps
 none_released_by past who steps still known = every-weaker (IsKnown past) (λ s. (key : QKey) → releases key who s ≡ false) steps (λ s h. not_released past who s still h) known
 
 -- a call that tells of no commit and no answer keeps what is right
-plain_rights : (opening : Tables) (shape : Shape) (past : List Event) (who : Sid) (request : Wanted) (told : Reply) → ((key : QKey) (number : ℕ) → answers_in key number who told ≡ []) → Rights opening shape past (log_of past) → Rights opening shape (Called who request told ∷ past) (log_of past)
+plain_rights : (opening : Tables) (shape : Shape) (past : List Event) (who : Sid) (request : Wanted) (told : Reply)
+    → ((key : QKey) (number : ℕ) → answers_in key number who told ≡ []) → Rights opening shape past (log_of past)
+    → Rights opening shape (Called who request told ∷ past) (log_of past)
 plain_rights opening shape past who request told none rights = record {
   entries = rights.entries;
   answers = λ key token number. subst (λ l. AllByRecursion (IsRightAnswer opening (log_of past) key) (l ++ answers_under key token number past)) (sym (none key number)) (rights.answers key token number);
   fresh = rights.fresh;
 }
 
-commit_rights : (opening : Tables) (shape : Shape) (past : List Event) (who : Sid) (request : Wanted) (told : Reply) (commit : Commit) → ((key : QKey) (number : ℕ) → answers_in key number who told ≡ []) → commit.sid ≡ who → (closed who.number past ≡ true → ⊥) → ((place : ℕ) → AllByRecursion (IsKnown past) (steps_of place past)) → Holds shape past (known_of past) → Rights opening shape past (log_of past) → Rights opening shape (Called who request told ∷ past) (log_of past ++ commit ∷ [])
+commit_rights : (opening : Tables) (shape : Shape) (past : List Event) (who : Sid) (request : Wanted) (told : Reply) (commit : Commit)
+    → ((key : QKey) (number : ℕ) → answers_in key number who told ≡ []) → commit.sid ≡ who → (closed who.number past ≡ true → ⊥)
+    → ((place : ℕ) → AllByRecursion (IsKnown past) (steps_of place past)) → Holds shape past (known_of past) → Rights opening shape past (log_of past)
+    → Rights opening shape (Called who request told ∷ past) (log_of past ++ commit ∷ [])
 commit_rights opening shape past who request told commit none mine still known holds rights =
     let log = log_of past in
     record {
@@ -216,7 +235,8 @@ commit_rights opening shape past who request told commit none mine still known h
     }
 
 -- an answer is right where the keeper's word is true
-right_one : (opening : Tables) (log : List Commit) (key : QKey) (answered : Answer) (mine : Bool) → answered.stamp ≡ length log → answered.value ≡ answer answered.key (rows_after opening log) → AllByRecursion (IsRightAnswer opening log key) (cond (mine && same_key key answered.key) (answered ∷ []) [])
+right_one : (opening : Tables) (log : List Commit) (key : QKey) (answered : Answer) (mine : Bool) → answered.stamp ≡ length log
+    → answered.value ≡ answer answered.key (rows_after opening log) → AllByRecursion (IsRightAnswer opening log key) (cond (mine && same_key key answered.key) (answered ∷ []) [])
 right_one opening log key answered mine stamp word =
     choose (AllByRecursion (IsRightAnswer opening log key)) (mine && same_key key answered.key) (answered ∷ []) []
     (λ is.
@@ -226,7 +246,9 @@ right_one opening log key answered mine stamp word =
     (((omega (arith, stamp)), subst P (sym same) word ∙ ap (λ t. answer key t) (sym whole)), tt))
     (λ other. tt)
 
-answer_rights : (opening : Tables) (shape : Shape) (past : List Event) (who : Sid) (request : Wanted) (answered : Answer) → answered.stamp ≡ length (log_of past) → answered.value ≡ answer answered.key (rows_after opening (log_of past)) → Rights opening shape past (log_of past) → Rights opening shape (Called who request (reply.Answer answered) ∷ past) (log_of past)
+answer_rights : (opening : Tables) (shape : Shape) (past : List Event) (who : Sid) (request : Wanted) (answered : Answer) → answered.stamp ≡ length (log_of past)
+    → answered.value ≡ answer answered.key (rows_after opening (log_of past)) → Rights opening shape past (log_of past)
+    → Rights opening shape (Called who request (reply.Answer answered) ∷ past) (log_of past)
 answer_rights opening shape past who request answered stamp word rights = record {
   entries = rights.entries;
   answers = λ key token number. every-append (IsRightAnswer opening (log_of past) key) (answers_in key number who (reply.Answer answered)) (answers_under key token number past) (right_one opening (log_of past) key answered (who.number == number) stamp word) (rights.answers key token number);
@@ -234,7 +256,9 @@ answer_rights opening shape past who request answered stamp word rights = record
 }
 
 -- each good event keeps what is right, where the keeper's word was true in it
-pub good_rights : (opening : Tables) (shape : Shape) (past : List Event) (event : Event) → ((who : ℕ) → closed who past ≡ true → IsOver (known_of past) who) → ((place : ℕ) → AllByRecursion (IsKnown past) (steps_of place past)) → IsGoodEvent shape past event → IsTrueReply (rows_after opening (log_of past)) (reply_in event) → Holds shape past (known_of past) → Rights opening shape past (log_of past) → Rights opening shape (event ∷ past) (log_of (event ∷ past))
+pub good_rights : (opening : Tables) (shape : Shape) (past : List Event) (event : Event) → ((who : ℕ) → closed who past ≡ true → IsOver (known_of past) who)
+    → ((place : ℕ) → AllByRecursion (IsKnown past) (steps_of place past)) → IsGoodEvent shape past event → IsTrueReply (rows_after opening (log_of past)) (reply_in event)
+    → Holds shape past (known_of past) → Rights opening shape past (log_of past) → Rights opening shape (event ∷ past) (log_of (event ∷ past))
 good_rights opening shape past (Stepped place who request s told) over known good word holds rights =
     subst (Rights opening shape (Stepped place who request s told ∷ past)) (sym (append-nil (log_of past)) ∙ ap (λ l. log_of past ++ l) (sym good.no_commit))
     (subst (λ (p : ℕ). Rights opening shape (Stepped p who request s told ∷ past) (log_of past)) (sym good.home)

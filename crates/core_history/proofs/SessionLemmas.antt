@@ -45,11 +45,14 @@ pub maybe-step : (P : List Step → Type 0) (b : Bool) (s : Step) (steps : List 
 maybe-step P true s steps p q = p refl
 maybe-step P false s steps p q = q refl
 
-was-more : (shape : Shape) (place : ℕ) (who : Sid) (request : Wanted) (s : Step) (told : Reply) (past : List Event) (n : ℕ) (grant : Permit) → Stood shape past n grant → list_any (grants grant) (steps_of (shard_of grant.key shape.shards) (Stepped place who request s told ∷ past)) ≡ true
+was-more : (shape : Shape) (place : ℕ) (who : Sid) (request : Wanted) (s : Step) (told : Reply) (past : List Event) (n : ℕ) (grant : Permit) → Stood shape past n grant
+    → list_any (grants grant) (steps_of (shard_of grant.key shape.shards) (Stepped place who request s told ∷ past)) ≡ true
 was-more shape place who request s told past n grant h =
     any-back (grants grant) (cond (place == shard_of grant.key shape.shards) (s ∷ []) []) (steps_of (shard_of grant.key shape.shards) past) h.was
 
-pub stood-quiet : (shape : Shape) (place : ℕ) (who : Sid) (request : Wanted) (s : Step) (told : Reply) (past : List Event) → QuietStep s → ((terms : Terms) (out : List Permit) → out_by terms request s out ≡ out) → (n : ℕ) (grant : Permit) → Stood shape past n grant → Stood shape (Stepped place who request s told ∷ past) n grant
+pub stood-quiet : (shape : Shape) (place : ℕ) (who : Sid) (request : Wanted) (s : Step) (told : Reply) (past : List Event) → QuietStep s
+    → ((terms : Terms) (out : List Permit) → out_by terms request s out ≡ out) → (n : ℕ) (grant : Permit) → Stood shape past n grant
+    → Stood shape (Stepped place who request s told ∷ past) n grant
 stood-quiet shape place who request s told past quiet same n grant h =
     let home = shard_of grant.key shape.shards in
     let steps = steps_of home past in
@@ -60,10 +63,12 @@ stood-quiet shape place who request s told past quiet same n grant h =
       was = was-more shape place who request s told past n grant h;
     }
 
-pub stood-called : (shape : Shape) (who : Sid) (request : Wanted) (told : Reply) (past : List Event) (n : ℕ) (grant : Permit) → Stood shape past n grant → Stood shape (Called who request told ∷ past) n grant
+pub stood-called : (shape : Shape) (who : Sid) (request : Wanted) (told : Reply) (past : List Event) (n : ℕ) (grant : Permit) → Stood shape past n grant
+    → Stood shape (Called who request told ∷ past) n grant
 stood-called shape who request told past n grant h = record { own = h.own; stands = h.stands; out = h.out; was = h.was }
 
-pub stood-granted : (shape : Shape) (place : ℕ) (who : Sid) (on asked : QKey) (by : Sid) (mode : _) (shift : _) (now token deadline : ℕ) (told : Reply) (past : List Event) (n : ℕ) (grant : Permit) → Stood shape past n grant → Stood shape (Stepped place who (wanted.QaReg asked) (step.Granted on by mode shift now token deadline) told ∷ past) n grant
+pub stood-granted : (shape : Shape) (place : ℕ) (who : Sid) (on asked : QKey) (by : Sid) (mode : _) (shift : _) (now token deadline : ℕ) (told : Reply) (past : List Event) (n : ℕ) (grant : Permit)
+    → Stood shape past n grant → Stood shape (Stepped place who (wanted.QaReg asked) (step.Granted on by mode shift now token deadline) told ∷ past) n grant
 stood-granted shape place who on asked by mode shift now token deadline told past n grant h =
     let home = shard_of grant.key shape.shards in
     let steps = steps_of home past in
@@ -91,7 +96,8 @@ same_permit-refl grant =
 any_one : {X : Type 0} (p : X → Bool) (x : X) → p x ≡ true → list_any p (x ∷ []) ≡ true
 any_one p x e = or_inl (p x) false e
 
-pub stood-new : (shape : Shape) (who : Sid) (on asked : QKey) (shift : _) (now token deadline : ℕ) (told : Reply) (past : List Event) → Stood shape (Stepped (shard_of on shape.shards) who (wanted.QaReg asked) (step.Granted on who Invalidate shift now token deadline) told ∷ past) who.number (record { shard = shard_of on shape.shards; key = on; sid = who; mode = Invalidate; token = token })
+pub stood-new : (shape : Shape) (who : Sid) (on asked : QKey) (shift : _) (now token deadline : ℕ) (told : Reply) (past : List Event)
+    → Stood shape (Stepped (shard_of on shape.shards) who (wanted.QaReg asked) (step.Granted on who Invalidate shift now token deadline) told ∷ past) who.number (record { shard = shard_of on shape.shards; key = on; sid = who; mode = Invalidate; token = token })
 stood-new shape who on asked shift now token deadline told past =
     let home = shard_of on shape.shards in
     let steps = steps_of home past in
@@ -117,7 +123,11 @@ without-other grant gone out other h =
     each (x ∷ l) =
         ((λ mine. ap not (not_true (same_permit gone x) (λ theirs. other (sym (same_permit-true gone x theirs) ∙ same_permit-true grant x mine)))), each l)
 
-pub stood-released : (shape : Shape) (place : ℕ) (who : Sid) (request : Wanted) (gone : Permit) (by : Sid) (how : Ended) (told : Reply) (past : List Event) (n m : ℕ) (grant : Permit) → ((terms : Terms) (s : Step) (out : List Permit) → out_by terms request s out ≡ without_permit gone out) → AllOfOwnToken (standing gone.key (steps_of (shard_of gone.key shape.shards) past)) → gone.sid.number ≡ m → grant.sid.number ≡ n → Stood shape past m gone → (same_key grant.key gone.key ≡ true → n ≢ m) → Stood shape past n grant → Stood shape (Stepped place who request (step.Released gone.key by gone.token how) told ∷ past) n grant
+pub stood-released : (shape : Shape) (place : ℕ) (who : Sid) (request : Wanted) (gone : Permit) (by : Sid) (how : Ended) (told : Reply) (past : List Event) (n m : ℕ) (grant : Permit)
+    → ((terms : Terms) (s : Step) (out : List Permit) → out_by terms request s out ≡ without_permit gone out)
+    → AllOfOwnToken (standing gone.key (steps_of (shard_of gone.key shape.shards) past)) → gone.sid.number ≡ m → grant.sid.number ≡ n → Stood shape past m gone
+    → (same_key grant.key gone.key ≡ true → n ≢ m) → Stood shape past n grant
+    → Stood shape (Stepped place who request (step.Released gone.key by gone.token how) told ∷ past) n grant
 stood-released shape place who request gone by how told past n m grant without distinct of_gone of_grant theirs apart h =
     let home = shard_of grant.key shape.shards in
     let steps = steps_of home past in
@@ -155,7 +165,8 @@ pub shut-more : (n : ℕ) (event : Event) (past : List Event) (heard : List Repl
 shut-more n event past heard (inl e) = inl e
 shut-more n event past heard (inr e) = inr (closed-more n event past e)
 
-pub writer-more : (shape : Shape) (event : Event) (past : List Event) (n : ℕ) (heard : List Reply) (keys : List QKey) → Keeps shape event past n → Writer shape past n heard keys → Writer shape (event ∷ past) n heard keys
+pub writer-more : (shape : Shape) (event : Event) (past : List Event) (n : ℕ) (heard : List Reply) (keys : List QKey) → Keeps shape event past n → Writer shape past n heard keys
+    → Writer shape (event ∷ past) n heard keys
 writer-more shape event past n heard keys keeps w = record {
   once = w.once;
   fits = w.fits;
@@ -171,7 +182,8 @@ pub record Mild (told : Reply) : Type 0 where
   pub had : is_had told ≡ false
   pub release : is_release told ≡ false
 
-pub writer-mild : (shape : Shape) (event : Event) (past : List Event) (n : ℕ) (told : Reply) (heard : List Reply) (keys : List QKey) → Mild told → Keeps shape event past n → (is_ending (told ∷ heard) ≡ true → closed n (event ∷ past) ≡ true) → Writer shape past n heard keys → Writer shape (event ∷ past) n (told ∷ heard) keys
+pub writer-mild : (shape : Shape) (event : Event) (past : List Event) (n : ℕ) (told : Reply) (heard : List Reply) (keys : List QKey) → Mild told → Keeps shape event past n
+    → (is_ending (told ∷ heard) ≡ true → closed n (event ∷ past) ≡ true) → Writer shape past n heard keys → Writer shape (event ∷ past) n (told ∷ heard) keys
 writer-mild shape event past n told heard keys mild keeps ending w =
     let same : granted (told ∷ heard) ≡ granted heard = ap (λ l. granted heard ++ l) mild.brings ∙ append-nil (granted heard) in
     let a = count-cons is_had told heard in

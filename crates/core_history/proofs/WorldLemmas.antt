@@ -27,7 +27,8 @@ use Rattle.core_history.proofs.ReadTurnLemmas.{After, idle-turn, read-turn}
 use Rattle.core_history.proofs.WriteTurnLemmas.{write-turn}
 
 -- a turn keeps the facts, and its event is good
-pub taken-inner : (shape : Shape) (world : World) (who : Sid) (said : Said) → Inner shape world → Inner shape (taken shape world (turn.Session who) said) × IsGoodEvent shape world.past (turn_event shape world (turn.Session who) said)
+pub taken-inner : (shape : Shape) (world : World) (who : Sid) (said : Said) → Inner shape world
+    → Inner shape (taken shape world (turn.Session who) said) × IsGoodEvent shape world.past (turn_event shape world (turn.Session who) said)
 taken-inner shape world who said inner = by (plan_at who.number world.plans) refl
   where
     by : (plan : Option Plan) → plan_at who.number world.plans ≡ plan → After shape world who said (wanted_by plan (told_to who.number world.past))

@@ -63,7 +63,9 @@ IsWriter shape world n keys =
     Writer shape world.past n (told_to n world.past) keys
     × ((event : Event) (told : Reply) → Writer shape (event ∷ world.past) n (told ∷ told_to n world.past) keys → IsSession shape (event ∷ world.past) n (told ∷ told_to n world.past) (plan_at n world.plans))
 
-none_asked : (shape : Shape) (world : World) (who : Sid) (keys : List QKey) (key : QKey) → Inner shape world → Writer shape world.past who.number (told_to who.number world.past) keys → slice_get keys (count_by is_had (told_to who.number world.past)) ≡ Some key → list_any (is_of who) (standing key (steps_of (shard_of key shape.shards) world.past)) ≡ true → ⊥
+none_asked : (shape : Shape) (world : World) (who : Sid) (keys : List QKey) (key : QKey) → Inner shape world
+    → Writer shape world.past who.number (told_to who.number world.past) keys → slice_get keys (count_by is_had (told_to who.number world.past)) ≡ Some key
+    → list_any (is_of who) (standing key (steps_of (shard_of key shape.shards) world.past)) ≡ true → ⊥
 none_asked shape world who keys key inner w at stands =
     let home = shard_of key shape.shards in
     let steps = steps_of home world.past in
@@ -89,7 +91,8 @@ no_own key who past = by (standing key past)
         here true e rest = absurd (not_both refl e)
         here false e rest = rest e
 
-ask-turn : (shape : Shape) (world : World) (who : Sid) (said : Said) (keys : List QKey) (key : QKey) → Inner shape world → IsWriter shape world who.number keys → slice_get keys (count_by is_had (told_to who.number world.past)) ≡ Some key → After shape world who said (wanted.QaReg key)
+ask-turn : (shape : Shape) (world : World) (who : Sid) (said : Said) (keys : List QKey) (key : QKey) → Inner shape world → IsWriter shape world who.number keys
+    → slice_get keys (count_by is_had (told_to who.number world.past)) ≡ Some key → After shape world who said (wanted.QaReg key)
 ask-turn shape world who said keys key inner w at =
     let P : Step → Type 0 = λ x. x ≡ quarantine_step terms steps key who Invalidate (pos 0) 0 → Inner shape (with_event world (Stepped home who request x (shown terms steps x))) × IsGoodEvent shape world.past (Stepped home who request x (shown terms steps x)) in
     asked_cases P terms steps key who Invalidate (pos 0) 0 (no_own key who steps (not_true (list_any (is_of who) (standing key steps)) (none_asked shape world who keys key inner w.0 at))) granted_turn refused_turn refl
@@ -109,7 +112,8 @@ ask-turn shape world who said keys key inner w at =
     request : Wanted
     request = wanted.QaReg key
 
-    granted_turn : granted_step terms steps key who Invalidate (pos 0) 0 ≡ quarantine_step terms steps key who Invalidate (pos 0) 0 → Inner shape (with_event world (Stepped home who request (granted_step terms steps key who Invalidate (pos 0) 0) (shown terms steps (granted_step terms steps key who Invalidate (pos 0) 0)))) × IsGoodEvent shape past (Stepped home who request (granted_step terms steps key who Invalidate (pos 0) 0) (shown terms steps (granted_step terms steps key who Invalidate (pos 0) 0)))
+    granted_turn : granted_step terms steps key who Invalidate (pos 0) 0 ≡ quarantine_step terms steps key who Invalidate (pos 0) 0
+        → Inner shape (with_event world (Stepped home who request (granted_step terms steps key who Invalidate (pos 0) 0) (shown terms steps (granted_step terms steps key who Invalidate (pos 0) 0)))) × IsGoodEvent shape past (Stepped home who request (granted_step terms steps key who Invalidate (pos 0) 0) (shown terms steps (granted_step terms steps key who Invalidate (pos 0) 0)))
     granted_turn is =
         let token = next_token terms steps in
         let deadline = deadline_at terms 0 in
@@ -121,13 +125,15 @@ ask-turn shape world who said keys key inner w at =
         let keeps : (n : ℕ) → Keeps shape event past n = λ n g own. stood-granted shape home who key key who Invalidate (pos 0) 0 token deadline told past n g in
         let heard = told_to who.number past in (
           stepped-inner shape world home who request s told inner (record { request = Quarantine key who Invalidate (pos 0) 0; at_home = refl; owed = refl; answer = is })
-          (subst (λ l. is_covered who (granted l) key ≡ true) (sym (told_to-mine event past)) (any-back (covers who key) (granted heard) (grant ∷ []) (or_inl (covers who key grant) false (and_intro _ _ (same_key-refl key) (eq-eqb who.number who.number refl)))))
-          (λ k t low. refl) refl (counted-granted shape.shards key who request Invalidate (pos 0) 0 token deadline home old) (λ n other. keeps n)
-          (w.1 event told (writer-granted shape event past who.number grant old heard keys at refl (keeps who.number) (stood-new shape who key key (pos 0) 0 token deadline told past) w.0)),
+              (subst (λ l. is_covered who (granted l) key ≡ true) (sym (told_to-mine event past)) (any-back (covers who key) (granted heard) (grant ∷ []) (or_inl (covers who key grant) false (and_intro _ _ (same_key-refl key) (eq-eqb who.number who.number refl)))))
+              (λ k t low. refl) refl (counted-granted shape.shards key who request Invalidate (pos 0) 0 token deadline home old) (λ n other. keeps n)
+              (w.1 event told (writer-granted shape event past who.number grant old heard keys at refl (keeps who.number) (stood-new shape who key key (pos 0) 0 token deadline told past) w.0)),
           record { home = refl; good = tt; own = tt; no_commit = refl; no_end = refl },
         )
 
-    refused_turn : (quar : Quar) → holder_of key who steps ≡ Some quar → step.Refused key who Invalidate quar.sid quar.mode ≡ quarantine_step terms steps key who Invalidate (pos 0) 0 → Inner shape (with_event world (Stepped home who request (step.Refused key who Invalidate quar.sid quar.mode) (reply.Quar (quarantine.Refused quar.sid quar.mode)))) × IsGoodEvent shape past (Stepped home who request (step.Refused key who Invalidate quar.sid quar.mode) (reply.Quar (quarantine.Refused quar.sid quar.mode)))
+    refused_turn : (quar : Quar) → holder_of key who steps ≡ Some quar
+        → step.Refused key who Invalidate quar.sid quar.mode ≡ quarantine_step terms steps key who Invalidate (pos 0) 0
+        → Inner shape (with_event world (Stepped home who request (step.Refused key who Invalidate quar.sid quar.mode) (reply.Quar (quarantine.Refused quar.sid quar.mode)))) × IsGoodEvent shape past (Stepped home who request (step.Refused key who Invalidate quar.sid quar.mode) (reply.Quar (quarantine.Refused quar.sid quar.mode)))
     refused_turn quar holds is =
         let s = step.Refused key who Invalidate quar.sid quar.mode in
         let told = reply.Quar (quarantine.Refused quar.sid quar.mode) in
@@ -135,12 +141,15 @@ ask-turn shape world who said keys key inner w at =
         let quiet : QuietStep s = record { stands = λ k l. refl; no_grant = λ k v. refl } in
         let keeps : (n : ℕ) → Keeps shape event past n = λ n g own. stood-quiet shape home who request s told past quiet (λ t out. refl) n g in (
           quiet-inner shape world home who request s told inner (record { request = Quarantine key who Invalidate (pos 0) 0; at_home = refl; owed = refl; answer = is }) quiet (λ t out. refl) tt (λ k t low. refl) refl refl
-          (w.1 event told (writer-mild shape event past who.number told (told_to who.number past) keys (record { brings = refl; had = refl; release = refl }) (keeps who.number) (λ e. absurd (false≢true e)) w.0)),
+              (w.1 event told (writer-mild shape event past who.number told (told_to who.number past) keys (record { brings = refl; had = refl; release = refl }) (keeps who.number) (λ e. absurd (false≢true e)) w.0)),
           record { home = refl; good = tt; own = tt; no_commit = refl; no_end = refl },
         )
 
 -- a call of a writer's that brings it no grant
-call-turn : (shape : Shape) (world : World) (who : Sid) (keys : List QKey) (request : Wanted) (told : Reply) → Inner shape world → IsWriter shape world who.number keys → Mild told → IsLate (Called who request told) world.past → IsQuarantinedReply shape world.past who told → (is_ending (told ∷ told_to who.number world.past) ≡ true → closed who.number (Called who request told ∷ world.past) ≡ true) → Inner shape (with_event world (Called who request told))
+call-turn : (shape : Shape) (world : World) (who : Sid) (keys : List QKey) (request : Wanted) (told : Reply) → Inner shape world → IsWriter shape world who.number keys → Mild told
+    → IsLate (Called who request told) world.past → IsQuarantinedReply shape world.past who told
+    → (is_ending (told ∷ told_to who.number world.past) ≡ true → closed who.number (Called who request told ∷ world.past) ≡ true)
+    → Inner shape (with_event world (Called who request told))
 call-turn shape world who keys request told inner w mild late quarantined ending =
     let event = Called who request told in
     called-inner shape world who request told inner mild.brings late quarantined
@@ -163,7 +172,8 @@ shut-closed world who writes shut = by (has_committed who.number world.past) (wa
     by false true e = refl
     by false false e = absurd (false≢true (sym e))
 
-end-turn : (shape : Shape) (world : World) (who : Sid) (said : Said) (keys : List QKey) → Inner shape world → is_writer (plan_at who.number world.plans) ≡ true → IsWriter shape world who.number keys → After shape world who said wanted.End
+end-turn : (shape : Shape) (world : World) (who : Sid) (said : Said) (keys : List QKey) → Inner shape world → is_writer (plan_at who.number world.plans) ≡ true
+    → IsWriter shape world who.number keys → After shape world who said wanted.End
 end-turn shape world who said keys inner writes w = by (is_open world who) refl
   where
     ended : (b : Bool) → closed who.number (Called who wanted.End (reply.End b) ∷ world.past) ≡ true → Inner shape (with_event world (Called who wanted.End (reply.End b)))
@@ -200,12 +210,14 @@ found_none : (p : QKey → Bool) (key : QKey) (keys : List QKey) → find (λ k.
 found_none p key [] none has = absurd (false≢true has)
 found_none p key (k ∷ keys) none has = by (p k) refl none (or_elim (same_key key k) (has_key key keys) has) (found_none p key keys)
   where
-    by : (b : Bool) → p k ≡ b → cond (not b) (Some k) (find (λ x. not (p x)) keys) ≡ None → (same_key key k ≡ true) ⊎ (has_key key keys ≡ true) → (find (λ x. not (p x)) keys ≡ None → has_key key keys ≡ true → p key ≡ true) → p key ≡ true
+    by : (b : Bool) → p k ≡ b → cond (not b) (Some k) (find (λ x. not (p x)) keys) ≡ None → (same_key key k ≡ true) ⊎ (has_key key keys ≡ true)
+        → (find (λ x. not (p x)) keys ≡ None → has_key key keys ≡ true → p key ≡ true) → p key ≡ true
     by false e none has rest = cc
     by true e none (inl same) rest = ap p (same_key-true key k same) ∙ e
     by true e none (inr more) rest = rest none more
 
-no_fault : (is_so : Bool) (who : Sid) (grants : List Permit) (txn : List Change) (count cap : ℕ) → commit_fault is_so who grants txn count cap ≡ None → (is_so ≡ true) × (uncovered who grants txn ≡ None)
+no_fault : (is_so : Bool) (who : Sid) (grants : List Permit) (txn : List Change) (count cap : ℕ) → commit_fault is_so who grants txn count cap ≡ None
+    → (is_so ≡ true) × (uncovered who grants txn ≡ None)
 no_fault false who grants txn count cap h = cc
 no_fault true who grants txn count cap h = (refl, by (uncovered who grants txn) h)
   where
@@ -214,7 +226,9 @@ no_fault true who grants txn count cap h = (refl, by (uncovered who grants txn) 
     by (Some key) h = cc
 
 -- before a session is closed, a quarantine of its stands on each key that a grant covers
-pub granted-stands : (shape : Shape) (past : List Event) (who : Sid) (heard : List Reply) (keys : List QKey) → Writer shape past who.number heard keys → (closed who.number past ≡ true → ⊥) → (key : QKey) → is_covered who (granted heard) key ≡ true → stands_for who (standing key (steps_of (shard_of key shape.shards) past)) ≡ true
+pub granted-stands : (shape : Shape) (past : List Event) (who : Sid) (heard : List Reply) (keys : List QKey) → Writer shape past who.number heard keys
+    → (closed who.number past ≡ true → ⊥) → (key : QKey) → is_covered who (granted heard) key ≡ true
+    → stands_for who (standing key (steps_of (shard_of key shape.shards) past)) ≡ true
 granted-stands shape past who heard keys w still key covered =
     let found = place_of (covers who key) (granted heard) covered in
     let grant = found.1 in
@@ -228,11 +242,14 @@ granted-stands shape past who heard keys w still key covered =
     by (inl e) = e
     by (inr shut) = absurd (still shut)
 
-covered-stands : (shape : Shape) (past : List Event) (who : Sid) (heard : List Reply) (keys : List QKey) (txn : List Change) → Writer shape past who.number heard keys → (closed who.number past ≡ true → ⊥) → uncovered who (granted heard) txn ≡ None → (key : QKey) → touches txn key ≡ true → stands_for who (standing key (steps_of (shard_of key shape.shards) past)) ≡ true
+covered-stands : (shape : Shape) (past : List Event) (who : Sid) (heard : List Reply) (keys : List QKey) (txn : List Change) → Writer shape past who.number heard keys
+    → (closed who.number past ≡ true → ⊥) → uncovered who (granted heard) txn ≡ None → (key : QKey) → touches txn key ≡ true
+    → stands_for who (standing key (steps_of (shard_of key shape.shards) past)) ≡ true
 covered-stands shape past who heard keys txn w still none key touched =
     granted-stands shape past who heard keys w still key (found_none (is_covered who (granted heard)) key (footprint txn) none ((footprints_are_exact_is txn).exact key ∙ touched))
 
-commit-turn : (shape : Shape) (world : World) (who : Sid) (said : Said) (keys : List QKey) (txn : List Change) → Inner shape world → IsWriter shape world who.number keys → After shape world who said (wanted.Commit txn (record { items = granted (told_to who.number world.past); room = length keys }))
+commit-turn : (shape : Shape) (world : World) (who : Sid) (said : Said) (keys : List QKey) (txn : List Change) → Inner shape world → IsWriter shape world who.number keys
+    → After shape world who said (wanted.Commit txn (record { items = granted (told_to who.number world.past); room = length keys }))
 commit-turn shape world who said keys txn inner w =
     by (commit_fault (is_open world who) who (granted heard) txn (length (log_of past)) log_cap) refl
   where
@@ -251,33 +268,38 @@ commit-turn shape world who said keys txn inner w =
     lent : GrantsView
     lent = record { items = granted heard; room = length keys }
 
-    refused : (fault : CommitFault) → Inner shape (with_event world (Called who request (reply.NotCommitted fault txn lent))) × IsGoodEvent shape past (Called who request (reply.NotCommitted fault txn lent))
+    refused : (fault : CommitFault)
+        → Inner shape (with_event world (Called who request (reply.NotCommitted fault txn lent))) × IsGoodEvent shape past (Called who request (reply.NotCommitted fault txn lent))
     refused fault =
         let told = reply.NotCommitted fault txn lent in
         (call-turn shape world who keys request told inner w (record { brings = refl; had = refl; release = refl }) (late-mild (Called who request told) past refl) tt (λ e. absurd (false≢true e)), tt)
 
-    made : commit_fault (is_open world who) who (granted heard) txn count log_cap ≡ None → Inner shape (with_event world (Called who request (reply.Committed (count + 1) txn lent))) × IsGoodEvent shape past (Called who request (reply.Committed (count + 1) txn lent))
+    made : commit_fault (is_open world who) who (granted heard) txn count log_cap ≡ None
+        → Inner shape (with_event world (Called who request (reply.Committed (count + 1) txn lent))) × IsGoodEvent shape past (Called who request (reply.Committed (count + 1) txn lent))
     made none =
         let told = reply.Committed (count + 1) txn (record { items = granted heard; room = length keys }) in
         let event = Called who request told in
         let parts = no_fault (is_open world who) who (granted heard) txn count log_cap none in
         let stands : (key : QKey) → touches txn key ≡ true → stands_for who (standing key (steps_of (shard_of key shape.shards) past)) ≡ true = covered-stands shape past who heard keys txn w.0 (open-closed world who parts.0) parts.1 in (
-        call-turn shape world who keys request told inner w (record { brings = refl; had = refl; release = refl })
-        (λ n shut. choose (λ l. was_committed l ≡ false) (who.number == n) (told ∷ []) [] (λ same. absurd (open-closed world who parts.0 (subst (λ m. closed m past ≡ true) (sym (eqb-true who.number n same)) shut))) (λ _. refl))
-        stands
-        (λ _. or_inl (has_committed who.number (event ∷ past)) (was_ended who.number (event ∷ past)) (committed-told who.number (event ∷ past) ∙ ap was_committed (told_to-mine event past))),
-        record {
-          opened = λ over. open-closed world who parts.0 (over-closed who.number past over);
-          granted = λ key touched. quarantined-granted key who (steps_of (shard_of key shape.shards) past) (granted_standing key who (steps_of (shard_of key shape.shards) past) (stands key touched));
-        })
+          call-turn shape world who keys request told inner w (record { brings = refl; had = refl; release = refl })
+              (λ n shut. choose (λ l. was_committed l ≡ false) (who.number == n) (told ∷ []) [] (λ same. absurd (open-closed world who parts.0 (subst (λ m. closed m past ≡ true) (sym (eqb-true who.number n same)) shut))) (λ _. refl))
+              stands
+              (λ _. or_inl (has_committed who.number (event ∷ past)) (was_ended who.number (event ∷ past)) (committed-told who.number (event ∷ past) ∙ ap was_committed (told_to-mine event past))),
+          record {
+            opened = λ over. open-closed world who parts.0 (over-closed who.number past over);
+            granted = λ key touched. quarantined-granted key who (steps_of (shard_of key shape.shards) past) (granted_standing key who (steps_of (shard_of key shape.shards) past) (stands key touched));
+          },
+        )
 
-    answered : (s : Said) → commit_fault (is_open world who) who (granted heard) txn count log_cap ≡ None → Inner shape (with_event world (Called who request (commit_said count txn lent s))) × IsGoodEvent shape past (Called who request (commit_said count txn lent s))
+    answered : (s : Said) → commit_fault (is_open world who) who (granted heard) txn count log_cap ≡ None
+        → Inner shape (with_event world (Called who request (commit_said count txn lent s))) × IsGoodEvent shape past (Called who request (commit_said count txn lent s))
     answered Made none = made none
     answered (Rejected index) none = refused (faults.Rejected index)
     answered (Value value) none = refused faults.KeepFault
     answered Failed none = refused faults.KeepFault
 
-    by : (o : Option CommitFault) → commit_fault (is_open world who) who (granted heard) txn count log_cap ≡ o → Inner shape (with_event world (Called who request (commit_by count txn lent said o))) × IsGoodEvent shape past (Called who request (commit_by count txn lent said o))
+    by : (o : Option CommitFault) → commit_fault (is_open world who) who (granted heard) txn count log_cap ≡ o
+        → Inner shape (with_event world (Called who request (commit_by count txn lent said o))) × IsGoodEvent shape past (Called who request (commit_by count txn lent said o))
     by (Some fault) e = refused fault
     by None e = answered said e
 
@@ -289,7 +311,11 @@ released_event shape world who request grant how =
     Stepped home who request (release_step steps grant how) (shown (terms_of shape home) steps (release_step steps grant how))
 
 -- the release of a grant that stands, by a session that is over
-release-turn : (shape : Shape) (world : World) (who : Sid) (keys : List QKey) (request : Wanted) (grant : Permit) (how : How) → Inner shape world → IsWriter shape world who.number keys → ((terms : Terms) (s : Step) (out : List Permit) → out_by terms request s out ≡ without_permit grant out) → FitsMode grant.mode how → ((quar : Quar) → ended_as quar how ≡ ended.Keep → has_committed who.number world.past ≡ false) → ((quar : Quar) → quar.sid.number ≡ who.number → closed who.number world.past ≡ true → IsGoodStep world.past (steps_of (shard_of grant.key shape.shards) world.past) who (step.Released grant.key quar.sid grant.token (ended_as quar how))) → slice_get (granted (told_to who.number world.past)) (released (told_to who.number world.past)) ≡ Some grant → is_ending (told_to who.number world.past) ≡ true
+release-turn : (shape : Shape) (world : World) (who : Sid) (keys : List QKey) (request : Wanted) (grant : Permit) (how : How) → Inner shape world
+    → IsWriter shape world who.number keys → ((terms : Terms) (s : Step) (out : List Permit) → out_by terms request s out ≡ without_permit grant out) → FitsMode grant.mode how
+    → ((quar : Quar) → ended_as quar how ≡ ended.Keep → has_committed who.number world.past ≡ false)
+    → ((quar : Quar) → quar.sid.number ≡ who.number → closed who.number world.past ≡ true → IsGoodStep world.past (steps_of (shard_of grant.key shape.shards) world.past) who (step.Released grant.key quar.sid grant.token (ended_as quar how)))
+    → slice_get (granted (told_to who.number world.past)) (released (told_to who.number world.past)) ≡ Some grant → is_ending (told_to who.number world.past) ≡ true
     → Inner shape (with_event world (released_event shape world who request grant how)) × IsGoodEvent shape world.past (released_event shape world who request grant how)
 release-turn shape world who keys request grant how inner w without fit kept ends at ending =
     let home = shard_of grant.key shape.shards in
@@ -315,11 +341,11 @@ release-turn shape world who keys request grant how inner w without fit kept end
     let owes : OwesRelease steps grant how (quar_of grant.key grant.token steps) = subst (OwesRelease steps grant how) (sym found.1) (found.2, subst M (sym found.2.mode) fit) in
     subst P (sym is) (
       stepped-inner shape world home who request s told inner (record { request = Release grant how; at_home = refl; owed = owes; answer = sym is })
-      (subst C (sym mine) (closed-more who.number event past shut, λ k. uncommitted-more who.number event past (late-mild event past refl who.number shut) (kept quar k)))
-      (λ k t low. refl) refl (counted-mild shape.shards home who request s told (λ key by. refl) refl)
-      (λ n other g is_own. stood-released shape home who request grant quar.sid (ended_as quar how) told past n who.number g without distinct_here own is_own stood (λ _ e. other (sym e)))
-      (w.1 event told (writer-released shape event past who.number grant (rel.Released (evicted_by (ended_as quar how))) heard keys at shut
-      (λ g is_own other. stood-released shape home who request grant quar.sid (ended_as quar how) told past who.number who.number g without distinct_here own is_own stood (λ same _. other same)) w.0)),
+          (subst C (sym mine) (closed-more who.number event past shut, λ k. uncommitted-more who.number event past (late-mild event past refl who.number shut) (kept quar k)))
+          (λ k t low. refl) refl (counted-mild shape.shards home who request s told (λ key by. refl) refl)
+          (λ n other g is_own. stood-released shape home who request grant quar.sid (ended_as quar how) told past n who.number g without distinct_here own is_own stood (λ _ e. other (sym e)))
+          (w.1 event told (writer-released shape event past who.number grant (rel.Released (evicted_by (ended_as quar how))) heard keys at shut
+          (λ g is_own other. stood-released shape home who request grant quar.sid (ended_as quar how) told past who.number who.number g without distinct_here own is_own stood (λ same _. other same)) w.0)),
       record {
         home = refl;
         good = ends quar mine shut;
@@ -329,18 +355,23 @@ release-turn shape world who keys request grant how inner w without fit kept end
       },
     )
 
-drop-turn : (shape : Shape) (world : World) (who : Sid) (said : Said) (keys : List QKey) (grant : Permit) → Inner shape world → IsWriter shape world who.number keys → slice_get (granted (told_to who.number world.past)) (released (told_to who.number world.past)) ≡ Some grant → is_ending (told_to who.number world.past) ≡ true → After shape world who said (wanted.Dar grant)
+drop-turn : (shape : Shape) (world : World) (who : Sid) (said : Said) (keys : List QKey) (grant : Permit) → Inner shape world → IsWriter shape world who.number keys
+    → slice_get (granted (told_to who.number world.past)) (released (told_to who.number world.past)) ≡ Some grant → is_ending (told_to who.number world.past) ≡ true
+    → After shape world who said (wanted.Dar grant)
 drop-turn shape world who said keys grant inner w at ending =
     release-turn shape world who keys (wanted.Dar grant) grant Drop inner w (λ terms s out. refl) tt (λ quar e. cc)
     (λ quar mine shut. closed-over quar.sid.number world.past (subst (λ n. closed n world.past ≡ true) (sym mine) shut)) at ending
 
-keep-turn : (shape : Shape) (world : World) (who : Sid) (said : Said) (keys : List QKey) (grant : Permit) → Inner shape world → IsWriter shape world who.number keys → slice_get (granted (told_to who.number world.past)) (released (told_to who.number world.past)) ≡ Some grant → is_ending (told_to who.number world.past) ≡ true → was_committed (told_to who.number world.past) ≡ false → After shape world who said (wanted.Abort grant)
+keep-turn : (shape : Shape) (world : World) (who : Sid) (said : Said) (keys : List QKey) (grant : Permit) → Inner shape world → IsWriter shape world who.number keys
+    → slice_get (granted (told_to who.number world.past)) (released (told_to who.number world.past)) ≡ Some grant → is_ending (told_to who.number world.past) ≡ true
+    → was_committed (told_to who.number world.past) ≡ false → After shape world who said (wanted.Abort grant)
 keep-turn shape world who said keys grant inner w at ending never =
     let none : has_committed who.number world.past ≡ false = committed-told who.number world.past ∙ never in
     release-turn shape world who keys (wanted.Abort grant) grant Keep inner w (λ terms s out. refl) tt (λ quar e. none)
     (λ quar mine shut. subst (λ n. IsAmong n (ended_of world.past)) (sym mine) (ended-among who.number world.past shut none)) at ending
 
-pub write-turn : (shape : Shape) (world : World) (who : Sid) (said : Said) (keys : List QKey) (txn : List Change) → Inner shape world → is_writer (plan_at who.number world.plans) ≡ true → IsWriter shape world who.number keys → After shape world who said (write_wants keys txn (told_to who.number world.past))
+pub write-turn : (shape : Shape) (world : World) (who : Sid) (said : Said) (keys : List QKey) (txn : List Change) → Inner shape world
+    → is_writer (plan_at who.number world.plans) ≡ true → IsWriter shape world who.number keys → After shape world who said (write_wants keys txn (told_to who.number world.past))
 write-turn shape world who said keys txn inner writes w =
     write_cases (After shape world who said) keys txn (told_to who.number world.past)
     (λ key at. ask-turn shape world who said keys key inner w at)

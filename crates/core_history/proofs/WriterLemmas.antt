@@ -26,7 +26,9 @@ use Rattle.core_history.proofs.ListLemmas.{choose, push-place, count-cons}
 use Rattle.core_history.proofs.EventLemmas.{closed, closed-more}
 use Rattle.core_history.proofs.SessionLemmas.{Stood, Fits, Writer, Keeps, shut-more}
 
-pub writer-granted : (shape : Shape) (event : Event) (past : List Event) (n : ℕ) (grant : Permit) (old : _) (heard : List Reply) (keys : List QKey) → slice_get keys (count_by is_had heard) ≡ Some grant.key → grant.sid.number ≡ n → Keeps shape event past n → Stood shape (event ∷ past) n grant → Writer shape past n heard keys → Writer shape (event ∷ past) n (reply.Quar (quarantine.Granted grant old) ∷ heard) keys
+pub writer-granted : (shape : Shape) (event : Event) (past : List Event) (n : ℕ) (grant : Permit) (old : _) (heard : List Reply) (keys : List QKey)
+    → slice_get keys (count_by is_had heard) ≡ Some grant.key → grant.sid.number ≡ n → Keeps shape event past n → Stood shape (event ∷ past) n grant
+    → Writer shape past n heard keys → Writer shape (event ∷ past) n (reply.Quar (quarantine.Granted grant old) ∷ heard) keys
 writer-granted shape event past n grant old heard keys at own keeps new w =
     let told = reply.Quar (quarantine.Granted grant old) in
     let a = count-cons is_had told heard in
@@ -49,7 +51,10 @@ writer-granted shape event past n grant old heard keys at own keeps new w =
       ending = λ e. absurd (false≢true e);
     }
 
-pub writer-released : (shape : Shape) (event : Event) (past : List Event) (n : ℕ) (gone : Permit) (told : _) (heard : List Reply) (keys : List QKey) → slice_get (granted heard) (released heard) ≡ Some gone → closed n past ≡ true → ((grant : Permit) → grant.sid.number ≡ n → (same_key grant.key gone.key ≡ true → ⊥) → Stood shape past n grant → Stood shape (event ∷ past) n grant) → Writer shape past n heard keys → Writer shape (event ∷ past) n (reply.Rel told ∷ heard) keys
+pub writer-released : (shape : Shape) (event : Event) (past : List Event) (n : ℕ) (gone : Permit) (told : _) (heard : List Reply) (keys : List QKey)
+    → slice_get (granted heard) (released heard) ≡ Some gone → closed n past ≡ true
+    → ((grant : Permit) → grant.sid.number ≡ n → (same_key grant.key gone.key ≡ true → ⊥) → Stood shape past n grant → Stood shape (event ∷ past) n grant)
+    → Writer shape past n heard keys → Writer shape (event ∷ past) n (reply.Rel told ∷ heard) keys
 writer-released shape event past n gone told heard keys at shut keeps w =
     let a = count-cons is_had (reply.Rel told) heard in
     let c = count-cons is_release (reply.Rel told) heard in

@@ -36,7 +36,8 @@ of_permit permit quar h =
     (record { sid = ap (λ (n : ℕ). record { number = n }) (eqb-true quar.sid.number permit.sid.number first.0); mode = mode_is quar.mode permit.mode first.1 }, last.1)
 
 -- it is the one of its token
-pub find_permit : (permit : Permit) (quars : List Quar) → AllOfOwnToken quars → list_any (is_of_permit permit) quars ≡ true → (quar : Quar) × (find (has_token permit.token) quars ≡ Some quar) × IsOf permit quar
+pub find_permit : (permit : Permit) (quars : List Quar) → AllOfOwnToken quars → list_any (is_of_permit permit) quars ≡ true
+    → (quar : Quar) × (find (has_token permit.token) quars ≡ Some quar) × IsOf permit quar
 find_permit permit [] h e = absurd (false≢true e)
 find_permit permit (quar ∷ quars) h e =
     elim (or_cases (is_of_permit permit quar) (list_any (is_of_permit permit) quars) e) [
@@ -51,7 +52,8 @@ find_permit permit (quar ∷ quars) h e =
     ]
 
 -- the end of one session's quarantine leaves another's
-pub stays_permit : (permit gone : Permit) (quars : List Quar) → AllOfOwnToken quars → list_any (is_of_permit permit) quars ≡ true → list_any (is_of_permit gone) quars ≡ true → permit.sid.number ≢ gone.sid.number → list_any (is_of_permit permit) (filter (λ q. not (has_token gone.token q)) quars) ≡ true
+pub stays_permit : (permit gone : Permit) (quars : List Quar) → AllOfOwnToken quars → list_any (is_of_permit permit) quars ≡ true → list_any (is_of_permit gone) quars ≡ true
+    → permit.sid.number ≢ gone.sid.number → list_any (is_of_permit permit) (filter (λ q. not (has_token gone.token q)) quars) ≡ true
 stays_permit permit gone quars h mine theirs apart =
     any-filter_same (is_of_permit permit) (λ q. not (has_token gone.token q)) true each quars ∙ mine
   where

@@ -37,14 +37,19 @@ abbrev pub AreOnce : List QKey → Type 0
 AreOnce keys = (i j : ℕ) (key : QKey) → slice_get keys i ≡ Some key → slice_get keys j ≡ Some key → i ≡ j
 
 -- what a writer wants
-next_cases : (P : Wanted → Type 0) (keys : List QKey) (txn : List Change) (heard : List Reply) → ((key : QKey) → slice_get keys (count_by is_had heard) ≡ Some key → P (wanted.QaReg key)) → P (wanted.Commit txn (record { items = granted heard; room = length keys })) → P (quarantine_next keys txn heard)
+next_cases : (P : Wanted → Type 0) (keys : List QKey) (txn : List Change) (heard : List Reply)
+    → ((key : QKey) → slice_get keys (count_by is_had heard) ≡ Some key → P (wanted.QaReg key)) → P (wanted.Commit txn (record { items = granted heard; room = length keys }))
+    → P (quarantine_next keys txn heard)
 next_cases P keys txn heard ask commit = by (slice_get keys (count_by is_had heard)) refl
   where
     by : (o : Option QKey) → slice_get keys (count_by is_had heard) ≡ o → P (quarantine_or_commit keys txn (granted heard) o)
     by (Some key) e = ask key e
     by None e = commit
 
-release_cases : (P : Wanted → Type 0) (heard : List Reply) → ((grant : Permit) → slice_get (granted heard) (released heard) ≡ Some grant → was_committed heard ≡ true → P (wanted.Dar grant)) → ((grant : Permit) → slice_get (granted heard) (released heard) ≡ Some grant → was_committed heard ≡ false → P (wanted.Abort grant)) → P wanted.Nothing → P (release_next heard)
+release_cases : (P : Wanted → Type 0) (heard : List Reply)
+    → ((grant : Permit) → slice_get (granted heard) (released heard) ≡ Some grant → was_committed heard ≡ true → P (wanted.Dar grant))
+    → ((grant : Permit) → slice_get (granted heard) (released heard) ≡ Some grant → was_committed heard ≡ false → P (wanted.Abort grant)) → P wanted.Nothing
+    → P (release_next heard)
 release_cases P heard dar abort nothing = by (was_committed heard) refl (slice_get (granted heard) (released heard)) refl
   where
     by : (b : Bool) → was_committed heard ≡ b → (o : Option Permit) → slice_get (granted heard) (released heard) ≡ o → P (release_of b o)
@@ -53,7 +58,11 @@ release_cases P heard dar abort nothing = by (was_committed heard) refl (slice_g
     by true e None at = nothing
     by false e None at = nothing
 
-pub write_cases : (P : Wanted → Type 0) (keys : List QKey) (txn : List Change) (heard : List Reply) → ((key : QKey) → slice_get keys (count_by is_had heard) ≡ Some key → P (wanted.QaReg key)) → P (wanted.Commit txn (record { items = granted heard; room = length keys })) → P wanted.End → ((grant : Permit) → slice_get (granted heard) (released heard) ≡ Some grant → is_ending heard ≡ true → was_committed heard ≡ true → P (wanted.Dar grant)) → ((grant : Permit) → slice_get (granted heard) (released heard) ≡ Some grant → is_ending heard ≡ true → was_committed heard ≡ false → P (wanted.Abort grant)) → P wanted.Nothing → P (write_wants keys txn heard)
+pub write_cases : (P : Wanted → Type 0) (keys : List QKey) (txn : List Change) (heard : List Reply)
+    → ((key : QKey) → slice_get keys (count_by is_had heard) ≡ Some key → P (wanted.QaReg key)) → P (wanted.Commit txn (record { items = granted heard; room = length keys }))
+    → P wanted.End → ((grant : Permit) → slice_get (granted heard) (released heard) ≡ Some grant → is_ending heard ≡ true → was_committed heard ≡ true → P (wanted.Dar grant))
+    → ((grant : Permit) → slice_get (granted heard) (released heard) ≡ Some grant → is_ending heard ≡ true → was_committed heard ≡ false → P (wanted.Abort grant))
+    → P wanted.Nothing → P (write_wants keys txn heard)
 write_cases P keys txn [] ask commit end dar abort nothing = next_cases P keys txn [] ask commit
 write_cases P keys txn (reply.Quar (quarantine.Granted grant old) ∷ heard) ask commit end dar abort nothing = next_cases P keys txn (reply.Quar (quarantine.Granted grant old) ∷ heard) ask commit
 write_cases P keys txn (reply.Quar quarantine.Held ∷ heard) ask commit end dar abort nothing = next_cases P keys txn (reply.Quar quarantine.Held ∷ heard) ask commit
@@ -72,11 +81,15 @@ write_cases P keys txn (reply.Set told ∷ heard) ask commit end dar abort nothi
 write_cases P keys txn (reply.Nothing ∷ heard) ask commit end dar abort nothing = nothing
 
 -- what a reader wants: what it sets is an answer that followed a lease
-set_cases : (P : Wanted → Type 0) (key : QKey) (answer : Answer) (heard : List Reply) → ((token : ℕ) (rest : List Reply) → heard ≡ reply.Got (got.Lease token) ∷ rest → P (wanted.Set key token answer.value answer.stamp)) → P wanted.Nothing → P (set_after key answer heard)
+set_cases : (P : Wanted → Type 0) (key : QKey) (answer : Answer) (heard : List Reply)
+    → ((token : ℕ) (rest : List Reply) → heard ≡ reply.Got (got.Lease token) ∷ rest → P (wanted.Set key token answer.value answer.stamp)) → P wanted.Nothing
+    → P (set_after key answer heard)
 set_cases P key answer (reply.Got (got.Lease token) ∷ heard) set nothing = set token heard refl
 set_cases P key answer heard set nothing = nothing
 
-pub read_cases : (P : Wanted → Type 0) (key : QKey) (floor : ℕ) (heard : List Reply) → P (wanted.Get key floor) → P (wanted.Ask key) → ((token : ℕ) (answer : Answer) (rest : List Reply) → heard ≡ reply.Answer answer ∷ reply.Got (got.Lease token) ∷ rest → P (wanted.Set key token answer.value answer.stamp)) → P wanted.Nothing → P (read_wants key floor heard)
+pub read_cases : (P : Wanted → Type 0) (key : QKey) (floor : ℕ) (heard : List Reply) → P (wanted.Get key floor) → P (wanted.Ask key)
+    → ((token : ℕ) (answer : Answer) (rest : List Reply) → heard ≡ reply.Answer answer ∷ reply.Got (got.Lease token) ∷ rest → P (wanted.Set key token answer.value answer.stamp))
+    → P wanted.Nothing → P (read_wants key floor heard)
 read_cases P key floor [] get ask set nothing = get
 read_cases P key floor (reply.Got (got.Lease token) ∷ heard) get ask set nothing = ask
 read_cases P key floor (reply.Got (got.Again stands) ∷ heard) get ask set nothing =
