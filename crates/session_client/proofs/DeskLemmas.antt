@@ -1,11 +1,28 @@
--- The sessions of a store that gives them numbers in turn.
+-- What a desk over a store and shards begins and answers.
 use Rattle.std.proofs.Common.{◌≡◌, ◌≢◌, ◌-◌, ◌<◌, ℕ, zero, suc, Bool, true, false, if◌then◌else◌, List, [], ◌∷◌, length, All, Some, refl, ap, subst, ◌∙◌, length-append, arith}
 use Rattle.std.proofs.lemmas.List.{length-set}
 use Rattle.std.specs.Prelude.{Option, unwrap_or}
 use Rattle.rows_model.specs.declared.keys.Sid.{Sid}
 use Rattle.sql_keeper.specs.declared.stores.Phase.{Phase}
 use Rattle.sql_keeper.specs.Sessions.{begun, first_phase, is_open, with_phase, ended}
-use Rattle.sql_keeper.specs.Stores.{Ledger, with_call}
+use Rattle.rows_model.specs.declared.refusals.Memory.{Memory}
+use Rattle.std.specs.Prelude.{Result, Ok, Err, OnOk, IfOk}
+use Rattle.sql_keeper.specs.Stores.{Ledger, with_call, with_session}
+use Rattle.std.proofs.Common.{pos, None, sym}
+use Rattle.rows_model.specs.declared.keys.QKey.{QKey}
+use Rattle.case_tables.specs.declared.grids.Verdict.{Verdict}
+use Rattle.case_tables.specs.declared.grids.Verdict.TheVariants as verdicts
+use Rattle.case_tables.specs.Compatibility.{verdict, quarantine}
+use Rattle.lease_table.specs.declared.records.Mode.TheVariants.{Invalidate}
+use Rattle.lease_table.specs.declared.records.Quar.{Quar}
+use Rattle.lease_table.specs.Leases.{way_of}
+use Rattle.key_shard.specs.declared.steps.Step.{Step}
+use Rattle.key_shard.specs.declared.replies.QAnswer.{QAnswer}
+use Rattle.key_shard.specs.declared.replies.QAnswer.TheVariants as told
+use Rattle.key_shard.specs.Past.{Terms, seen_by, holder_of}
+use Rattle.key_shard.specs.Answers.{quarantine_step, quarantine_by, refused_step}
+use Rattle.key_shard.specs.Replies.{ShowsQuarantine}
+use Rattle.session_client.specs.Belongs.{IsQuarantineOf}
 use Rattle.session_client.specs.Desks.{sids_to, with_member, IsNew}
 use Rattle.std.proofs.lemmas.List.Elements.{All-nil, All-cons}
 use Rattle.sql_keeper.specs.declared.stores.Phase.TheVariants.{Committed, Ended}
@@ -33,6 +50,18 @@ sids_to_begun writes phases sid h =
     let number : suc (length phases) ≡ sid.number = omega (arith, h, more) in
     ap (λ (n : ℕ). Some (sids_to n)) more ∙ ap (λ (n : ℕ). Some (record { number = n } ∷ sids_to (length phases))) number
 
+-- what becomes of the ledger as a session begins, and that it has the last number
+pub begin_is_new : (writes : Bool) (old new : Ledger) (result : Result Sid Memory) → OnOk result (new ≡ with_session writes old) → IfOk result (λ sid. sid.number ≡ length new.sessions) → IfOk result (λ sid. IsNew sid (Some (sids_to (length old.sessions))))
+begin_is_new writes old new (Ok sid) ledger number =
+    sid_is_new writes old.sessions sid (number ∙ ap (λ (l : Ledger). length l.sessions) ledger)
+begin_is_new writes old new (Err memory) ledger number = tt
+
+pub begin_is_told : (writes : Bool) (old new : Ledger) (result : Result Sid Memory) → OnOk result (new ≡ with_session writes old) → IfOk result (λ sid. sid.number ≡ length new.sessions) → IfOk result (λ sid. Some (sids_to (length new.sessions)) ≡ with_member sid (Some (sids_to (length old.sessions))))
+begin_is_told writes old new (Ok sid) ledger number =
+    let more = ap (λ (l : Ledger). length l.sessions) ledger in
+    ap (λ (n : ℕ). Some (sids_to n)) more ∙ sids_to_begun writes old.sessions sid (number ∙ more)
+begin_is_told writes old new (Err memory) ledger number = tt
+
 end_by : (b : Bool) (who : Sid) (phases : List Phase) → length (if b then with_phase who Ended phases else phases) ≡ length phases
 end_by true who phases = length-set phases (who.number - 1) Ended
 end_by false who phases = refl
@@ -46,3 +75,26 @@ as_many_committed who phases = length-set phases (who.number - 1) Committed
 pub as_many_called : (b : Bool) (ledger : Ledger) → length (with_call b ledger).sessions ≡ length ledger.sessions
 as_many_called true ledger = refl
 as_many_called false ledger = refl
+
+-- a quarantine to invalidate brings a grant of the key to the session, and no old value
+pub quarantine_belongs : (terms : Terms) (past : List Step) (key : QKey) (who : Sid) (answer : QAnswer) → ShowsQuarantine terms past (quarantine_step terms past key who Invalidate (pos 0) 0) answer → IsQuarantineOf who key answer
+quarantine_belongs terms past key who answer = by (verdict (seen_by key who 0 past) (quarantine (way_of Invalidate)))
+  where
+    P : QAnswer → Type 0
+    P a = IsQuarantineOf who key a
+
+    granted : (token : ℕ) (old : Option (List ℕ × ℕ)) → old ≡ None → answer ≡ told.Granted (record { shard = terms.no; key = key; sid = who; mode = Invalidate; token = token }) old → IsQuarantineOf who key answer
+    granted token old none is = subst P (sym is) (record { of_key = refl; of_session = refl; in_mode = refl }, none)
+
+    refused : (o : Option Quar) → ShowsQuarantine terms past (refused_step key who Invalidate o) answer → IsQuarantineOf who key answer
+    refused (Some holder) h = subst P (sym h) tt
+    refused None h = subst P (sym h) tt
+
+    by : (v : Verdict) → ShowsQuarantine terms past (quarantine_by terms past key who Invalidate (pos 0) 0 v) answer → IsQuarantineOf who key answer
+    by verdicts.Same h = subst P (sym h) tt
+    by verdicts.Refuse h = refused (holder_of key who past) h
+    by verdicts.Wait h = subst P (sym h) tt
+    by verdicts.Give h = granted _ _ refl h
+    by verdicts.Void h = granted _ _ refl h
+    by verdicts.Join h = granted _ _ refl h
+    by verdicts.Own h = subst P (sym h) tt
