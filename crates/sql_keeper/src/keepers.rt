@@ -55,10 +55,8 @@ pub trait Keeper {
     fn ask(&mut self, alloc: Global, key: &QKey) -> Result<Value, KeepFault>
         requires { is_started self.old }
         ensures started { is_started self.new }
-        ensures tells {
-            (told : Tables) → rows self.new ≡ Some told
-            → (rows self.old ≡ Some told) × IfOk result (λ value. value ≡ answer key.now told)
-        }
+        ensures tells { (told : Tables) → rows self.new ≡ Some told
+            → (rows self.old ≡ Some told) × IfOk result (λ value. value ≡ answer key.now told) }
         ensures counts { Counts (keep_failed result) (faults self.old) (faults self.new) }
         ensures never_falls { faults self.old ≤ faults self.new };
 
@@ -66,10 +64,8 @@ pub trait Keeper {
     fn ask_after(&mut self, alloc: Global, txn: &Txn, key: &QKey) -> Result<Value, AfterFault>
         requires { is_started self.old }
         ensures started { is_started self.new }
-        ensures tells {
-            (told : Tables) → rows self.new ≡ Some told
-            → (rows self.old ≡ Some told) × AnswersAfter txn.now key.now told result
-        }
+        ensures tells { (told : Tables) → rows self.new ≡ Some told
+            → (rows self.old ≡ Some told) × AnswersAfter txn.now key.now told result }
         ensures counts { Counts (staged_failed result) (faults self.old) (faults self.new) }
         ensures never_falls { faults self.old ≤ faults self.new };
 
@@ -77,10 +73,8 @@ pub trait Keeper {
     fn commit(&mut self, alloc: Global, txn: &Txn) -> Result<(), AfterFault>
         requires { is_started self.old }
         ensures started { is_started self.new }
-        ensures tells {
-            (told : Tables) → rows self.new ≡ Some told
-            → (before : Tables) × (rows self.old ≡ Some before) × Commits txn.now before told result
-        }
+        ensures tells { (told : Tables) → rows self.new ≡ Some told
+            → (before : Tables) × (rows self.old ≡ Some before) × Commits txn.now before told result }
         ensures counts { Counts (staged_failed result) (faults self.old) (faults self.new) }
         ensures never_falls { faults self.old ≤ faults self.new };
 }

@@ -94,7 +94,8 @@ impl Keeper for MapKeeper {
 
         ensures fails { IsTrue (keep_failed result) ↔ Contains self.old.fails (count_up self.old.calls) }
         ensures opening { IfOk result (λ opening. opening ≡ start_tables members) }
-        ensures ok { IfOk result (λ opening. self.new ≡ counted false (with_rows (Some opening) self.old)) }
+        ensures ok { IfOk result (λ opening.
+            self.new ≡ counted false (with_rows (Some opening) self.old)) }
         ensures err { OnErr result (self.new ≡ counted (keep_failed result) self.old) }
     {
         if self.fails_now() {
@@ -110,10 +111,8 @@ impl Keeper for MapKeeper {
     fn ask(&mut self, alloc: Global, key: &QKey) -> Result<Value, KeepFault>
         requires { IsSome self.old.rows }
         ensures started { IsSome self.new.rows }
-        ensures tells {
-            (told : Tables) → self.new.rows ≡ Some told
-            → (self.old.rows ≡ Some told) × IfOk result (λ value. value ≡ answer key.now told)
-        }
+        ensures tells { (told : Tables) → self.new.rows ≡ Some told
+            → (self.old.rows ≡ Some told) × IfOk result (λ value. value ≡ answer key.now told) }
         ensures counts { Counts (keep_failed result) self.old.faults self.new.faults }
         ensures never_falls { self.old.faults ≤ self.new.faults }
 
@@ -130,10 +129,8 @@ impl Keeper for MapKeeper {
     fn ask_after(&mut self, alloc: Global, txn: &Txn, key: &QKey) -> Result<Value, AfterFault>
         requires { IsSome self.old.rows }
         ensures started { IsSome self.new.rows }
-        ensures tells {
-            (told : Tables) → self.new.rows ≡ Some told
-            → (self.old.rows ≡ Some told) × AnswersAfter txn.now key.now told result
-        }
+        ensures tells { (told : Tables) → self.new.rows ≡ Some told
+            → (self.old.rows ≡ Some told) × AnswersAfter txn.now key.now told result }
         ensures counts { Counts (staged_failed result) self.old.faults self.new.faults }
         ensures never_falls { self.old.faults ≤ self.new.faults }
 
@@ -150,10 +147,8 @@ impl Keeper for MapKeeper {
     fn commit(&mut self, _alloc: Global, txn: &Txn) -> Result<(), AfterFault>
         requires { IsSome self.old.rows }
         ensures started { IsSome self.new.rows }
-        ensures tells {
-            (told : Tables) → self.new.rows ≡ Some told
-            → (before : Tables) × (self.old.rows ≡ Some before) × Commits txn.now before told result
-        }
+        ensures tells { (told : Tables) → self.new.rows ≡ Some told
+            → (before : Tables) × (self.old.rows ≡ Some before) × Commits txn.now before told result }
         ensures counts { Counts (staged_failed result) self.old.faults self.new.faults }
         ensures never_falls { self.old.faults ≤ self.new.faults }
 

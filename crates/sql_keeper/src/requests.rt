@@ -44,12 +44,11 @@ pub fn admit(
     grants: &[Grant],
 ) -> Result<(), CommitFault>
     ensures items { log.new.items ≡ log.old.items }
-    ensures ok {
-        OnOk result (commit_fault (is_open sid sessions.now) sid grants.now txn.now (length log.old.items) cap ≡ None)
-    }
-    ensures refusal {
-        IfErr result (IsRefusal (commit_fault (is_open sid sessions.now) sid grants.now txn.now (length log.old.items) cap))
-    }
+    ensures ok { OnOk result (
+        commit_fault (is_open sid sessions.now) sid grants.now txn.now (length log.old.items) cap
+        ≡ None) }
+    ensures refusal { IfErr result (IsRefusal
+        (commit_fault (is_open sid sessions.now) sid grants.now txn.now (length log.old.items) cap)) }
     ensures unasked { IfErr result (λ fault. is_failure fault ≡ false) }
     ensures any_rows { IfErr result (λ fault. (rows : Tables) → IsTrueFault txn.now rows fault) }
     ensures place { OnOk result (vec_len log.new < vec_capacity log.new) }

@@ -72,7 +72,11 @@ impl<K: Keeper, N: Start> Model for Store<K, N> {
 
     ghost view = { λ s. record {
       ledger = record {
-        opening = s.opening; log = s.log.items; sessions = s.sessions; cap = s.cap; failed = s.failed
+        opening = s.opening;
+        log = s.log.items;
+        sessions = s.sessions;
+        cap = s.cap;
+        failed = s.failed;
       };
       told = K.rows s.keeper;
       faults = K.faults s.keeper;
@@ -80,7 +84,11 @@ impl<K: Keeper, N: Start> Model for Store<K, N> {
 
     ghost invariant = { λ s. K.is_started s.keeper
         × IsLedger (record {
-          opening = s.opening; log = s.log.items; sessions = s.sessions; cap = s.cap; failed = s.failed
+          opening = s.opening;
+          log = s.log.items;
+          sessions = s.sessions;
+          cap = s.cap;
+          failed = s.failed;
         })
         × ForSome (K.rows s.keeper) (λ told. told ≡ rows_after s.opening s.log.items)
         × FewFailed N.count s.failed (K.faults s.keeper) };
@@ -108,16 +116,14 @@ impl<K: Keeper> Store<K> {
         requires few { members ≤ 100000 }
         requires cap { cap ≤ 8000000 }
         ensures opened { IfOk result (λ store. store.ledger ≡ opened store.ledger.opening cap) }
-        ensures told { IfOk result (λ store. ForSome store.told (λ told. told ≡ store.ledger.opening)) }
-        ensures held {
-            IfOk result (λ store. AreHeld store.told (K.holds keeper place.now members) store.ledger.opening)
-        }
+        ensures told { IfOk result (λ store.
+            ForSome store.told (λ told. told ≡ store.ledger.opening)) }
+        ensures held { IfOk result (λ store.
+            AreHeld store.told (K.holds keeper place.now members) store.ledger.opening) }
         ensures fresh { HoldsFresh place.now members (K.holds keeper place.now members) }
-        ensures counts {
-            MatchResult result
+        ensures counts { MatchResult result
             (λ store. store.faults ≡ K.faults keeper)
-            (λ none. Counts (has_failed none.cause) (K.faults keeper) (K.faults none.keeper))
-        }
+            (λ none. Counts (has_failed none.cause) (K.faults keeper) (K.faults none.keeper)) }
         ensures never_falls { IfErr result (λ none. K.faults keeper ≤ K.faults none.keeper) }
         ensures kept { IfErr result (λ none. K.rows none.keeper ≡ K.rows keeper) }
         ensures unstarted { IfErr result (λ none. K.is_started none.keeper → K.is_started keeper) }
@@ -180,13 +186,11 @@ impl<K: Keeper, N: Start> Store<K, N> {
     /// only where the keeper's count of faults rose, and is counted.
     pub fn ask(&mut self, key: &QKey) -> Result<Answer, KeepFault>
         ensures ledger { self.new.ledger ≡ with_call (keep_failed result) self.old.ledger }
-        ensures answer {
-            IfOk result (λ given. (given.key ≡ key.now) × (given.stamp ≡ length self.old.ledger.log))
-        }
-        ensures tells {
-            IsSome self.new.told
-            → (IsSome self.old.told) × IfOk result (λ given. given.value ≡ answer key.now (rows_of self.old.ledger))
-        }
+        ensures answer { IfOk result (λ given.
+            (given.key ≡ key.now) × (given.stamp ≡ length self.old.ledger.log)) }
+        ensures tells { IsSome self.new.told
+            → (IsSome self.old.told)
+            × IfOk result (λ given. given.value ≡ answer key.now (rows_of self.old.ledger)) }
         ensures counts { Counts (keep_failed result) self.old.faults self.new.faults }
         ensures never_falls { self.old.faults ≤ self.new.faults }
     {
@@ -209,10 +213,8 @@ impl<K: Keeper, N: Start> Store<K, N> {
     /// comes only where the keeper's count of faults rose, and is counted.
     pub fn ask_staged(&mut self, txn: &Txn, key: &QKey) -> Result<Value, AfterFault>
         ensures ledger { self.new.ledger ≡ with_call (staged_failed result) self.old.ledger }
-        ensures tells {
-            IsSome self.new.told
-            → (IsSome self.old.told) × AnswersAfter txn.now key.now (rows_of self.old.ledger) result
-        }
+        ensures tells { IsSome self.new.told
+            → (IsSome self.old.told) × AnswersAfter txn.now key.now (rows_of self.old.ledger) result }
         ensures counts { Counts (staged_failed result) self.old.faults self.new.faults }
         ensures never_falls { self.old.faults ≤ self.new.faults }
     {
@@ -239,29 +241,21 @@ impl<K: Keeper, N: Start> Store<K, N> {
         grants: &[Grant],
     ) -> Result<u64, (CommitFault, Txn)>
         ensures admitted { OnOk result (first_fault self.old.ledger sid grants.now txn ≡ None) }
-        ensures refusal {
-            IfErr result (λ back. IsRefusal (first_fault self.old.ledger sid grants.now txn) back.0)
-        }
+        ensures refusal { IfErr result (λ back.
+            IsRefusal (first_fault self.old.ledger sid grants.now txn) back.0) }
         ensures ledger { OnOk result (self.new.ledger ≡ with_commit sid txn self.old.ledger) }
         ensures number { IfOk result (λ number. number ≡ length self.old.ledger.log + 1) }
-        ensures err {
-            IfErr result (λ back. self.new.ledger ≡ with_call (is_failure back.0) self.old.ledger)
-        }
+        ensures err { IfErr result (λ back.
+            self.new.ledger ≡ with_call (is_failure back.0) self.old.ledger) }
         ensures back { IfErr result (λ back. back.1 ≡ txn) }
         ensures tells { IsSome self.new.told → IsSome self.old.told }
-        ensures applied {
-            IsSome self.new.told
-            → OnOk result ((after : Tables) × (apply_all txn (rows_of self.old.ledger) ≡ Ok after))
-        }
-        ensures rejected {
-            IsSome self.new.told
-            → IfErr result (λ back. IsTrueFault txn (rows_of self.old.ledger) back.0)
-        }
-        ensures counts {
-            MatchResult result
+        ensures applied { IsSome self.new.told
+            → OnOk result ((after : Tables) × (apply_all txn (rows_of self.old.ledger) ≡ Ok after)) }
+        ensures rejected { IsSome self.new.told
+            → IfErr result (λ back. IsTrueFault txn (rows_of self.old.ledger) back.0) }
+        ensures counts { MatchResult result
             (λ _. self.new.faults ≡ self.old.faults)
-            (λ back. Counts (is_failure back.0) self.old.faults self.new.faults)
-        }
+            (λ back. Counts (is_failure back.0) self.old.faults self.new.faults) }
         ensures never_falls { self.old.faults ≤ self.new.faults }
     {
         if let Err(fault) = admit(&self.sessions, &mut self.log, self.cap, sid, &txn, grants) {

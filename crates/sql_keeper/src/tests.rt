@@ -1,4 +1,4 @@
-ghost use Rattle.std.specs.Prelude.{◌≡◌, ◌≤◌, Some, IfOk};
+ghost use Rattle.std.specs.Prelude.{◌≡◌, ◌≤◌, Some};
 ghost use Rattle.sql_keeper.specs.Faults.{FewFailed};
 
 use crate::{AfterFault, CommitFault, KeepFault, MapKeeper, Place, Start, Store};
@@ -234,8 +234,12 @@ fn asked_by_two<N: Start + Send + Sync, R: Threads + Wait + Abort + Sync>(
     };
     join(
         rt,
-        || { let _ = store.lock(rt).ask(&profile(1)); },
-        || { let _ = store.lock(rt).ask(&profile(2)); },
+        || {
+            let _ = store.lock(rt).ask(&profile(1));
+        },
+        || {
+            let _ = store.lock(rt).ask(&profile(2));
+        },
     );
     let store = store.into_inner();
     let failed = store.failed();
