@@ -1,0 +1,133 @@
+#!/bin/sh
+# Checks the front door: what ./iq prints and how it ends, with no proof and, where a proved program stands,
+# with it; and the pictures of the examples. The last line is 'N passed, M failed', and the status is 1 where
+# one failed. Takes three runs of `rt try`, some 20 seconds each on a free machine.
+top=$(cd "$(dirname "$0")/.." && pwd) || exit 1
+cd "$top" || exit 1
+work=$(mktemp -d) || exit 1
+trap 'rm -rf "$work"' EXIT
+trap 'exit 130' HUP INT TERM
+passed=0
+failed=0
+
+# Counts a check: its name, and its status.
+count() {
+    if [ "$2" = 0 ]; then
+        passed=$((passed + 1))
+        echo "front: $1: as it must be"
+    else
+        failed=$((failed + 1))
+        echo "front: $1: NOT as it must be"
+    fi
+}
+
+# Runs an iq, under a folder, on a script and the words behind it, and keeps what it printed and its status.
+run_iq() {
+    folder=$1
+    script=$2
+    shift 2
+    "$folder/iq" "$@" <"$script" >"$work/out" 2>"$work/err"
+    status=$?
+}
+
+# Whether it ended with this status, this output, and these lines on standard error, less the one of ./iq.
+ended() {
+    grep -v '^iq: not proved: ' "$work/err" >"$work/told"
+    printf "$3" | cmp -s - "$work/told" && cmp -s "$2" "$work/out" && [ "$status" = "$1" ]
+}
+
+says_unproved() {
+    [ "$(grep -c '^iq: not proved: ' "$work/err")" = 1 ]
+}
+
+# A case of `rt try --cases`: a script, what it prints, the status that is wanted, and further words.
+add_case() {
+    cp "$2" "$work/cases/$1"
+    cp "$3" "$work/cases/$1.stdout"
+    echo "$1 $4" >>"$work/wanted"
+    [ -z "$5" ] || echo "$5" >"$work/cases/$1.args"
+}
+
+check_cases() {
+    mkdir "$work/cases"
+    for script in examples/*.iq; do
+        add_case "$(basename "$script" .iq)" "$script" "${script%.iq}.out" 0 ""
+    done
+    add_case faulty_script "$work/faulty" /dev/null 2 ""
+    add_case line_to_come "$work/to_come" /dev/null 9 ""
+    add_case further_word "$work/faulty" /dev/null 1 more
+    (cd "$work/fresh/crates/iq" && rt try --cases "$work/cases" -- replay) >"$work/said" 2>&1
+    while read -r name wanted; do
+        grep -q "^case=$name run=ended status=$wanted .*output=expected" "$work/said"
+        count "$name, with no proof" $?
+    done <"$work/wanted"
+    [ "$failed" = 0 ] || cat "$work/said"
+}
+
+check_unproved() {
+    run_iq "$work/fresh" examples/stale_refill.iq replay
+    ended 0 examples/stale_refill.out "" && says_unproved
+    count "./iq replay, with no proof" $?
+    run_iq "$work/fresh" /dev/null
+    ended 1 /dev/null 'usage\n' && says_unproved
+    count "./iq without words, with no proof" $?
+}
+
+check_proved() {
+    if [ ! -x crates/iq/out/iq ]; then
+        echo "front: no proved program stands here, so none is run"
+        return
+    fi
+    run_iq "$top" examples/stale_refill.iq replay
+    if says_unproved; then
+        echo "front: a source is newer than the proved program, so it isn't run"
+        return
+    fi
+    for script in examples/*.iq; do
+        run_iq "$top" "$script" replay
+        ended 0 "${script%.iq}.out" ""
+        count "$(basename "$script" .iq), proved" $?
+    done
+    run_iq "$top" /dev/null
+    ended 1 /dev/null 'usage\n'
+    count "./iq without words, proved" $?
+    run_iq "$top" "$work/faulty" replay
+    ended 2 /dev/null 'script line 1 form\n'
+    count "a faulty script, proved" $?
+}
+
+# A picture is well-formed, and has a row for each line of the output but the last.
+check_picture() {
+    python3 tools/draw_replay.py "$1" "$2" >"$work/picture.svg" && python3 - "$work/picture.svg" "$2" <<'END'
+import sys
+import xml.etree.ElementTree as tree
+
+rows = [it for it in tree.parse(sys.argv[1]).iter() if it.get("class") == "turn"]
+sys.exit(len(rows) != len(open(sys.argv[2]).readlines()) - 1)
+END
+}
+
+check_pictures() {
+    if ! command -v python3 >/dev/null; then
+        echo "front: no python3 here, so no picture is drawn"
+        return
+    fi
+    for script in examples/*.iq; do
+        check_picture "$script" "${script%.iq}.out"
+        count "the picture of $(basename "$script" .iq)" $?
+    done
+    python3 tools/draw_replay.py examples/stale_refill.iq examples/stale_refill.out | cmp -s - docs/stale_refill.svg
+    count "docs/stale_refill.svg" $?
+}
+
+printf 'members 0\nend\n' >"$work/faulty"
+printf 'members 3\ntick 3\nend\n' >"$work/to_come"
+# A copy of the sources, in which no proved program stands.
+mkdir "$work/fresh"
+tar --exclude=out -cf - iq crates.txt crates | (cd "$work/fresh" && tar -xf -)
+check_cases
+check_unproved
+check_proved
+check_pictures
+echo "$passed passed, $failed failed"
+[ "$failed" = 0 ]
