@@ -34,7 +34,11 @@ impl<K: Keeper> Model for Core<K> {
 
     ghost Value = { CoreView };
 
-    ghost view = { λ core. record { store = core.store; shards = core.shards.items; sessions = core.sessions.items } };
+    ghost view = { λ core. record {
+      store = core.store;
+      shards = core.shards.items;
+      sessions = core.sessions.items;
+    } };
 }
 
 impl<K: Keeper> Core<K> {
@@ -45,9 +49,11 @@ impl<K: Keeper> Core<K> {
         requires { IsShape shape }
         ensures begins { IfOk result (λ core. IsAt core (origin_of shape core) []) }
         ensures held { IfOk result (λ core. IsSome core.store.told →
-            ForSome (K.holds keeper place.now shape.members) (λ held. core.store.ledger.opening ≡ held)) }
+            ForSome (K.holds keeper place.now shape.members)
+            (λ held. core.store.ledger.opening ≡ held)) }
         ensures fresh { place.now ≡ Place.Fresh →
-            OnOk result (K.holds keeper place.now shape.members ≡ Some (start_tables shape.members)) }
+            OnOk result (K.holds keeper place.now shape.members ≡
+            Some (start_tables shape.members)) }
         ensures counts { MatchResult result (λ core. core.store.faults ≡ K.faults keeper)
             (λ none. Counts (has_failed none.cause) (K.faults keeper) (K.faults none.keeper)) }
         ensures never_falls { IfErr result (λ none. K.faults keeper ≤ K.faults none.keeper) }
@@ -87,7 +93,9 @@ impl<K: Keeper> Core<K> {
     /// order in which they begin. For want of memory nothing changes.
     pub fn add(&mut self, plan: Plan) -> Result<Sid, Memory>
         requires { IsPlan plan }
-        ensures begins { (origin : Origin) (moves : List Move) → IsAt self.old origin moves → IfOk result (λ sid. (sid.number ≡ length (world_of origin.shape moves).plans + 1) × IsAt self.new origin (Begin plan ∷ moves)) }
+        ensures begins { (origin : Origin) (moves : List Move) → IsAt self.old origin moves →
+            IfOk result (λ sid. (sid.number ≡ length (world_of origin.shape moves).plans + 1) ×
+            IsAt self.new origin (Begin plan ∷ moves)) }
         ensures err { OnErr result (self.new ≡ self.old) }
     {
         let writes = writes(&plan);
@@ -114,8 +122,12 @@ impl<K: Keeper> Core<K> {
     pub fn step(&mut self, turn: Turn) -> Result<Told, Memory>
         requires running { IsRunning self.old }
         requires begun { HasBegun self.old turn }
-        ensures takes { (origin : Origin) (moves : List Move) → IsAt self.old origin moves → IfOk result (λ told. (said : Said) × IsAt self.new origin (Take turn said ∷ moves) × IsToldOf (turn_event origin.shape (world_of origin.shape moves) turn said) told) }
-        ensures err { (origin : Origin) (moves : List Move) → IsAt self.old origin moves → OnErr result (HasKept self.new origin moves ⊎ ((said : Said) × HasKept self.new origin (Take turn said ∷ moves))) }
+        ensures takes { (origin : Origin) (moves : List Move) → IsAt self.old origin moves →
+            IfOk result (λ told. (said : Said) × IsAt self.new origin (Take turn said ∷ moves) ×
+            IsToldOf (turn_event origin.shape (world_of origin.shape moves) turn said) told) }
+        ensures err { (origin : Origin) (moves : List Move) → IsAt self.old origin moves →
+            OnErr result (HasKept self.new origin moves ⊎
+            ((said : Said) × HasKept self.new origin (Take turn said ∷ moves))) }
     {
         self.step_of(turn.sid())
     }
@@ -124,8 +136,14 @@ impl<K: Keeper> Core<K> {
     fn step_of(&mut self, who: Sid) -> Result<Told, Memory>
         requires running { IsRunning self.old }
         requires begun { HasBegun self.old (Turn.Session who) }
-        ensures takes { (origin : Origin) (moves : List Move) → IsAt self.old origin moves → IfOk result (λ told. (said : Said) × IsAt self.new origin (Take (Turn.Session who) said ∷ moves) × IsToldOf (turn_event origin.shape (world_of origin.shape moves) (Turn.Session who) said) told) }
-        ensures err { (origin : Origin) (moves : List Move) → IsAt self.old origin moves → OnErr result (HasKept self.new origin moves ⊎ ((said : Said) × HasKept self.new origin (Take (Turn.Session who) said ∷ moves))) }
+        ensures takes { (origin : Origin) (moves : List Move) → IsAt self.old origin moves →
+            IfOk result (λ told. (said : Said) ×
+            IsAt self.new origin (Take (Turn.Session who) said ∷ moves) ×
+            IsToldOf (turn_event origin.shape (world_of origin.shape moves)
+            (Turn.Session who) said) told) }
+        ensures err { (origin : Origin) (moves : List Move) → IsAt self.old origin moves →
+            OnErr result (HasKept self.new origin moves ⊎
+            ((said : Said) × HasKept self.new origin (Take (Turn.Session who) said ∷ moves))) }
     {
         session_turn(
             self.alloc,
@@ -181,7 +199,8 @@ impl<K: Keeper> Core<K> {
         ensures opening { result.1 ≡ self.store.ledger.opening }
         ensures log { result.2.items ≡ self.store.ledger.log }
         ensures shards { result.3.items ≡ self.shards }
-        ensures sound { (origin : Origin) (moves : List Move) → HasKept self origin moves → IsSound self origin moves }
+        ensures sound { (origin : Origin) (moves : List Move) →
+            HasKept self origin moves → IsSound self origin moves }
     {
         let Core {
             alloc: _,

@@ -52,7 +52,8 @@ pub(crate) fn line_of(
     asked: Asked,
     reply: &Reply,
 ) -> Result<Vec<u8>, Memory>
-    ensures { IfOk result (λ text. text.items ≡ line (decimal who.number ∷ asked_words asked ++ reply_words reply.now)) }
+    ensures { IfOk result (λ text.
+        text.items ≡ line (decimal who.number ∷ asked_words asked ++ reply_words reply.now)) }
 {
     let mut text = begun(alloc, who)?;
     push_asked(alloc, &mut text, asked)?;
@@ -134,7 +135,8 @@ fn push_got(text: &mut Vec<u8>, got: &Got) -> Result<(), Memory>
 }
 
 fn push_answer(text: &mut Vec<u8>, stamp: u64, value: &[u8]) -> Result<(), Memory>
-    ensures { OnOk result (text.new.items ≡ text.old.items ++ spaced (decimal stamp ∷ shown value.now ∷ [])) }
+    ensures { OnOk result (text.new.items ≡ text.old.items ++
+        spaced (decimal stamp ∷ shown value.now ∷ [])) }
 {
     push_number(text, stamp)?;
     push_value(text, value)
@@ -190,7 +192,8 @@ fn push_evicting(
     word: &[u8],
     evicted: Option<QKey>,
 ) -> Result<(), Memory>
-    ensures { OnOk result (text.new.items ≡ text.old.items ++ spaced (word.now ∷ evicts_words evicted)) }
+    ensures { OnOk result (text.new.items ≡ text.old.items ++
+        spaced (word.now ∷ evicts_words evicted)) }
 {
     push_word(text, word)?;
     match evicted {
@@ -200,7 +203,8 @@ fn push_evicting(
 }
 
 fn push_verb(alloc: Global, text: &mut Vec<u8>, verb: &[u8], key: &QKey) -> Result<(), Memory>
-    ensures { OnOk result (text.new.items ≡ text.old.items ++ spaced (verb.now ∷ key_text key.now ∷ [])) }
+    ensures { OnOk result (text.new.items ≡ text.old.items ++
+        spaced (verb.now ∷ key_text key.now ∷ [])) }
 {
     push_word(text, verb)?;
     let word = key.text(alloc)?;
@@ -208,7 +212,8 @@ fn push_verb(alloc: Global, text: &mut Vec<u8>, verb: &[u8], key: &QKey) -> Resu
 }
 
 fn push_counted(text: &mut Vec<u8>, word: &[u8], number: u64) -> Result<(), Memory>
-    ensures { OnOk result (text.new.items ≡ text.old.items ++ spaced (word.now ∷ decimal number ∷ [])) }
+    ensures { OnOk result (text.new.items ≡ text.old.items ++
+        spaced (word.now ∷ decimal number ∷ [])) }
 {
     push_word(text, word)?;
     push_number(text, number)

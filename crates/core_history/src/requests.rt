@@ -30,7 +30,9 @@ pub(crate) fn make<K: Keeper>(
     requires homes { HasHomes shards.old.items }
     requires some { 1 ≤ who.number }
     requires out { IsOutWhereReleased shards.old.items request }
-    ensures makes { (origin : Origin) (world : World) → Stands shards.old.items store.old origin world → Makes origin world who request shards.new.items store.new result }
+    ensures makes { (origin : Origin) (world : World) →
+        Stands shards.old.items store.old origin world →
+        Makes origin world who request shards.new.items store.new result }
     ensures belongs { IfOk result (Belongs who request) }
 {
     match request {
@@ -62,7 +64,9 @@ fn home_of(shards: &Vec<Shard>, key: &QKey) -> usize
 
 fn make_get(shards: &mut Vec<Shard>, who: Sid, key: QKey, floor: u64) -> Result<Reply, Memory>
     requires { HasHome shards.old.items key }
-    ensures makes { (shape : Shape) (world : World) → HasShards shards.old.items shape world.past → MakesStep shape world who (wanted.Get key floor) shards.new.items result }
+    ensures makes { (shape : Shape) (world : World) →
+        HasShards shards.old.items shape world.past →
+        MakesStep shape world who (wanted.Get key floor) shards.new.items result }
     ensures belongs { IfOk result (Belongs who (wanted.Get key floor)) }
 {
     let place = home_of(shards, &key);
@@ -80,7 +84,9 @@ fn make_set(
     stamp: u64,
 ) -> Result<Reply, Memory>
     requires { HasHome shards.old.items key }
-    ensures makes { (shape : Shape) (world : World) (who : Sid) → HasShards shards.old.items shape world.past → MakesStep shape world who (wanted.Set key token value stamp) shards.new.items result }
+    ensures makes { (shape : Shape) (world : World) (who : Sid) →
+        HasShards shards.old.items shape world.past →
+        MakesStep shape world who (wanted.Set key token value stamp) shards.new.items result }
     ensures belongs { (who : Sid) → IfOk result (Belongs who (wanted.Set key token value stamp)) }
 {
     let place = home_of(shards, &key);
@@ -92,7 +98,9 @@ fn make_set(
 
 fn make_quarantine(shards: &mut Vec<Shard>, who: Sid, key: QKey) -> Result<Reply, Memory>
     requires { HasHome shards.old.items key }
-    ensures makes { (shape : Shape) (world : World) → HasShards shards.old.items shape world.past → MakesStep shape world who (wanted.QaReg key) shards.new.items result }
+    ensures makes { (shape : Shape) (world : World) →
+        HasShards shards.old.items shape world.past →
+        MakesStep shape world who (wanted.QaReg key) shards.new.items result }
     ensures belongs { IfOk result (Belongs who (wanted.QaReg key)) }
 {
     let place = home_of(shards, &key);
@@ -105,7 +113,9 @@ fn make_quarantine(shards: &mut Vec<Shard>, who: Sid, key: QKey) -> Result<Reply
 fn make_dar(shards: &mut Vec<Shard>, grant: Grant) -> Reply
     requires home { HasHome shards.old.items grant.key }
     requires out { IsGrantOut shards.old.items grant }
-    ensures makes { (shape : Shape) (world : World) (who : Sid) → HasShards shards.old.items shape world.past → MakesStep shape world who (wanted.Dar grant) shards.new.items (Ok result) }
+    ensures makes { (shape : Shape) (world : World) (who : Sid) →
+        HasShards shards.old.items shape world.past →
+        MakesStep shape world who (wanted.Dar grant) shards.new.items (Ok result) }
     ensures belongs { (who : Sid) → Belongs who (wanted.Dar grant) result }
 {
     let place = home_of(shards, &grant.key());
@@ -117,7 +127,9 @@ fn make_dar(shards: &mut Vec<Shard>, grant: Grant) -> Reply
 fn make_abort(shards: &mut Vec<Shard>, grant: Grant) -> Reply
     requires home { HasHome shards.old.items grant.key }
     requires out { IsGrantOut shards.old.items grant }
-    ensures makes { (shape : Shape) (world : World) (who : Sid) → HasShards shards.old.items shape world.past → MakesStep shape world who (wanted.Abort grant) shards.new.items (Ok result) }
+    ensures makes { (shape : Shape) (world : World) (who : Sid) →
+        HasShards shards.old.items shape world.past →
+        MakesStep shape world who (wanted.Abort grant) shards.new.items (Ok result) }
     ensures belongs { (who : Sid) → Belongs who (wanted.Abort grant) result }
 {
     let place = home_of(shards, &grant.key());
@@ -127,7 +139,9 @@ fn make_abort(shards: &mut Vec<Shard>, grant: Grant) -> Reply
 }
 
 fn make_ask<K: Keeper>(store: &mut Store<K>, key: QKey) -> Result<Reply, Memory>
-    ensures makes { (origin : Origin) (world : World) (who : Sid) → StandsStore store.old origin world → MakesCall origin world who (wanted.Ask key) store.new result }
+    ensures makes { (origin : Origin) (world : World) (who : Sid) →
+        StandsStore store.old origin world →
+        MakesCall origin world who (wanted.Ask key) store.new result }
     ensures belongs { (who : Sid) → IfOk result (Belongs who (wanted.Ask key)) }
 {
     match store.ask(&key) {
@@ -139,7 +153,9 @@ fn make_ask<K: Keeper>(store: &mut Store<K>, key: QKey) -> Result<Reply, Memory>
 
 fn make_end<K: Keeper>(store: &mut Store<K>, who: Sid) -> Reply
     requires { 1 ≤ who.number }
-    ensures makes { (origin : Origin) (world : World) → StandsStore store.old origin world → MakesCall origin world who wanted.End store.new (Ok result) }
+    ensures makes { (origin : Origin) (world : World) →
+        StandsStore store.old origin world →
+        MakesCall origin world who wanted.End store.new (Ok result) }
     ensures belongs { Belongs who wanted.End result }
 {
     Reply::End {
@@ -154,7 +170,9 @@ fn make_commit<K: Keeper>(
     grants: Grants,
 ) -> Result<Reply, Memory>
     requires { 1 ≤ who.number }
-    ensures makes { (origin : Origin) (world : World) → StandsStore store.old origin world → MakesCall origin world who (wanted.Commit txn grants) store.new result }
+    ensures makes { (origin : Origin) (world : World) →
+        StandsStore store.old origin world →
+        MakesCall origin world who (wanted.Commit txn grants) store.new result }
     ensures belongs { IfOk result (Belongs who (wanted.Commit txn grants)) }
 {
     let copy = match txn.copy() {
@@ -194,8 +212,10 @@ fn told_of_commit(
 fn get_from(shard: &mut Shard, key: QKey, who: Sid, floor: u64) -> Result<Got, Memory>
     requires home { IsAtHome shard.old.terms key }
     requires unspent { next_token shard.old.terms (past_of shard.old) < 2 ^ 64 - 1 }
-    ensures step { let step = get_step shard.old.terms (past_of shard.old) key who floor 0 in OnOk result (shard.new ≡ stepped shard.old step) }
-    ensures shows { let step = get_step shard.old.terms (past_of shard.old) key who floor 0 in IfOk result (ShowsGot step) }
+    ensures step { let step = get_step shard.old.terms (past_of shard.old) key who floor 0 in
+        OnOk result (shard.new ≡ stepped shard.old step) }
+    ensures shows { let step = get_step shard.old.terms (past_of shard.old) key who floor 0 in
+        IfOk result (ShowsGot step) }
     ensures err { OnErr result (shard.new ≡ shard.old) }
 {
     match shard.get(key, who, floor, 0) {
@@ -214,8 +234,12 @@ fn set_on(
 ) -> Result<SetAnswer, Memory>
     requires home { IsAtHome shard.old.terms key }
     requires unspent { next_token shard.old.terms (past_of shard.old) < 2 ^ 64 - 1 }
-    ensures step { let step = set_step shard.old.terms (past_of shard.old) key token value stamp 0 in OnOk result (shard.new ≡ stepped shard.old step) }
-    ensures shows { let step = set_step shard.old.terms (past_of shard.old) key token value stamp 0 in IfOk result (ShowsSet step) }
+    ensures step { let step = set_step shard.old.terms
+        (past_of shard.old) key token value stamp 0 in
+        OnOk result (shard.new ≡ stepped shard.old step) }
+    ensures shows { let step = set_step shard.old.terms
+        (past_of shard.old) key token value stamp 0 in
+        IfOk result (ShowsSet step) }
     ensures err { OnErr result (shard.new ≡ shard.old) }
 {
     match shard.set(key, token, value, stamp, 0) {
@@ -228,8 +252,12 @@ fn set_on(
 fn quarantine_on(shard: &mut Shard, key: QKey, who: Sid) -> Result<QAnswer, Memory>
     requires home { IsAtHome shard.old.terms key }
     requires unspent { next_token shard.old.terms (past_of shard.old) < 2 ^ 64 - 1 }
-    ensures step { let step = quarantine_step shard.old.terms (past_of shard.old) key who mode.Invalidate (pos 0) 0 in OnOk result (shard.new ≡ stepped shard.old step) }
-    ensures shows { let step = quarantine_step shard.old.terms (past_of shard.old) key who mode.Invalidate (pos 0) 0 in IfOk result (ShowsQuarantine shard.old.terms (past_of shard.old) step) }
+    ensures step { let step = quarantine_step shard.old.terms (past_of shard.old)
+        key who mode.Invalidate (pos 0) 0 in
+        OnOk result (shard.new ≡ stepped shard.old step) }
+    ensures shows { let step = quarantine_step shard.old.terms (past_of shard.old)
+        key who mode.Invalidate (pos 0) 0 in
+        IfOk result (ShowsQuarantine shard.old.terms (past_of shard.old) step) }
     ensures err { OnErr result (shard.new ≡ shard.old) }
 {
     match qa_reg(shard, key, who, 0) {

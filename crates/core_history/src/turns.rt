@@ -28,8 +28,11 @@ pub(crate) fn session_turn<K: Keeper>(
     requires homes { HasHomes shards.old.items }
     requires some { 1 ≤ who.number }
     requires begun { who.number ≤ length sessions.old.items }
-    requires waits { (session : Session) → slice_get sessions.old.items (who.number - 1) ≡ Some session → IsWaiting shards.old.items who session }
-    ensures { TakesOne shards.old.items store.old sessions.old.items who shards.new.items store.new sessions.new.items result }
+    requires waits { (session : Session) →
+        slice_get sessions.old.items (who.number - 1) ≡ Some session →
+        IsWaiting shards.old.items who session }
+    ensures { TakesOne shards.old.items store.old sessions.old.items who
+        shards.new.items store.new sessions.new.items result }
 {
     let place = (who.number - 1) as usize;
     take_turn(alloc, store, shards, &mut sessions[place], who)
@@ -48,8 +51,10 @@ fn take_turn<K: Keeper>(
     ensures plan { plan_of session.new ≡ plan_of session.old }
     ensures sid { sid_of session.new ≡ sid_of session.old }
     ensures ready { OnOk result (IsReady session.new) }
-    ensures takes { (origin : Origin) (world : World) (heard : List Reply) → Stands shards.old.items store.old origin world → Follows session.old heard →
-        TakesTurn origin world who (wants (plan_of session.old) heard) heard shards.new.items store.new session.new result }
+    ensures takes { (origin : Origin) (world : World) (heard : List Reply) →
+        Stands shards.old.items store.old origin world → Follows session.old heard →
+        TakesTurn origin world who (wants (plan_of session.old) heard) heard
+        shards.new.items store.new session.new result }
 {
     let request = session.wants();
     let asked = Asked::of(&request);

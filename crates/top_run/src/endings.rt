@@ -47,7 +47,8 @@ pub(crate) fn ended_run<K: Keeper>(
     ensures log { result.log.items ≡ core.store.ledger.log }
     ensures histories { map (λ history. history.items) result.histories.items ≡ histories_in core }
     ensures written { result.written ≡ tally.written }
-    ensures sound { (origin : Origin) (moves : List Move) → HasKept core origin moves → IsSound core origin moves }
+    ensures sound { (origin : Origin) (moves : List Move) →
+        HasKept core origin moves → IsSound core origin moves }
 {
     let status = end_status(ended, tally.faulted);
     let (keeper, opening, log, shards) = core.into_parts();
@@ -65,7 +66,8 @@ pub(crate) fn ended_run<K: Keeper>(
 fn histories_of(shards: Vec<Shard>, room: Vec<Vec<Step>>) -> Vec<Vec<Step>>
     requires none { room.items ≡ [] }
     requires room { vec_len shards ≤ vec_capacity room }
-    ensures { map (λ history. history.items) result.items ≡ map (λ shard. shard.history) shards.items }
+    ensures { map (λ history. history.items) result.items ≡
+        map (λ shard. shard.history) shards.items }
 {
     let mut shards = shards;
     let mut histories = room;

@@ -58,7 +58,8 @@ pub(crate) struct Tally {
 impl Tally {
     /// Notes whether one line more said FAULT.
     fn note(&mut self, fault: bool)
-        ensures { self.new ≡ record { written = self.old.written; faulted = self.old.faulted || fault } }
+        ensures { self.new ≡
+            record { written = self.old.written; faulted = self.old.faulted || fault } }
     {
         self.faulted = self.faulted || fault;
     }
@@ -72,8 +73,14 @@ pub(crate) fn play<W: Sink, K: Keeper>(
     tally: &mut Tally,
 ) -> Result<(), Stop>
     requires { CanPlay core.old acts.now (W.taken sink.old) tally.old }
-    ensures all { (origin : Origin) (calls : List Call) (taken : Option (List ℕ)) → Stands core.old origin calls taken (W.taken sink.old) tally.old → OnOk result (Stands core.new origin (calls ++ calls_of acts.now) taken (W.taken sink.new) tally.new) }
-    ensures some { (origin : Origin) (calls : List Call) (taken : Option (List ℕ)) → Stands core.old origin calls taken (W.taken sink.old) tally.old → OnErr result (Stops core.new origin (calls ++ calls_of acts.now) taken (W.taken sink.new) tally.new) }
+    ensures all { (origin : Origin) (calls : List Call) (taken : Option (List ℕ)) →
+        Stands core.old origin calls taken (W.taken sink.old) tally.old →
+        OnOk result (Stands core.new origin (calls ++ calls_of acts.now) taken
+        (W.taken sink.new) tally.new) }
+    ensures some { (origin : Origin) (calls : List Call) (taken : Option (List ℕ)) →
+        Stands core.old origin calls taken (W.taken sink.old) tally.old →
+        OnErr result (Stops core.new origin (calls ++ calls_of acts.now) taken
+        (W.taken sink.new) tally.new) }
     ensures counts { RoseWhere (at_write result) (W.faults sink.old) (W.faults sink.new) }
     ensures never_falls { W.faults sink.old ≤ W.faults sink.new }
 {
@@ -91,8 +98,14 @@ fn play_act<W: Sink, K: Keeper>(
     tally: &mut Tally,
 ) -> Result<(), Stop>
     requires { CanPlay core.old (act.now ∷ []) (W.taken sink.old) tally.old }
-    ensures all { (origin : Origin) (calls : List Call) (taken : Option (List ℕ)) → Stands core.old origin calls taken (W.taken sink.old) tally.old → OnOk result (Stands core.new origin (calls ++ calls_in act.now) taken (W.taken sink.new) tally.new) }
-    ensures some { (origin : Origin) (calls : List Call) (taken : Option (List ℕ)) → Stands core.old origin calls taken (W.taken sink.old) tally.old → OnErr result (Stops core.new origin (calls ++ calls_in act.now) taken (W.taken sink.new) tally.new) }
+    ensures all { (origin : Origin) (calls : List Call) (taken : Option (List ℕ)) →
+        Stands core.old origin calls taken (W.taken sink.old) tally.old →
+        OnOk result (Stands core.new origin (calls ++ calls_in act.now) taken
+        (W.taken sink.new) tally.new) }
+    ensures some { (origin : Origin) (calls : List Call) (taken : Option (List ℕ)) →
+        Stands core.old origin calls taken (W.taken sink.old) tally.old →
+        OnErr result (Stops core.new origin (calls ++ calls_in act.now) taken
+        (W.taken sink.new) tally.new) }
     ensures counts { RoseWhere (at_write result) (W.faults sink.old) (W.faults sink.new) }
     ensures never_falls { W.faults sink.old ≤ W.faults sink.new }
 {
@@ -135,8 +148,14 @@ fn take_turns<W: Sink, K: Keeper>(
     tally: &mut Tally,
 ) -> Result<(), Stop>
     requires { CanPlay core.old (act.Run turn count ∷ []) (W.taken sink.old) tally.old }
-    ensures all { (origin : Origin) (calls : List Call) (taken : Option (List ℕ)) → Stands core.old origin calls taken (W.taken sink.old) tally.old → OnOk result (Stands core.new origin (calls ++ replicate count (Turns turn)) taken (W.taken sink.new) tally.new) }
-    ensures some { (origin : Origin) (calls : List Call) (taken : Option (List ℕ)) → Stands core.old origin calls taken (W.taken sink.old) tally.old → OnErr result (Stops core.new origin (calls ++ replicate count (Turns turn)) taken (W.taken sink.new) tally.new) }
+    ensures all { (origin : Origin) (calls : List Call) (taken : Option (List ℕ)) →
+        Stands core.old origin calls taken (W.taken sink.old) tally.old →
+        OnOk result (Stands core.new origin (calls ++ replicate count (Turns turn)) taken
+        (W.taken sink.new) tally.new) }
+    ensures some { (origin : Origin) (calls : List Call) (taken : Option (List ℕ)) →
+        Stands core.old origin calls taken (W.taken sink.old) tally.old →
+        OnErr result (Stops core.new origin (calls ++ replicate count (Turns turn)) taken
+        (W.taken sink.new) tally.new) }
     ensures counts { RoseWhere (at_write result) (W.faults sink.old) (W.faults sink.new) }
     ensures never_falls { W.faults sink.old ≤ W.faults sink.new }
 {
@@ -155,8 +174,14 @@ fn take_turn<W: Sink, K: Keeper>(
 ) -> Result<(), Stop>
     requires running { IsRunning core.old }
     requires begun { HasBegun core.old turn }
-    ensures all { (origin : Origin) (calls : List Call) (taken : Option (List ℕ)) → Stands core.old origin calls taken (W.taken sink.old) tally.old → OnOk result (Stands core.new origin (calls ++ Turns turn ∷ []) taken (W.taken sink.new) tally.new) }
-    ensures some { (origin : Origin) (calls : List Call) (taken : Option (List ℕ)) → Stands core.old origin calls taken (W.taken sink.old) tally.old → OnErr result (Stops core.new origin (calls ++ Turns turn ∷ []) taken (W.taken sink.new) tally.new) }
+    ensures all { (origin : Origin) (calls : List Call) (taken : Option (List ℕ)) →
+        Stands core.old origin calls taken (W.taken sink.old) tally.old →
+        OnOk result (Stands core.new origin (calls ++ Turns turn ∷ []) taken
+        (W.taken sink.new) tally.new) }
+    ensures some { (origin : Origin) (calls : List Call) (taken : Option (List ℕ)) →
+        Stands core.old origin calls taken (W.taken sink.old) tally.old →
+        OnErr result (Stops core.new origin (calls ++ Turns turn ∷ []) taken
+        (W.taken sink.new) tally.new) }
     ensures counts { RoseWhere (at_write result) (W.faults sink.old) (W.faults sink.new) }
     ensures never_falls { W.faults sink.old ≤ W.faults sink.new }
 {

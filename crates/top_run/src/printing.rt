@@ -15,8 +15,13 @@ use std::alloc::Global;
 
 /// Writes all bytes and counts those that were taken. The count stands still at its type's end.
 pub(crate) fn print<W: Sink>(sink: &mut W, written: &mut u64, bytes: &[u8]) -> Result<(), Short>
-    ensures all { (taken : Option (List ℕ)) (printed : List ℕ) → Prints taken (W.taken sink.old) printed written.old → OnOk result (Prints taken (W.taken sink.new) (printed ++ bytes.now) written.new) }
-    ensures some { (taken : Option (List ℕ)) (printed : List ℕ) → Prints taken (W.taken sink.old) printed written.old → OnErr result ((front : List ℕ) × (rest : List ℕ) × (front ++ rest ≡ bytes.now) × Prints taken (W.taken sink.new) (printed ++ front) written.new) }
+    ensures all { (taken : Option (List ℕ)) (printed : List ℕ) →
+        Prints taken (W.taken sink.old) printed written.old →
+        OnOk result (Prints taken (W.taken sink.new) (printed ++ bytes.now) written.new) }
+    ensures some { (taken : Option (List ℕ)) (printed : List ℕ) →
+        Prints taken (W.taken sink.old) printed written.old →
+        OnErr result ((front : List ℕ) × (rest : List ℕ) × (front ++ rest ≡ bytes.now) ×
+        Prints taken (W.taken sink.new) (printed ++ front) written.new) }
     ensures failed_rose { OnErr result (Rose (W.faults sink.old) (W.faults sink.new)) }
     ensures no_fault { OnOk result (W.faults sink.new ≡ W.faults sink.old) }
     ensures never_falls { W.faults sink.old ≤ W.faults sink.new }
@@ -37,7 +42,8 @@ pub(crate) fn print<W: Sink>(sink: &mut W, written: &mut u64, bytes: &[u8]) -> R
 /// gets the histories have.
 pub(crate) fn last_line<K: Keeper>(alloc: Global, core: &Core<K>) -> Result<Vec<u8>, Memory>
     requires { shards_in core.now ≤ 64 }
-    ensures { IfOk result (λ text. text.items ≡ end_line core.now.store.ledger.log (histories_in core.now)) }
+    ensures { IfOk result (λ text.
+        text.items ≡ end_line core.now.store.ledger.log (histories_in core.now)) }
 {
     let counts = counts_in(core);
     let mut text = Vec::from_slice(alloc, b"end commits ")?;

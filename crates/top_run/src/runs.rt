@@ -73,23 +73,25 @@ pub fn run<S: Source, W: Sink, K: Keeper>(
     sink: &mut W,
     keeper: K,
 ) -> RunEnd<K>
-    ensures usage {
-        (result.status ≡ Status.Usage) ↔ (AreReplay (map (λ word. word.items) words.now) → ⊥) }
-    ensures ended {
-        let before = moment (S.left source.old) (S.faults source.old)
-            (W.taken sink.old) (W.faults sink.old) (K.rows keeper) (K.faults keeper) in
+    ensures usage { (result.status ≡ Status.Usage) ↔
+        (AreReplay (map (λ word. word.items) words.now) → ⊥) }
+    ensures ended { let before = moment (S.left source.old) (S.faults source.old)
+        (W.taken sink.old) (W.faults sink.old) (K.rows keeper) (K.faults keeper) in
         let after = moment (S.left source.new) (S.faults source.new)
-            (W.taken sink.new) (W.faults sink.new) (K.rows result.keeper) (K.faults result.keeper) in
-        let left : Left = record { opening = result.opening; log = result.log.items;
-            histories = map (λ history. history.items) result.histories.items } in
+        (W.taken sink.new) (W.faults sink.new)
+        (K.rows result.keeper) (K.faults result.keeper) in
+        let left : Left = record {
+          opening = result.opening;
+          log = result.log.items;
+          histories = map (λ history. history.items) result.histories.items;
+        } in
         Ended result.status (K.holds keeper Place.Fresh) before after left result.written }
     ensures started { IsSome result.opening → K.is_started result.keeper }
-    ensures unstarted {
-        result.opening ≡ None → K.is_started result.keeper → K.is_started keeper }
-    ensures reads {
-        RoseWhere (is_read_fault result.status) (S.faults source.old) (S.faults source.new) }
-    ensures writes {
-        RoseWhere (is_write_fault result.status) (W.faults sink.old) (W.faults sink.new) }
+    ensures unstarted { result.opening ≡ None → K.is_started result.keeper → K.is_started keeper }
+    ensures reads { RoseWhere (is_read_fault result.status)
+        (S.faults source.old) (S.faults source.new) }
+    ensures writes { RoseWhere (is_write_fault result.status)
+        (W.faults sink.old) (W.faults sink.new) }
     ensures done { result.status ≡ Status.Done → K.faults result.keeper ≡ K.faults keeper }
     ensures faultless { K.faults result.keeper ≡ K.faults keeper → K.faults keeper < 2 ^ 64 - 1 →
         result.status ≢ Status.KeepFault }
@@ -147,23 +149,25 @@ fn read_script<S: Source>(alloc: Global, source: &mut S) -> Result<Script, Statu
 /// that nothing that the run did is lost for want of memory.
 fn replay<W: Sink, K: Keeper>(alloc: Global, script: &Script, sink: &mut W, keeper: K) -> RunEnd<K>
     requires { IsPlayable script.now.shape script.now.acts }
-    ensures ended {
-        (left_old left_new : Option (List ℕ)) (reads : ℕ) →
+    ensures ended { (left_old left_new : Option (List ℕ)) (reads : ℕ) →
         IsRead left_old left_new script.now.shape script.now.acts →
         let before = moment left_old reads
-            (W.taken sink.old) (W.faults sink.old) (K.rows keeper) (K.faults keeper) in
+        (W.taken sink.old) (W.faults sink.old) (K.rows keeper) (K.faults keeper) in
         let after = moment left_new reads
-            (W.taken sink.new) (W.faults sink.new) (K.rows result.keeper) (K.faults result.keeper) in
-        let left : Left = record { opening = result.opening; log = result.log.items;
-            histories = map (λ history. history.items) result.histories.items } in
+        (W.taken sink.new) (W.faults sink.new)
+        (K.rows result.keeper) (K.faults result.keeper) in
+        let left : Left = record {
+          opening = result.opening;
+          log = result.log.items;
+          histories = map (λ history. history.items) result.histories.items;
+        } in
         Ended result.status (K.holds keeper Place.Fresh) before after left result.written }
     ensures other { result.status ≢ Status.Usage }
     ensures no_read_fault { IsFalse (is_read_fault result.status) }
     ensures started { IsSome result.opening → K.is_started result.keeper }
-    ensures unstarted {
-        result.opening ≡ None → K.is_started result.keeper → K.is_started keeper }
-    ensures writes {
-        RoseWhere (is_write_fault result.status) (W.faults sink.old) (W.faults sink.new) }
+    ensures unstarted { result.opening ≡ None → K.is_started result.keeper → K.is_started keeper }
+    ensures writes { RoseWhere (is_write_fault result.status)
+        (W.faults sink.old) (W.faults sink.new) }
     ensures sink_never_falls { W.faults sink.old ≤ W.faults sink.new }
     ensures keeper_never_falls { K.faults keeper ≤ K.faults result.keeper }
 {
@@ -188,23 +192,27 @@ fn play_on<W: Sink, K: Keeper>(
     requires new { IsNew core script.now.shape }
     requires none { histories.items ≡ [] }
     requires room { script.now.shape.shards ≤ vec_capacity histories }
-    ensures ended {
-        (left_old left_new : Option (List ℕ)) (reads : ℕ) (rows : Option Tables) (held : Held) →
+    ensures ended { (left_old left_new : Option (List ℕ)) (reads : ℕ) (rows : Option Tables)
+        (held : Held) →
         IsRead left_old left_new script.now.shape script.now.acts →
         IsOpened held script.now.shape core.store.ledger.opening core.store.told →
         let before = moment left_old reads
-            (W.taken sink.old) (W.faults sink.old) rows core.store.faults in
+        (W.taken sink.old) (W.faults sink.old) rows core.store.faults in
         let after = moment left_new reads
-            (W.taken sink.new) (W.faults sink.new) (K.rows result.keeper) (K.faults result.keeper) in
-        let left : Left = record { opening = result.opening; log = result.log.items;
-            histories = map (λ history. history.items) result.histories.items } in
+        (W.taken sink.new) (W.faults sink.new)
+        (K.rows result.keeper) (K.faults result.keeper) in
+        let left : Left = record {
+          opening = result.opening;
+          log = result.log.items;
+          histories = map (λ history. history.items) result.histories.items;
+        } in
         Ended result.status held before after left result.written }
     ensures other { result.status ≢ Status.Usage }
     ensures no_read_fault { IsFalse (is_read_fault result.status) }
     ensures started { K.is_started result.keeper }
     ensures began { IsSome result.opening }
-    ensures writes {
-        RoseWhere (is_write_fault result.status) (W.faults sink.old) (W.faults sink.new) }
+    ensures writes { RoseWhere (is_write_fault result.status)
+        (W.faults sink.old) (W.faults sink.new) }
     ensures sink_never_falls { W.faults sink.old ≤ W.faults sink.new }
     ensures keeper_never_falls { core.store.faults ≤ K.faults result.keeper }
 {
@@ -228,8 +236,12 @@ fn play_whole<W: Sink, K: Keeper>(
     requires playable { IsPlayable script.now.shape script.now.acts }
     requires new { IsNew core.old script.now.shape }
     requires nothing { tally.old ≡ record { written = 0; faulted = false } }
-    ensures all { OnOk result (IsFinished core.new (origin_of script.now.shape core.old) script.now.acts (W.taken sink.old) (W.taken sink.new) tally.new) }
-    ensures some { OnErr result (IsStopped core.new (origin_of script.now.shape core.old) script.now.acts (W.taken sink.old) (W.taken sink.new) tally.new) }
+    ensures all { OnOk result (IsFinished core.new
+        (origin_of script.now.shape core.old) script.now.acts
+        (W.taken sink.old) (W.taken sink.new) tally.new) }
+    ensures some { OnErr result (IsStopped core.new
+        (origin_of script.now.shape core.old) script.now.acts
+        (W.taken sink.old) (W.taken sink.new) tally.new) }
     ensures counts { RoseWhere (at_write result) (W.faults sink.old) (W.faults sink.new) }
     ensures never_falls { W.faults sink.old ≤ W.faults sink.new }
 {

@@ -450,12 +450,18 @@ fn whichever_write_fails_the_lines_before_it_are_printed(rt: HostRuntime) -> Res
     for at in 4..=10 {
         let ran = nine_turns(rt.alloc(), &[at], &[])?;
         assert_eq!(rt; ran.status, Status::WriteFault, "at write {at}");
-        assert!(rt; NINE_LINES.starts_with(ran.printed.as_slice()), "at write {at}");
+        assert!(rt;
+            NINE_LINES.starts_with(ran.printed.as_slice()),
+            "at write {at}"
+        );
         // The fifth turn commits, and its line is the fifth write.
         assert_eq!(rt; ran.commits, if at < 5 { 0 } else { 1 }, "at write {at}");
     }
     let ran = nine_turns(rt.alloc(), &[11], &[])?;
-    assert_eq!(rt; (ran.status, ran.printed.as_slice()), (Status::Done, NINE_LINES));
+    assert_eq!(rt;
+        (ran.status, ran.printed.as_slice()),
+        (Status::Done, NINE_LINES)
+    );
     Ok(())
 }
 
@@ -467,10 +473,17 @@ fn whichever_call_the_keeper_fails_is_printed_and_the_run_goes_on(
         let ran = nine_turns(rt.alloc(), &[], &[at])?;
         assert_eq!(rt; ran.status, Status::KeepFault, "at call {at}");
         assert_eq!(rt; ran.printed.as_slice(), out, "at call {at}");
-        assert_eq!(rt; (ran.commits, ran.started), (commits, at > 1), "at call {at}");
+        assert_eq!(rt;
+            (ran.commits, ran.started),
+            (commits, at > 1),
+            "at call {at}"
+        );
     }
     let ran = nine_turns(rt.alloc(), &[], &[5])?;
-    assert_eq!(rt; (ran.status, ran.printed.as_slice()), (Status::Done, NINE_LINES));
+    assert_eq!(rt;
+        (ran.status, ran.printed.as_slice()),
+        (Status::Done, NINE_LINES)
+    );
     Ok(())
 }
 
