@@ -271,10 +271,38 @@ fn reads_and_writes_to_their_ends(rt: HostRuntime) -> Result<(), Fail> {
     let txn = Txn::of(alloc, &[Change::Invite { a: 1, b: 2 }])?;
     let mode = Mode::Invalidate;
     let committed = Outcome::Committed { number: 1 };
-    check(&rt, alloc, &mut desk, Plan::Read { key, floor: 0 }, 1, Outcome::Stored)?;
-    check(&rt, alloc, &mut desk, Plan::Read { key, floor: 0 }, 2, Outcome::Hit)?;
-    check(&rt, alloc, &mut desk, Plan::Write { mode, txn }, 3, committed)?;
-    check(&rt, alloc, &mut desk, Plan::Read { key, floor: 0 }, 4, Outcome::Stored)?;
+    check(
+        &rt,
+        alloc,
+        &mut desk,
+        Plan::Read { key, floor: 0 },
+        1,
+        Outcome::Stored,
+    )?;
+    check(
+        &rt,
+        alloc,
+        &mut desk,
+        Plan::Read { key, floor: 0 },
+        2,
+        Outcome::Hit,
+    )?;
+    check(
+        &rt,
+        alloc,
+        &mut desk,
+        Plan::Write { mode, txn },
+        3,
+        committed,
+    )?;
+    check(
+        &rt,
+        alloc,
+        &mut desk,
+        Plan::Read { key, floor: 0 },
+        4,
+        Outcome::Stored,
+    )?;
     match desk.call(Sid { number: 5 }, Wanted::Get { key, floor: 1 }) {
         Reply::Got {
             got: Got::Hit { value, stamp: 1 },

@@ -20,5 +20,5 @@ returns-in-Dar-clause-belongs c =
 
 pub returns-in-Abort-clause-belongs : goal.returns-in-Abort-clause-belongs
 returns-in-Abort-clause-belongs c =
-    let P : Wanted → Type 0 = λ w. Belongs c.args.sid w c.release.result in
-    subst P (sym c.in-Abort.is) (c.release.ensures.keep c.args.sid)
+    let P : Wanted → Type 0 = λ w. Belongs c.args.sid w c.release-in-Abort.result in
+    subst P (sym c.in-Abort.is) (c.release-in-Abort.ensures.keep c.args.sid)
