@@ -1,26 +1,20 @@
 -- What a shard's answer tells is what its step shows.
-use Rattle.std.proofs.Common.{ℕ, ◌≡◌, pos, List, ◌∷◌, Option, Some, None, refl, sym, ap, subst, set, ◌∙◌}
+use Rattle.std.proofs.Common.{ℕ, ◌≡◌, pos, List, ◌∷◌, ap, subst, set, ◌∙◌}
 use Rattle.std.proofs.lemmas.List.{reverse-reverse}
 use Rattle.rows_model.specs.declared.keys.QKey.{QKey}
 use Rattle.rows_model.specs.declared.keys.Sid.{Sid}
 use Rattle.rows_model.specs.Placement.{shard_of}
-use Rattle.case_tables.specs.declared.grids.Verdict.{Verdict}
-use Rattle.case_tables.specs.declared.grids.Verdict.TheVariants as verdicts
-use Rattle.case_tables.specs.Compatibility.{verdict, quarantine}
 use Rattle.lease_table.specs.declared.records.Mode.TheVariants.{Invalidate}
-use Rattle.lease_table.specs.declared.records.Quar.{Quar}
-use Rattle.lease_table.specs.Leases.{way_of}
 use Rattle.key_shard.specs.Permit.{Permit}
 use Rattle.key_shard.specs.declared.steps.Step.{Step}
 use Rattle.key_shard.specs.declared.steps.Step.TheVariants as step
 use Rattle.key_shard.specs.declared.replies.Got.{Got}
 use Rattle.key_shard.specs.declared.replies.SetAnswer.{SetAnswer}
 use Rattle.key_shard.specs.declared.replies.QAnswer.{QAnswer}
-use Rattle.key_shard.specs.declared.replies.QAnswer.TheVariants as told
 use Rattle.key_shard.specs.declared.replies.Rel.{Rel}
 use Rattle.key_shard.specs.declared.replies.How.TheVariants.{Keep, Drop}
-use Rattle.key_shard.specs.Past.{Terms, seen_by, holder_of}
-use Rattle.key_shard.specs.Answers.{get_step, set_step, quarantine_step, quarantine_by, refused_step, release_step}
+use Rattle.key_shard.specs.Past.{Terms}
+use Rattle.key_shard.specs.Answers.{get_step, set_step, quarantine_step, release_step}
 use Rattle.key_shard.specs.Replies.{ShowsGot, ShowsSet, ShowsQuarantine, ShowsRelease}
 use Rattle.key_shard.specs.Shards.{ShardView, past_of, stepped, returned}
 use Rattle.session_client.specs.declared.plans.Shape.{Shape}
@@ -28,7 +22,6 @@ use Rattle.session_client.specs.declared.replies.Reply.{Reply}
 use Rattle.session_client.specs.declared.replies.Reply.TheVariants as reply
 use Rattle.session_client.specs.declared.replies.Wanted.{Wanted}
 use Rattle.session_client.specs.declared.replies.Wanted.TheVariants as wanted
-use Rattle.session_client.specs.Belongs.{IsQuarantineOf}
 use Rattle.core_history.specs.Cores.{HasShards}
 use Rattle.core_history.specs.Events.{Event, steps_of, reply_in}
 use Rattle.core_history.specs.Machine.{World, Failed, event_of, stepped_on, terms_of, shown}
@@ -150,26 +143,3 @@ abort_made shape world who grant shards place shard new answer has is grew shows
       tells_release (terms_of shape home) (steps_of home world.past) _ answer (subst P (step_is shape world.past grant.key place shard f is) shows),
       shards_made shape world.past who (wanted.Abort grant) grant.key f shards place shard new has is grew,
     )
-
--- a quarantine to invalidate brings a grant of the key to the session, and no old value
-pub quarantine_belongs : (terms : Terms) (past : List Step) (key : QKey) (who : Sid) (answer : QAnswer) → ShowsQuarantine terms past (quarantine_step terms past key who Invalidate (pos 0) 0) answer → IsQuarantineOf who key answer
-quarantine_belongs terms past key who answer = by (verdict (seen_by key who 0 past) (quarantine (way_of Invalidate)))
-  where
-    P : QAnswer → Type 0
-    P a = IsQuarantineOf who key a
-
-    granted : (token : ℕ) (old : Option (List ℕ × ℕ)) → old ≡ None → answer ≡ told.Granted (record { shard = terms.no; key = key; sid = who; mode = Invalidate; token = token }) old → IsQuarantineOf who key answer
-    granted token old none is = subst P (sym is) (record { of_key = refl; of_session = refl; in_mode = refl }, none)
-
-    refused : (o : Option Quar) → ShowsQuarantine terms past (refused_step key who Invalidate o) answer → IsQuarantineOf who key answer
-    refused (Some holder) h = subst P (sym h) tt
-    refused None h = subst P (sym h) tt
-
-    by : (v : Verdict) → ShowsQuarantine terms past (quarantine_by terms past key who Invalidate (pos 0) 0 v) answer → IsQuarantineOf who key answer
-    by verdicts.Same h = subst P (sym h) tt
-    by verdicts.Refuse h = refused (holder_of key who past) h
-    by verdicts.Wait h = subst P (sym h) tt
-    by verdicts.Give h = granted _ _ refl h
-    by verdicts.Void h = granted _ _ refl h
-    by verdicts.Join h = granted _ _ refl h
-    by verdicts.Own h = subst P (sym h) tt

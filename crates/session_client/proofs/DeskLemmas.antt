@@ -1,14 +1,12 @@
 -- What a desk over a store and shards begins and answers.
-use Rattle.std.proofs.Common.{◌≡◌, ◌≢◌, ◌-◌, ◌<◌, ℕ, zero, suc, Bool, true, false, if◌then◌else◌, List, [], ◌∷◌, length, All, Some, refl, ap, subst, ◌∙◌, length-append, arith}
+use Rattle.std.proofs.Common.{◌≡◌, ◌≢◌, ◌-◌, ◌<◌, ℕ, zero, suc, pos, Bool, true, false, if◌then◌else◌, List, [], ◌∷◌, length, All, Some, None, refl, ap, sym, subst, ◌∙◌, length-append, arith}
 use Rattle.std.proofs.lemmas.List.{length-set}
-use Rattle.std.specs.Prelude.{Option, unwrap_or}
+use Rattle.std.specs.Prelude.{Option, unwrap_or, Result, Ok, Err, OnOk, IfOk}
 use Rattle.rows_model.specs.declared.keys.Sid.{Sid}
 use Rattle.sql_keeper.specs.declared.stores.Phase.{Phase}
 use Rattle.sql_keeper.specs.Sessions.{begun, first_phase, is_open, with_phase, ended}
 use Rattle.rows_model.specs.declared.refusals.Memory.{Memory}
-use Rattle.std.specs.Prelude.{Result, Ok, Err, OnOk, IfOk}
 use Rattle.sql_keeper.specs.Stores.{Ledger, with_call, with_session}
-use Rattle.std.proofs.Common.{pos, None, sym}
 use Rattle.rows_model.specs.declared.keys.QKey.{QKey}
 use Rattle.case_tables.specs.declared.grids.Verdict.{Verdict}
 use Rattle.case_tables.specs.declared.grids.Verdict.TheVariants as verdicts

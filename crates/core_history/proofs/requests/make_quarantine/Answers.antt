@@ -2,7 +2,8 @@ use Rattle.std.proofs.Common.{ℕ, length, slice_get, sym, ap, refl, ◌∙◌}
 use Rattle.std.proofs.lemmas.Option.{slice_get_read}
 use Rattle.key_shard.specs.Shards.{past_of}
 use Rattle.core_history.proofs.ShardsLemmas.{shard_found}
-use Rattle.core_history.proofs.RequestLemmas.{quarantine_made, quarantine_belongs}
+use Rattle.session_client.proofs.DeskLemmas.{quarantine_belongs}
+use Rattle.core_history.proofs.RequestLemmas.{quarantine_made}
 use Rattle.core_history.proofs.requests.make_quarantine.Goals as goal
 
 pub quarantine_on-requires-clause-home : goal.quarantine_on-requires-clause-home
