@@ -1,4 +1,4 @@
-use Rattle.std.proofs.Common.{sym, refl, ap, subst, ◌≡◌, ◌∙◌, Bool}
+use Rattle.std.proofs.Common.{sym, refl, ap, subst, ◌∙◌, Bool}
 use Rattle.core_history.specs.Cores.{origin_of}
 use Rattle.top_run.specs.Runs.{RoseWhere, is_read_fault, is_write_fault}
 use Rattle.top_run.proofs.RunLemmas.{ended_is, room_at_end, other_end, no_read_end, write_end, faults_at_end}

@@ -1,4 +1,3 @@
-use Rattle.std.proofs.Common.{refl}
 use Rattle.top_run.proofs.RunLemmas.{shape_of, new_core}
 use Rattle.top_run.proofs.runs.replay.Goals as goal
 
