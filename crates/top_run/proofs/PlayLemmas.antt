@@ -183,13 +183,12 @@ pub stands_begun : (core new : CoreView) (origin : Origin) (calls : List Call) (
 stands_begun core new origin calls plan taken_old taken_new tally h at =
     record { moves = Begin plan ∷ h.moves; at = at; made = made_more (Begin plan) h.moves calls h.made; prints = h.prints; noted = h.noted }
 
--- an act begins a session: its plan is copied, and the copy is begun
-pub act_begun : (core new : CoreView) (origin : Origin) (calls : List Call) (a : Act) (plan copy : Plan) (taken_old taken_new : Option (List ℕ)) (tally : Tally)
-    → a ≡ act.Add plan → copy ≡ plan → ((moves : List Move) → IsAt core origin moves → IsAt new origin (Begin copy ∷ moves)) → Stands core origin calls taken_old taken_new tally → Stands new origin (calls ++ calls_in a) taken_old taken_new tally
-act_begun core new origin calls a plan copy taken_old taken_new tally is copied begins h =
+-- an act begins a session
+pub act_begun : (core new : CoreView) (origin : Origin) (calls : List Call) (a : Act) (plan : Plan) (taken_old taken_new : Option (List ℕ)) (tally : Tally)
+    → a ≡ act.Add plan → ((moves : List Move) → IsAt core origin moves → IsAt new origin (Begin plan ∷ moves)) → Stands core origin calls taken_old taken_new tally → Stands new origin (calls ++ calls_in a) taken_old taken_new tally
+act_begun core new origin calls a plan taken_old taken_new tally is begins h =
     let P : Act → Type 0 = λ b. Stands new origin (calls ++ calls_in b) taken_old taken_new tally in
-    let Q : Plan → Type 0 = λ p. Stands new origin (calls ++ Adds p ∷ []) taken_old taken_new tally in
-    subst P (sym is) (subst Q copied (stands_begun core new origin calls copy taken_old taken_new tally h (begins h.moves h.at)))
+    subst P (sym is) (stands_begun core new origin calls plan taken_old taken_new tally h (begins h.moves h.at))
 
 -- what stops where it stands
 pub stops_here : (core : CoreView) (origin : Origin) (calls others : List Call) (taken_old taken_new : Option (List ℕ)) (tally : Tally)

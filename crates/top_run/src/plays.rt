@@ -1,5 +1,5 @@
 // A script's acts, one after the other, and the line of each turn as it comes.
-ghost use Rattle.std.specs.Prelude.{◌≡◌, ◌≤◌, ◌<◌, ◌^◌, ◌+◌, ◌∷◌, ◌++◌, ◌||◌, [], ℕ, List, Option, OnOk, OnErr, IfOk, replicate, length};
+ghost use Rattle.std.specs.Prelude.{◌≡◌, ◌≤◌, ◌<◌, ◌^◌, ◌+◌, ◌∷◌, ◌++◌, ◌||◌, [], ℕ, List, Option, OnOk, OnErr, replicate, length};
 ghost use Rattle.session_client.specs.Plans.{IsPlan};
 ghost use Rattle.run_inputs.specs.declared.scripts.Act.TheVariants as act;
 ghost use Rattle.core_history.specs.Cores.{Origin, IsRunning, HasBegun};
@@ -12,7 +12,7 @@ use core_history::Core;
 use iq_outside::{Short, Sink};
 use rows_model::Memory;
 use run_inputs::Act;
-use session_client::{Plan, Turn};
+use session_client::Turn;
 use sql_keeper::Keeper;
 
 /// Why a run stopped before its end.
@@ -68,18 +68,18 @@ impl Tally {
 /// Plays the acts in order.
 pub(crate) fn play<W: Sink, K: Keeper>(
     core: &mut Core<K>,
-    acts: &[Act],
+    acts: Vec<Act>,
     sink: &mut W,
     tally: &mut Tally,
 ) -> Result<(), Stop>
-    requires { CanPlay core.old acts.now (W.taken sink.old) tally.old }
+    requires { CanPlay core.old acts.items (W.taken sink.old) tally.old }
     ensures all { (origin : Origin) (calls : List Call) (taken : Option (List ℕ)) →
         Stands core.old origin calls taken (W.taken sink.old) tally.old →
-        OnOk result (Stands core.new origin (calls ++ calls_of acts.now) taken
+        OnOk result (Stands core.new origin (calls ++ calls_of acts.items) taken
         (W.taken sink.new) tally.new) }
     ensures some { (origin : Origin) (calls : List Call) (taken : Option (List ℕ)) →
         Stands core.old origin calls taken (W.taken sink.old) tally.old →
-        OnErr result (Stops core.new origin (calls ++ calls_of acts.now) taken
+        OnErr result (Stops core.new origin (calls ++ calls_of acts.items) taken
         (W.taken sink.new) tally.new) }
     ensures counts { RoseWhere (at_write result) (W.faults sink.old) (W.faults sink.new) }
     ensures never_falls { W.faults sink.old ≤ W.faults sink.new }
@@ -93,50 +93,29 @@ pub(crate) fn play<W: Sink, K: Keeper>(
 /// Begins a session, or takes turns.
 fn play_act<W: Sink, K: Keeper>(
     core: &mut Core<K>,
-    act: &Act,
+    act: Act,
     sink: &mut W,
     tally: &mut Tally,
 ) -> Result<(), Stop>
-    requires { CanPlay core.old (act.now ∷ []) (W.taken sink.old) tally.old }
+    requires { CanPlay core.old (act ∷ []) (W.taken sink.old) tally.old }
     ensures all { (origin : Origin) (calls : List Call) (taken : Option (List ℕ)) →
         Stands core.old origin calls taken (W.taken sink.old) tally.old →
-        OnOk result (Stands core.new origin (calls ++ calls_in act.now) taken
+        OnOk result (Stands core.new origin (calls ++ calls_in act) taken
         (W.taken sink.new) tally.new) }
     ensures some { (origin : Origin) (calls : List Call) (taken : Option (List ℕ)) →
         Stands core.old origin calls taken (W.taken sink.old) tally.old →
-        OnErr result (Stops core.new origin (calls ++ calls_in act.now) taken
+        OnErr result (Stops core.new origin (calls ++ calls_in act) taken
         (W.taken sink.new) tally.new) }
     ensures counts { RoseWhere (at_write result) (W.faults sink.old) (W.faults sink.new) }
     ensures never_falls { W.faults sink.old ≤ W.faults sink.new }
 {
     match act {
         Act::Add { plan } => {
-            let plan = copy_of(plan)?;
             core.add(plan)?;
             Ok(())
         }
-        Act::Run { turn, count } => take_turns(core, *turn, *count, sink, tally),
+        Act::Run { turn, count } => take_turns(core, turn, count, sink, tally),
     }
-}
-
-/// The same plan once more.
-fn copy_of(plan: &Plan) -> Result<Plan, Memory>
-    ensures { IfOk result (λ copy. copy ≡ plan.now) }
-{
-    Ok(match plan {
-        Plan::Read { key, floor } => Plan::Read {
-            key: *key,
-            floor: *floor,
-        },
-        Plan::Write { mode, txn } => Plan::Write {
-            mode: *mode,
-            txn: txn.copy()?,
-        },
-        Plan::Skip { key, txn } => Plan::Skip {
-            key: *key,
-            txn: txn.copy()?,
-        },
-    })
 }
 
 /// Takes so many turns.

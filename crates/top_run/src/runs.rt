@@ -103,7 +103,7 @@ pub fn run<S: Source, W: Sink, K: Keeper>(
         return not_started(alloc, Status::Usage, keeper);
     }
     match read_script(alloc, source) {
-        Ok(script) => replay(alloc, &script, sink, keeper),
+        Ok(script) => replay(alloc, script, sink, keeper),
         Err(status) => not_started(alloc, status, keeper),
     }
 }
@@ -147,10 +147,10 @@ fn read_script<S: Source>(alloc: Global, source: &mut S) -> Result<Script, Statu
 
 /// Runs a script and prints its lines. Room for the histories is there before the keeper starts, so
 /// that nothing that the run did is lost for want of memory.
-fn replay<W: Sink, K: Keeper>(alloc: Global, script: &Script, sink: &mut W, keeper: K) -> RunEnd<K>
-    requires { IsPlayable script.now.shape script.now.acts }
+fn replay<W: Sink, K: Keeper>(alloc: Global, script: Script, sink: &mut W, keeper: K) -> RunEnd<K>
+    requires { IsPlayable script.shape script.acts }
     ensures ended { (left_old left_new : Option (List ℕ)) (reads : ℕ) →
-        IsRead left_old left_new script.now.shape script.now.acts →
+        IsRead left_old left_new script.shape script.acts →
         let before = moment left_old reads
         (W.taken sink.old) (W.faults sink.old) (K.rows keeper) (K.faults keeper) in
         let after = moment left_new reads
@@ -184,18 +184,18 @@ fn replay<W: Sink, K: Keeper>(alloc: Global, script: &Script, sink: &mut W, keep
 fn play_on<W: Sink, K: Keeper>(
     alloc: Global,
     core: Core<K>,
-    script: &Script,
+    script: Script,
     sink: &mut W,
     histories: Vec<Vec<Step>>,
 ) -> RunEnd<K>
-    requires playable { IsPlayable script.now.shape script.now.acts }
-    requires new { IsNew core script.now.shape }
+    requires playable { IsPlayable script.shape script.acts }
+    requires new { IsNew core script.shape }
     requires none { histories.items ≡ [] }
-    requires room { script.now.shape.shards ≤ vec_capacity histories }
+    requires room { script.shape.shards ≤ vec_capacity histories }
     ensures ended { (left_old left_new : Option (List ℕ)) (reads : ℕ) (rows : Option Tables)
         (held : Held) →
-        IsRead left_old left_new script.now.shape script.now.acts →
-        IsOpened held script.now.shape core.store.ledger.opening core.store.told →
+        IsRead left_old left_new script.shape script.acts →
+        IsOpened held script.shape core.store.ledger.opening core.store.told →
         let before = moment left_old reads
         (W.taken sink.old) (W.faults sink.old) rows core.store.faults in
         let after = moment left_new reads
@@ -229,23 +229,23 @@ fn play_on<W: Sink, K: Keeper>(
 fn play_whole<W: Sink, K: Keeper>(
     alloc: Global,
     core: &mut Core<K>,
-    script: &Script,
+    script: Script,
     sink: &mut W,
     tally: &mut Tally,
 ) -> Result<(), Stop>
-    requires playable { IsPlayable script.now.shape script.now.acts }
-    requires new { IsNew core.old script.now.shape }
+    requires playable { IsPlayable script.shape script.acts }
+    requires new { IsNew core.old script.shape }
     requires nothing { tally.old ≡ record { written = 0; faulted = false } }
     ensures all { OnOk result (IsFinished core.new
-        (origin_of script.now.shape core.old) script.now.acts
+        (origin_of script.shape core.old) script.acts
         (W.taken sink.old) (W.taken sink.new) tally.new) }
     ensures some { OnErr result (IsStopped core.new
-        (origin_of script.now.shape core.old) script.now.acts
+        (origin_of script.shape core.old) script.acts
         (W.taken sink.old) (W.taken sink.new) tally.new) }
     ensures counts { RoseWhere (at_write result) (W.faults sink.old) (W.faults sink.new) }
     ensures never_falls { W.faults sink.old ≤ W.faults sink.new }
 {
-    play(core, script.acts(), sink, tally)?;
+    play(core, script.into_acts(), sink, tally)?;
     let line = last_line(alloc, core)?;
     print(sink, &mut tally.written, line.as_slice())?;
     Ok(())
