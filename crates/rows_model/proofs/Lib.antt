@@ -4,6 +4,7 @@ pub mod FootLemmas
 pub mod KeyLemmas
 pub mod ListTextLemmas
 pub mod QueryLemmas
+pub mod RefreshLemmas
 pub mod NameLemmas
 pub mod NumberLemmas
 pub mod RowsLemmas
