@@ -23,6 +23,8 @@ pub mod names;
 mod numbers;
 pub mod placement;
 pub mod queries;
+#[cfg(test)]
+mod refresh_tests;
 pub mod refreshing;
 pub mod refusals;
 pub mod rows;
