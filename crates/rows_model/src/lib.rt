@@ -9,7 +9,7 @@ pub use keys::{Kind, QKey, Sid, texts_tell_keys};
 pub use names::Name;
 pub use placement::shard_number;
 pub use queries::{answers_ascend, ask};
-pub use refreshing::refresh;
+pub use refreshing::{refresh, refresh_is_answer};
 pub use refusals::{ApplyFault, Memory, TxnFault};
 pub use rows::{Link, LinkState, Member, Rows};
 pub use shifts::{numbers_are_decimal, shift};

@@ -309,3 +309,9 @@ fn small_number(text: &[u8]) -> Option<u32>
 {
     u32::try_from(number_of(text)?).ok()
 }
+
+/// The answer to a key before a transaction, refreshed by it, is the answer after it, on all rows
+/// on which it applies.
+pub fn refresh_is_answer()
+    ensures { RefreshIsAnswer }
+{}
