@@ -14,26 +14,12 @@ use Rattle.std.proofs.lemmas.Map.Views.{any-filter_same}
 use Rattle.rows_model.specs.declared.refreshing.IdStep.{IdStep}
 use Rattle.rows_model.specs.declared.refreshing.IdStep.TheVariants.{Stay, Put, Take}
 use Rattle.rows_model.specs.Refresh.{has_id, with_id, without_id, listed, counted}
+use Rattle.rows_model.proofs.FootprintLemmas.{any-insert}
 use Rattle.rows_model.proofs.FitLemmas.{pairs_head, pairs_tail, pairs_insert, none_passes}
 
 -- the ids ascend
 abbrev pub Ascend : List ℕ → Type 0
 Ascend ids = AllPairs (λ x y. x < y) ids
-
--- one more element, wherever it stands
-or_last : (t s d : Bool) → (t || (s || d)) ≡ ((t || d) || s)
-or_last true s d = refl
-or_last false true true = refl
-or_last false true false = refl
-or_last false false true = refl
-or_last false false false = refl
-
-pub any-insert : {X : Type 0} (p : X → Bool) (xs : List X) (i : ℕ) (new : X) → list_any p (insert xs i new) ≡ (list_any p xs || p new)
-any-insert p xs i new =
-    let whole : list_any p xs ≡ (list_any p (take i xs) || list_any p (drop i xs)) =
-    ap (list_any p) (sym (take-append-drop i xs)) ∙ list_any-append p (take i xs) (drop i xs) in
-    list_any-append p (take i xs) (new ∷ drop i xs)
-    ∙ (or_last (list_any p (take i xs)) (p new) (list_any p (drop i xs)) ∙ ap (λ b. b || p new) (sym whole))
 
 -- an id that isn't above those before is none of those behind
 none_above : (x : ℕ) (ids : List ℕ) → All (λ y. x < y) ids → has_id x ids ≡ false

@@ -22,10 +22,11 @@ use Rattle.rows_model.specs.Query.{befriends, invites, friend_count, pending_cou
 use Rattle.rows_model.specs.Changes.{with_link, without_link, invitation, friendship, renamed, applies, changed, is_linked, is_invited, are_friends, is_member, is_before, HasIds}
 use Rattle.rows_model.specs.Refresh.{step_in, has_id, listed, counted, named}
 use Rattle.rows_model.proofs.FitLemmas.{InPlace, in_place, not_true, same_id}
+use Rattle.rows_model.proofs.FootprintLemmas.{any-insert}
 use Rattle.rows_model.proofs.QueryLemmas.{answers_ascend_is}
 use Rattle.rows_model.proofs.StayFitLemmas.{Fit-changed}
 use Rattle.rows_model.proofs.UntouchedLemmas.{invite_friends, invite_invites, reject_friends, invited_invites, accept_invites, accept_friends, parted_friends, thaw_invites, invited_only, filter_with, friendship_invites, friends_only, pending_joins}
-use Rattle.rows_model.proofs.RefreshListLemmas.{Ascend, any-insert, listed_put, listed_take, counted_listed}
+use Rattle.rows_model.proofs.RefreshListLemmas.{Ascend, listed_put, listed_take, counted_listed}
 
 -- the ids of a circle, and how many there are
 abbrev pub ids_of : Circle → ℕ → Tables → List ℕ

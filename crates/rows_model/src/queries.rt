@@ -46,7 +46,8 @@ pub(crate) fn profile_of(
     friends: u64,
     pending: u64,
 ) -> Result<Value, Memory>
-    ensures { IfOk result (λ value. value ≡ name.now ++ 32 ∷ decimal friends ++ 32 ∷ decimal pending) }
+    ensures { IfOk result (λ value. value
+        ≡ name.now ++ 32 ∷ decimal friends ++ 32 ∷ decimal pending) }
 {
     let mut text = Vec::from_slice(alloc, name.bytes())?;
     text.push(b' ')?;

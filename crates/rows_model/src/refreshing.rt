@@ -85,9 +85,10 @@ impl IdStep {
         }
     }
 
-    // Makes the step in the ids, if it fits them; where it doesn't, they are as before.
+    // Makes the step in the ids, if it fits them.
     fn make(self, ids: &mut Vec<u32>) -> Result<bool, AllocError>
-        ensures { IfOk result (λ fits. listed self ids.old.items ≡ (if fits then Some ids.new.items else None)) }
+        ensures { IfOk result (λ fits. listed self ids.old.items
+            ≡ (if fits then Some ids.new.items else None)) }
     {
         match self {
             IdStep::Stay => Ok(true),
