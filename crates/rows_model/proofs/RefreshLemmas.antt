@@ -11,7 +11,10 @@ use Rattle.rows_model.specs.Name.{IsName, IsNameByte}
 use Rattle.rows_model.specs.Refresh.{small_number, ids_from, words_of, ids_in, is_name, person, person_of}
 
 -- what three words tell
-pub person_three : (words : List (Bor (List ℕ))) (d : Bor (List ℕ)) → 3 ≤ length words → length words < 4 → person_of (map (λ word. word.now) words) ≡ (if is_name (get_or words 0 d).now then person (get_or words 0 d).now (small_number (get_or words 1 d).now) (small_number (get_or words 2 d).now) else None)
+pub person_three : (words : List (Bor (List ℕ))) (d : Bor (List ℕ)) → 3 ≤ length words → length words < 4
+    → person_of (map (λ word. word.now) words)
+    ≡ (if is_name (get_or words 0 d).now then person (get_or words 0 d).now (small_number (get_or words 1 d).now)
+    (small_number (get_or words 2 d).now) else None)
 person_three [] d l m = absurd (omega arith)
 person_three (a ∷ []) d l m = absurd (omega arith)
 person_three (a ∷ b ∷ []) d l m = absurd (omega arith)
@@ -30,21 +33,30 @@ is_name-true text h =
     and_from _ _ (and_from _ _ (all_name_bytes text h.printable) (le-leb 1 (length text) h.some)) (le-leb (length text) 40 h.short)
 
 -- the person of three words, of which the first is a name
-pub person_told : (words : List (Bor (List ℕ))) (d : Bor (List ℕ)) (friends pending : ℕ) → 3 ≤ length words → length words < 4 → IsName (get_or words 0 d).now → Some friends ≡ small_number (get_or words 1 d).now → Some pending ≡ small_number (get_or words 2 d).now → Some (record { name = (get_or words 0 d).now; friends = friends; pending = pending }) ≡ person_of (map (λ word. word.now) words)
+pub person_told : (words : List (Bor (List ℕ))) (d : Bor (List ℕ)) (friends pending : ℕ) → 3 ≤ length words → length words < 4
+    → IsName (get_or words 0 d).now → Some friends ≡ small_number (get_or words 1 d).now → Some pending ≡ small_number (get_or words 2 d).now
+    → Some (record { name = (get_or words 0 d).now; friends = friends; pending = pending }) ≡ person_of (map (λ word. word.now) words)
 person_told words d friends pending l m name two three =
     let r = person_three words d l m in rw (r, is_name-true (get_or words 0 d).now name, sym two, sym three) refl
 
 -- the ids that are left, at the next word
-at_word : (words : List (Bor (List ℕ))) (i : ℕ) (d : Bor (List ℕ)) (least : ℕ) (ids : List ℕ) → i < length words → option_map (λ more. ids ++ more) (ids_from least (map (λ word. word.now) (drop i words))) ≡ option_map (λ more. ids ++ more) (option_and_then (λ id. if nat_lt id least then None else option_map (λ rest. id ∷ rest) (ids_from (id + 1) (map (λ word. word.now) (drop (i + 1) words)))) (small_number (get_or words i d).now))
+at_word : (words : List (Bor (List ℕ))) (i : ℕ) (d : Bor (List ℕ)) (least : ℕ) (ids : List ℕ) → i < length words
+    → option_map (λ more. ids ++ more) (ids_from least (map (λ word. word.now) (drop i words)))
+    ≡ option_map (λ more. ids ++ more)
+    (option_and_then (λ id. if nat_lt id least then None else option_map (λ rest. id ∷ rest)
+    (ids_from (id + 1) (map (λ word. word.now) (drop (i + 1) words)))) (small_number (get_or words i d).now))
 at_word words i d least ids l =
     at_drop_more (λ rest. option_map (λ more. ids ++ more) (ids_from least (map (λ word. word.now) rest))) words i d l
 
 -- a word that is no number
-pub ids_no_number : (words : List (Bor (List ℕ))) (i : ℕ) (d : Bor (List ℕ)) (least : ℕ) (ids : List ℕ) → i < length words → None ≡ small_number (get_or words i d).now → option_map (λ more. ids ++ more) (ids_from least (map (λ word. word.now) (drop i words))) ≡ None
+pub ids_no_number : (words : List (Bor (List ℕ))) (i : ℕ) (d : Bor (List ℕ)) (least : ℕ) (ids : List ℕ) → i < length words
+    → None ≡ small_number (get_or words i d).now → option_map (λ more. ids ++ more) (ids_from least (map (λ word. word.now) (drop i words))) ≡ None
 ids_no_number words i d least ids l none = let r = at_word words i d least ids l in rw (r, sym none) refl
 
 -- a number that is too low
-pub ids_too_low : (words : List (Bor (List ℕ))) (i : ℕ) (d : Bor (List ℕ)) (least id : ℕ) (ids : List ℕ) → i < length words → Some id ≡ small_number (get_or words i d).now → id < least → option_map (λ more. ids ++ more) (ids_from least (map (λ word. word.now) (drop i words))) ≡ None
+pub ids_too_low : (words : List (Bor (List ℕ))) (i : ℕ) (d : Bor (List ℕ)) (least id : ℕ) (ids : List ℕ) → i < length words
+    → Some id ≡ small_number (get_or words i d).now → id < least
+    → option_map (λ more. ids ++ more) (ids_from least (map (λ word. word.now) (drop i words))) ≡ None
 ids_too_low words i d least id ids l is low =
     let r = at_word words i d least ids l in
     let t : nat_lt id least ≡ true = grind (arith, nat_tests) in
@@ -55,7 +67,10 @@ two_maps ids id None = refl
 two_maps ids id (Some more) = ap (λ (xs : List ℕ). Some xs) (sym (append_assoc ids (id ∷ []) more))
 
 -- one more id
-pub ids_more : (words : List (Bor (List ℕ))) (i : ℕ) (d : Bor (List ℕ)) (least id : ℕ) (ids : List ℕ) → i < length words → Some id ≡ small_number (get_or words i d).now → least ≤ id → option_map (λ more. ids ++ more) (ids_from least (map (λ word. word.now) (drop i words))) ≡ option_map (λ more. (ids ++ id ∷ []) ++ more) (ids_from (id + 1) (map (λ word. word.now) (drop (i + 1) words)))
+pub ids_more : (words : List (Bor (List ℕ))) (i : ℕ) (d : Bor (List ℕ)) (least id : ℕ) (ids : List ℕ) → i < length words
+    → Some id ≡ small_number (get_or words i d).now → least ≤ id
+    → option_map (λ more. ids ++ more) (ids_from least (map (λ word. word.now) (drop i words)))
+    ≡ option_map (λ more. (ids ++ id ∷ []) ++ more) (ids_from (id + 1) (map (λ word. word.now) (drop (i + 1) words)))
 ids_more words i d least id ids l is high =
     let r = at_word words i d least ids l in
     let t : nat_lt id least ≡ false = grind (arith, nat_tests) in

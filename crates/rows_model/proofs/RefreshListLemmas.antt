@@ -1,13 +1,11 @@
 -- Ids that ascend: what is put in, taken out and counted, told by which ids are there.
-use Rattle.std.proofs.Common.{ℕ, zero, suc, ◌+◌, ◌<◌, ◌≤◌, ◌≡◌, ◌≢◌, ◌^◌, ◌-◌, Bool, true, false, not, List, [], ◌∷◌, ◌++◌, length, get_or, take, drop, map, filter, All, AllPairs, Option, Some, None, refl, sym, ap, subst, ◌∙◌, arith, take-append-drop}
-use Rattle.std.specs.Prelude.{◌==◌, ◌&&◌, ◌||◌, nat_lt, cond, count_by, if◌then◌else◌, option_map}
-use Rattle.std.specs.List.{list_any, insert}
+use Rattle.std.proofs.Common.{ℕ, suc, ◌+◌, ◌<◌, ◌≤◌, ◌≡◌, ◌^◌, ◌-◌, Bool, true, false, not, List, [], ◌∷◌, length, get_or, All, AllPairs, Some, None, refl, sym, ap, subst, ◌∙◌, arith}
+use Rattle.std.specs.Prelude.{◌==◌, ◌&&◌, ◌||◌, nat_lt, cond, count_by, if◌then◌else◌}
 use Rattle.std.proofs.lemmas.Bool.{false≢true, eq-eqb}
 use Rattle.std.proofs.lemmas.Bool.Decides.{nat_tests}
-use Rattle.std.proofs.lemmas.List.Folds.{list_any-append}
 use Rattle.std.proofs.lemmas.List.Edits.{length-insert}
 use Rattle.std.proofs.lemmas.List.Sums.{count_by-le-length}
-use Rattle.std.proofs.lemmas.List.Elements.{All-nil, All-cons, All-head, All-tail}
+use Rattle.std.proofs.lemmas.List.Elements.{All-head, All-tail}
 use Rattle.std.proofs.lemmas.List.Kept.{AllPairs-filter}
 use Rattle.std.proofs.lemmas.Option.{same_Some, none-some}
 use Rattle.std.proofs.lemmas.Map.Views.{any-filter_same}
@@ -71,7 +69,8 @@ same_ids (x ∷ xs) (y ∷ ys) one two h =
     let later : All (λ w. x < w) ys = subst P (sym same) (pairs_head (λ z w. z < w) y ys two) in
     let Q : ℕ → Type 0 = λ n. (z : ℕ) → ((x == z) || has_id z xs) ≡ ((n == z) || has_id z ys) in
     let k : (z : ℕ) → ((x == z) || has_id z xs) ≡ ((x == z) || has_id z ys) = subst Q (sym same) h in
-    let rest = same_ids xs ys (pairs_tail (λ z w. z < w) x xs one) (pairs_tail (λ z w. z < w) y ys two) (λ z. tail_go z x xs ys (x == z) refl (k z) (pairs_head (λ z w. z < w) x xs one) later) in
+    let rest = same_ids xs ys (pairs_tail (λ z w. z < w) x xs one) (pairs_tail (λ z w. z < w) y ys two)
+    (λ z. tail_go z x xs ys (x == z) refl (k z) (pairs_head (λ z w. z < w) x xs one) later) in
     ap (λ (n : ℕ). n ∷ xs) same ∙ ap (λ (ids : List ℕ). y ∷ ids) rest
 
 -- the ids with one more
@@ -92,7 +91,9 @@ with_ascends id ids up none =
 -- the list with one id more
 pub listed_put : (id : ℕ) (xs ys : List ℕ) → Ascend xs → Ascend ys → has_id id xs ≡ false → ((x : ℕ) → has_id x ys ≡ (has_id x xs || (id == x))) → listed (Put id) xs ≡ Some ys
 listed_put id xs ys one two none h =
-    let same : with_id id xs ≡ ys = same_ids (with_id id xs) ys (with_ascends id xs one none) two (λ x. any-insert (λ other. other == x) xs (count_by (λ other. nat_lt other id) xs) id ∙ sym (h x)) in
+    let same : with_id id xs ≡ ys =
+    same_ids (with_id id xs) ys (with_ascends id xs one none) two
+    (λ x. any-insert (λ other. other == x) xs (count_by (λ other. nat_lt other id) xs) id ∙ sym (h x)) in
     ap (λ b. if b then None else Some (with_id id xs)) none ∙ ap (λ (ids : List ℕ). Some ids) same
 
 kept_go : (id x : ℕ) (b : Bool) → (x == id) ≡ b → (y : ℕ) → (y == x) ≡ true → not (y == id) ≡ not b
@@ -102,7 +103,9 @@ kept_go id x b e y same =
 -- the list with one id less
 pub listed_take : (id : ℕ) (xs ys : List ℕ) → Ascend xs → Ascend ys → has_id id xs ≡ true → ((x : ℕ) → has_id x ys ≡ (not (x == id) && has_id x xs)) → listed (Take id) xs ≡ Some ys
 listed_take id xs ys one two some h =
-    let same : without_id id xs ≡ ys = same_ids (without_id id xs) ys (AllPairs-filter (λ x y. x < y) (λ other. not (other == id)) xs one) two (λ x. any-filter_same (λ other. other == x) (λ other. not (other == id)) (not (x == id)) (kept_go id x (x == id) refl) xs ∙ sym (h x)) in
+    let same : without_id id xs ≡ ys =
+    same_ids (without_id id xs) ys (AllPairs-filter (λ x y. x < y) (λ other. not (other == id)) xs one) two
+    (λ x. any-filter_same (λ other. other == x) (λ other. not (other == id)) (not (x == id)) (kept_go id x (x == id) refl) xs ∙ sym (h x)) in
     ap (λ b. if b then Some (without_id id xs) else None) some ∙ ap (λ (ids : List ℕ). Some ids) same
 
 -- how many are left
@@ -114,7 +117,9 @@ all_left id (y ∷ ids) all =
     let rest = all_left id ids (All-tail (λ z. id < z) y ids all) in
     rw t (omega (arith, rest))
 
-one_left_go : (id x : ℕ) (ids : List ℕ) (b : Bool) → (x == id) ≡ b → Ascend (x ∷ ids) → (b || has_id id ids) ≡ true → (has_id id ids ≡ true → length (without_id id ids) + 1 ≡ length ids) → length (cond (not b) (x ∷ without_id id ids) (without_id id ids)) + 1 ≡ suc (length ids)
+one_left_go : (id x : ℕ) (ids : List ℕ) (b : Bool) → (x == id) ≡ b → Ascend (x ∷ ids) → (b || has_id id ids) ≡ true
+    → (has_id id ids ≡ true → length (without_id id ids) + 1 ≡ length ids)
+    → length (cond (not b) (x ∷ without_id id ids) (without_id id ids)) + 1 ≡ suc (length ids)
 one_left_go id x ids true e up h rest =
     let same : x ≡ id = grind (arith, nat_tests) in
     let P : ℕ → Type 0 = λ n. All (λ y. n < y) ids in

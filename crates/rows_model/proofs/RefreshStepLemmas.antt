@@ -1,31 +1,30 @@
 -- What a change that applies does to the ids of a circle, and to a member's name.
-use Rattle.std.proofs.Common.{ℕ, ◌+◌, ◌<◌, ◌≤◌, ◌≡◌, ◌≢◌, ◌^◌, Bool, true, false, not, List, [], ◌∷◌, length, get_or, map, filter, find, All, AllPairs, Option, Some, None, inl, inr, refl, sym, ap, subst, ◌∙◌, arith}
-use Rattle.std.specs.Prelude.{◌==◌, ◌&&◌, ◌||◌, nat_lt, cond, count_by, if◌then◌else◌, option_map}
+use Rattle.std.proofs.Common.{ℕ, ◌≤◌, ◌≡◌, ◌≢◌, Bool, true, false, not, List, [], ◌∷◌, length, get_or, map, filter, AllPairs, Some, refl, sym, ap, subst, ◌∙◌, arith}
+use Rattle.std.specs.Prelude.{◌==◌, ◌&&◌, ◌||◌, nat_lt, cond, count_by, if◌then◌else◌}
 use Rattle.std.specs.List.{list_any}
-use Rattle.std.proofs.lemmas.Bool.{false≢true, and_parts, and_from, eqb-true, eq-eqb}
+use Rattle.std.proofs.lemmas.Bool.{false≢true, and_parts, eqb-true, eq-eqb}
 use Rattle.std.proofs.lemmas.Bool.Decides.{nat_tests}
 use Rattle.std.proofs.lemmas.List.{length-map}
 use Rattle.std.proofs.lemmas.List.Folds.{Any-from_list_any}
 use Rattle.std.proofs.lemmas.List.Sums.{length-filter, count_by-le-length}
 use Rattle.std.proofs.lemmas.List.Kept.{AllPairs-from_increasing}
 use Rattle.std.proofs.lemmas.Map.Views.{any-filter_same}
-use Rattle.rows_model.specs.declared.rows.LinkState.TheVariants.{Pending as Waiting, Friend}
+use Rattle.rows_model.specs.declared.rows.LinkState.TheVariants.{Friend}
 use Rattle.rows_model.specs.declared.rows.Link.{Link}
-use Rattle.rows_model.specs.declared.rows.Member.{Member}
 use Rattle.rows_model.specs.declared.changes.Change.{Change}
 use Rattle.rows_model.specs.declared.changes.Change.TheVariants.{Invite, Accept, Reject, Thaw, Rename}
 use Rattle.rows_model.specs.declared.refreshing.IdStep.TheVariants.{Stay, Put, Take}
 use Rattle.rows_model.specs.declared.refreshing.Circle.{Circle}
 use Rattle.rows_model.specs.declared.refreshing.Circle.TheVariants.{Befriended, Inviting}
-use Rattle.rows_model.specs.Rows.{Tables, Fit, joins, member_of, is_pending, is_friend}
+use Rattle.rows_model.specs.Rows.{Tables, Fit, joins, is_pending, is_friend}
 use Rattle.rows_model.specs.Query.{befriends, invites, friend_count, pending_count, friend_ids, inviter_ids, other_end}
-use Rattle.rows_model.specs.Changes.{with_link, without_link, invitation, friendship, renamed, applies, changed, is_linked, is_invited, are_friends, is_member, is_before, HasIds}
-use Rattle.rows_model.specs.Refresh.{step_in, has_id, listed, counted, named}
-use Rattle.rows_model.proofs.FitLemmas.{InPlace, in_place, not_true, same_id}
+use Rattle.rows_model.specs.Changes.{without_link, invitation, friendship, applies, changed, is_linked, is_invited, are_friends, is_member, is_before, HasIds}
+use Rattle.rows_model.specs.Refresh.{step_in, has_id, listed, counted}
+use Rattle.rows_model.proofs.FitLemmas.{InPlace, in_place, not_true}
 use Rattle.rows_model.proofs.FootprintLemmas.{any-insert}
 use Rattle.rows_model.proofs.QueryLemmas.{answers_ascend_is}
 use Rattle.rows_model.proofs.StayFitLemmas.{Fit-changed}
-use Rattle.rows_model.proofs.UntouchedLemmas.{invite_friends, invite_invites, reject_friends, invited_invites, accept_invites, accept_friends, parted_friends, thaw_invites, invited_only, filter_with, friendship_invites, friends_only, pending_joins}
+use Rattle.rows_model.proofs.UntouchedLemmas.{invite_friends, invite_invites, reject_friends, invited_invites, accept_friends, parted_friends, thaw_invites, filter_with, friendship_invites, friends_only, pending_joins}
 use Rattle.rows_model.proofs.RefreshListLemmas.{Ascend, listed_put, listed_take, counted_listed}
 
 -- the ids of a circle, and how many there are
@@ -71,7 +70,8 @@ befriends_by id x link = befriends id link && (other_end id link == x)
 abbrev invites_from : ℕ → ℕ → Link → Bool
 invites_from id x link = invites id link && (link.a == x)
 
-any_implied_go : {X : Type 0} (p q : X → Bool) (x : X) (xs : List X) (b c : Bool) → p x ≡ b → q x ≡ c → (p x ≡ true → q x ≡ true) → (b || list_any p xs) ≡ true → (list_any p xs ≡ true → list_any q xs ≡ true) → (c || list_any q xs) ≡ true
+any_implied_go : {X : Type 0} (p q : X → Bool) (x : X) (xs : List X) (b c : Bool) → p x ≡ b → q x ≡ c → (p x ≡ true → q x ≡ true)
+    → (b || list_any p xs) ≡ true → (list_any p xs ≡ true → list_any q xs ≡ true) → (c || list_any q xs) ≡ true
 any_implied_go p q x xs b true ep eq h e rest = refl
 any_implied_go p q x xs true false ep eq h e rest = absurd (false≢true (sym eq ∙ h ep))
 any_implied_go p q x xs false false ep eq h e rest = rest e
@@ -97,10 +97,13 @@ inv_gone a b x true e link h = grind (arith, nat_tests)
 inv_gone a b x false e link h = grind (arith, nat_tests)
 
 -- one inviter less
-take_inviter : (a id : ℕ) (t : Tables) → Fit t → Fit (changed (Reject a id) t) → is_invited a id t ≡ true → listed (Take a) (inviter_ids id t) ≡ Some (inviter_ids id (changed (Reject a id) t))
+take_inviter : (a id : ℕ) (t : Tables) → Fit t → Fit (changed (Reject a id) t) → is_invited a id t ≡ true
+    → listed (Take a) (inviter_ids id t) ≡ Some (inviter_ids id (changed (Reject a id) t))
 take_inviter a id t fit fit_after takes =
     let u = changed (Reject a id) t in
-    let some : has_id a (inviter_ids id t) ≡ true = has_mapped (λ link. link.a) (invites id) a t.links ∙ any_implied (λ link. is_pending link.state && (link.a == a) && (link.b == id)) (invites_from id a) t.links (inv_is a id) takes in
+    let some : has_id a (inviter_ids id t) ≡ true =
+    has_mapped (λ link. link.a) (invites id) a t.links
+    ∙ any_implied (λ link. is_pending link.state && (link.a == a) && (link.b == id)) (invites_from id a) t.links (inv_is a id) takes in
     listed_take a (inviter_ids id t) (inviter_ids id u) (ids_ascend Inviting id t fit) (ids_ascend Inviting id u fit_after) some (λ x. has_mapped (λ link. link.a) (invites id) x u.links
     ∙ (any-filter_same (invites_from id x) (λ link. not (joins a id link)) (not (x == a)) (inv_gone a id x (x == a) refl) t.links
     ∙ ap (λ (b : Bool). not (x == a) && b) (sym (has_mapped (λ link. link.a) (invites id) x t.links))))
@@ -112,7 +115,10 @@ inv_new a id x = ap (λ (b : Bool). b && (a == x)) (eq-eqb id id refl)
 put_inviter : (a id : ℕ) (t : Tables) → Fit t → Fit (changed (Invite a id) t) → is_linked a id t ≡ false → listed (Put a) (inviter_ids id t) ≡ Some (inviter_ids id (changed (Invite a id) t))
 put_inviter a id t fit fit_after free =
     let u = changed (Invite a id) t in
-    let none : has_id a (inviter_ids id t) ≡ false = never_true _ (λ e. false≢true (sym free ∙ any_implied (invites_from id a) (joins a id) t.links (inv_joins a id) (sym (has_mapped (λ link. link.a) (invites id) a t.links) ∙ e))) in
+    let none : has_id a (inviter_ids id t) ≡ false =
+    never_true _ (λ e. false≢true
+    (sym free ∙ any_implied (invites_from id a) (joins a id) t.links (inv_joins a id)
+    (sym (has_mapped (λ link. link.a) (invites id) a t.links) ∙ e))) in
     listed_put a (inviter_ids id t) (inviter_ids id u) (ids_ascend Inviting id t fit) (ids_ascend Inviting id u fit_after) none (λ x. has_mapped (λ link. link.a) (invites id) x u.links
     ∙ (any-insert (invites_from id x) t.links (count_by (is_before (invitation a id)) t.links) (invitation a id)
     ∙ (ap (λ (b : Bool). list_any (invites_from id x) t.links || b) (inv_new a id x) ∙ ap (λ (b : Bool). b || (a == x)) (sym (has_mapped (λ link. link.a) (invites id) x t.links)))))
@@ -147,11 +153,17 @@ second_new a b x true = grind (arith, nat_tests)
 second_new a b x false = grind (arith, nat_tests)
 
 -- one friend less
-take_friend : (a b me other : ℕ) (t : Tables) → Fit t → Fit (changed (Thaw a b) t) → ((link : Link) → (is_friend link.state && joins a b link) ≡ true → befriends_by me other link ≡ true) → ((x : ℕ) (link : Link) → befriends_by me x link ≡ true → not (joins a b link) ≡ not (x == other)) → are_friends a b t ≡ true → listed (Take other) (friend_ids me t) ≡ Some (friend_ids me (changed (Thaw a b) t))
+take_friend : (a b me other : ℕ) (t : Tables) → Fit t → Fit (changed (Thaw a b) t)
+    → ((link : Link) → (is_friend link.state && joins a b link) ≡ true → befriends_by me other link ≡ true)
+    → ((x : ℕ) (link : Link) → befriends_by me x link ≡ true → not (joins a b link) ≡ not (x == other)) → are_friends a b t ≡ true
+    → listed (Take other) (friend_ids me t) ≡ Some (friend_ids me (changed (Thaw a b) t))
 take_friend a b me other t fit fit_after is gone takes =
     let u = changed (Thaw a b) t in
-    let some : has_id other (friend_ids me t) ≡ true = has_mapped (other_end me) (befriends me) other t.links ∙ any_implied (λ link. is_friend link.state && joins a b link) (befriends_by me other) t.links is takes in
-    listed_take other (friend_ids me t) (friend_ids me u) (ids_ascend Befriended me t fit) (ids_ascend Befriended me u fit_after) some (λ x. has_mapped (other_end me) (befriends me) x u.links
+    let some : has_id other (friend_ids me t) ≡ true =
+    has_mapped (other_end me) (befriends me) other t.links
+    ∙ any_implied (λ link. is_friend link.state && joins a b link) (befriends_by me other) t.links is takes in
+    listed_take other (friend_ids me t) (friend_ids me u) (ids_ascend Befriended me t fit) (ids_ascend Befriended me u fit_after) some
+    (λ x. has_mapped (other_end me) (befriends me) x u.links
     ∙ (any-filter_same (befriends_by me x) (λ link. not (joins a b link)) (not (x == other)) (gone x) t.links
     ∙ ap (λ (c : Bool). not (x == other) && c) (sym (has_mapped (other_end me) (befriends me) x t.links))))
 
@@ -169,16 +181,23 @@ not_friends a b t pairs invited friends =
     both_states w.1 (and_parts (is_pending w.1.state) (w.1.a == a) parts.0).0 friend
 
 -- one friend more
-put_friend : (a b me other : ℕ) (t : Tables) → Fit t → Fit (changed (Accept a b) t) → ((link : Link) → befriends_by me other link ≡ true → (is_friend link.state && joins a b link) ≡ true) → ((x : ℕ) → befriends_by me x (friendship a b) ≡ (other == x)) → is_invited a b t ≡ true → listed (Put other) (friend_ids me t) ≡ Some (friend_ids me (changed (Accept a b) t))
+put_friend : (a b me other : ℕ) (t : Tables) → Fit t → Fit (changed (Accept a b) t)
+    → ((link : Link) → befriends_by me other link ≡ true → (is_friend link.state && joins a b link) ≡ true)
+    → ((x : ℕ) → befriends_by me x (friendship a b) ≡ (other == x)) → is_invited a b t ≡ true
+    → listed (Put other) (friend_ids me t) ≡ Some (friend_ids me (changed (Accept a b) t))
 put_friend a b me other t fit fit_after joined new takes =
     let u = changed (Accept a b) t in
     let pairs = in_place t.links fit.links_ascend fit.one_link in
     let left = without_link a b t.links in
-    let none : has_id other (friend_ids me t) ≡ false = never_true _ (λ e. not_friends a b t pairs takes (any_implied (befriends_by me other) (λ link. is_friend link.state && joins a b link) t.links joined (sym (has_mapped (other_end me) (befriends me) other t.links) ∙ e))) in
+    let none : has_id other (friend_ids me t) ≡ false =
+    never_true _ (λ e. not_friends a b t pairs takes
+    (any_implied (befriends_by me other) (λ link. is_friend link.state && joins a b link) t.links joined
+    (sym (has_mapped (other_end me) (befriends me) other t.links) ∙ e))) in
     let same : map (other_end me) (filter (befriends me) left) ≡ friend_ids me t = ap (map (other_end me)) (reject_friends me a b t pairs takes) in
     listed_put other (friend_ids me t) (friend_ids me u) (ids_ascend Befriended me t fit) (ids_ascend Befriended me u fit_after) none (λ x. has_mapped (other_end me) (befriends me) x u.links
     ∙ (any-insert (befriends_by me x) left (count_by (is_before (friendship a b)) left) (friendship a b)
-    ∙ (ap (λ (c : Bool). list_any (befriends_by me x) left || c) (new x) ∙ ap (λ (c : Bool). c || (other == x)) (sym (has_mapped (other_end me) (befriends me) x left) ∙ ap (has_id x) same))))
+    ∙ (ap (λ (c : Bool). list_any (befriends_by me x) left || c) (new x)
+    ∙ ap (λ (c : Bool). c || (other == x)) (sym (has_mapped (other_end me) (befriends me) x left) ∙ ap (has_id x) same))))
 
 -- the same links, the same ids
 same_friends : (id : ℕ) (t u : Tables) → filter (befriends id) u.links ≡ filter (befriends id) t.links → Some (friend_ids id t) ≡ Some (friend_ids id u)
@@ -190,13 +209,15 @@ same_inviters id t u e = ap (λ (ls : List Link). Some (map (λ link. link.a) ls
 differ : (m n : ℕ) → (m == n) ≡ false → m ≢ n
 differ m n e = λ same. false≢true (sym e ∙ eq-eqb m n same)
 
-invite_go : (id a b : ℕ) (t : Tables) (c : Bool) → (b == id) ≡ c → Fit t → Fit (changed (Invite a b) t) → is_linked a b t ≡ false → listed (if c then Put a else Stay) (inviter_ids id t) ≡ Some (inviter_ids id (changed (Invite a b) t))
+invite_go : (id a b : ℕ) (t : Tables) (c : Bool) → (b == id) ≡ c → Fit t → Fit (changed (Invite a b) t) → is_linked a b t ≡ false
+    → listed (if c then Put a else Stay) (inviter_ids id t) ≡ Some (inviter_ids id (changed (Invite a b) t))
 invite_go id a b t true e fit fit_after free =
     let P : ℕ → Type 0 = λ n. listed (Put a) (inviter_ids n t) ≡ Some (inviter_ids n (changed (Invite a b) t)) in
     subst P (eqb-true b id e) (put_inviter a b t fit fit_after free)
 invite_go id a b t false e fit fit_after free = same_inviters id t (changed (Invite a b) t) (invite_invites id a b t (differ b id e))
 
-reject_go : (id a b : ℕ) (t : Tables) (c : Bool) → (b == id) ≡ c → Fit t → Fit (changed (Reject a b) t) → is_invited a b t ≡ true → listed (if c then Take a else Stay) (inviter_ids id t) ≡ Some (inviter_ids id (changed (Reject a b) t))
+reject_go : (id a b : ℕ) (t : Tables) (c : Bool) → (b == id) ≡ c → Fit t → Fit (changed (Reject a b) t) → is_invited a b t ≡ true
+    → listed (if c then Take a else Stay) (inviter_ids id t) ≡ Some (inviter_ids id (changed (Reject a b) t))
 reject_go id a b t true e fit fit_after takes =
     let P : ℕ → Type 0 = λ n. listed (Take a) (inviter_ids n t) ≡ Some (inviter_ids n (changed (Reject a b) t)) in
     subst P (eqb-true b id e) (take_inviter a b t fit fit_after takes)
@@ -207,7 +228,8 @@ accepted_inviters : (id a b : ℕ) (t : Tables) → Some (inviter_ids id (change
 accepted_inviters id a b t =
     same_inviters id (changed (Reject a b) t) (changed (Accept a b) t) (filter_with (invites id) (friendship a b) (without_link a b t.links) (friendship_invites a b id (nat_lt a b)))
 
-accept_go : (id a b : ℕ) (t : Tables) (c e : Bool) → (a == id) ≡ c → (b == id) ≡ e → Fit t → Fit (changed (Accept a b) t) → is_invited a b t ≡ true → listed (if c then Put b else (if e then Put a else Stay)) (friend_ids id t) ≡ Some (friend_ids id (changed (Accept a b) t))
+accept_go : (id a b : ℕ) (t : Tables) (c e : Bool) → (a == id) ≡ c → (b == id) ≡ e → Fit t → Fit (changed (Accept a b) t) → is_invited a b t ≡ true
+    → listed (if c then Put b else (if e then Put a else Stay)) (friend_ids id t) ≡ Some (friend_ids id (changed (Accept a b) t))
 accept_go id a b t true e ea eb fit fit_after takes =
     let P : ℕ → Type 0 = λ n. listed (Put b) (friend_ids n t) ≡ Some (friend_ids n (changed (Accept a b) t)) in
     subst P (eqb-true a id ea) (put_friend a b a b t fit fit_after (first_joins a b) (λ x. first_new a b x (nat_lt a b)) takes)
@@ -217,7 +239,8 @@ accept_go id a b t false true ea eb fit fit_after takes =
 accept_go id a b t false false ea eb fit fit_after takes =
     same_friends id t (changed (Accept a b) t) (accept_friends id a b t (differ a id ea) (differ b id eb))
 
-thaw_go : (id a b : ℕ) (t : Tables) (c e : Bool) → (a == id) ≡ c → (b == id) ≡ e → Fit t → Fit (changed (Thaw a b) t) → are_friends a b t ≡ true → listed (if c then Take b else (if e then Take a else Stay)) (friend_ids id t) ≡ Some (friend_ids id (changed (Thaw a b) t))
+thaw_go : (id a b : ℕ) (t : Tables) (c e : Bool) → (a == id) ≡ c → (b == id) ≡ e → Fit t → Fit (changed (Thaw a b) t) → are_friends a b t ≡ true
+    → listed (if c then Take b else (if e then Take a else Stay)) (friend_ids id t) ≡ Some (friend_ids id (changed (Thaw a b) t))
 thaw_go id a b t true e ea eb fit fit_after takes =
     let P : ℕ → Type 0 = λ n. listed (Take b) (friend_ids n t) ≡ Some (friend_ids n (changed (Thaw a b) t)) in
     subst P (eqb-true a id ea) (take_friend a b a b t fit fit_after (first_is a b) (λ x. first_gone a b x (x == b) refl) takes)
@@ -234,7 +257,8 @@ invite_free a b t takes =
     not_true (is_linked a b t) (and_parts (not (a == b) && is_member a t && is_member b t) (not (is_linked a b t)) p4.0).1
 
 -- a change that applies makes its step in the ids of each circle
-pub step_listed : (circle : Circle) (id : ℕ) (change : Change) (t : Tables) → Fit t → HasIds change → applies change t ≡ true → listed (step_in circle id change) (ids_of circle id t) ≡ Some (ids_of circle id (changed change t))
+pub step_listed : (circle : Circle) (id : ℕ) (change : Change) (t : Tables) → Fit t → HasIds change → applies change t ≡ true
+    → listed (step_in circle id change) (ids_of circle id t) ≡ Some (ids_of circle id (changed change t))
 step_listed Befriended id (Invite a b) t fit ids takes = same_friends id t (changed (Invite a b) t) (invite_friends id a b t)
 step_listed Befriended id (Accept a b) t fit ids takes = accept_go id a b t (a == id) (b == id) refl refl fit (Fit-changed (Accept a b) t fit ids takes) takes
 step_listed Befriended id (Reject a b) t fit ids takes =
@@ -250,11 +274,13 @@ step_listed Inviting id (Thaw a b) t fit ids takes =
 step_listed Inviting id (Rename a name) t fit ids takes = refl
 
 -- and in their counts
-pub step_counted : (circle : Circle) (id : ℕ) (change : Change) (t : Tables) → Fit t → HasIds change → applies change t ≡ true → counted (step_in circle id change) (count_of circle id t) ≡ Some (count_of circle id (changed change t))
+pub step_counted : (circle : Circle) (id : ℕ) (change : Change) (t : Tables) → Fit t → HasIds change → applies change t ≡ true
+    → counted (step_in circle id change) (count_of circle id t) ≡ Some (count_of circle id (changed change t))
 step_counted circle id change t fit ids takes =
     let u = changed change t in
     let n = length-ids_of circle id t in
     let m = length-ids_of circle id u in
     let few = few_ids circle id u (Fit-changed change t fit ids takes) in
-    let h = counted_listed (step_in circle id change) (ids_of circle id t) (ids_of circle id u) (ids_ascend circle id t fit) (omega (arith, m, few)) (step_listed circle id change t fit ids takes) in
+    let h = counted_listed (step_in circle id change) (ids_of circle id t) (ids_of circle id u) (ids_ascend circle id t fit) (omega (arith, m, few))
+    (step_listed circle id change t fit ids takes) in
     ap (counted (step_in circle id change)) (sym n) ∙ (h ∙ ap (λ (k : ℕ). Some k) m)

@@ -1,18 +1,15 @@
 -- What is written of a number, of ids and of a person is read as these.
-use Rattle.std.proofs.Common.{ℕ, zero, suc, ◌+◌, ◌<◌, ◌≤◌, ◌≡◌, ◌≢◌, ◌^◌, Bool, true, false, not, List, [], ◌∷◌, ◌++◌, length, get_or, map, decimal, All, AllPairs, Option, Some, None, refl, sym, ap, ◌∙◌, arith, append_assoc}
-use Rattle.std.specs.Prelude.{◌==◌, ◌&&◌, nat_le, nat_lt, if◌then◌else◌, option_map}
-use Rattle.std.specs.Option.{option_and_then}
-use Rattle.std.specs.List.{list_all, join_with_byte, slice_split}
-use Rattle.std.specs.List.Sorted.{IsStrictlyIncreasing}
+use Rattle.std.proofs.Common.{ℕ, ◌+◌, ◌<◌, ◌≤◌, ◌≡◌, ◌^◌, Bool, true, false, List, [], ◌∷◌, ◌++◌, length, get_or, map, decimal, All, AllPairs, Some, refl, sym, ap, ◌∙◌, arith, append_assoc}
+use Rattle.std.specs.Prelude.{◌==◌, nat_lt}
 use Rattle.std.proofs.lemmas.Bool.Decides.{nat_tests}
-use Rattle.std.proofs.lemmas.List.Elements.{All-nil, All-cons, All-head, All-tail}
+use Rattle.std.proofs.lemmas.List.Elements.{All-head, All-tail}
 use Rattle.std.proofs.lemmas.List.Sums.{AllPass-from_list_all}
 use Rattle.std.proofs.lemmas.List.Splits.{slice_split_none, slice_split_at}
-use Rattle.rows_model.specs.Shift.{number_in, is_digit, is_number}
+use Rattle.rows_model.specs.Shift.{is_digit}
 use Rattle.rows_model.specs.Name.{IsName, IsNameByte}
 use Rattle.rows_model.specs.Query.{id_list}
 use Rattle.rows_model.specs.declared.refreshing.Person.{Person}
-use Rattle.rows_model.specs.Refresh.{small_number, ids_from, words_of, ids_in, is_name, person, person_of, person_in, person_text, is_dash}
+use Rattle.rows_model.specs.Refresh.{small_number, ids_from, words_of, ids_in, person_of, person_in, person_text, is_dash}
 use Rattle.rows_model.proofs.ListTextLemmas.{join_some}
 use Rattle.rows_model.proofs.ShiftLemmas.{number_in-decimal, decimal_digits}
 use Rattle.rows_model.proofs.FitLemmas.{pairs_head, pairs_tail}
@@ -44,8 +41,12 @@ pub Rises-from_pairs : (least : ℕ) (ids : List ℕ) → AllPairs (λ x y. x < 
 Rises-from_pairs least [] pairs small low = tt
 Rises-from_pairs least (id ∷ ids) pairs small low =
     let later = pairs_head (λ x y. x < y) id ids pairs in
-    let above : All (λ x. id + 1 ≤ x) ids = λ k d l. let h = later k d l in omega (arith, h) in
-    (All-head (λ x. least ≤ x) id ids low, All-head (λ x. x < 2 ^ 32) id ids small, Rises-from_pairs (id + 1) ids (pairs_tail (λ x y. x < y) id ids pairs) (All-tail (λ x. x < 2 ^ 32) id ids small) above)
+    let above : All (λ x. id + 1 ≤ x) ids = λ k d l. let h = later k d l in omega (arith, h) in (
+      All-head (λ x. least ≤ x) id ids low,
+      All-head (λ x. x < 2 ^ 32) id ids small,
+      Rises-from_pairs (id + 1) ids
+          (pairs_tail (λ x y. x < y) id ids pairs) (All-tail (λ x. x < 2 ^ 32) id ids small) above,
+    )
 
 ids_from-words : (least : ℕ) (ids : List ℕ) → Rises least ids → ids_from least (map decimal ids) ≡ Some ids
 ids_from-words least [] h = refl

@@ -9,4 +9,5 @@ use Rattle.rows_model.specs.Refresh.{refreshed}
 -- the answer before changes that apply to fit tables, refreshed by them, is the answer after them
 abbrev pub RefreshIsAnswer : Type 0
 RefreshIsAnswer =
-    (key : QKey) (changes : List Change) (before after : Tables) → Fit before → All HasIds changes → apply_all changes before ≡ Ok after → refreshed key (answer key before) changes ≡ Some (answer key after)
+    (key : QKey) (changes : List Change) (before after : Tables) → Fit before → All HasIds changes
+    → apply_all changes before ≡ Ok after → refreshed key (answer key before) changes ≡ Some (answer key after)
