@@ -127,7 +127,7 @@ found_go : {X : Type 0} (p : X → Bool) (x : X) (xs : List X) (b : Bool) → (b
 found_go p x xs true e rest = refl
 found_go p x xs false e rest = rest e
 
-found_some : {X : Type 0} (p : X → Bool) (xs : List X) → list_any p xs ≡ true → IsSome (find p xs)
+pub found_some : {X : Type 0} (p : X → Bool) (xs : List X) → list_any p xs ≡ true → IsSome (find p xs)
 found_some p [] e = absurd (false≢true e)
 found_some p (x ∷ xs) e = found_go p x xs (p x) e (found_some p xs)
 
@@ -193,13 +193,13 @@ count_less p (x ∷ xs) (suc k) d l e =
     omega (arith, count_cons p x xs, cond_le (p x), rest)
 
 -- the two members of an invitation
-record IsInvited (t : Tables) (a b : ℕ) : Type 0 where
-  from : IsMember a t
-  to : IsMember b t
+pub record IsInvited (t : Tables) (a b : ℕ) : Type 0 where
+  pub from : IsMember a t
+  pub to : IsMember b t
   differ : a ≢ b
   fewer : count_by (λ link. not (joins a b link)) t.links < length t.links
 
-invited_parts : (t : Tables) (a b : ℕ) → Fit t → is_invited a b t ≡ true → IsInvited t a b
+pub invited_parts : (t : Tables) (a b : ℕ) → Fit t → is_invited a b t ≡ true → IsInvited t a b
 invited_parts t a b fit e =
     let w = Any-from_list_any (λ link. is_pending link.state && (link.a == a) && (link.b == b)) t.links e in
     let k = w.0 in
@@ -240,7 +240,7 @@ same_id_go member true name = refl
 same_id_go member false name = refl
 
 -- a member keeps its id
-same_id : (id : ℕ) (name : List ℕ) (member : Member) → (renamed id name member).id ≡ member.id
+pub same_id : (id : ℕ) (name : List ℕ) (member : Member) → (renamed id name member).id ≡ member.id
 same_id id name member = same_id_go member (member.id == id) name
 
 is_name_go : (member : Member) (b : Bool) (name : List ℕ) → IsName name → IsName member.name → (let m : Member = if b then record { id = member.id; name = name } else member in IsName m.name)

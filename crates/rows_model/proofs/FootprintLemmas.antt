@@ -1,4 +1,4 @@
-use Rattle.std.proofs.Common.{◌≡◌, Bool, true, false, List, [], ◌∷◌, get_or, take, drop, fold, AllPairs, refl, sym, ap, ◌∙◌, arith, take-append-drop}
+use Rattle.std.proofs.Common.{ℕ, ◌≡◌, Bool, true, false, List, [], ◌∷◌, get_or, take, drop, fold, AllPairs, refl, sym, ap, ◌∙◌, arith, take-append-drop}
 use Rattle.std.specs.Prelude.{count_by, ◌||◌, if◌then◌else◌}
 use Rattle.std.specs.List.{list_any, flat_map, insert}
 use Rattle.std.proofs.lemmas.Bool.{false≢true}
@@ -29,17 +29,20 @@ or_absorbed true s h = refl
 or_absorbed false true h = absurd (false≢true (h refl))
 or_absorbed false false h = refl
 
+-- one more element, wherever it is put
+pub any-insert : {X : Type 0} (p : X → Bool) (xs : List X) (i : ℕ) (new : X) → list_any p (insert xs i new) ≡ (list_any p xs || p new)
+any-insert p xs i new =
+    let whole : list_any p xs ≡ (list_any p (take i xs) || list_any p (drop i xs)) =
+    ap (list_any p) (sym (take-append-drop i xs)) ∙ list_any-append p (take i xs) (drop i xs) in
+    list_any-append p (take i xs) (new ∷ drop i xs)
+    ∙ (or_last (list_any p (take i xs)) (p new) (list_any p (drop i xs)) ∙ ap (λ b. b || p new) (sym whole))
+
 -- a key is among the keys with one more where it is among them or is that one
 has_go : (key new : QKey) (keys : List QKey) (b : Bool) → has_key new keys ≡ b → has_key key (if b then keys else insert keys (count_by (is_key_before new) keys) new) ≡ (has_key key keys || same_key key new)
 has_go key new keys true e =
     or_absorbed (has_key key keys) (same_key key new) (λ same. ap (λ (k : QKey). has_key k keys) (same_key-true key new same) ∙ e)
 has_go key new keys false e =
-    let k = count_by (is_key_before new) keys in
-    let p : QKey → Bool = same_key key in
-    let whole : list_any p keys ≡ (list_any p (take k keys) || list_any p (drop k keys)) =
-    ap (list_any p) (sym (take-append-drop k keys)) ∙ list_any-append p (take k keys) (drop k keys) in
-    list_any-append p (take k keys) (new ∷ drop k keys)
-    ∙ (or_last (list_any p (take k keys)) (same_key key new) (list_any p (drop k keys)) ∙ ap (λ b. b || same_key key new) (sym whole))
+    any-insert (same_key key) keys (count_by (is_key_before new) keys) new
 
 has_with : (key new : QKey) (keys : List QKey) → has_key key (with_key keys new) ≡ (has_key key keys || same_key key new)
 has_with key new keys = has_go key new keys (has_key new keys) refl

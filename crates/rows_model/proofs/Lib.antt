@@ -4,6 +4,11 @@ pub mod FootLemmas
 pub mod KeyLemmas
 pub mod ListTextLemmas
 pub mod QueryLemmas
+pub mod RefreshLemmas
+pub mod RefreshTextLemmas
+pub mod RefreshListLemmas
+pub mod RefreshStepLemmas
+pub mod RefreshLawLemmas
 pub mod NameLemmas
 pub mod NumberLemmas
 pub mod RowsLemmas

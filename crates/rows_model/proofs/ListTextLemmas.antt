@@ -31,7 +31,7 @@ join_more byte x (y ∷ ids) id =
     ∙ sym (append_assoc (decimal x) (byte ∷ join_with_byte byte (map decimal (y ∷ ids))) (byte ∷ decimal id))
 
 -- a list with an id has a text
-join_some : (byte x : ℕ) (ids : List ℕ) → 1 ≤ length (join_with_byte byte (map decimal (x ∷ ids)))
+pub join_some : (byte x : ℕ) (ids : List ℕ) → 1 ≤ length (join_with_byte byte (map decimal (x ∷ ids)))
 join_some byte x [] = decimal_some x
 join_some byte x (y ∷ ids) =
     omega (arith, length-append (decimal x) (byte ∷ join_with_byte byte (map decimal (y ∷ ids))))

@@ -18,6 +18,10 @@ all_digits text = list_all is_digit text
 own : IsNumeralModel (λ ds. all_digits ds ≡ true) (number_from 0)
 own = numerals_by_fold _ (search rules) number_from (search rules)
 
+-- a decimal is digits
+pub decimal_digits : (n : ℕ) → n < 2 ^ 64 → all_digits (decimal n) ≡ true
+decimal_digits n small = digits_decimal own n small
+
 -- the number in a text, spelled out
 pub number_in_is : (text : List ℕ) → number_in text ≡ (if is_number text && nat_lt (number_from 0 text) (2 ^ 64) then Some (number_from 0 text) else None)
 unfolding number_in

@@ -22,7 +22,7 @@ use Rattle.rows_model.specs.Untouched.{UntouchedKeepsItsAnswer}
 use Rattle.rows_model.proofs.FitLemmas.{InPlace, in_place, with_in_place, none_go, none_passes, not_true, friend_free}
 
 -- a link that doesn't pass leaves those that do
-filter_with : (p : Link → Bool) (new : Link) (links : List Link) → p new ≡ false → filter p (with_link new links) ≡ filter p links
+pub filter_with : (p : Link → Bool) (new : Link) (links : List Link) → p new ≡ false → filter p (with_link new links) ≡ filter p links
 filter_with p new links e =
     let k = count_by (is_before new) links in
     let back : filter p (new ∷ drop k links) ≡ filter p (drop k links) = ap (λ b. cond b (new ∷ filter p (drop k links)) (filter p (drop k links))) e in
@@ -73,7 +73,7 @@ pub pending_joins : (a b : ℕ) (link : Link) → (is_pending link.state && (lin
 pending_joins a b link e = grind (arith, nat_tests)
 
 -- the one link of an invitation
-invited_only : (a b : ℕ) (t : Tables) → AllPairs InPlace t.links → is_invited a b t ≡ true → All (λ link. joins a b link ≡ true → (is_pending link.state && (link.a == a) && (link.b == b)) ≡ true) t.links
+pub invited_only : (a b : ℕ) (t : Tables) → AllPairs InPlace t.links → is_invited a b t ≡ true → All (λ link. joins a b link ≡ true → (is_pending link.state && (link.a == a) && (link.b == b)) ≡ true) t.links
 invited_only a b t pairs e =
     let p : Link → Bool = λ link. is_pending link.state && (link.a == a) && (link.b == b) in
     let w = Any-from_list_any p t.links e in
@@ -81,7 +81,7 @@ invited_only a b t pairs e =
     λ j d m f. ap p (only_link a b t.links w.0 w.1 pairs w.2 w.3 joined j d m f) ∙ w.4
 
 -- the one link of a friendship
-friends_only : (a b : ℕ) (t : Tables) → AllPairs InPlace t.links → are_friends a b t ≡ true → All (λ link. joins a b link ≡ true → is_friend link.state ≡ true) t.links
+pub friends_only : (a b : ℕ) (t : Tables) → AllPairs InPlace t.links → are_friends a b t ≡ true → All (λ link. joins a b link ≡ true → is_friend link.state ≡ true) t.links
 friends_only a b t pairs e =
     let p : Link → Bool = λ link. is_friend link.state && joins a b link in
     let w = Any-from_list_any p t.links e in
@@ -109,7 +109,7 @@ friendship_befriends : (a b id : ℕ) (first : Bool) → a ≢ id → b ≢ id �
 friendship_befriends a b id true n m = grind (arith, nat_tests)
 friendship_befriends a b id false n m = grind (arith, nat_tests)
 
-friendship_invites : (a b id : ℕ) (first : Bool) → invites id (if first then record { a = a; b = b; state = Friend } else record { a = b; b = a; state = Friend }) ≡ false
+pub friendship_invites : (a b id : ℕ) (first : Bool) → invites id (if first then record { a = a; b = b; state = Friend } else record { a = b; b = a; state = Friend }) ≡ false
 friendship_invites a b id true = refl
 friendship_invites a b id false = refl
 
@@ -163,32 +163,32 @@ apart_two id a b rest e =
 unequal : (m n : ℕ) → m ≢ n → (m == n) ≡ false
 unequal m n h = grind (arith, nat_tests)
 
-invite_friends : (id a b : ℕ) (t : Tables) → SameFriends id t (changed (Invite a b) t)
+pub invite_friends : (id a b : ℕ) (t : Tables) → SameFriends id t (changed (Invite a b) t)
 invite_friends id a b t = filter_with (befriends id) (invitation a b) t.links refl
 
-invite_invites : (id a b : ℕ) (t : Tables) → b ≢ id → SameInvites id t (changed (Invite a b) t)
+pub invite_invites : (id a b : ℕ) (t : Tables) → b ≢ id → SameInvites id t (changed (Invite a b) t)
 invite_invites id a b t n = filter_with (invites id) (invitation a b) t.links (unequal b id n)
 
-parted_friends : (id a b : ℕ) (t : Tables) → a ≢ id → b ≢ id → filter (befriends id) (without_link a b t.links) ≡ filter (befriends id) t.links
+pub parted_friends : (id a b : ℕ) (t : Tables) → a ≢ id → b ≢ id → filter (befriends id) (without_link a b t.links) ≡ filter (befriends id) t.links
 parted_friends id a b t n m = filter_without (befriends id) a b t.links (λ k d l e. other_befriends a b id (get_or t.links k d) e n m)
 
-invited_invites : (id a b : ℕ) (t : Tables) → AllPairs InPlace t.links → is_invited a b t ≡ true → b ≢ id → filter (invites id) (without_link a b t.links) ≡ filter (invites id) t.links
+pub invited_invites : (id a b : ℕ) (t : Tables) → AllPairs InPlace t.links → is_invited a b t ≡ true → b ≢ id → filter (invites id) (without_link a b t.links) ≡ filter (invites id) t.links
 invited_invites id a b t pairs takes n =
     filter_without (invites id) a b t.links (λ k d l e. other_invites a b id (get_or t.links k d) (invited_only a b t pairs takes k d l e) n)
 
-reject_friends : (id a b : ℕ) (t : Tables) → AllPairs InPlace t.links → is_invited a b t ≡ true → SameFriends id t (changed (Reject a b) t)
+pub reject_friends : (id a b : ℕ) (t : Tables) → AllPairs InPlace t.links → is_invited a b t ≡ true → SameFriends id t (changed (Reject a b) t)
 reject_friends id a b t pairs takes =
     filter_without (befriends id) a b t.links (λ k d l e. pending_befriends a b id (get_or t.links k d) (invited_only a b t pairs takes k d l e))
 
-accept_friends : (id a b : ℕ) (t : Tables) → a ≢ id → b ≢ id → SameFriends id t (changed (Accept a b) t)
+pub accept_friends : (id a b : ℕ) (t : Tables) → a ≢ id → b ≢ id → SameFriends id t (changed (Accept a b) t)
 accept_friends id a b t n m =
     filter_with (befriends id) (friendship a b) (without_link a b t.links) (friendship_befriends a b id (nat_lt a b) n m) ∙ parted_friends id a b t n m
 
-accept_invites : (id a b : ℕ) (t : Tables) → AllPairs InPlace t.links → is_invited a b t ≡ true → b ≢ id → SameInvites id t (changed (Accept a b) t)
+pub accept_invites : (id a b : ℕ) (t : Tables) → AllPairs InPlace t.links → is_invited a b t ≡ true → b ≢ id → SameInvites id t (changed (Accept a b) t)
 accept_invites id a b t pairs takes n =
     filter_with (invites id) (friendship a b) (without_link a b t.links) (friendship_invites a b id (nat_lt a b)) ∙ invited_invites id a b t pairs takes n
 
-thaw_invites : (id a b : ℕ) (t : Tables) → AllPairs InPlace t.links → are_friends a b t ≡ true → SameInvites id t (changed (Thaw a b) t)
+pub thaw_invites : (id a b : ℕ) (t : Tables) → AllPairs InPlace t.links → are_friends a b t ≡ true → SameInvites id t (changed (Thaw a b) t)
 thaw_invites id a b t pairs takes =
     filter_without (invites id) a b t.links (λ k d l e. friend_invites id (get_or t.links k d) (friends_only a b t pairs takes k d l e))
 

@@ -12,3 +12,5 @@ pub mod Untouched
 pub mod Footprint
 pub mod RowsStayFit
 pub mod Undo
+pub mod Refresh
+pub mod RefreshIsAnswer

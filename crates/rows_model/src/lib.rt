@@ -9,6 +9,7 @@ pub use keys::{Kind, QKey, Sid, texts_tell_keys};
 pub use names::Name;
 pub use placement::shard_number;
 pub use queries::{answers_ascend, ask};
+pub use refreshing::{refresh, refresh_is_answer};
 pub use refusals::{ApplyFault, Memory, TxnFault};
 pub use rows::{Link, LinkState, Member, Rows};
 pub use shifts::{numbers_are_decimal, shift};
@@ -22,6 +23,9 @@ pub mod names;
 mod numbers;
 pub mod placement;
 pub mod queries;
+#[cfg(test)]
+mod refresh_tests;
+pub mod refreshing;
 pub mod refusals;
 pub mod rows;
 pub mod shifts;

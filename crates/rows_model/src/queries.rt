@@ -1,8 +1,9 @@
-ghost use Rattle.std.specs.Prelude.{◌≡◌, IfOk, decimal};
+ghost use Rattle.std.specs.Prelude.{◌≡◌, ◌∷◌, ◌++◌, IfOk, decimal};
 ghost use Rattle.rows_model.specs.declared.keys.Kind.TheVariants.{Profile};
 ghost use Rattle.rows_model.specs.Query.{answer, answer_of, friend_ids, inviter_ids, id_list, AnswersAscend};
 
 use crate::keys::{Kind, QKey};
+use crate::names::Name;
 use crate::numbers::push_decimal;
 use crate::refusals::Memory;
 use crate::rows::Rows;
@@ -30,11 +31,29 @@ fn profile(alloc: Global, rows: &Rows, id: u32) -> Result<Value, Memory>
     let Some(member) = rows.member(id) else {
         return Value::of(alloc, b"-");
     };
-    let mut text = Vec::from_slice(alloc, member.name.bytes())?;
+    profile_of(
+        alloc,
+        &member.name,
+        rows.friend_count(id),
+        rows.pending_count(id),
+    )
+}
+
+// The name and the two counts, with spaces between.
+pub(crate) fn profile_of(
+    alloc: Global,
+    name: &Name,
+    friends: u64,
+    pending: u64,
+) -> Result<Value, Memory>
+    ensures { IfOk result (λ value. value
+        ≡ name.now ++ 32 ∷ decimal friends ++ 32 ∷ decimal pending) }
+{
+    let mut text = Vec::from_slice(alloc, name.bytes())?;
     text.push(b' ')?;
-    push_decimal(&mut text, rows.friend_count(id))?;
+    push_decimal(&mut text, friends)?;
     text.push(b' ')?;
-    push_decimal(&mut text, rows.pending_count(id))?;
+    push_decimal(&mut text, pending)?;
     Ok(Value::from(text))
 }
 
@@ -61,7 +80,7 @@ fn inviter_ids(alloc: Global, rows: &Rows, id: u32) -> Result<Vec<u32>, AllocErr
 }
 
 // The ids in decimal, with commas between.
-fn id_list(alloc: Global, ids: &[u32]) -> Result<Value, Memory>
+pub(crate) fn id_list(alloc: Global, ids: &[u32]) -> Result<Value, Memory>
     ensures { IfOk result (λ value. value ≡ id_list ids.now) }
 {
     let mut text = Vec::new(alloc);
@@ -75,7 +94,7 @@ fn id_list(alloc: Global, ids: &[u32]) -> Result<Value, Memory>
 }
 
 // The number in decimal.
-fn number(alloc: Global, number: u64) -> Result<Value, Memory>
+pub(crate) fn number(alloc: Global, number: u64) -> Result<Value, Memory>
     ensures { IfOk result (λ value. value ≡ decimal number) }
 {
     let mut text = Vec::new(alloc);
