@@ -1,6 +1,5 @@
 use Rattle.std.proofs.Common.{get_or, ℕ, ◌≡◌, ◌+◌, ◌-◌, ◌^◌, ◌<◌, ◌≤◌, List, [], ◌∷◌, ◌++◌, length, map, arith, refl, sym, ap, ◌∙◌, subst, inl, inr, append_assoc, append-nil}
 use Rattle.std.specs.Prelude.{Bool, true, false, Option, Some, Result, OnErr, OnOk, Ok, Err, sum_by}
-use Rattle.std.proofs.lemmas.Bool.{false≢true}
 use Rattle.iq_outside.specs.Outside.{Rose}
 use Rattle.iq_outside.proofs.OutsideLemmas.{Gains-none}
 use Rattle.session_client.specs.declared.plans.Shape.{Shape}
@@ -16,7 +15,7 @@ use Rattle.top_run.specs.declared.runs.Status.{Status}
 use Rattle.top_run.specs.declared.runs.Status.TheVariants as status
 use Rattle.core_history.specs.Determined.{Call}
 use Rattle.top_run.specs.Runs.{calls_of, past_of, faults_in, earlier, Held, Prints, IsRead, Tells, Left, IsOpened, AreTold, IsWhole, IsCutOff, Keeps, Ended, is_read_fault, is_write_fault}
-use Rattle.top_run.specs.Plays.{CanPlay, Stands, Stops, IsNoted, IsNew, IsFinished, IsStopped, status_of, is_unread, at_write}
+use Rattle.top_run.specs.Plays.{CanPlay, Stands, Stops, IsNoted, IsNew, IsFinished, IsStopped, status_of, at_write}
 use Rattle.top_run.proofs.PrintLemmas.{lines_none}
 use Rattle.top_run.proofs.KeepLemmas.{end_line_of, keeps, opened_still, the_text_is, no_turns, some_turns, none_told, rose_since, rose_of, never_fell}
 use Rattle.top_run.proofs.PlayLemmas.{lines_split}
@@ -250,24 +249,19 @@ room_at_end ended core origin acts taken_old taken_new tally room all some fits 
     let kept = kept_at_end ended core origin acts taken_old taken_new tally all some in
     subst (λ (n : ℕ). n ≤ room) (sym kept.1.shards.count) fits
 
--- a script was read for the run that ended so
-pub other_end : (ended : Result (Unit {0}) Stop) (faulted : Bool) → is_unread (status_of ended faulted) ≡ false
-other_end (Ok done) true = refl
-other_end (Ok done) false = refl
-other_end (Err stop.WriteFault) faulted = refl
-other_end (Err stop.Memory) faulted = refl
+-- the end of a run that began is none for want of a command
+pub other_end : (ended : Result (Unit {0}) Stop) (faulted : Bool) → status_of ended faulted ≡ status.Usage → ⊥
+other_end (Ok done) true is = cc
+other_end (Ok done) false is = cc
+other_end (Err stop.WriteFault) faulted is = cc
+other_end (Err stop.Memory) faulted is = cc
 
-pub no_usage : (ended : Status) → is_unread ended ≡ false → ended ≡ status.Usage → ⊥
-no_usage ended other is = false≢true (sym other ∙ ap is_unread is)
-
-pub no_read_fault : (ended : Status) → is_unread ended ≡ false → is_read_fault ended ≡ false
-no_read_fault status.Done other = refl
-no_read_fault status.Usage other = refl
-no_read_fault (status.Script line kind) other = refl
-no_read_fault status.ReadFault other = absurd (false≢true (sym other))
-no_read_fault status.WriteFault other = refl
-no_read_fault status.KeepFault other = refl
-no_read_fault status.Memory other = refl
+-- nor at a read
+pub no_read_end : (ended : Result (Unit {0}) Stop) (faulted : Bool) → is_read_fault (status_of ended faulted) ≡ false
+no_read_end (Ok done) true = refl
+no_read_end (Ok done) false = refl
+no_read_end (Err stop.WriteFault) faulted = refl
+no_read_end (Err stop.Memory) faulted = refl
 
 -- it ended at a write where it stopped at one
 pub write_end : (ended : Result (Unit {0}) Stop) (faulted : Bool) → is_write_fault (status_of ended faulted) ≡ at_write ended

@@ -113,10 +113,3 @@ abbrev pub at_write : Result (Unit {0}) Stop → Bool
 at_write (Ok done) = false
 at_write (Err stop.WriteFault) = true
 at_write (Err stop.Memory) = false
-
--- Whether a run ended before a script was read.
-abbrev pub is_unread : Status → Bool
-is_unread status.Usage = true
-is_unread status.ReadFault = true
-is_unread (status.Script line kind) = true
-is_unread other = false

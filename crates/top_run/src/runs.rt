@@ -1,11 +1,11 @@
-ghost use Rattle.std.specs.Prelude.{◌≡◌, ◌≢◌, ◌≤◌, ◌<◌, ◌-◌, ◌^◌, ◌↔◌, ◌∷◌, [], ℕ, List, Option, None, OnOk, IsTrue, IsSome, codes, map, IfOk, IfErr, OnErr, vec_capacity};
+ghost use Rattle.std.specs.Prelude.{◌≡◌, ◌≢◌, false, ◌≤◌, ◌<◌, ◌-◌, ◌^◌, ◌↔◌, ◌∷◌, [], ℕ, List, Option, None, OnOk, IsTrue, IsSome, codes, map, IfOk, IfErr, OnErr, vec_capacity};
 ghost use Rattle.std.specs.Bool.{IsFalse};
 ghost use Rattle.rows_model.specs.Rows.{Tables};
 ghost use Rattle.run_inputs.specs.Fit.{IsPlayable};
 ghost use Rattle.core_history.specs.Cores.{shards_in, origin_of};
 ghost use Rattle.top_run.specs.declared.runs.Status.{Status};
 ghost use Rattle.top_run.specs.Runs.{AreReplay, Ended, Held, Left, moment, IsRead, IsOpened, RoseWhere, is_read_fault, is_write_fault};
-ghost use Rattle.top_run.specs.Plays.{IsNew, IsFinished, IsStopped, IsUnread, is_unread, at_write};
+ghost use Rattle.top_run.specs.Plays.{IsNew, IsFinished, IsStopped, IsUnread, at_write};
 
 use crate::endings::{ended_run, not_started, start_status};
 use crate::plays::{Stop, Tally, play};
@@ -157,7 +157,8 @@ fn replay<W: Sink, K: Keeper>(alloc: Global, script: &Script, sink: &mut W, keep
         let left : Left = record { opening = result.opening; log = result.log.items;
             histories = map (λ history. history.items) result.histories.items } in
         Ended result.status (K.holds keeper Place.Fresh) before after left result.written }
-    ensures other { IsFalse (is_unread result.status) }
+    ensures other { result.status ≢ Status.Usage }
+    ensures no_read_fault { IsFalse (is_read_fault result.status) }
     ensures started { IsSome result.opening → K.is_started result.keeper }
     ensures unstarted {
         result.opening ≡ None → K.is_started result.keeper → K.is_started keeper }
@@ -198,7 +199,8 @@ fn play_on<W: Sink, K: Keeper>(
         let left : Left = record { opening = result.opening; log = result.log.items;
             histories = map (λ history. history.items) result.histories.items } in
         Ended result.status held before after left result.written }
-    ensures other { IsFalse (is_unread result.status) }
+    ensures other { result.status ≢ Status.Usage }
+    ensures no_read_fault { IsFalse (is_read_fault result.status) }
     ensures started { K.is_started result.keeper }
     ensures began { IsSome result.opening }
     ensures writes {

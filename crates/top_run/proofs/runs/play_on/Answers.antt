@@ -1,8 +1,7 @@
 use Rattle.std.proofs.Common.{sym, refl, ap, subst, ◌≡◌, ◌∙◌, Bool}
 use Rattle.core_history.specs.Cores.{origin_of}
-use Rattle.top_run.specs.Runs.{RoseWhere, is_write_fault}
-use Rattle.top_run.specs.Plays.{is_unread}
-use Rattle.top_run.proofs.RunLemmas.{ended_is, room_at_end, other_end, write_end, faults_at_end}
+use Rattle.top_run.specs.Runs.{RoseWhere, is_read_fault, is_write_fault}
+use Rattle.top_run.proofs.RunLemmas.{ended_is, room_at_end, other_end, no_read_end, write_end, faults_at_end}
 use Rattle.top_run.proofs.runs.play_on.Goals as goal
 
 pub ended_run-requires-clause-room : goal.ended_run-requires-clause-room
@@ -18,12 +17,17 @@ returns-clause-ended g c = λ left_old left_new reads rows held read opened.
     c.play_whole-ended.result c.play_whole-ended.new.tally c.play_whole-ended.ensures.all c.play_whole-ended.ensures.some)
 
 pub returns-clause-other : goal.returns-clause-other
-returns-clause-other g c = ap is_unread c.ended_run.ensures.status ∙ other_end c.play_whole-ended.result c.play_whole-ended.new.tally.faulted
+returns-clause-other g c = λ is.
+    other_end c.play_whole-ended.result c.play_whole-ended.new.tally.faulted (sym c.ended_run.ensures.status ∙ is)
+
+pub returns-clause-no_read_fault : goal.returns-clause-no_read_fault
+returns-clause-no_read_fault g c =
+    ap is_read_fault c.ended_run.ensures.status ∙ no_read_end c.play_whole-ended.result c.play_whole-ended.new.tally.faulted
 
 pub returns-clause-writes : goal.returns-clause-writes
 returns-clause-writes g c =
     let is = ap is_write_fault c.ended_run.ensures.status ∙ write_end c.play_whole-ended.result c.play_whole-ended.new.tally.faulted in
-    subst (λ (b : Bool). RoseWhere b _ _) (sym is) c.play_whole-ended.ensures.counts
+    subst (λ (b : Bool). RoseWhere b (g.W.Sink.faults c.args.sink.now) (g.W.Sink.faults c.play_whole-ended.new.sink)) (sym is) c.play_whole-ended.ensures.counts
 
 pub returns-clause-keeper_never_falls : goal.returns-clause-keeper_never_falls
 returns-clause-keeper_never_falls g c =
