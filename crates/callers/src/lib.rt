@@ -3,5 +3,6 @@
 //! here of its own.
 #![tactic(auto)]
 
+pub mod runs;
 pub mod shards;
 pub mod stores;

@@ -2,8 +2,8 @@
 ghost use Rattle.std.specs.Prelude.{◌≡◌, ◌≤◌, length, IsErr, IfErr, OnOk};
 ghost use Rattle.callers.specs.Stores.{NeverOpensAgain, AreCovered};
 
-use rows_model::{Sid, Txn};
 use key_shard::Grant;
+use rows_model::{Sid, Txn, footprints_are_exact};
 use sql_keeper::laws::closed_stays_closed;
 use sql_keeper::{CommitFault, Keeper, Start, Store};
 
@@ -44,5 +44,6 @@ pub fn commit_covered<K: Keeper, N: Start>(
 ) -> Result<u64, (CommitFault, Txn)>
     ensures { OnOk result (AreCovered sid grants.now txn) }
 {
+    footprints_are_exact();
     store.commit(sid, txn, grants)
 }
