@@ -15,7 +15,7 @@ use Rattle.session_client.specs.declared.plans.Shape.{Shape}
 use Rattle.run_inputs.specs.declared.scripts.Act.{Act}
 use Rattle.top_run.specs.declared.runs.Status.{Status}
 use Rattle.top_run.specs.declared.runs.Status.TheVariants as status
-use Rattle.top_run.specs.Runs.{IsRead}
+use Rattle.top_run.specs.Runs.{IsRead, Tells, Left}
 
 -- A run over a keeper in memory, which began with these rows and has those at its end: it began with the rows of as many members as its script says, no hit is stale, each commit is covered, and the rows at the end are those after the log.
 pub record IsFreshRun (left_old left_new : Option (List ℕ)) (opening : Tables) (rows : Option Tables) (log : List Commit) (histories : List (List Step)) : Type 0 where
@@ -36,7 +36,7 @@ pub record IsHitBehind (history : List Step) (key : QKey) (writer : Sid) (value 
   pub reader : Sid
   pub floor : ℕ
   pub after : List Step
-  pub steps : history ≡ before ++ Released key writer token how ∷ between ++ Hit key reader floor value stamp ∷ after
+  pub steps : history ≡ before ++ Released key writer token how ∷ (between ++ Hit key reader floor value stamp ∷ after)
 
 -- Each hit behind a session's release of the key holds that session's commit, where that touches the key: it is among the first commits, as many as the stamp says, and the value is the key's answer after these.
 abbrev pub HitsHoldCommits : Tables → List Commit → List (List Step) → Type 0
@@ -55,3 +55,12 @@ IsUnharmed status.Memory = Unit {0}
 IsUnharmed status.ReadFault = ⊥
 IsUnharmed status.WriteFault = ⊥
 IsUnharmed status.KeepFault = ⊥
+
+-- Two runs came to the same: their sinks tell the same bytes, as many were counted, their keepers tell the same rows, and they began with the same rows and leave the same log and histories.
+pub record AreAlike (after after' : Tells) (left left' : Left) (written written' : ℕ) : Type 0 where
+  pub bytes : after'.taken ≡ after.taken
+  pub counts : written' ≡ written
+  pub rows : after'.rows ≡ after.rows
+  pub openings : left'.opening ≡ left.opening
+  pub logs : left'.log ≡ left.log
+  pub histories : left'.histories ≡ left.histories

@@ -1,7 +1,8 @@
 // What whole runs tell who makes them.
 ghost use Rattle.std.specs.Prelude.{◌≡◌, ◌≢◌, ◌<◌, ◌-◌, ◌^◌, [], All, map, Some, None, IfSome, IsSome};
+ghost use Rattle.top_run.specs.Runs.{Left, moment};
 ghost use Rattle.callers.specs.Shards.{MeetsItsFloor};
-ghost use Rattle.callers.specs.Runs.{IsFreshRun, HitsHoldCommits, IsUnharmed};
+ghost use Rattle.callers.specs.Runs.{IsFreshRun, HitsHoldCommits, IsUnharmed, AreAlike};
 
 use crate::shards::hits_meet_their_floors;
 use core_history::laws::runs_are_determined;
@@ -76,19 +77,17 @@ pub fn run_twice<S: Source, T: Source, W: Sink, V: Sink>(
     requires one_text { T.left second.old ≡ S.left source.old }
     requires empty { W.taken sink.old ≡ Some [] }
     requires empty_too { V.taken other.old ≡ Some [] }
-    ensures bytes { result.0.status ≡ Status.Done → result.1.status ≡ Status.Done →
-        V.taken other.new ≡ W.taken sink.new }
-    ensures written { result.0.status ≡ Status.Done → result.1.status ≡ Status.Done →
-        result.1.written ≡ result.0.written }
-    ensures opening { result.0.status ≡ Status.Done → result.1.status ≡ Status.Done →
-        result.1.opening ≡ result.0.opening }
-    ensures log { result.0.status ≡ Status.Done → result.1.status ≡ Status.Done →
-        result.1.log.items ≡ result.0.log.items }
-    ensures histories { result.0.status ≡ Status.Done → result.1.status ≡ Status.Done →
-        map (λ history. history.items) result.1.histories.items
-            ≡ map (λ history. history.items) result.0.histories.items }
-    ensures rows { result.0.status ≡ Status.Done → result.1.status ≡ Status.Done →
-        result.1.keeper.rows ≡ result.0.keeper.rows }
+    ensures {
+        let after = moment (S.left source.new) (S.faults source.new) (W.taken sink.new)
+            (W.faults sink.new) result.0.keeper.rows result.0.keeper.faults in
+        let after_too = moment (T.left second.new) (T.faults second.new) (V.taken other.new)
+            (V.faults other.new) result.1.keeper.rows result.1.keeper.faults in
+        let left : Left = record { opening = result.0.opening; log = result.0.log.items;
+            histories = map (λ history. history.items) result.0.histories.items } in
+        let left_too : Left = record { opening = result.1.opening; log = result.1.log.items;
+            histories = map (λ history. history.items) result.1.histories.items } in
+        result.0.status ≡ Status.Done → result.1.status ≡ Status.Done →
+        AreAlike after after_too left left_too result.0.written result.1.written }
 {
     texts_tell_scripts();
     runs_are_determined();
