@@ -24,7 +24,7 @@ MeetsItsFloor other = Unit {0}
 abbrev pub HitsMeetTheirFloors : Type 0
 HitsMeetTheirFloors = (terms : Terms) (history : List Step) → Legal terms history → All MeetsItsFloor history
 
--- A shard shows the same after these steps as after those: each entry, their order by use, and what stands on each key.
+-- A shard shows the same after more steps as it showed before: each entry, their order by use, and what stands on each key.
 pub record ShowsTheSame (before after : List Step) : Type 0 where
   pub entries : (key : QKey) → entry key after ≡ entry key before
   pub by_use : order after ≡ order before

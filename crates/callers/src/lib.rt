@@ -6,3 +6,5 @@
 pub mod runs;
 pub mod shards;
 pub mod stores;
+#[cfg(test)]
+mod tests;
