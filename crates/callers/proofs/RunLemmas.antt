@@ -1,5 +1,5 @@
 -- What follows from how a run ended.
-use Rattle.std.proofs.Common.{◌≡◌, ℕ, ◌-◌, ◌^◌, ◌⊎◌, ◌&&◌, ◌||◌, ◌==◌, Bool, true, false, inl, inr, List, [], ◌∷◌, ◌++◌, length, map, reverse, Option, Some, None, IsSome, slice_get, refl, sym, ap, subst, ◌∙◌, append_assoc, append-nil}
+use Rattle.std.proofs.Common.{◌≡◌, ℕ, ◌-◌, ◌^◌, ◌<◌, ◌⊎◌, ◌&&◌, ◌||◌, ◌==◌, Bool, true, false, inl, inr, List, [], ◌∷◌, ◌++◌, length, map, reverse, Option, Some, None, IsSome, slice_get, refl, sym, ap, subst, ◌∙◌, append_assoc, append-nil, arith}
 use Rattle.std.specs.Prelude.{All, IfSome, min}
 use Rattle.std.specs.Option.{ForSome, option_map}
 use Rattle.std.specs.List.{list_any}
@@ -17,7 +17,7 @@ use Rattle.key_shard.specs.declared.steps.Ended as ends
 use Rattle.key_shard.specs.declared.steps.Step.{Step}
 use Rattle.key_shard.specs.declared.steps.Step.TheVariants.{Hit, Released}
 use Rattle.sql_keeper.specs.declared.stores.Commit.{Commit}
-use Rattle.sql_keeper.specs.Fresh.{Fresh, IsFreshPast, releases}
+use Rattle.sql_keeper.specs.Fresh.{Fresh, Covered, IsFreshPast, releases}
 use Rattle.sql_keeper.specs.Log.{rows_after}
 use Rattle.session_client.specs.declared.plans.Shape.{Shape}
 use Rattle.run_inputs.specs.declared.scripts.Act.{Act}
@@ -126,6 +126,23 @@ above-floors law s held before after left written h = by (began-or-not s held be
     by : (IsNotStarted before after left written ⊎ Began held before after left) → All (λ history. All MeetsItsFloor history) left.histories
     by (inl k) = subst (All (λ history. All MeetsItsFloor history)) (sym k.no_histories) (All-nil (λ history. All MeetsItsFloor history))
     by (inr b) = λ place d below. law (terms_of b.shape place) _ (b.keeps.legal place _ (slice_get-get_or left.histories place d below))
+
+-- each commit of a run is covered, whatever the keeper said
+pub covered-run : (s : Status) (held : Held) (before after : Tells) (left : Left) (written : ℕ) → Ended s held before after left written → Covered left.log left.histories
+covered-run s held before after left written h = by (began-or-not s held before after left written h)
+  where
+    none-at : (log : List Commit) (place : ℕ) (commit : Commit) → log ≡ [] → slice_get log place ≡ Some commit → ⊥
+    none-at log place commit none at = absurd (below (subst (λ (l : List Commit). place < length l) none (slice_get_within log place commit at)))
+      where
+        below : place < 0 → ⊥
+        below h = absurd (omega arith)
+    by : (IsNotStarted before after left written ⊎ Began held before after left) → Covered left.log left.histories
+    by (inl k) = λ place commit key at touched. absurd (none-at left.log place commit k.no_log at)
+    by (inr b) = b.keeps.covered
+
+-- faulty words leave all that was handed in
+pub untouched-run : (s : Status) (held : Held) (before after : Tells) (left : Left) (written : ℕ) → Ended s held before after left written → s ≡ status.Usage → after ≡ before
+untouched-run s held before after left written h usage = (subst (λ (s : Status). Ended s held before after left written) usage h).0
 
 at-place : {X : Type 0} (P : X → Type 0) (xs : List X) (i : ℕ) (x : X) → All P xs → slice_get xs i ≡ Some x → P x
 at-place P xs i x h is = subst P (get_or_from_slice_get xs i x x is) (h i x (slice_get_within xs i x is))

@@ -1,6 +1,7 @@
 // What whole runs tell who makes them.
 ghost use Rattle.std.specs.Prelude.{◌≡◌, ◌≢◌, ◌<◌, ◌-◌, ◌^◌, [], All, map, Some, None, IfSome, IsSome};
-ghost use Rattle.top_run.specs.Runs.{Left, moment};
+ghost use Rattle.sql_keeper.specs.Fresh.{Covered};
+ghost use Rattle.top_run.specs.Runs.{AreReplay, Left, moment};
 ghost use Rattle.callers.specs.Shards.{MeetsItsFloor};
 ghost use Rattle.callers.specs.Runs.{IsFreshRun, HitsHoldCommits, IsUnharmed, AreAlike};
 
@@ -59,6 +60,40 @@ pub fn run_above_floors<S: Source, W: Sink, K: Keeper>(
         All (λ history. All MeetsItsFloor history) histories }
 {
     hits_meet_their_floors();
+    run(alloc, words, source, sink, keeper)
+}
+
+/// No transaction of a run was committed without a quarantine on each key that it touches, whatever the
+/// keeper does.
+pub fn run_covered<S: Source, W: Sink, K: Keeper>(
+    alloc: Global,
+    words: &[Vec<u8>],
+    source: &mut S,
+    sink: &mut W,
+    keeper: K,
+) -> RunEnd<K>
+    ensures {
+        Covered result.log.items (map (λ history. history.items) result.histories.items) }
+{
+    run(alloc, words, source, sink, keeper)
+}
+
+/// Words that are no command leave the source, the sink and the keeper as they are.
+pub fn run_no_command<S: Source, W: Sink, K: Keeper>(
+    alloc: Global,
+    words: &[Vec<u8>],
+    source: &mut S,
+    sink: &mut W,
+    keeper: K,
+) -> RunEnd<K>
+    requires { AreReplay (map (λ word. word.items) words.now) → ⊥ }
+    ensures {
+        let before = moment (S.left source.old) (S.faults source.old)
+            (W.taken sink.old) (W.faults sink.old) (K.rows keeper) (K.faults keeper) in
+        let after = moment (S.left source.new) (S.faults source.new)
+            (W.taken sink.new) (W.faults sink.new) (K.rows result.keeper) (K.faults result.keeper) in
+        after ≡ before }
+{
     run(alloc, words, source, sink, keeper)
 }
 

@@ -41,6 +41,12 @@ fn runs_are_fresh_hold_commits_and_meet_floors(rt: HostRuntime) -> Result<(), Fa
     let keeper = MapKeeper::new(Vec::new(alloc));
     let end = runs::run_above_floors(alloc, words.as_slice(), &mut source, &mut sink, keeper);
     assert_eq!(rt; end.histories.len(), 0);
+    let keeper = MapKeeper::new(Vec::new(alloc));
+    let end = runs::run_covered(alloc, words.as_slice(), &mut source, &mut sink, keeper);
+    assert_eq!(rt; end.log.len(), 0);
+    let keeper = MapKeeper::new(Vec::new(alloc));
+    let end = runs::run_no_command(alloc, &[], &mut source, &mut sink, keeper);
+    assert_eq!(rt; end.status, Status::Usage);
     Ok(())
 }
 
