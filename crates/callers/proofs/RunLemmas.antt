@@ -136,6 +136,7 @@ covered-run s held before after left written h = by (began-or-not s held before 
       where
         below : place < 0 → ⊥
         below h = absurd (omega arith)
+
     by : (IsNotStarted before after left written ⊎ Began held before after left) → Covered left.log left.histories
     by (inl k) = λ place commit key at touched. absurd (none-at left.log place commit k.no_log at)
     by (inr b) = b.keeps.covered
@@ -238,12 +239,12 @@ wholes-alike texts law held held' before after before' after' left left' written
     let made : AreMoves h.acts h'.moves = h'.made ∙ ap calls_of (sym script.1) in
     let at' : past_of h'.shape h'.moves ≡ past_of h.shape h'.moves = ap (λ (s : Shape). past_of s h'.moves) (sym script.0) in
     let truth : IsTruePast h.opening (past_of h.shape h'.moves) =
-        subst (λ (o : Tables). IsTruePast o (past_of h.shape h'.moves)) openings (subst (IsTruePast h'.opening) at' (h'.keeps.truth rows'.0 rows'.1)) in
+    subst (λ (o : Tables). IsTruePast o (past_of h.shape h'.moves)) openings (subst (IsTruePast h'.opening) at' (h'.keeps.truth rows'.0 rows'.1)) in
     let turns : fault_turns (past_of h.shape h'.moves) ≡ [] = sym (h'.turns_are ∙ ap fault_turns at') in
     let bytes : out h.shape h'.moves ≡ out h.shape h.moves = h.the_text rows.0 rows.1 h'.moves made truth turns in
     let outs : out h'.shape h'.moves ≡ out h.shape h.moves = ap (λ (s : Shape). out s h'.moves) (sym script.0) ∙ bytes in
     let pasts : past_of h.shape h'.moves ≡ past_of h.shape h.moves =
-        law h.shape h.opening h'.moves h.moves (unreversed h'.moves h.moves (made ∙ sym h.made)) truth (h.keeps.truth rows.0 rows.1) (turns ∙ h.turns_are) in
+    law h.shape h.opening h'.moves h.moves (unreversed h'.moves h.moves (made ∙ sym h.made)) truth (h.keeps.truth rows.0 rows.1) (turns ∙ h.turns_are) in
     let logs : left'.log ≡ left.log = h'.keeps.log_is ∙ ap log_of (at' ∙ pasts) ∙ sym h.keeps.log_is in
     record {
       bytes = gained before'.taken after'.taken (out h'.shape h'.moves) none' h'.prints.gains ∙ ap Some outs ∙ sym (gained before.taken after.taken (out h.shape h.moves) none h.prints.gains);

@@ -23,10 +23,9 @@ pub fn run_fresh<S: Source, W: Sink>(
     sink: &mut W,
     keeper: MapKeeper,
 ) -> RunEnd<MapKeeper>
-    ensures {
-        let histories = map (λ history. history.items) result.histories.items in
+    ensures { let histories = map (λ history. history.items) result.histories.items in
         IfSome result.opening (λ opening. IsFreshRun (S.left source.old) (S.left source.new)
-            opening result.keeper.rows result.log.items histories) }
+        opening result.keeper.rows result.log.items histories) }
 {
     run(alloc, words, source, sink, keeper)
 }
@@ -39,10 +38,9 @@ pub fn run_holding_commits<S: Source, W: Sink>(
     sink: &mut W,
     keeper: MapKeeper,
 ) -> RunEnd<MapKeeper>
-    ensures {
-        let histories = map (λ history. history.items) result.histories.items in
+    ensures { let histories = map (λ history. history.items) result.histories.items in
         IfSome result.opening (λ opening.
-            HitsHoldCommits opening result.log.items histories) }
+        HitsHoldCommits opening result.log.items histories) }
 {
     run_fresh(alloc, words, source, sink, keeper)
 }
@@ -55,8 +53,7 @@ pub fn run_above_floors<S: Source, W: Sink, K: Keeper>(
     sink: &mut W,
     keeper: K,
 ) -> RunEnd<K>
-    ensures {
-        let histories = map (λ history. history.items) result.histories.items in
+    ensures { let histories = map (λ history. history.items) result.histories.items in
         All (λ history. All MeetsItsFloor history) histories }
 {
     hits_meet_their_floors();
@@ -72,8 +69,7 @@ pub fn run_covered<S: Source, W: Sink, K: Keeper>(
     sink: &mut W,
     keeper: K,
 ) -> RunEnd<K>
-    ensures {
-        Covered result.log.items (map (λ history. history.items) result.histories.items) }
+    ensures { Covered result.log.items (map (λ history. history.items) result.histories.items) }
 {
     run(alloc, words, source, sink, keeper)
 }
@@ -87,11 +83,10 @@ pub fn run_no_command<S: Source, W: Sink, K: Keeper>(
     keeper: K,
 ) -> RunEnd<K>
     requires { AreReplay (map (λ word. word.items) words.now) → ⊥ }
-    ensures {
-        let before = moment (S.left source.old) (S.faults source.old)
-            (W.taken sink.old) (W.faults sink.old) (K.rows keeper) (K.faults keeper) in
+    ensures { let before = moment (S.left source.old) (S.faults source.old)
+        (W.taken sink.old) (W.faults sink.old) (K.rows keeper) (K.faults keeper) in
         let after = moment (S.left source.new) (S.faults source.new)
-            (W.taken sink.new) (W.faults sink.new) (K.rows result.keeper) (K.faults result.keeper) in
+        (W.taken sink.new) (W.faults sink.new) (K.rows result.keeper) (K.faults result.keeper) in
         after ≡ before }
 {
     run(alloc, words, source, sink, keeper)
@@ -112,15 +107,20 @@ pub fn run_twice<S: Source, T: Source, W: Sink, V: Sink>(
     requires one_text { T.left second.old ≡ S.left source.old }
     requires empty { W.taken sink.old ≡ Some [] }
     requires empty_too { V.taken other.old ≡ Some [] }
-    ensures {
-        let after = moment (S.left source.new) (S.faults source.new) (W.taken sink.new)
-            (W.faults sink.new) result.0.keeper.rows result.0.keeper.faults in
+    ensures { let after = moment (S.left source.new) (S.faults source.new) (W.taken sink.new)
+        (W.faults sink.new) result.0.keeper.rows result.0.keeper.faults in
         let after_too = moment (T.left second.new) (T.faults second.new) (V.taken other.new)
-            (V.faults other.new) result.1.keeper.rows result.1.keeper.faults in
-        let left : Left = record { opening = result.0.opening; log = result.0.log.items;
-            histories = map (λ history. history.items) result.0.histories.items } in
-        let left_too : Left = record { opening = result.1.opening; log = result.1.log.items;
-            histories = map (λ history. history.items) result.1.histories.items } in
+        (V.faults other.new) result.1.keeper.rows result.1.keeper.faults in
+        let left : Left = record {
+          opening = result.0.opening;
+          log = result.0.log.items;
+          histories = map (λ history. history.items) result.0.histories.items;
+        } in
+        let left_too : Left = record {
+          opening = result.1.opening;
+          log = result.1.log.items;
+          histories = map (λ history. history.items) result.1.histories.items;
+        } in
         result.0.status ≡ Status.Done → result.1.status ≡ Status.Done →
         AreAlike after after_too left left_too result.0.written result.1.written }
 {
@@ -142,8 +142,7 @@ pub fn run_unharmed<S: Source, W: Sink, K: Keeper>(
     requires reads { S.faults source.old < 2 ^ 64 - 1 }
     requires writes { W.faults sink.old < 2 ^ 64 - 1 }
     requires keeps { K.faults keeper < 2 ^ 64 - 1 }
-    ensures {
-        S.faults source.new ≡ S.faults source.old →
+    ensures { S.faults source.new ≡ S.faults source.old →
         W.faults sink.new ≡ W.faults sink.old →
         K.faults result.keeper ≡ K.faults keeper → IsUnharmed result.status }
 {
