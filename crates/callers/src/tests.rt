@@ -106,14 +106,15 @@ fn an_ended_session_does_not_commit(rt: HostRuntime) -> Result<(), Fail> {
     let Ok(txn) = Txn::of(alloc, &[Change::Invite { a: 1, b: 2 }]) else {
         panic!(rt; "no transaction");
     };
-    let Err((fault, txn)) = stores::commit_covered(&mut store, sid, txn, &[]) else {
-        panic!(rt; "committed without a grant");
-    };
-    assert_eq!(rt; fault, CommitFault::Uncovered { key: PROFILE });
-    let Err((fault, _)) = stores::commit_after_end(&mut store, sid, txn, &[]) else {
+    let Err((fault, txn)) = stores::commit_after_end(&mut store, sid, txn, &[]) else {
         panic!(rt; "committed after its end");
     };
     assert_eq!(rt; fault, CommitFault::Ended);
+    let sid = store.begin(true)?;
+    let Err((fault, _)) = stores::commit_covered(&mut store, sid, txn, &[]) else {
+        panic!(rt; "committed without a grant");
+    };
+    assert_eq!(rt; fault, CommitFault::Uncovered { key: PROFILE });
     stores::closed_sessions_never_commit();
     Ok(())
 }
