@@ -1,0 +1,3 @@
+pub mod FloorLemmas
+pub mod StoreLemmas
+pub mod RunLemmas

@@ -1,0 +1,276 @@
+-- What follows from how a run ended.
+use Rattle.std.proofs.Common.{◌≡◌, ℕ, ◌-◌, ◌^◌, ◌<◌, ◌⊎◌, ◌&&◌, ◌||◌, ◌==◌, Bool, true, false, inl, inr, List, [], ◌∷◌, ◌++◌, length, map, reverse, Option, Some, None, IsSome, slice_get, refl, sym, ap, subst, ◌∙◌, append_assoc, append-nil, arith}
+use Rattle.std.specs.Prelude.{All, IfSome, min}
+use Rattle.std.specs.Option.{ForSome, option_map}
+use Rattle.std.specs.List.{list_any}
+use Rattle.std.proofs.lemmas.Bool.{and_from, eq-eqb}
+use Rattle.std.proofs.lemmas.List.{reverse-append, map-append}
+use Rattle.std.proofs.lemmas.List.Elements.{All-nil}
+use Rattle.std.proofs.lemmas.List.Folds.{list_any-append}
+use Rattle.std.proofs.lemmas.Option.{get_or_from_slice_get, slice_get_within, slice_get-get_or}
+use Rattle.iq_outside.specs.Outside.{Takes, AtEnd, Gains}
+use Rattle.rows_model.specs.declared.keys.QKey.{QKey}
+use Rattle.rows_model.specs.declared.keys.Sid.{Sid}
+use Rattle.rows_model.specs.Key.{same_key, kind_number}
+use Rattle.rows_model.specs.Rows.{Tables, start_tables}
+use Rattle.key_shard.specs.declared.steps.Ended as ends
+use Rattle.key_shard.specs.declared.steps.Step.{Step}
+use Rattle.key_shard.specs.declared.steps.Step.TheVariants.{Hit, Released}
+use Rattle.sql_keeper.specs.declared.stores.Commit.{Commit}
+use Rattle.sql_keeper.specs.Fresh.{Fresh, Covered, IsFreshPast, releases}
+use Rattle.sql_keeper.specs.Log.{rows_after}
+use Rattle.session_client.specs.declared.plans.Shape.{Shape}
+use Rattle.run_inputs.specs.declared.scripts.Act.{Act}
+use Rattle.run_inputs.specs.Script.{IsScript, TextsTellScripts}
+use Rattle.core_history.specs.Determined.{Call, call_of, RunsAreDetermined}
+use Rattle.core_history.specs.Events.{Event, log_of}
+use Rattle.core_history.specs.Freshness.{histories_of}
+use Rattle.core_history.specs.Lines.{fault_turns}
+use Rattle.core_history.specs.Machine.{Move, terms_of}
+use Rattle.core_history.specs.Truth.{IsTruePast}
+use Rattle.top_run.specs.declared.runs.Status.{Status}
+use Rattle.top_run.specs.declared.runs.Status.TheVariants as status
+use Rattle.top_run.specs.Runs.{calls_of, AreMoves, past_of, out, Held, Tells, Left, IsRead, IsOpened, Keeps, IsWhole, IsCutOff, IsNotStarted, Ended}
+use Rattle.callers.specs.Shards.{MeetsItsFloor, HitsMeetTheirFloors}
+use Rattle.callers.specs.Runs.{IsFreshRun, HitsHoldCommits, IsHitBehind, AreAlike}
+
+-- a run that began
+record Began (held : Held) (before after : Tells) (left : Left) : Type 0 where
+  shape : Shape
+  acts : List Act
+  read : IsRead before.left after.left shape acts
+  opening : Tables
+  opening_is : left.opening ≡ Some opening
+  opened : IsOpened held shape opening after.rows
+  moves : List Move
+  keeps : Keeps shape opening moves after.rows left.log left.histories
+
+began-whole : (held : Held) (before after : Tells) (left : Left) (written : ℕ) (turns : List ℕ) → IsWhole held before after left written turns → Began held before after left
+began-whole held before after left written turns h = record {
+  shape = h.shape;
+  acts = h.acts;
+  read = h.read;
+  opening = h.opening;
+  opening_is = h.opening_is;
+  opened = h.opened;
+  moves = h.moves;
+  keeps = h.keeps;
+}
+
+began-cut-off : (held : Held) (before after : Tells) (left : Left) (written : ℕ) → IsCutOff held before after left written → Began held before after left
+began-cut-off held before after left written h = record {
+  shape = h.shape;
+  acts = h.acts;
+  read = h.read;
+  opening = h.opening;
+  opening_is = h.opening_is;
+  opened = h.opened;
+  moves = h.moves;
+  keeps = h.keeps;
+}
+
+-- a run began or it didn't
+began-or-not : (s : Status) (held : Held) (before after : Tells) (left : Left) (written : ℕ) → Ended s held before after left written → IsNotStarted before after left written ⊎ Began held before after left
+began-or-not status.Done held before after left written h = inr (began-whole held before after left written [] h)
+began-or-not status.Usage held before after left written h = inl h.1
+began-or-not (status.Script line kind) held before after left written h = inl h.2
+began-or-not status.ReadFault held before after left written h = inl h.2
+began-or-not status.WriteFault held before after left written h = inr (began-cut-off held before after left written h)
+began-or-not status.KeepFault held before after left written (rose, inl h) = inl h.nothing
+began-or-not status.KeepFault held before after left written (rose, inr (turns, some, h)) = inr (began-whole held before after left written turns h)
+began-or-not status.Memory held before after left written (inl h) = inl h.2
+began-or-not status.Memory held before after left written (inr h) = inr (began-cut-off held before after left written h)
+
+some-at : {X : Type 0} (o : Option X) → IsSome o → (x : X) × (o ≡ Some x)
+some-at (Some x) h = (x, refl)
+some-at None h = absurd cc
+
+-- a run that began over a keeper that tells its rows is fresh
+fresh-began : (held : Held) (before after : Tells) (left : Left) (opening : Tables) → Began held before after left → IsSome after.rows → left.opening ≡ Some opening
+    → IsFreshRun before.left after.left opening after.rows left.log left.histories
+fresh-began held before after left opening b some is =
+    let told = some-at after.rows some in
+    let same : b.opening ≡ opening = same-inside b.opening opening (sym b.opening_is ∙ is) in
+    subst (λ (rows : Tables). IsFreshRun before.left after.left rows after.rows left.log left.histories) same (record {
+      shape = b.shape;
+      acts = b.acts;
+      read = b.read;
+      opened = b.opened.opened told.0 told.1 (start_tables b.shape.members) b.opened.fresh;
+      fresh = b.keeps.fresh told.0 told.1;
+      covered = b.keeps.covered;
+      rows_are = told.1 ∙ ap Some (b.keeps.rows_are told.0 told.1);
+    })
+  where
+    same-inside : (a b : Tables) → Some a ≡ Some b → a ≡ b
+    same-inside a b e = cc
+
+pub fresh-run : (s : Status) (held : Held) (before after : Tells) (left : Left) (written : ℕ) → Ended s held before after left written → (IsSome left.opening → IsSome after.rows)
+    → IfSome left.opening (λ opening. IsFreshRun before.left after.left opening after.rows left.log left.histories)
+fresh-run s held before after left written h started = by left.opening refl (began-or-not s held before after left written h)
+  where
+    by : (o : Option Tables) → left.opening ≡ o → (IsNotStarted before after left written ⊎ Began held before after left)
+        → IfSome o (λ opening. IsFreshRun before.left after.left opening after.rows left.log left.histories)
+    by None is k = tt
+    by (Some opening) is (inl k) = absurd (none-some opening (sym k.no_opening ∙ is))
+      where
+        none-some : (opening : Tables) → None ≡ Some opening → ⊥
+        none-some opening e = absurd cc
+    by (Some opening) is (inr b) =
+        fresh-began held before after left opening b (started (subst (λ (o : Option Tables). IsSome o) (sym is) refl)) is
+
+-- each history of a run that is kept is legal, so that its hits meet their floors
+pub above-floors : HitsMeetTheirFloors → (s : Status) (held : Held) (before after : Tells) (left : Left) (written : ℕ) → Ended s held before after left written
+    → All (λ history. All MeetsItsFloor history) left.histories
+above-floors law s held before after left written h = by (began-or-not s held before after left written h)
+  where
+    by : (IsNotStarted before after left written ⊎ Began held before after left) → All (λ history. All MeetsItsFloor history) left.histories
+    by (inl k) = subst (All (λ history. All MeetsItsFloor history)) (sym k.no_histories) (All-nil (λ history. All MeetsItsFloor history))
+    by (inr b) = λ place d below. law (terms_of b.shape place) _ (b.keeps.legal place _ (slice_get-get_or left.histories place d below))
+
+-- each commit of a run is covered, whatever the keeper said
+pub covered-run : (s : Status) (held : Held) (before after : Tells) (left : Left) (written : ℕ) → Ended s held before after left written → Covered left.log left.histories
+covered-run s held before after left written h = by (began-or-not s held before after left written h)
+  where
+    none-at : (log : List Commit) (place : ℕ) (commit : Commit) → log ≡ [] → slice_get log place ≡ Some commit → ⊥
+    none-at log place commit none at = absurd (below (subst (λ (l : List Commit). place < length l) none (slice_get_within log place commit at)))
+      where
+        below : place < 0 → ⊥
+        below h = absurd (omega arith)
+
+    by : (IsNotStarted before after left written ⊎ Began held before after left) → Covered left.log left.histories
+    by (inl k) = λ place commit key at touched. absurd (none-at left.log place commit k.no_log at)
+    by (inr b) = b.keeps.covered
+
+-- faulty words leave all that was handed in
+pub untouched-run : (s : Status) (held : Held) (before after : Tells) (left : Left) (written : ℕ) → Ended s held before after left written → s ≡ status.Usage → after ≡ before
+untouched-run s held before after left written h usage = (subst (λ (s : Status). Ended s held before after left written) usage h).0
+
+at-place : {X : Type 0} (P : X → Type 0) (xs : List X) (i : ℕ) (x : X) → All P xs → slice_get xs i ≡ Some x → P x
+at-place P xs i x h is = subst P (get_or_from_slice_get xs i x x is) (h i x (slice_get_within xs i x is))
+
+reverse-middle : {X : Type 0} (xs : List X) (x : X) (ys : List X) → reverse (xs ++ x ∷ ys) ≡ reverse ys ++ x ∷ reverse xs
+reverse-middle {X} xs x ys =
+    reverse-append xs (x ∷ ys)
+    ∙ ap (λ (l : List X). l ++ reverse xs) (reverse-append (x ∷ []) ys)
+    ∙ append_assoc (reverse ys) (x ∷ []) (reverse xs)
+
+turned : {X : Type 0} (before between after : List X) (r h : X)
+    → reverse (before ++ r ∷ (between ++ h ∷ after)) ≡ reverse after ++ h ∷ (reverse between ++ r ∷ reverse before)
+turned {X} before between after r h =
+    reverse-middle before r (between ++ h ∷ after)
+    ∙ ap (λ (l : List X). l ++ r ∷ reverse before) (reverse-middle between h after)
+    ∙ append_assoc (reverse after) (h ∷ reverse between) (r ∷ reverse before)
+
+fresh-later : (opening : Tables) (log : List Commit) (later past : List Step) → IsFreshPast opening log (later ++ past) → IsFreshPast opening log past
+fresh-later opening log [] past h = h
+fresh-later opening log (step ∷ later) past h = fresh-later opening log later past h.1
+
+releases-own : (key : QKey) (who : Sid) (token : ℕ) (how : ends.Ended) → releases key who (Released key who token how) ≡ true
+releases-own key who token how =
+    and_from _ _ (and_from _ _ (eq-eqb (kind_number key.kind) (kind_number key.kind) refl) (eq-eqb key.id key.id refl)) (eq-eqb who.number who.number refl)
+
+any-behind : {X : Type 0} (p : X → Bool) (xs : List X) (x : X) (ys : List X) → p x ≡ true → list_any p (xs ++ x ∷ ys) ≡ true
+any-behind p xs x ys h =
+    list_any-append p xs (x ∷ ys) ∙ ap (λ (b : Bool). list_any p xs || (b || list_any p ys)) h ∙ either (list_any p xs)
+  where
+    either : (a : Bool) → (a || true) ≡ true
+    either true = refl
+    either false = refl
+
+-- where each hit is fresh, those behind a release hold the commit
+pub hold-commits : (opening : Tables) (log : List Commit) (histories : List (List Step)) → Fresh opening log histories → HitsHoldCommits opening log histories
+hold-commits opening log histories fresh shard place history commit key value stamp there at touched b =
+    let hit = Hit key b.reader b.floor value stamp in
+    let release = Released key commit.sid b.token b.how in
+    let past = reverse b.between ++ release ∷ reverse b.before in
+    let whole : IsFreshPast opening log (reverse history) = at-place (λ history. IsFreshPast opening log (reverse history)) histories shard history fresh there in
+    let order : reverse history ≡ reverse b.after ++ hit ∷ past = ap reverse b.steps ∙ turned b.before b.between b.after release hit in
+    let found = fresh-later opening log (reverse b.after) (hit ∷ past) (subst (IsFreshPast opening log) order whole) in
+    let ended = any-behind (releases key commit.sid) (reverse b.between) release (reverse b.before) (releases-own key commit.sid b.token b.how) in
+    (found.0.current place commit at touched ended, found.0.right)
+
+pub hold-run : (left_old left_new : Option (List ℕ)) (opening rows : Option Tables) (log : List Commit) (histories : List (List Step))
+    → IfSome opening (λ opening. IsFreshRun left_old left_new opening rows log histories) → IfSome opening (λ opening. HitsHoldCommits opening log histories)
+hold-run left_old left_new None rows log histories h = tt
+hold-run left_old left_new (Some opening) rows log histories h = hold-commits opening log histories h.fresh
+
+-- what a source gives up to its end is all that was left
+all-read : (rest : List ℕ) (left : Option (List ℕ)) (bytes : List ℕ) → Takes (Some rest) left bytes → AtEnd left → bytes ≡ rest
+all-read rest None bytes e h = absurd cc
+all-read rest (Some more) bytes e h =
+    let done : more ≡ [] = h more refl in
+    let all : rest ≡ bytes ++ more = cc in
+    sym (append-nil bytes) ∙ ap (λ (m : List ℕ). bytes ++ m) (sym done) ∙ sym all
+
+-- two sources that tell the same bytes are read to the same text
+one-text : (old old' new new' : Option (List ℕ)) (text text' rest : List ℕ) → old ≡ Some rest → old' ≡ old → Takes old new text → AtEnd new → Takes old' new' text' → AtEnd new' → text' ≡ text
+one-text old old' new new' text text' rest is same h k h' k' =
+    all-read rest new' text' (sym (same ∙ is) ∙ h') k' ∙ sym (all-read rest new text (sym is ∙ h) k)
+
+backwards : (moves : List Move) → reverse (map call_of (reverse moves)) ≡ map call_of moves
+backwards [] = refl
+backwards (move ∷ moves) =
+    ap (λ (l : List Move). reverse (map call_of l)) (reverse-append (move ∷ []) moves)
+    ∙ ap reverse (map-append call_of (reverse moves) (move ∷ []))
+    ∙ reverse-append (map call_of (reverse moves)) (call_of move ∷ [])
+    ∙ ap (λ (l : List Call). call_of move ∷ l) (backwards moves)
+
+-- two lists that do the same in reverse do the same
+unreversed : (moves others : List Move) → map call_of (reverse moves) ≡ map call_of (reverse others) → map call_of moves ≡ map call_of others
+unreversed moves others same = sym (backwards moves) ∙ ap reverse same ∙ backwards others
+
+gained : (old new : Option (List ℕ)) (printed : List ℕ) → old ≡ Some [] → Gains old new printed → new ≡ Some printed
+gained old new printed none h = h ∙ ap (option_map (λ taken. taken ++ printed)) none
+
+-- two runs of one text, both to the end and without a FAULT, came to the same
+wholes-alike : TextsTellScripts → RunsAreDetermined → (held held' : Held) (before after before' after' : Tells) (left left' : Left) (written written' : ℕ)
+    → IsWhole held before after left written [] → IsWhole held' before' after' left' written' []
+    → IsSome after.rows → IsSome after'.rows → IsSome before.left → before'.left ≡ before.left → before.taken ≡ Some [] → before'.taken ≡ Some []
+    → AreAlike after after' left left' written written'
+wholes-alike texts law held held' before after before' after' left left' written written' h h' some some' told same none none' =
+    let rest = some-at before.left told in
+    let rows = some-at after.rows some in
+    let rows' = some-at after'.rows some' in
+    let text = one-text before.left before'.left after.left after'.left h.read.text h'.read.text rest.0 rest.1 same h.read.takes h.read.at_end h'.read.takes h'.read.at_end in
+    let script = texts.one_script h.read.text h.shape h'.shape h.acts h'.acts h.read.is_script (subst (λ (t : List ℕ). IsScript t h'.shape h'.acts) text h'.read.is_script) in
+    let opening = h.opened.opened rows.0 rows.1 (start_tables h.shape.members) h.opened.fresh in
+    let opening' = h'.opened.opened rows'.0 rows'.1 (start_tables h'.shape.members) h'.opened.fresh in
+    let openings : h'.opening ≡ h.opening = opening' ∙ ap (λ (s : Shape). start_tables s.members) (sym script.0) ∙ sym opening in
+    let made : AreMoves h.acts h'.moves = h'.made ∙ ap calls_of (sym script.1) in
+    let at' : past_of h'.shape h'.moves ≡ past_of h.shape h'.moves = ap (λ (s : Shape). past_of s h'.moves) (sym script.0) in
+    let truth : IsTruePast h.opening (past_of h.shape h'.moves) =
+    subst (λ (o : Tables). IsTruePast o (past_of h.shape h'.moves)) openings (subst (IsTruePast h'.opening) at' (h'.keeps.truth rows'.0 rows'.1)) in
+    let turns : fault_turns (past_of h.shape h'.moves) ≡ [] = sym (h'.turns_are ∙ ap fault_turns at') in
+    let bytes : out h.shape h'.moves ≡ out h.shape h.moves = h.the_text rows.0 rows.1 h'.moves made truth turns in
+    let outs : out h'.shape h'.moves ≡ out h.shape h.moves = ap (λ (s : Shape). out s h'.moves) (sym script.0) ∙ bytes in
+    let pasts : past_of h.shape h'.moves ≡ past_of h.shape h.moves =
+    law h.shape h.opening h'.moves h.moves (unreversed h'.moves h.moves (made ∙ sym h.made)) truth (h.keeps.truth rows.0 rows.1) (turns ∙ h.turns_are) in
+    let logs : left'.log ≡ left.log = h'.keeps.log_is ∙ ap log_of (at' ∙ pasts) ∙ sym h.keeps.log_is in
+    record {
+      bytes = gained before'.taken after'.taken (out h'.shape h'.moves) none' h'.prints.gains ∙ ap Some outs ∙ sym (gained before.taken after.taken (out h.shape h.moves) none h.prints.gains);
+      counts = h'.prints.counted ∙ ap (λ (l : List ℕ). min (length l) (2 ^ 64 - 1)) outs ∙ sym h.prints.counted;
+      openings = h'.opening_is ∙ ap Some openings ∙ sym h.opening_is;
+      logs = logs;
+      histories =
+          h'.keeps.histories_are
+          ∙ ap (λ (s : Shape). histories_of s (past_of h'.shape h'.moves)) (sym script.0)
+          ∙ ap (histories_of h.shape) (at' ∙ pasts)
+          ∙ sym h.keeps.histories_are;
+      rows =
+          rows'.1 ∙ ap Some (h'.keeps.rows_are rows'.0 rows'.1 ∙ ap (λ (o : Tables). rows_after o left'.log) openings ∙ ap (rows_after h.opening) logs ∙ sym (h.keeps.rows_are rows.0 rows.1))
+          ∙ sym rows.1;
+    }
+
+pub two-alike : TextsTellScripts → RunsAreDetermined → (one two : Status) (held held' : Held) (before after before' after' : Tells) (left left' : Left) (written written' : ℕ)
+    → Ended one held before after left written → Ended two held' before' after' left' written'
+    → (IsSome left.opening → IsSome after.rows) → (IsSome left'.opening → IsSome after'.rows)
+    → IsSome before.left → before'.left ≡ before.left → before.taken ≡ Some [] → before'.taken ≡ Some []
+    → one ≡ status.Done → two ≡ status.Done → AreAlike after after' left left' written written'
+two-alike texts law one two held held' before after before' after' left left' written written' h h' started started' told same none none' done done' =
+    let whole = subst (λ (s : Status). Ended s held before after left written) done h in
+    let whole' = subst (λ (s : Status). Ended s held' before' after' left' written') done' h' in
+    wholes-alike texts law held held' before after before' after' left left' written written' whole whole'
+    (started (began left.opening whole.opening whole.opening_is)) (started' (began left'.opening whole'.opening whole'.opening_is)) told same none none'
+  where
+    began : (o : Option Tables) (opening : Tables) → o ≡ Some opening → IsSome o
+    began o opening is = subst (λ (o : Option Tables). IsSome o) (sym is) refl

@@ -1,0 +1,5 @@
+use Rattle.callers.proofs.RunLemmas.{covered-run}
+use Rattle.callers.proofs.runs.run_covered.Goals as goal
+
+pub returns : goal.returns
+returns g c = covered-run c.run.result.status _ _ _ _ c.run.result.written c.run.ensures.ended

@@ -1,0 +1,66 @@
+-- What is said of whole runs to who makes them.
+use Rattle.std.specs.Prelude.{ℕ, ◌≡◌, ◌<◌, true, List, [], ◌∷◌, ◌++◌, All, Option, Some, None, slice_get}
+use Rattle.rows_model.specs.declared.keys.QKey.{QKey}
+use Rattle.rows_model.specs.declared.keys.Sid.{Sid}
+use Rattle.rows_model.specs.Rows.{Tables, start_tables}
+use Rattle.rows_model.specs.Query.{answer}
+use Rattle.rows_model.specs.Changes.{touches}
+use Rattle.key_shard.specs.declared.steps.Ended.{Ended}
+use Rattle.key_shard.specs.declared.steps.Step.{Step}
+use Rattle.key_shard.specs.declared.steps.Step.TheVariants.{Hit, Released}
+use Rattle.sql_keeper.specs.declared.stores.Commit.{Commit}
+use Rattle.sql_keeper.specs.Fresh.{Fresh, Covered}
+use Rattle.sql_keeper.specs.Log.{rows_after, state}
+use Rattle.session_client.specs.declared.plans.Shape.{Shape}
+use Rattle.run_inputs.specs.declared.scripts.Act.{Act}
+use Rattle.top_run.specs.declared.runs.Status.{Status}
+use Rattle.top_run.specs.declared.runs.Status.TheVariants as status
+use Rattle.top_run.specs.Runs.{IsRead, Tells, Left}
+
+-- A run over a keeper in memory, which began with these rows and has those at its end: it began with the rows of as many members as its script says, no hit is stale, each commit is covered, and the rows at the end are those after the log.
+pub record IsFreshRun (left_old left_new : Option (List ℕ)) (opening : Tables) (rows : Option Tables) (log : List Commit) (histories : List (List Step)) : Type 0 where
+  pub shape : Shape
+  pub acts : List Act
+  pub read : IsRead left_old left_new shape acts
+  pub opened : opening ≡ start_tables shape.members
+  pub fresh : Fresh opening log histories
+  pub covered : Covered log histories
+  pub rows_are : rows ≡ Some (rows_after opening log)
+
+-- A hit behind a release of the key, in a history that has the earliest step first: between them and around them are any steps.
+pub record IsHitBehind (history : List Step) (key : QKey) (writer : Sid) (value : List ℕ) (stamp : ℕ) : Type 0 where
+  pub before : List Step
+  pub token : ℕ
+  pub how : Ended
+  pub between : List Step
+  pub reader : Sid
+  pub floor : ℕ
+  pub after : List Step
+  pub steps : history ≡ before ++ Released key writer token how ∷ (between ++ Hit key reader floor value stamp ∷ after)
+
+-- Each hit behind a session's release of the key holds that session's commit, where that touches the key: it is among the first commits, as many as the stamp says, and the value is the key's answer after these.
+abbrev pub HitsHoldCommits : Tables → List Commit → List (List Step) → Type 0
+HitsHoldCommits opening log histories =
+    (shard place : ℕ) (history : List Step) (commit : Commit) (key : QKey) (value : List ℕ) (stamp : ℕ)
+    → slice_get histories shard ≡ Some history → slice_get log place ≡ Some commit → touches commit.txn key ≡ true
+    → IsHitBehind history key commit.sid value stamp
+    → (place < stamp) × (value ≡ answer key (state opening log stamp))
+
+-- Nothing that was handed in failed: all was run, or the words or the text say nothing to run, or memory ran out.
+abbrev pub IsUnharmed : Status → Type 0
+IsUnharmed status.Done = Unit {0}
+IsUnharmed status.Usage = Unit {0}
+IsUnharmed (status.Script line kind) = Unit {0}
+IsUnharmed status.Memory = Unit {0}
+IsUnharmed status.ReadFault = ⊥
+IsUnharmed status.WriteFault = ⊥
+IsUnharmed status.KeepFault = ⊥
+
+-- Two runs came to the same: their sinks tell the same bytes, as many were counted, their keepers tell the same rows, and they began with the same rows and leave the same log and histories.
+pub record AreAlike (after after' : Tells) (left left' : Left) (written written' : ℕ) : Type 0 where
+  pub bytes : after'.taken ≡ after.taken
+  pub counts : written' ≡ written
+  pub rows : after'.rows ≡ after.rows
+  pub openings : left'.opening ≡ left.opening
+  pub logs : left'.log ≡ left.log
+  pub histories : left'.histories ≡ left.histories

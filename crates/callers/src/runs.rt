@@ -1,0 +1,169 @@
+// What whole runs tell who makes them.
+ghost use Rattle.std.specs.Prelude.{◌≡◌, ◌≢◌, ◌<◌, ◌-◌, ◌^◌, [], All, map, Some, None, IfSome, IsSome};
+ghost use Rattle.sql_keeper.specs.Fresh.{Covered};
+ghost use Rattle.top_run.specs.Runs.{AreReplay, Left, moment};
+ghost use Rattle.callers.specs.Shards.{MeetsItsFloor};
+ghost use Rattle.callers.specs.Runs.{IsFreshRun, HitsHoldCommits, IsUnharmed, AreAlike};
+
+use crate::shards::hits_meet_their_floors;
+use core_history::laws::runs_are_determined;
+use iq_outside::{Sink, Source};
+use run_inputs::texts_tell_scripts;
+use sql_keeper::{Keeper, MapKeeper};
+use std::alloc::Global;
+use top_run::{RunEnd, Status, run};
+
+/// No hit is stale over a keeper in memory, whichever of its calls fail, and whatever the source, the
+/// sink and the script are. Where the run began, it began with the rows of as many members as the
+/// script says, and the keeper's rows are those after the log.
+pub fn run_fresh<S: Source, W: Sink>(
+    alloc: Global,
+    words: &[Vec<u8>],
+    source: &mut S,
+    sink: &mut W,
+    keeper: MapKeeper,
+) -> RunEnd<MapKeeper>
+    ensures { let histories = map (λ history. history.items) result.histories.items in
+        IfSome result.opening (λ opening. IsFreshRun (S.left source.old) (S.left source.new)
+        opening result.keeper.rows result.log.items histories) }
+{
+    run(alloc, words, source, sink, keeper)
+}
+
+/// Once a writer has released a key, each hit on it holds the writer's commit, if that touches the key.
+pub fn run_holding_commits<S: Source, W: Sink>(
+    alloc: Global,
+    words: &[Vec<u8>],
+    source: &mut S,
+    sink: &mut W,
+    keeper: MapKeeper,
+) -> RunEnd<MapKeeper>
+    ensures { let histories = map (λ history. history.items) result.histories.items in
+        IfSome result.opening (λ opening.
+        HitsHoldCommits opening result.log.items histories) }
+{
+    run_fresh(alloc, words, source, sink, keeper)
+}
+
+/// No reader of a run is served a value older than its floor, whatever the keeper does.
+pub fn run_above_floors<S: Source, W: Sink, K: Keeper>(
+    alloc: Global,
+    words: &[Vec<u8>],
+    source: &mut S,
+    sink: &mut W,
+    keeper: K,
+) -> RunEnd<K>
+    ensures { let histories = map (λ history. history.items) result.histories.items in
+        All (λ history. All MeetsItsFloor history) histories }
+{
+    hits_meet_their_floors();
+    run(alloc, words, source, sink, keeper)
+}
+
+/// No transaction of a run was committed without a quarantine on each key that it touches, whatever the
+/// keeper does.
+pub fn run_covered<S: Source, W: Sink, K: Keeper>(
+    alloc: Global,
+    words: &[Vec<u8>],
+    source: &mut S,
+    sink: &mut W,
+    keeper: K,
+) -> RunEnd<K>
+    ensures { Covered result.log.items (map (λ history. history.items) result.histories.items) }
+{
+    run(alloc, words, source, sink, keeper)
+}
+
+/// Words that are no command leave the source, the sink and the keeper as they are.
+pub fn run_no_command<S: Source, W: Sink, K: Keeper>(
+    alloc: Global,
+    words: &[Vec<u8>],
+    source: &mut S,
+    sink: &mut W,
+    keeper: K,
+) -> RunEnd<K>
+    requires { AreReplay (map (λ word. word.items) words.now) → ⊥ }
+    ensures { let before = moment (S.left source.old) (S.faults source.old)
+        (W.taken sink.old) (W.faults sink.old) (K.rows keeper) (K.faults keeper) in
+        let after = moment (S.left source.new) (S.faults source.new)
+        (W.taken sink.new) (W.faults sink.new) (K.rows result.keeper) (K.faults result.keeper) in
+        after ≡ before }
+{
+    run(alloc, words, source, sink, keeper)
+}
+
+/// Two runs of one text over keepers in memory that both end Done put the same bytes into their sinks,
+/// in whatever pieces these are read and written, and leave the same opening rows, log and histories.
+pub fn run_twice<S: Source, T: Source, W: Sink, V: Sink>(
+    alloc: Global,
+    words: &[Vec<u8>],
+    source: &mut S,
+    second: &mut T,
+    sink: &mut W,
+    other: &mut V,
+    keepers: (MapKeeper, MapKeeper),
+) -> (RunEnd<MapKeeper>, RunEnd<MapKeeper>)
+    requires told { IsSome (S.left source.old) }
+    requires one_text { T.left second.old ≡ S.left source.old }
+    requires empty { W.taken sink.old ≡ Some [] }
+    requires empty_too { V.taken other.old ≡ Some [] }
+    ensures { let after = moment (S.left source.new) (S.faults source.new) (W.taken sink.new)
+        (W.faults sink.new) result.0.keeper.rows result.0.keeper.faults in
+        let after_too = moment (T.left second.new) (T.faults second.new) (V.taken other.new)
+        (V.faults other.new) result.1.keeper.rows result.1.keeper.faults in
+        let left : Left = record {
+          opening = result.0.opening;
+          log = result.0.log.items;
+          histories = map (λ history. history.items) result.0.histories.items;
+        } in
+        let left_too : Left = record {
+          opening = result.1.opening;
+          log = result.1.log.items;
+          histories = map (λ history. history.items) result.1.histories.items;
+        } in
+        result.0.status ≡ Status.Done → result.1.status ≡ Status.Done →
+        AreAlike after after_too left left_too result.0.written result.1.written }
+{
+    texts_tell_scripts();
+    runs_are_determined();
+    let first = run(alloc, words, source, sink, keepers.0);
+    let then = run(alloc, words, second, other, keepers.1);
+    (first, then)
+}
+
+/// A run in which none of the three counts of faults rose ended Done, Script, Usage or Memory.
+pub fn run_unharmed<S: Source, W: Sink, K: Keeper>(
+    alloc: Global,
+    words: &[Vec<u8>],
+    source: &mut S,
+    sink: &mut W,
+    keeper: K,
+) -> RunEnd<K>
+    requires reads { S.faults source.old < 2 ^ 64 - 1 }
+    requires writes { W.faults sink.old < 2 ^ 64 - 1 }
+    requires keeps { K.faults keeper < 2 ^ 64 - 1 }
+    ensures { S.faults source.new ≡ S.faults source.old →
+        W.faults sink.new ≡ W.faults sink.old →
+        K.faults result.keeper ≡ K.faults keeper → IsUnharmed result.status }
+{
+    run(alloc, words, source, sink, keeper)
+}
+
+/// Where a run never began, nothing was printed, and the keeper's rows are as before. So is its count of
+/// faults, unless it was the keeper that failed, at its start.
+pub fn run_not_begun<S: Source, W: Sink, K: Keeper>(
+    alloc: Global,
+    words: &[Vec<u8>],
+    source: &mut S,
+    sink: &mut W,
+    keeper: K,
+) -> RunEnd<K>
+    ensures unprinted { result.opening ≡ None → W.taken sink.new ≡ W.taken sink.old }
+    ensures none_written { result.opening ≡ None → result.written ≡ 0 }
+    ensures rows { result.opening ≡ None → K.rows result.keeper ≡ K.rows keeper }
+    ensures count { result.opening ≡ None → result.status ≢ Status.KeepFault →
+        K.faults result.keeper ≡ K.faults keeper }
+    ensures log { result.opening ≡ None → result.log.items ≡ [] }
+{
+    run(alloc, words, source, sink, keeper)
+}

@@ -1,0 +1,133 @@
+use crate::{runs, shards, stores};
+use iq_outside::{MemSink, MemSource};
+use key_shard::{Got, SetAnswer, Shard};
+use rows_model::{Change, Kind, QKey, Sid, Txn, Value};
+use sql_keeper::{CommitFault, MapKeeper, Place, Store};
+use std::alloc::Global;
+use std::process::Abort;
+use std::test::Fail;
+use top_run::Status;
+
+/// A reader that stores, a writer, and a reader behind it.
+const SCRIPT: &[u8] =
+    b"members 3\nread 1 profile:2\nwrite 2 invalidate rename 2 bob\nread 3 profile:2\nturn 1 3\nturn 2 3\nturn 3 3\nend\n";
+
+const PROFILE: QKey = QKey {
+    kind: Kind::Profile,
+    id: 2,
+};
+
+/// The words of a run.
+fn words(alloc: Global) -> Result<Vec<Vec<u8>>, Fail> {
+    let mut words = Vec::new(alloc);
+    words.push(Vec::from_slice(alloc, b"replay")?)?;
+    Ok(words)
+}
+
+#[test]
+fn runs_are_fresh_hold_commits_and_meet_floors(rt: HostRuntime) -> Result<(), Fail> {
+    let alloc = rt.alloc();
+    let words = words(alloc)?;
+    let text = Vec::from_slice(alloc, SCRIPT)?;
+    let mut source = MemSource::new(text, 5, Vec::new(alloc));
+    let mut sink = MemSink::new(alloc, 4096, 7, Vec::new(alloc))?;
+    let keeper = MapKeeper::new(Vec::new(alloc));
+    let end = runs::run_fresh(alloc, words.as_slice(), &mut source, &mut sink, keeper);
+    assert_eq!(rt; (end.status, end.log.len()), (Status::Done, 1));
+    // The text is at its end now.
+    let keeper = MapKeeper::new(Vec::new(alloc));
+    let end = runs::run_holding_commits(alloc, words.as_slice(), &mut source, &mut sink, keeper);
+    assert_eq!(rt; end.opening.is_none(), true);
+    let keeper = MapKeeper::new(Vec::new(alloc));
+    let end = runs::run_above_floors(alloc, words.as_slice(), &mut source, &mut sink, keeper);
+    assert_eq!(rt; end.histories.len(), 0);
+    let keeper = MapKeeper::new(Vec::new(alloc));
+    let end = runs::run_covered(alloc, words.as_slice(), &mut source, &mut sink, keeper);
+    assert_eq!(rt; end.log.len(), 0);
+    let keeper = MapKeeper::new(Vec::new(alloc));
+    let end = runs::run_no_command(alloc, &[], &mut source, &mut sink, keeper);
+    assert_eq!(rt; end.status, Status::Usage);
+    Ok(())
+}
+
+#[test]
+fn two_runs_of_one_text_print_the_same(rt: HostRuntime) -> Result<(), Fail> {
+    let alloc = rt.alloc();
+    let words = words(alloc)?;
+    let text = Vec::from_slice(alloc, SCRIPT)?;
+    let mut source = MemSource::new(text, 1, Vec::new(alloc));
+    let text = Vec::from_slice(alloc, SCRIPT)?;
+    let mut second = MemSource::new(text, 4096, Vec::new(alloc));
+    let mut sink = MemSink::new(alloc, 4096, 3, Vec::new(alloc))?;
+    let mut other = MemSink::new(alloc, 4096, 4096, Vec::new(alloc))?;
+    let keepers = (
+        MapKeeper::new(Vec::new(alloc)),
+        MapKeeper::new(Vec::new(alloc)),
+    );
+    let (first, then) = runs::run_twice(
+        alloc,
+        words.as_slice(),
+        &mut source,
+        &mut second,
+        &mut sink,
+        &mut other,
+        keepers,
+    );
+    assert_eq!(rt; (first.status, then.status), (Status::Done, Status::Done));
+    assert_eq!(rt; sink.taken(), other.taken());
+    Ok(())
+}
+
+#[test]
+fn a_run_without_a_fault_is_unharmed_and_one_without_a_script_leaves_no_trace(
+    rt: HostRuntime,
+) -> Result<(), Fail> {
+    let alloc = rt.alloc();
+    let words = words(alloc)?;
+    let mut source = MemSource::new(Vec::new(alloc), 5, Vec::new(alloc));
+    let mut sink = MemSink::new(alloc, 4096, 7, Vec::new(alloc))?;
+    let keeper = MapKeeper::new(Vec::new(alloc));
+    let end = runs::run_unharmed(alloc, words.as_slice(), &mut source, &mut sink, keeper);
+    assert_eq!(rt; end.opening.is_none(), true);
+    let keeper = MapKeeper::new(Vec::new(alloc));
+    let end = runs::run_not_begun(alloc, words.as_slice(), &mut source, &mut sink, keeper);
+    assert_eq!(rt; (end.written, sink.taken().len()), (0, 0));
+    Ok(())
+}
+
+#[test]
+fn an_ended_session_does_not_commit(rt: HostRuntime) -> Result<(), Fail> {
+    let alloc = rt.alloc();
+    let keeper = MapKeeper::new(Vec::new(alloc));
+    let Ok(mut store) = Store::new(alloc, keeper, &Place::Fresh, 3, 8) else {
+        panic!(rt; "no store");
+    };
+    let sid = store.begin(true)?;
+    let Ok(txn) = Txn::of(alloc, &[Change::Invite { a: 1, b: 2 }]) else {
+        panic!(rt; "no transaction");
+    };
+    let Err((fault, txn)) = stores::commit_after_end(&mut store, sid, txn, &[]) else {
+        panic!(rt; "committed after its end");
+    };
+    assert_eq!(rt; fault, CommitFault::Ended);
+    let sid = store.begin(true)?;
+    let Err((fault, _)) = stores::commit_covered(&mut store, sid, txn, &[]) else {
+        panic!(rt; "committed without a grant");
+    };
+    assert_eq!(rt; fault, CommitFault::Uncovered { key: PROFILE });
+    stores::closed_sessions_never_commit();
+    Ok(())
+}
+
+#[test]
+fn a_shard_serves_nothing_too_old_or_too_late(rt: HostRuntime) -> Result<(), Fail> {
+    let alloc = rt.alloc();
+    let mut shard = Shard::new(alloc, 0, 1, 8, 8, 1)?;
+    let value = Value::of(alloc, b"m2 0 0")?;
+    let set = shards::set_too_late(&mut shard, PROFILE, 1, value, 0, 0);
+    assert_eq!(rt; set, Ok(SetAnswer::Void));
+    let got = shards::get_at_least(&mut shard, PROFILE, Sid { number: 1 }, 3, 0);
+    assert_eq!(rt; matches!(got, Ok(Got::Lease { token: 1 })), true);
+    shards::hits_meet_their_floors();
+    Ok(())
+}
