@@ -1,7 +1,7 @@
 -- What follows from how a run ended.
-use Rattle.std.proofs.Common.{◌≡◌, ℕ, ◌-◌, ◌^◌, ◌<◌, ◌⊎◌, ◌&&◌, ◌||◌, ◌==◌, Bool, true, false, inl, inr, List, [], ◌∷◌, ◌++◌, length, map, reverse, Option, Some, None, IsSome, slice_get, refl, sym, ap, subst, ◌∙◌, append_assoc, append-nil, arith}
+use Rattle.std.proofs.Common.{◌≡◌, ℕ, ◌-◌, ◌^◌, ◌<◌, ◌⊎◌, ◌||◌, Bool, true, false, inl, inr, List, [], ◌∷◌, ◌++◌, length, map, reverse, Option, Some, None, IsSome, slice_get, refl, sym, ap, subst, ◌∙◌, append_assoc, append-nil, arith}
 use Rattle.std.specs.Prelude.{All, IfSome, min}
-use Rattle.std.specs.Option.{ForSome, option_map}
+use Rattle.std.specs.Option.{option_map}
 use Rattle.std.specs.List.{list_any}
 use Rattle.std.proofs.lemmas.Bool.{and_from, eq-eqb}
 use Rattle.std.proofs.lemmas.List.{reverse-append, map-append}
@@ -11,7 +11,7 @@ use Rattle.std.proofs.lemmas.Option.{get_or_from_slice_get, slice_get_within, sl
 use Rattle.iq_outside.specs.Outside.{Takes, AtEnd, Gains}
 use Rattle.rows_model.specs.declared.keys.QKey.{QKey}
 use Rattle.rows_model.specs.declared.keys.Sid.{Sid}
-use Rattle.rows_model.specs.Key.{same_key, kind_number}
+use Rattle.rows_model.specs.Key.{kind_number}
 use Rattle.rows_model.specs.Rows.{Tables, start_tables}
 use Rattle.key_shard.specs.declared.steps.Ended as ends
 use Rattle.key_shard.specs.declared.steps.Step.{Step}
@@ -23,7 +23,7 @@ use Rattle.session_client.specs.declared.plans.Shape.{Shape}
 use Rattle.run_inputs.specs.declared.scripts.Act.{Act}
 use Rattle.run_inputs.specs.Script.{IsScript, TextsTellScripts}
 use Rattle.core_history.specs.Determined.{Call, call_of, RunsAreDetermined}
-use Rattle.core_history.specs.Events.{Event, log_of}
+use Rattle.core_history.specs.Events.{log_of}
 use Rattle.core_history.specs.Freshness.{histories_of}
 use Rattle.core_history.specs.Lines.{fault_turns}
 use Rattle.core_history.specs.Machine.{Move, terms_of}
@@ -32,7 +32,7 @@ use Rattle.top_run.specs.declared.runs.Status.{Status}
 use Rattle.top_run.specs.declared.runs.Status.TheVariants as status
 use Rattle.top_run.specs.Runs.{calls_of, AreMoves, past_of, out, Held, Tells, Left, IsRead, IsOpened, Keeps, IsWhole, IsCutOff, IsNotStarted, Ended}
 use Rattle.callers.specs.Shards.{MeetsItsFloor, HitsMeetTheirFloors}
-use Rattle.callers.specs.Runs.{IsFreshRun, HitsHoldCommits, IsHitBehind, AreAlike}
+use Rattle.callers.specs.Runs.{IsFreshRun, HitsHoldCommits, AreAlike}
 
 -- a run that began
 record Began (held : Held) (before after : Tells) (left : Left) : Type 0 where

@@ -1,7 +1,6 @@
 -- Sessions that aren't open stay so, and commits that are admitted are covered.
-use Rattle.std.proofs.Common.{◌≡◌, ◌≢◌, ℕ, ◌≤◌, ◌-◌, ◌==◌, ◌&&◌, ◌||◌, Bool, true, false, if◌then◌else◌, List, [], ◌∷◌, length, Option, Some, None, refl, sym, ap, ◌∙◌, arith, subst, cond}
+use Rattle.std.proofs.Common.{◌≡◌, ◌≢◌, ℕ, ◌≤◌, ◌-◌, ◌==◌, ◌||◌, Bool, true, false, if◌then◌else◌, List, [], ◌∷◌, length, Option, Some, None, refl, sym, ap, ◌∙◌, arith, subst}
 use Rattle.std.specs.Prelude.{Result, Ok, Err, IfErr, OnOk, OnErr, not, find}
-use Rattle.std.specs.List.{list_any}
 use Rattle.std.proofs.lemmas.Bool.{false≢true, and_parts, and_from, eqb-true, eq-eqb}
 use Rattle.std.proofs.lemmas.List.{length_push, length-set}
 use Rattle.rows_model.specs.declared.keys.QKey.{QKey}
@@ -15,7 +14,7 @@ use Rattle.key_shard.specs.Permit.{Permit}
 use Rattle.sql_keeper.specs.declared.faults.CommitFault.{CommitFault}
 use Rattle.sql_keeper.specs.declared.faults.CommitFault.TheVariants as faults
 use Rattle.sql_keeper.specs.declared.stores.Phase.TheVariants.{Committed, Ended}
-use Rattle.sql_keeper.specs.Commits.{covers, is_covered, uncovered, covered_fault, full, commit_fault}
+use Rattle.sql_keeper.specs.Commits.{covers, is_covered, uncovered, covered_fault, commit_fault}
 use Rattle.sql_keeper.specs.Sessions.{is_open, first_phase, with_phase}
 use Rattle.sql_keeper.specs.Stores.{Ledger, IsRefusal, with_call, with_end, with_session}
 use Rattle.sql_keeper.specs.Faults.{is_failure}

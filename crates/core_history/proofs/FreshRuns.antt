@@ -1,7 +1,6 @@
 -- Every run keeps the rule of each key and its entries held, and where its replies were true it is fresh: by its moves, the latest first.
-use Rattle.std.proofs.Common.{ℕ, ◌+◌, ◌≡◌, ◌≢◌, ◌<◌, ◌≤◌, Bool, true, false, ◌==◌, ◌&&◌, List, [], ◌∷◌, reverse, length, Option, Some, None, slice_get, refl, sym, ap, subst, ◌∙◌, ◌⊎◌, inl, inr, ⊎_elim, arith}
+use Rattle.std.proofs.Common.{ℕ, ◌+◌, ◌≡◌, ◌<◌, true, ◌==◌, ◌&&◌, List, [], ◌∷◌, reverse, length, Option, Some, None, refl, sym, subst, ◌⊎◌, ⊎_elim, arith}
 use Rattle.std.specs.List.{range_with_len, list_any, AllByRecursion}
-use Rattle.std.proofs.lemmas.Bool.{cases_Bool, cases_lt}
 use Rattle.std.proofs.lemmas.List.{reverse-reverse}
 use Rattle.std.proofs.lemmas.List.Elements.{All-map}
 use Rattle.std.proofs.lemmas.List.FromFn.{length-range_with_len, get_or-range_with_len}
@@ -13,7 +12,6 @@ use Rattle.lease_table.specs.declared.records.ReadLease.{ReadLease}
 use Rattle.key_shard.specs.declared.steps.Step.{Step}
 use Rattle.key_shard.specs.Past.{standing, recorded, entry}
 use Rattle.sql_keeper.specs.declared.stores.Answer.{Answer}
-use Rattle.sql_keeper.specs.declared.stores.Commit.{Commit}
 use Rattle.sql_keeper.specs.Fresh.{IsFreshPast, Fresh}
 use Rattle.key_freshness.specs.Marks.{marks_of}
 use Rattle.key_freshness.specs.Held.{IsEntryHeld, IsEntryRight, stands_as}
@@ -21,16 +19,15 @@ use Rattle.key_freshness.proofs.HitLemmas.{lacking_stands}
 use Rattle.key_freshness.proofs.MomentLemmas.{known_then, stored_is_latest}
 use Rattle.session_client.specs.declared.plans.Shape.{Shape}
 use Rattle.session_client.specs.declared.plans.Turn.TheVariants as turn
-use Rattle.core_history.specs.Events.{Event, steps_of, log_of, known_of}
-use Rattle.core_history.specs.Machine.{World, Move, Begin, Take, start, begun, turn_event, world_of, HasPlans}
+use Rattle.core_history.specs.Events.{steps_of, log_of, known_of}
+use Rattle.core_history.specs.Machine.{World, Move, Begin, Take, turn_event, world_of}
 use Rattle.core_history.specs.Truth.{IsTruePast}
-use Rattle.core_history.specs.Facts.{Facts, IsAnswer, ArePending, IsCurrent, IsQuiet, steps_on, stands_for, answers_under}
+use Rattle.core_history.specs.Facts.{Facts, IsAnswer, ArePending, IsCurrent, IsQuiet, steps_on, answers_under}
 use Rattle.core_history.specs.Freshness.{RunsAreFresh, histories_of}
 use Rattle.core_history.proofs.EventLemmas.{closed-over}
 use Rattle.core_history.proofs.GrantFacts.{GrantFacts}
 use Rattle.core_history.proofs.GrantLemmas.{grant_facts}
-use Rattle.core_history.proofs.HeldEvents.{steps_at, IsBetween, IsLeased, Holds, good_holds, start_holds}
-use Rattle.core_history.proofs.InnerLemmas.{Inner}
+use Rattle.core_history.proofs.HeldEvents.{IsBetween, IsLeased, Holds, good_holds, start_holds}
 use Rattle.core_history.proofs.ListLemmas.{any-weaker, and_elim, not_true}
 use Rattle.core_history.proofs.RightEvents.{answer_after, IsRightAnswer, Rights, good_rights, start_rights}
 use Rattle.core_history.proofs.WorldLemmas.{inner_of, taken-inner}

@@ -1,11 +1,10 @@
 -- The facts of grants hold of every world, and so every run is lawful.
-use Rattle.std.proofs.Common.{ℕ, ◌≡◌, ◌≢◌, ◌<◌, ◌≤◌, ◌==◌, true, List, [], ◌∷◌, length, reverse, count_by, Option, Some, None, slice_get, AllPairs, mod-lt, pos_of_ne-zero, sym, ap, subst, ◌∙◌, inl, inr, ◌⊎◌, arith}
+use Rattle.std.proofs.Common.{ℕ, ◌≡◌, ◌≢◌, ◌<◌, ◌≤◌, ◌==◌, true, List, [], ◌∷◌, length, reverse, count_by, Option, Some, None, slice_get, mod-lt, pos_of_ne-zero, sym, ap, subst, ◌∙◌, inl, inr, ◌⊎◌, arith}
 use Rattle.std.specs.List.{list_any}
 use Rattle.std.proofs.lemmas.Bool.{false≢true}
 use Rattle.std.proofs.lemmas.Option.{slice_get-get_or}
 use Rattle.std.proofs.lemmas.List.Elements.{All-from_recursion}
 use Rattle.std.proofs.lemmas.List.FromFn.{get_or-map-range_with_len, length-map-range_with_len}
-use Rattle.std.proofs.lemmas.List.Kept.{AllPairs-cons}
 use Rattle.rows_model.specs.declared.keys.QKey.{QKey}
 use Rattle.rows_model.specs.declared.keys.Sid.{Sid}
 use Rattle.rows_model.specs.declared.changes.Change.{Change}
@@ -34,7 +33,7 @@ use Rattle.core_history.specs.Machine.{World, Move, world_of, HasPlans, terms_of
 use Rattle.core_history.specs.Facts.{steps_on, stands_for, AreApart, IsOrdered}
 use Rattle.core_history.specs.Freshness.{histories_of, RunsAreLawful}
 use Rattle.core_history.proofs.GrantFacts.{GrantFacts, IsReleaseOf}
-use Rattle.core_history.proofs.ListLemmas.{and_elim, not_true, any-reverse, count-once, count-some, every-weaker}
+use Rattle.core_history.proofs.ListLemmas.{and_elim, not_true, any-reverse, count-once, every-weaker}
 use Rattle.core_history.proofs.EventLemmas.{IsKnown}
 use Rattle.core_history.proofs.SessionLemmas.{Writer}
 use Rattle.core_history.proofs.InnerLemmas.{Inner, IsSession, IsCovered, stands_well}

@@ -1,12 +1,11 @@
 -- The rule, the tie and held entries of every key, and leases that are moments, are kept by each good event, whatever the keeper says.
-use Rattle.std.proofs.Common.{ℕ, ◌≡◌, ◌+◌, ◌<◌, ◌≤◌, Bool, true, false, cond, ◌==◌, ◌&&◌, List, [], ◌∷◌, ◌++◌, length, Option, Some, None, slice_get, append-nil, refl, sym, ap, subst, ◌∙◌, ◌⊎◌, inl, inr, ⊎_elim, arith}
+use Rattle.std.proofs.Common.{ℕ, ◌≡◌, ◌+◌, ◌≤◌, Bool, true, false, cond, ◌==◌, ◌&&◌, List, [], ◌∷◌, ◌++◌, length, Option, Some, None, append-nil, refl, sym, ap, subst, ◌∙◌, ◌⊎◌, inl, inr, ⊎_elim, arith}
 use Rattle.std.specs.List.{AllByRecursion}
-use Rattle.std.proofs.lemmas.Bool.{cases_Bool, eqb-true, eq-eqb, false≢true, true≢false}
+use Rattle.std.proofs.lemmas.Bool.{eqb-true, eq-eqb, false≢true}
 use Rattle.rows_model.specs.declared.keys.QKey.{QKey}
 use Rattle.rows_model.specs.declared.keys.Sid.{Sid}
 use Rattle.rows_model.specs.Key.{same_key}
 use Rattle.rows_model.proofs.SameKey.{same_key-true}
-use Rattle.rows_model.specs.Changes.{touches}
 use Rattle.rows_model.specs.Placement.{shard_of}
 use Rattle.lease_table.specs.declared.records.Quar.{Quar}
 use Rattle.lease_table.specs.declared.records.ReadLease.{ReadLease}
@@ -17,10 +16,10 @@ use Rattle.key_shard.specs.declared.steps.Step.TheVariants as step
 use Rattle.key_shard.specs.Past.{standing, recorded, entry}
 use Rattle.sql_keeper.specs.declared.stores.Answer.{Answer}
 use Rattle.sql_keeper.specs.declared.stores.Commit.{Commit}
-use Rattle.key_freshness.specs.Marks.{Mark, Granted, Ended, Leased, Wrote, Has, key_of, marks_by, marks_in, marks_of, writes_by}
-use Rattle.key_freshness.specs.Known.{Known, IsAmong, StandsAt, IsMore, IsRuled}
+use Rattle.key_freshness.specs.Marks.{Mark, Granted, Ended, Leased, Wrote, Has, key_of, marks_in, marks_of, writes_by}
+use Rattle.key_freshness.specs.Known.{Known, IsMore, IsRuled}
 use Rattle.key_freshness.specs.Moments.{IsMoment, IsSince}
-use Rattle.key_freshness.specs.Held.{IsHeld, IsEntryHeld, IsTied, stands_as}
+use Rattle.key_freshness.specs.Held.{IsHeld, IsEntryHeld, IsTied}
 use Rattle.key_freshness.specs.Laws.{IsHonest, EndsItsOwn, with_commit, with_end}
 use Rattle.key_freshness.proofs.KnownLemmas.{more-refl, more-trans, more-length}
 use Rattle.key_freshness.proofs.MomentLemmas.{more_is_held, stored_is_latest}
@@ -34,7 +33,7 @@ use Rattle.session_client.specs.declared.replies.Reply.TheVariants as reply
 use Rattle.session_client.specs.declared.replies.Wanted.{Wanted}
 use Rattle.core_history.specs.Events.{Event, Stepped, Called, steps_of, commits_told, log_of, ends_told, ended_of, known_of}
 use Rattle.core_history.specs.Facts.{leases, leased_at, answers_in, answers_under}
-use Rattle.core_history.proofs.GoodEvents.{IsTold, SetsTold, IsGoodStep, IsGoodStepped, IsGoodCommit, IsGoodCall, IsGoodEvent}
+use Rattle.core_history.proofs.GoodEvents.{IsTold, SetsTold, IsGoodStep, IsGoodEvent}
 use Rattle.core_history.proofs.ListLemmas.{choose, every-append, every-weaker, not_both, and_elim}
 
 -- the steps of a key's shard

@@ -1,5 +1,5 @@
 -- A request that was made on a shard leaves the store, and one at the store leaves the shards.
-use Rattle.std.proofs.Common.{ℕ, ◌≡◌, pos, List, ◌∷◌, Result, Ok, Err, refl}
+use Rattle.std.proofs.Common.{ℕ, pos, List, ◌∷◌, Result, Ok, Err}
 use Rattle.rows_model.specs.declared.keys.QKey.{QKey}
 use Rattle.rows_model.specs.declared.changes.Change.{Change}
 use Rattle.rows_model.specs.Placement.{shard_of}

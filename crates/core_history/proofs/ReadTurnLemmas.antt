@@ -1,5 +1,5 @@
 -- A turn of a reader, or of no session, keeps the facts.
-use Rattle.std.proofs.Common.{ℕ, ◌≡◌, ◌<◌, ◌==◌, Bool, true, false, cond, List, [], ◌∷◌, ◌++◌, length, Option, Some, None, append-nil, refl, sym, ap, subst, ◌∙◌, inl, inr, ◌⊎◌, arith}
+use Rattle.std.proofs.Common.{ℕ, ◌≡◌, ◌<◌, ◌==◌, true, false, cond, List, [], ◌∷◌, ◌++◌, length, Option, Some, None, append-nil, refl, sym, ap, subst, ◌∙◌, inl, arith}
 use Rattle.std.proofs.lemmas.Bool.{false≢true, eq-eqb, eqb-true}
 use Rattle.rows_model.specs.declared.keys.QKey.{QKey}
 use Rattle.rows_model.specs.declared.keys.Sid.{Sid}
@@ -27,7 +27,7 @@ use Rattle.session_client.specs.Wants.{granted, grants_in, is_commit, read_wants
 use Rattle.session_client.proofs.WantCases.{read_cases}
 use Rattle.core_history.specs.Events.{Event, Stepped, Called, who_in, reply_in, steps_of, told_to, log_of}
 use Rattle.core_history.specs.Machine.{World, Said, Value, Made, Rejected, Failed, terms_of, plan_at, shown, event_of, ask_told, out_by}
-use Rattle.core_history.specs.Facts.{answers_in, answers_under}
+use Rattle.core_history.specs.Facts.{answers_under}
 use Rattle.core_history.specs.Freshness.{IsQuarantinedReply}
 use Rattle.core_history.proofs.GrantFacts.{IsDrawnBelow}
 use Rattle.core_history.proofs.ListLemmas.{and_elim, and_intro, count-cons}
@@ -35,7 +35,7 @@ use Rattle.core_history.proofs.KeyLemmas.{QuietStep}
 use Rattle.core_history.proofs.EventLemmas.{late-mild, IsKnown}
 use Rattle.core_history.proofs.SessionLemmas.{maybe-step, stood-quiet, stood-called, Keeps}
 use Rattle.core_history.proofs.InnerLemmas.{Inner, IsSession, IsHolding, HasTold, DrawsLate, with_event, session-more, called-inner, quiet-inner, lease-late}
-use Rattle.core_history.proofs.GoodEvents.{IsTold, SetsTold, IsGoodStep, IsGoodCall, IsGoodEvent}
+use Rattle.core_history.proofs.GoodEvents.{IsTold, IsGoodEvent}
 
 -- the facts after the event of a request, which is good
 abbrev pub After : Shape → World → Sid → Said → Wanted → Type 0

@@ -1,5 +1,5 @@
 -- Where the keeper's word is true, entries, answers and hits are right, and each good event keeps that.
-use Rattle.std.proofs.Common.{ℕ, ◌≡◌, ◌<◌, ◌≤◌, Bool, true, false, cond, not, ◌==◌, ◌&&◌, ◌||◌, List, [], ◌∷◌, ◌++◌, length, length-append, take, Option, Some, None, slice_get, append-nil, refl, sym, ap, subst, ◌∙◌, ◌⊎◌, inl, inr, ⊎_elim, arith}
+use Rattle.std.proofs.Common.{ℕ, ◌≡◌, ◌≤◌, Bool, true, false, cond, ◌==◌, ◌&&◌, ◌||◌, List, [], ◌∷◌, ◌++◌, length, length-append, take, Option, Some, None, append-nil, refl, sym, ap, subst, ◌∙◌, ◌⊎◌, inl, inr, ⊎_elim, arith}
 use Rattle.std.specs.List.{AllByRecursion, list_any}
 use Rattle.std.proofs.lemmas.Bool.{cases_Bool, eqb-true, true≢false, and_right}
 use Rattle.rows_model.specs.declared.keys.QKey.{QKey}
@@ -19,7 +19,7 @@ use Rattle.sql_keeper.specs.declared.stores.Commit.{Commit}
 use Rattle.sql_keeper.specs.Log.{state, rows_after}
 use Rattle.sql_keeper.specs.Fresh.{IsFreshHit, IsFreshPast, releases}
 use Rattle.key_freshness.specs.Marks.{Mark, key_of, marks_of}
-use Rattle.key_freshness.specs.Held.{IsHeld, IsEntryHeld, IsRight, IsEntryRight}
+use Rattle.key_freshness.specs.Held.{IsEntryHeld, IsRight, IsEntryRight}
 use Rattle.key_freshness.specs.Known.{Known, IsOver}
 use Rattle.key_freshness.proofs.KnownLemmas.{take-front, take-whole, stands-pushed}
 use Rattle.key_freshness.proofs.HitLemmas.{hit_is_fresh}
@@ -27,13 +27,13 @@ use Rattle.session_client.specs.declared.plans.Shape.{Shape}
 use Rattle.session_client.specs.declared.replies.Reply.{Reply}
 use Rattle.session_client.specs.declared.replies.Reply.TheVariants as reply
 use Rattle.session_client.specs.declared.replies.Wanted.{Wanted}
-use Rattle.core_history.specs.Events.{Event, Stepped, Called, reply_in, steps_of, commits_told, log_of, known_of}
+use Rattle.core_history.specs.Events.{Event, Stepped, Called, reply_in, steps_of, log_of, known_of}
 use Rattle.core_history.specs.Facts.{leases, answers_in, answers_under}
 use Rattle.core_history.specs.Truth.{IsTrueReply}
 use Rattle.core_history.proofs.EventLemmas.{closed, IsKnown}
-use Rattle.core_history.proofs.GoodEvents.{IsTold, SetsTold, IsGoodStep, IsGoodEvent}
+use Rattle.core_history.proofs.GoodEvents.{IsTold, IsGoodStep, IsGoodEvent}
 use Rattle.core_history.proofs.HeldEvents.{steps_at, Holds}
-use Rattle.core_history.proofs.ListLemmas.{choose, every-append, every-weaker, not_both, and_elim}
+use Rattle.core_history.proofs.ListLemmas.{choose, every-append, every-weaker, and_elim}
 
 -- the answer to the key after some commits
 abbrev pub answer_after : Tables → QKey → List Commit → List ℕ

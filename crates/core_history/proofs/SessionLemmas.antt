@@ -22,7 +22,6 @@ use Rattle.key_shard.proofs.OutLemmas.{same_permit-true}
 use Rattle.key_shard.proofs.PermitLemmas.{is_of_permit, stays_permit}
 use Rattle.session_client.specs.declared.plans.Shape.{Shape}
 use Rattle.session_client.specs.declared.replies.Reply.{Reply}
-use Rattle.session_client.specs.declared.replies.Reply.TheVariants as reply
 use Rattle.session_client.specs.declared.replies.Wanted.{Wanted}
 use Rattle.session_client.specs.declared.replies.Wanted.TheVariants as wanted
 use Rattle.session_client.specs.Wants.{grants_in, granted, is_had, is_release, released}

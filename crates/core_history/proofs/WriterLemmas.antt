@@ -1,28 +1,17 @@
 -- What the grants of a writer are after each reply.
-use Rattle.std.proofs.Common.{append-nil, ℕ, ◌≡◌, ◌+◌, ◌<◌, Bool, true, false, not, nat_lt, List, [], ◌∷◌, length, length-append, count_by, Option, Some, None, slice_get, get_or, AllPairs, refl, sym, ap, subst, ◌∙◌, inl, inr, ◌⊎◌, arith}
-use Rattle.std.proofs.lemmas.Bool.{cases_order, false≢true}
-use Rattle.std.proofs.lemmas.Bool.Decides.{nat_tests}
-use Rattle.std.proofs.lemmas.Option.{slice_get_within, get_or_from_slice_get}
-use Rattle.std.proofs.lemmas.List.Kept.{AllPairs-filter}
+use Rattle.std.proofs.Common.{append-nil, ℕ, ◌≡◌, true, false, List, [], ◌∷◌, length, length-append, count_by, Some, slice_get, sym, ap, subst, ◌∙◌, inl, inr, ◌⊎◌, arith}
+use Rattle.std.proofs.lemmas.Bool.{false≢true}
 use Rattle.rows_model.specs.declared.keys.QKey.{QKey}
-use Rattle.rows_model.specs.declared.changes.Change.{Change}
 use Rattle.rows_model.specs.Key.{same_key}
 use Rattle.rows_model.proofs.SameKey.{same_key-true}
-use Rattle.rows_model.proofs.FootprintLemmas.{footprints_are_exact_is}
-use Rattle.rows_model.specs.Changes.{footprint, is_key_before}
 use Rattle.key_shard.specs.Permit.{Permit}
-use Rattle.key_shard.specs.declared.replies.Got.TheVariants as got
 use Rattle.key_shard.specs.declared.replies.QAnswer.TheVariants as quarantine
-use Rattle.sql_keeper.specs.declared.stores.Answer.{Answer}
 use Rattle.session_client.specs.declared.plans.Shape.{Shape}
 use Rattle.session_client.specs.declared.replies.Reply.{Reply}
 use Rattle.session_client.specs.declared.replies.Reply.TheVariants as reply
-use Rattle.session_client.specs.declared.replies.Wanted.{Wanted}
-use Rattle.session_client.specs.declared.replies.Wanted.TheVariants as wanted
-use Rattle.session_client.specs.Wants.{granted, is_had, is_release, released, was_committed, write_wants, quarantine_next, quarantine_or_commit, release_next, release_of, read_wants, set_after, agains, without_key}
-use Rattle.session_client.proofs.WantCases.{is_ending, AreOnce}
+use Rattle.session_client.specs.Wants.{granted, is_had, is_release, released}
 use Rattle.core_history.specs.Events.{Event}
-use Rattle.core_history.proofs.ListLemmas.{choose, push-place, count-cons}
+use Rattle.core_history.proofs.ListLemmas.{push-place, count-cons}
 use Rattle.core_history.proofs.EventLemmas.{closed, closed-more}
 use Rattle.core_history.proofs.SessionLemmas.{Stood, Fits, Writer, Keeps, shut-more}
 
