@@ -1,5 +1,6 @@
 use super::*;
 use key_shard::{Got, Grant, QAnswer, Rel, SetAnswer, Shard};
+use lease_table::Mode;
 use rows_model::{Kind, QKey, Sid, Value};
 use std::alloc::Global;
 use std::process::Abort;
@@ -41,6 +42,21 @@ fn granted(rt: &impl Abort, shard: &mut Shard, token: u64) -> Grant {
         ) => {
             grant.let_go();
             panic!(rt; "an old value")
+        }
+        Ok(QAnswer::Held) => panic!(rt; "held"),
+        Ok(QAnswer::Refused { holder, mode: _ }) => panic!(rt; "refused by {}", holder.number),
+        Err(fault) => panic!(rt; "{fault:?}"),
+    }
+}
+
+/// The grant of a quarantine to refresh that is to be granted, with this token, over the value "a" with
+/// the stamp 5.
+fn read_under(rt: &impl Abort, shard: &mut Shard, token: u64) -> Grant {
+    match qa_read(shard, KEY, WRITER, 0) {
+        Ok(QAnswer::Granted { grant, old }) => {
+            assert_eq!(rt; grant.token(), token);
+            assert!(rt; matches!(old, Some((value, 5)) if value.bytes() == b"a".as_slice()));
+            grant
         }
         Ok(QAnswer::Held) => panic!(rt; "held"),
         Ok(QAnswer::Refused { holder, mode: _ }) => panic!(rt; "refused by {}", holder.number),
@@ -96,5 +112,61 @@ fn a_quarantine_outlives_its_grant(rt: HostRuntime) -> Result<(), Fail> {
     assert!(rt; is_held(&mut shard));
     let got = shard.get(KEY, WRITER, 0, 0);
     assert!(rt; matches!(got, Ok(Got::Own)));
+    Ok(())
+}
+
+#[test]
+fn a_new_value_is_hit(rt: HostRuntime) -> Result<(), Fail> {
+    let mut shard = warm_shard(rt.alloc(), &rt)?;
+    let grant = read_under(&rt, &mut shard, 2);
+    match sar(&mut shard, grant, Some(Value::of(rt.alloc(), b"b")?), 6) {
+        Ok(rel) => assert_eq!(rt; rel, Rel::Released { evicted: None }),
+        Err(back) => {
+            back.grant.let_go();
+            panic!(rt; "no memory")
+        }
+    }
+    match shard.get(KEY, READER, 6, 0) {
+        Ok(Got::Hit { value, stamp }) => {
+            assert_eq!(rt; value.bytes(), b"b".as_slice());
+            assert_eq!(rt; stamp, 6);
+        }
+        _ => panic!(rt; "no hit"),
+    }
+    Ok(())
+}
+
+#[test]
+fn without_a_new_value_the_key_is_missed(rt: HostRuntime) -> Result<(), Fail> {
+    let mut shard = warm_shard(rt.alloc(), &rt)?;
+    let grant = read_under(&rt, &mut shard, 2);
+    match sar(&mut shard, grant, None, 6) {
+        Ok(rel) => assert_eq!(rt; rel, Rel::Released { evicted: None }),
+        Err(back) => {
+            back.grant.let_go();
+            panic!(rt; "no memory")
+        }
+    }
+    let got = shard.get(KEY, READER, 0, 0);
+    assert!(rt; matches!(got, Ok(Got::Lease { token: 3 })));
+    Ok(())
+}
+
+#[test]
+fn a_second_mode_is_refused(rt: HostRuntime) -> Result<(), Fail> {
+    let mut shard = warm_shard(rt.alloc(), &rt)?;
+    granted(&rt, &mut shard, 2).let_go();
+    match qa_read(&mut shard, KEY, WRITER, 0) {
+        Ok(QAnswer::Refused { holder, mode }) => {
+            assert_eq!(rt; holder, WRITER);
+            assert_eq!(rt; mode, Mode::Invalidate);
+        }
+        Ok(QAnswer::Granted { grant, old: _ }) => {
+            grant.let_go();
+            panic!(rt; "granted")
+        }
+        Ok(QAnswer::Held) => panic!(rt; "held"),
+        Err(fault) => panic!(rt; "{fault:?}"),
+    }
     Ok(())
 }
