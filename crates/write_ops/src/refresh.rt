@@ -31,12 +31,7 @@ pub fn qa_read(shard: &mut Shard, key: QKey, sid: Sid, now: u64) -> Result<QAnsw
 /// and each other key but the named one are as before. Where the quarantine stands no longer the answer
 /// is Gone, and each key is as before, its value too; and so for a grant that isn't out at this shard.
 /// For want of memory grant and value come back, and everything is as before: `dar` can follow.
-pub fn sar(
-    shard: &mut Shard,
-    grant: Grant,
-    value: Option<Value>,
-    stamp: u64,
-) -> Result<Rel, Back>
+pub fn sar(shard: &mut Shard, grant: Grant, value: Option<Value>, stamp: u64) -> Result<Rel, Back>
     requires { grant.mode ≡ Mode.Refresh }
     ensures out { IsTrue (is_out shard.old grant) → OnOk result (
         shard.new ≡ returned shard.old grant (sar_step shard.old grant value stamp)) }

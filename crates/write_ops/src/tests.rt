@@ -55,12 +55,38 @@ fn read_under(rt: &impl Abort, shard: &mut Shard, token: u64) -> Grant {
     match qa_read(shard, KEY, WRITER, 0) {
         Ok(QAnswer::Granted { grant, old }) => {
             assert_eq!(rt; grant.token(), token);
-            assert!(rt; matches!(old, Some((value, 5)) if value.bytes() == b"a".as_slice()));
-            grant
+            match old {
+                Some(entry) => {
+                    assert_eq!(rt; entry.0.bytes(), b"a".as_slice());
+                    assert_eq!(rt; entry.1, 5);
+                    grant
+                }
+                None => {
+                    grant.let_go();
+                    panic!(rt; "no old value")
+                }
+            }
         }
         Ok(QAnswer::Held) => panic!(rt; "held"),
         Ok(QAnswer::Refused { holder, mode: _ }) => panic!(rt; "refused by {}", holder.number),
         Err(fault) => panic!(rt; "{fault:?}"),
+    }
+}
+
+/// How a grant to refresh is released with this value and the stamp 6.
+fn refreshed(rt: &impl Abort, shard: &mut Shard, grant: Grant, value: Option<Value>) -> Rel {
+    match grant.mode() {
+        Mode::Refresh => match sar(shard, grant, value, 6) {
+            Ok(rel) => rel,
+            Err(back) => {
+                back.grant.let_go();
+                panic!(rt; "no memory")
+            }
+        },
+        Mode::Invalidate | Mode::Delta => {
+            grant.let_go();
+            panic!(rt; "no grant to refresh")
+        }
     }
 }
 
@@ -118,14 +144,10 @@ fn a_quarantine_outlives_its_grant(rt: HostRuntime) -> Result<(), Fail> {
 #[test]
 fn a_new_value_is_hit(rt: HostRuntime) -> Result<(), Fail> {
     let mut shard = warm_shard(rt.alloc(), &rt)?;
+    let value = Value::of(rt.alloc(), b"b")?;
     let grant = read_under(&rt, &mut shard, 2);
-    match sar(&mut shard, grant, Some(Value::of(rt.alloc(), b"b")?), 6) {
-        Ok(rel) => assert_eq!(rt; rel, Rel::Released { evicted: None }),
-        Err(back) => {
-            back.grant.let_go();
-            panic!(rt; "no memory")
-        }
-    }
+    let rel = refreshed(&rt, &mut shard, grant, Some(value));
+    assert_eq!(rt; rel, Rel::Released { evicted: None });
     match shard.get(KEY, READER, 6, 0) {
         Ok(Got::Hit { value, stamp }) => {
             assert_eq!(rt; value.bytes(), b"b".as_slice());
@@ -140,13 +162,8 @@ fn a_new_value_is_hit(rt: HostRuntime) -> Result<(), Fail> {
 fn without_a_new_value_the_key_is_missed(rt: HostRuntime) -> Result<(), Fail> {
     let mut shard = warm_shard(rt.alloc(), &rt)?;
     let grant = read_under(&rt, &mut shard, 2);
-    match sar(&mut shard, grant, None, 6) {
-        Ok(rel) => assert_eq!(rt; rel, Rel::Released { evicted: None }),
-        Err(back) => {
-            back.grant.let_go();
-            panic!(rt; "no memory")
-        }
-    }
+    let rel = refreshed(&rt, &mut shard, grant, None);
+    assert_eq!(rt; rel, Rel::Released { evicted: None });
     let got = shard.get(KEY, READER, 0, 0);
     assert!(rt; matches!(got, Ok(Got::Lease { token: 3 })));
     Ok(())
