@@ -1,5 +1,5 @@
 -- What a writer's verbs ask of a shard, and what their releases leave of it.
-use Rattle.std.specs.Prelude.{ℕ, ◌≡◌, pos, not, filter, List, Option, None, IsSome}
+use Rattle.std.specs.Prelude.{ℕ, ◌≡◌, pos, not, if◌then◌else◌, filter, List, Option, Some, None, IsSome}
 use Rattle.std.specs.Bool.{IsFalse}
 use Rattle.rows_model.specs.declared.keys.QKey.{QKey}
 use Rattle.rows_model.specs.declared.keys.Sid.{Sid}
@@ -11,8 +11,8 @@ use Rattle.key_shard.specs.declared.replies.Rel.{Rel}
 use Rattle.key_shard.specs.declared.replies.Rel.TheVariants as rels
 use Rattle.key_shard.specs.declared.steps.Step.{Step}
 use Rattle.key_shard.specs.Permit.{Permit}
-use Rattle.key_shard.specs.Past.{entry, quar_of, recorded, standing}
-use Rattle.key_shard.specs.Answers.{quarantine_step, release_step}
+use Rattle.key_shard.specs.Past.{entry, is_evicted, quar_of, recorded, standing}
+use Rattle.key_shard.specs.Answers.{quarantine_step, release_step, replace_step}
 use Rattle.key_shard.specs.Shards.{ShardView, past_of}
 
 -- The step of a quarantine to invalidate.
@@ -26,29 +26,38 @@ dar_step shard permit = release_step (past_of shard) permit hows.Drop
 abbrev pub abort_step : ShardView → Permit → Step
 abort_step shard permit = release_step (past_of shard) permit hows.Keep
 
--- A key has the entry, the I lease and the quarantines that it had before.
-pub record SameOn (key : QKey) (old new : List Step) : Type 0 where
-  pub same_entry : entry key new ≡ entry key old
+-- The step of a quarantine to refresh.
+abbrev pub read_step : ShardView → QKey → Sid → ℕ → Step
+read_step shard key sid now = quarantine_step shard.terms (past_of shard) key sid modes.Refresh (pos 0) now
+
+-- The step of a release with a new value, or of one that drops the value where there is no new one.
+abbrev pub sar_step : ShardView → Permit → Option (List ℕ) → ℕ → Step
+sar_step shard permit (Some value) stamp = replace_step shard.terms (past_of shard) permit value stamp
+sar_step shard permit None stamp = dar_step shard permit
+
+-- A key has the I lease and the quarantines that it had before, and the entry, unless it is the one that made room.
+pub record SameOn (evicted : Option QKey) (key : QKey) (old new : List Step) : Type 0 where
+  pub same_entry : entry key new ≡ (if is_evicted key evicted then None else entry key old)
   pub same_lease : recorded key new ≡ recorded key old
   pub same_standing : standing key new ≡ standing key old
 
--- A quarantine stood and stands no longer; the others on its key and the I lease are as before, the key has this entry now, and each other key is as before.
-pub record EndedWith (found : Option (List ℕ × ℕ)) (permit : Permit) (old new : List Step) : Type 0 where
+-- A quarantine stood and stands no longer; the others on its key and the I lease are as before, the key has this entry now, and each other key is as before, but for the entry of the one that made room.
+pub record EndedWith (found : Option (List ℕ × ℕ)) (evicted : Option QKey) (permit : Permit) (old new : List Step) : Type 0 where
   pub stood : IsSome (quar_of permit.key permit.token old)
   pub ended : quar_of permit.key permit.token new ≡ None
   pub has_entry : entry permit.key new ≡ found
   pub same_lease : recorded permit.key new ≡ recorded permit.key old
   pub others_stand : standing permit.key new ≡ filter (λ quar. not (has_token permit.token quar)) (standing permit.key old)
-  pub elsewhere : (other : QKey) → IsFalse (same_key other permit.key) → SameOn other old new
+  pub elsewhere : (other : QKey) → IsFalse (same_key other permit.key) → SameOn evicted other old new
 
 -- A quarantine stood no longer, and each key is as before.
 pub record WasGone (permit : Permit) (old new : List Step) : Type 0 where
   pub stood_not : quar_of permit.key permit.token old ≡ None
-  pub everywhere : (key : QKey) → SameOn key old new
+  pub everywhere : (key : QKey) → SameOn None key old new
 
 -- What a release leaves, by its answer: Released where its quarantine ended with this entry of the key, and no key made room; Gone where it stood no longer.
 abbrev pub LeavesEntry : Option (List ℕ × ℕ) → Permit → List Step → List Step → Rel → Type 0
-LeavesEntry found permit old new (rels.Released evicted) = (evicted ≡ None) × EndedWith found permit old new
+LeavesEntry found permit old new (rels.Released evicted) = (evicted ≡ None) × EndedWith found None permit old new
 LeavesEntry found permit old new rels.Gone = WasGone permit old new
 
 -- Where its quarantine ended the key has no entry.
@@ -58,3 +67,13 @@ LeavesNone permit old new rel = LeavesEntry None permit old new rel
 -- Where its quarantine ended the key has the entry that it had before.
 abbrev pub LeavesValue : Permit → List Step → List Step → Rel → Type 0
 LeavesValue permit old new rel = LeavesEntry (entry permit.key old) permit old new rel
+
+-- Where its quarantine ended the key has this new value with this stamp, and the answer names who made room.
+abbrev pub LeavesPut : List ℕ → ℕ → Permit → List Step → List Step → Rel → Type 0
+LeavesPut value stamp permit old new (rels.Released evicted) = EndedWith (Some (value, stamp)) evicted permit old new
+LeavesPut value stamp permit old new rels.Gone = WasGone permit old new
+
+-- Where its quarantine ended the key has the new value, or no entry where there is no new value.
+abbrev pub LeavesNew : Option (List ℕ) → ℕ → Permit → List Step → List Step → Rel → Type 0
+LeavesNew (Some value) stamp permit old new rel = LeavesPut value stamp permit old new rel
+LeavesNew None stamp permit old new rel = LeavesNone permit old new rel

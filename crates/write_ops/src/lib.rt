@@ -2,7 +2,9 @@
 #![tactic(auto)]
 
 pub use invalidate::{abort, dar, qa_reg};
+pub use refresh::{qa_read, sar};
 
 pub mod invalidate;
+pub mod refresh;
 #[cfg(test)]
 mod tests;

@@ -1,5 +1,6 @@
 use super::*;
 use key_shard::{Got, Grant, QAnswer, Rel, SetAnswer, Shard};
+use lease_table::Mode;
 use rows_model::{Kind, QKey, Sid, Value};
 use std::alloc::Global;
 use std::process::Abort;
@@ -45,6 +46,47 @@ fn granted(rt: &impl Abort, shard: &mut Shard, token: u64) -> Grant {
         Ok(QAnswer::Held) => panic!(rt; "held"),
         Ok(QAnswer::Refused { holder, mode: _ }) => panic!(rt; "refused by {}", holder.number),
         Err(fault) => panic!(rt; "{fault:?}"),
+    }
+}
+
+/// The grant of a quarantine to refresh that is to be granted, with this token, over the value "a" with
+/// the stamp 5.
+fn read_under(rt: &impl Abort, shard: &mut Shard, token: u64) -> Grant {
+    match qa_read(shard, KEY, WRITER, 0) {
+        Ok(QAnswer::Granted { grant, old }) => {
+            assert_eq!(rt; grant.token(), token);
+            match old {
+                Some(entry) => {
+                    assert_eq!(rt; entry.0.bytes(), b"a".as_slice());
+                    assert_eq!(rt; entry.1, 5);
+                    grant
+                }
+                None => {
+                    grant.let_go();
+                    panic!(rt; "no old value")
+                }
+            }
+        }
+        Ok(QAnswer::Held) => panic!(rt; "held"),
+        Ok(QAnswer::Refused { holder, mode: _ }) => panic!(rt; "refused by {}", holder.number),
+        Err(fault) => panic!(rt; "{fault:?}"),
+    }
+}
+
+/// How a grant to refresh is released with this value and the stamp 6.
+fn refreshed(rt: &impl Abort, shard: &mut Shard, grant: Grant, value: Option<Value>) -> Rel {
+    match grant.mode() {
+        Mode::Refresh => match sar(shard, grant, value, 6) {
+            Ok(rel) => rel,
+            Err(back) => {
+                back.grant.let_go();
+                panic!(rt; "no memory")
+            }
+        },
+        Mode::Invalidate | Mode::Delta => {
+            grant.let_go();
+            panic!(rt; "no grant to refresh")
+        }
     }
 }
 
@@ -96,5 +138,52 @@ fn a_quarantine_outlives_its_grant(rt: HostRuntime) -> Result<(), Fail> {
     assert!(rt; is_held(&mut shard));
     let got = shard.get(KEY, WRITER, 0, 0);
     assert!(rt; matches!(got, Ok(Got::Own)));
+    Ok(())
+}
+
+#[test]
+fn a_new_value_is_hit(rt: HostRuntime) -> Result<(), Fail> {
+    let mut shard = warm_shard(rt.alloc(), &rt)?;
+    let value = Value::of(rt.alloc(), b"b")?;
+    let grant = read_under(&rt, &mut shard, 2);
+    let rel = refreshed(&rt, &mut shard, grant, Some(value));
+    assert_eq!(rt; rel, Rel::Released { evicted: None });
+    match shard.get(KEY, READER, 6, 0) {
+        Ok(Got::Hit { value, stamp }) => {
+            assert_eq!(rt; value.bytes(), b"b".as_slice());
+            assert_eq!(rt; stamp, 6);
+        }
+        _ => panic!(rt; "no hit"),
+    }
+    Ok(())
+}
+
+#[test]
+fn without_a_new_value_the_key_is_missed(rt: HostRuntime) -> Result<(), Fail> {
+    let mut shard = warm_shard(rt.alloc(), &rt)?;
+    let grant = read_under(&rt, &mut shard, 2);
+    let rel = refreshed(&rt, &mut shard, grant, None);
+    assert_eq!(rt; rel, Rel::Released { evicted: None });
+    let got = shard.get(KEY, READER, 0, 0);
+    assert!(rt; matches!(got, Ok(Got::Lease { token: 3 })));
+    Ok(())
+}
+
+#[test]
+fn a_second_mode_is_refused(rt: HostRuntime) -> Result<(), Fail> {
+    let mut shard = warm_shard(rt.alloc(), &rt)?;
+    granted(&rt, &mut shard, 2).let_go();
+    match qa_read(&mut shard, KEY, WRITER, 0) {
+        Ok(QAnswer::Refused { holder, mode }) => {
+            assert_eq!(rt; holder, WRITER);
+            assert_eq!(rt; mode, Mode::Invalidate);
+        }
+        Ok(QAnswer::Granted { grant, old: _ }) => {
+            grant.let_go();
+            panic!(rt; "granted")
+        }
+        Ok(QAnswer::Held) => panic!(rt; "held"),
+        Err(fault) => panic!(rt; "{fault:?}"),
+    }
     Ok(())
 }
