@@ -9,6 +9,13 @@ pub enum Plan {
     /// Quarantine each key that the transaction touches, in this mode, commit it, and then release
     /// the keys as the mode says.
     Write { mode: Mode, txn: Txn },
+    /// Write, and before the commit get this key, which the transaction touches, as a session does
+    /// that reads what it writes: it is told that the key is its own, and asks the store what its
+    /// transaction would leave.
+    Look { mode: Mode, key: QKey, txn: Txn },
+    /// Quarantine the keys as Write does, and then give up: be ended at the store, and release the
+    /// keys with every value in place.
+    Quit { mode: Mode, txn: Txn },
     /// Write in mode invalidate, and leave out the quarantine of this key, which the transaction
     /// touches. So the store refuses the commit.
     Skip { key: QKey, txn: Txn },
@@ -24,7 +31,14 @@ impl Plan {
     {
         match self {
             Plan::Read { .. } => &[],
-            Plan::Write { mode: _, txn } | Plan::Skip { key: _, txn } => txn.changes(),
+            Plan::Write { mode: _, txn }
+            | Plan::Look {
+                mode: _,
+                key: _,
+                txn,
+            }
+            | Plan::Quit { mode: _, txn }
+            | Plan::Skip { key: _, txn } => txn.changes(),
         }
     }
 }
@@ -34,18 +48,10 @@ impl Plan {
 pub enum Turn {
     /// The session makes the next request that its plan wants.
     Session { sid: Sid },
-}
-
-impl Turn {
-    ghost use Rattle.std.specs.Prelude.{◌≡◌};
-
-    /// The session whose turn it is.
-    pub fn sid(self) -> Sid
-        ensures { self ≡ Turn.Session result }
-    {
-        let Turn::Session { sid } = self;
-        sid
-    }
+    /// So many ticks pass on the clock.
+    Tick { by: u64 },
+    /// The sweeper takes its next step.
+    Sweep,
 }
 
 /// What a run is made with.

@@ -2,7 +2,7 @@ use crate::grant_lists::Grants;
 use key_shard::{Got, Grant, QAnswer, Rel, SetAnswer};
 use lease_table::Mode;
 use rows_model::{QKey, Sid, Txn, Value};
-use sql_keeper::{Answer, CommitFault};
+use sql_keeper::{AfterFault, Answer, CommitFault};
 
 /// What a session wants next. A request hands its grants over, and the reply brings back those that
 /// it doesn't spend.
@@ -17,6 +17,11 @@ pub enum Wanted {
     Ask {
         key: QKey,
     },
+    /// What the store would answer for the key after the transaction.
+    Staged {
+        key: QKey,
+        txn: Txn,
+    },
     /// To store the value under the I lease of this token.
     Set {
         key: QKey,
@@ -28,6 +33,15 @@ pub enum Wanted {
     QaReg {
         key: QKey,
     },
+    /// A quarantine of the key, to refresh its value, which comes along with the grant.
+    QaRead {
+        key: QKey,
+    },
+    /// A quarantine of the key, which is a count, to shift it by this much.
+    Delta {
+        key: QKey,
+        by: i32,
+    },
     /// To commit the transaction, with these grants on the keys that it touches.
     Commit {
         txn: Txn,
@@ -38,6 +52,18 @@ pub enum Wanted {
     /// To drop the key's value and end the quarantine.
     Dar {
         grant: Grant,
+    },
+    /// To put the new value in the place of the key's with this stamp, or drop it where there is no
+    /// new one, and end the quarantine.
+    Sar {
+        grant: Grant,
+        value: Option<Value>,
+        stamp: u64,
+    },
+    /// To shift the key's value as the quarantine says, give it this stamp and end the quarantine.
+    Apply {
+        grant: Grant,
+        stamp: u64,
     },
     /// To end the quarantine and leave the key's value.
     Abort {
@@ -54,9 +80,16 @@ impl Wanted {
         match self {
             Wanted::Commit { txn: _, grants } => grants.let_go(),
             Wanted::Dar { grant } => grant.let_go(),
+            Wanted::Sar {
+                grant,
+                value: _,
+                stamp: _,
+            } => grant.let_go(),
+            Wanted::Apply { grant, stamp: _ } => grant.let_go(),
             Wanted::Abort { grant } => grant.let_go(),
             Wanted::Get { key: _, floor: _ } => {}
             Wanted::Ask { key: _ } => {}
+            Wanted::Staged { key: _, txn: _ } => {}
             Wanted::Set {
                 key: _,
                 token: _,
@@ -64,6 +97,8 @@ impl Wanted {
                 stamp: _,
             } => {}
             Wanted::QaReg { key: _ } => {}
+            Wanted::QaRead { key: _ } => {}
+            Wanted::Delta { key: _, by: _ } => {}
             Wanted::End => {}
             Wanted::Nothing => {}
         }
@@ -125,6 +160,16 @@ pub enum Reply {
     Quar {
         told: QAnswer,
     },
+    /// What the store would answer after the transaction, which comes back.
+    Staged {
+        value: Value,
+        txn: Txn,
+    },
+    /// Why the store has no such answer.
+    NotStaged {
+        fault: AfterFault,
+        txn: Txn,
+    },
     /// The transaction is the commit of this number, from 1.
     Committed {
         number: u64,
@@ -144,6 +189,10 @@ pub enum Reply {
     /// The answer to a release.
     Rel {
         told: Rel,
+    },
+    /// There was no memory to put the new value: the quarantine stands, and the grant comes back.
+    SarBack {
+        grant: Grant,
     },
     /// The request was not made.
     Fault {
@@ -173,9 +222,12 @@ impl Reply {
                 txn: _,
                 grants,
             } => grants.let_go(),
+            Reply::SarBack { grant } => grant.let_go(),
             Reply::Got { got: _ } => {}
             Reply::Answer { answer: _ } => {}
             Reply::Set { told: _ } => {}
+            Reply::Staged { value: _, txn: _ } => {}
+            Reply::NotStaged { fault: _, txn: _ } => {}
             Reply::End { was: _ } => {}
             Reply::Rel { told: _ } => {}
             Reply::Fault { fault: _ } => {}
@@ -199,6 +251,8 @@ pub enum Outcome {
     Committed { number: u64 },
     /// A writer was refused a quarantine, by this session's in this mode.
     Refused { holder: Sid, mode: Mode },
+    /// A session gave up once its keys were quarantined, as it was to do.
+    Quit,
     /// A writer's transaction was not committed.
     NotCommitted { fault: CommitFault },
     /// A request was not made.
