@@ -1,9 +1,9 @@
 -- Which replies belong to a request.
-use Rattle.std.specs.Prelude.{◌≡◌, ◌≤◌, None}
+use Rattle.std.specs.Prelude.{ℕ, ◌≡◌, ◌≤◌, List, Option, Some, None}
 use Rattle.rows_model.specs.declared.keys.QKey.{QKey}
 use Rattle.rows_model.specs.declared.keys.Sid.{Sid}
 use Rattle.lease_table.specs.declared.records.Mode.{Mode}
-use Rattle.lease_table.specs.declared.records.Mode.TheVariants.{Invalidate}
+use Rattle.lease_table.specs.declared.records.Mode.TheVariants.{Invalidate, Refresh, Delta}
 use Rattle.key_shard.specs.Permit.{Permit}
 use Rattle.key_shard.specs.declared.replies.QAnswer.{QAnswer}
 use Rattle.key_shard.specs.declared.replies.QAnswer.TheVariants as quarantine
@@ -33,11 +33,17 @@ pub record IsGrantOf (who : Sid) (key : QKey) (mode : Mode) (grant : Permit) : T
   pub of_session : grant.sid ≡ who
   pub in_mode : grant.mode ≡ mode
 
--- An answer to a quarantine to invalidate: a grant brings no old value along.
-abbrev pub IsQuarantineOf : Sid → QKey → QAnswer → Type 0
-IsQuarantineOf who key (quarantine.Granted grant old) = IsGrantOf who key Invalidate grant × (old ≡ None)
-IsQuarantineOf who key quarantine.Held = Unit {0}
-IsQuarantineOf who key (quarantine.Refused holder mode) = Unit {0}
+-- An old value comes along with a grant to refresh alone.
+abbrev pub FitsOld : Mode → Option (List ℕ × ℕ) → Type 0
+FitsOld Invalidate old = old ≡ None
+FitsOld Refresh old = Unit {0}
+FitsOld Delta old = old ≡ None
+
+-- An answer to a quarantine in this mode.
+abbrev pub IsQuarantineOf : Sid → QKey → Mode → QAnswer → Type 0
+IsQuarantineOf who key mode (quarantine.Granted grant old) = IsGrantOf who key mode grant × FitsOld mode old
+IsQuarantineOf who key mode quarantine.Held = Unit {0}
+IsQuarantineOf who key mode (quarantine.Refused holder held) = Unit {0}
 
 -- The same grants come back, with no less room.
 pub record AreBack (lent back : GrantsView) : Type 0 where
@@ -52,14 +58,23 @@ Belongs who (wanted.Ask key) (reply.Answer answer) = answer.key ≡ key
 Belongs who (wanted.Ask key) (reply.Fault fault) = IsStoreFault fault
 Belongs who (wanted.Set key token value stamp) (reply.Set told) = Unit {0}
 Belongs who (wanted.Set key token value stamp) (reply.Fault fault) = fault ≡ faults.Memory
-Belongs who (wanted.QaReg key) (reply.Quar told) = IsQuarantineOf who key told
+Belongs who (wanted.Staged key txn) (reply.Staged value changes) = changes ≡ txn
+Belongs who (wanted.Staged key txn) (reply.NotStaged fault changes) = changes ≡ txn
+Belongs who (wanted.QaReg key) (reply.Quar told) = IsQuarantineOf who key Invalidate told
 Belongs who (wanted.QaReg key) (reply.Fault fault) = IsShardFault fault
+Belongs who (wanted.QaRead key) (reply.Quar told) = IsQuarantineOf who key Refresh told
+Belongs who (wanted.QaRead key) (reply.Fault fault) = IsShardFault fault
+Belongs who (wanted.Delta key by) (reply.Quar told) = IsQuarantineOf who key Delta told
+Belongs who (wanted.Delta key by) (reply.Fault fault) = IsShardFault fault
 Belongs who (wanted.Commit txn grants) (reply.Committed number changes back) =
     (changes ≡ txn) × AreBack grants back
 Belongs who (wanted.Commit txn grants) (reply.NotCommitted fault changes back) =
     (changes ≡ txn) × AreBack grants back
 Belongs who wanted.End (reply.End was) = Unit {0}
 Belongs who (wanted.Dar grant) (reply.Rel told) = Unit {0}
+Belongs who (wanted.Sar grant value stamp) (reply.Rel told) = Unit {0}
+Belongs who (wanted.Sar grant (Some value) stamp) (reply.SarBack back) = back ≡ grant
+Belongs who (wanted.Apply grant stamp) (reply.Rel told) = Unit {0}
 Belongs who (wanted.Abort grant) (reply.Rel told) = Unit {0}
 Belongs who wanted.Nothing reply.Nothing = Unit {0}
 Belongs who request told = ⊥

@@ -1,23 +1,28 @@
 -- What a session wants next, read off its plan and what it was told, the latest first.
-use Rattle.std.specs.Prelude.{ℕ, ◌+◌, Bool, true, false, not, nat_lt, if◌then◌else◌, List, [], ◌∷◌, ◌++◌, length, filter, count_by, Option, Some, None, slice_get}
+use Rattle.std.specs.Prelude.{ℕ, ◌+◌, Bool, true, false, nat_lt, if◌then◌else◌, List, [], ◌∷◌, ◌++◌, length, count_by, Option, Some, None, slice_get}
 use Rattle.std.specs.List.{list_any}
 use Rattle.rows_model.specs.declared.keys.QKey.{QKey}
 use Rattle.rows_model.specs.declared.changes.Change.{Change}
-use Rattle.rows_model.specs.Key.{same_key}
-use Rattle.rows_model.specs.Changes.{footprint}
+use Rattle.rows_model.specs.Delta.{delta_of}
+use Rattle.rows_model.specs.Refresh.{refreshed}
+use Rattle.lease_table.specs.declared.records.Mode.{Mode}
+use Rattle.lease_table.specs.declared.records.Mode.TheVariants as mode
 use Rattle.key_shard.specs.Permit.{Permit}
+use Rattle.key_shard.specs.declared.replies.Got.{Got}
 use Rattle.key_shard.specs.declared.replies.Got.TheVariants as got
 use Rattle.key_shard.specs.declared.replies.SetAnswer.TheVariants as set
 use Rattle.key_shard.specs.declared.replies.QAnswer.TheVariants as quarantine
 use Rattle.sql_keeper.specs.declared.stores.Answer.{Answer}
 use Rattle.session_client.specs.declared.plans.Plan.{Plan}
-use Rattle.session_client.specs.declared.plans.Plan.TheVariants.{Read, Write, Skip}
+use Rattle.session_client.specs.declared.plans.Plan.TheVariants.{Read, Write, Look, Quit, Skip}
+use Rattle.session_client.specs.declared.replies.Fault.TheVariants as causes
 use Rattle.session_client.specs.declared.replies.Reply.{Reply}
 use Rattle.session_client.specs.declared.replies.Reply.TheVariants as reply
 use Rattle.session_client.specs.declared.replies.Wanted.{Wanted}
 use Rattle.session_client.specs.declared.replies.Wanted.TheVariants as wanted
 use Rattle.session_client.specs.declared.replies.Outcome.{Outcome}
 use Rattle.session_client.specs.declared.replies.Outcome.TheVariants as outcome
+use Rattle.session_client.specs.Plans.{changes_of, mode_of, mode_on, keys_of}
 
 -- Whether a session was told to try again.
 abbrev pub is_again : Reply → Bool
@@ -49,6 +54,21 @@ is_had (reply.Quar (quarantine.Granted grant old)) = true
 is_had (reply.Quar quarantine.Held) = true
 is_had other = false
 
+-- A grant and the old value that came along with it, with its stamp.
+pub record Given : Type 0 where
+  pub permit : Permit
+  pub old : Option (List ℕ × ℕ)
+
+-- What a reply gives, if it brings a grant.
+abbrev pub given_in : Reply → List Given
+given_in (reply.Quar (quarantine.Granted grant old)) = record { permit = grant; old = old } ∷ []
+given_in other = []
+
+-- What a session was given, in its order.
+abbrev pub given : List Reply → List Given
+given [] = []
+given (told ∷ heard) = given heard ++ given_in told
+
 -- The grant that a reply brings, if it brings one.
 abbrev pub grants_in : Reply → List Permit
 grants_in (reply.Quar (quarantine.Granted grant old)) = grant ∷ []
@@ -77,56 +97,143 @@ is_commit other = false
 abbrev pub was_committed : List Reply → Bool
 was_committed heard = list_any is_commit heard
 
--- A writer quarantines the next key, and after the last one commits with the grants that it was given.
-abbrev pub quarantine_or_commit : List QKey → List Change → List Permit → Option QKey → Wanted
-quarantine_or_commit keys txn grants (Some key) = wanted.QaReg key
-quarantine_or_commit keys txn grants None = wanted.Commit txn (record { items = grants; room = length keys })
+-- The number of the session's commit, if it was told of one.
+abbrev pub number_of : List Reply → Option ℕ
+number_of [] = None
+number_of (reply.Committed number txn grants ∷ heard) = Some number
+number_of (other ∷ heard) = number_of heard
 
-abbrev pub quarantine_next : List QKey → List Change → List Reply → Wanted
-quarantine_next keys txn heard =
-    quarantine_or_commit keys txn (granted heard) (slice_get keys (count_by is_had heard))
+-- What a session does once its keys are quarantined: it commits, gets a key first, or quits.
+pub data Then : Type 0 where
+  Commits : Then
+  Looks : (key : QKey) → Then
+  Quits : Then
 
--- A grant is released with Drop after the commit, and else with Keep.
-abbrev pub release_of : Bool → Option Permit → Wanted
-release_of committed None = wanted.Nothing
-release_of true (Some grant) = wanted.Dar grant
-release_of false (Some grant) = wanted.Abort grant
+abbrev pub then_of : Plan → Then
+then_of (Read key floor) = Commits
+then_of (Write mode txn) = Commits
+then_of (Look mode key txn) = Looks key
+then_of (Quit mode txn) = Quits
+then_of (Skip key txn) = Commits
+
+-- How a session writes: the keys that it quarantines, in which mode, for which transaction, and what it does then.
+pub record Writing : Type 0 where
+  pub mode : Mode
+  pub keys : List QKey
+  pub txn : List Change
+  pub next : Then
+
+abbrev pub writing_of : Plan → Writing
+writing_of plan =
+    record { mode = mode_of plan; keys = keys_of plan; txn = changes_of plan; next = then_of plan }
+
+-- The quarantine of a key in this mode, for this transaction.
+abbrev pub quarantine_as : Mode → QKey → List Change → Wanted
+quarantine_as mode.Invalidate key txn = wanted.QaReg key
+quarantine_as mode.Refresh key txn = wanted.QaRead key
+quarantine_as mode.Delta key txn = wanted.Delta key (delta_of key txn)
+
+-- To commit, with the grants that were given.
+abbrev pub commit_with : Writing → List Reply → Wanted
+commit_with writing heard =
+    wanted.Commit writing.txn (record { items = granted heard; room = length writing.keys })
+
+-- What is wanted once the keys are quarantined.
+abbrev pub then_wants : Then → Writing → List Reply → Wanted
+then_wants Commits writing heard = commit_with writing heard
+then_wants (Looks key) writing heard = wanted.Get key 0
+then_wants Quits writing heard = wanted.End
+
+-- A writer quarantines the next key, in the mode that it has for that key, and goes on after the last one.
+abbrev pub quarantine_or_then : Writing → List Reply → Option QKey → Wanted
+quarantine_or_then writing heard (Some key) = quarantine_as (mode_on writing.mode key) key writing.txn
+quarantine_or_then writing heard None = then_wants writing.next writing heard
+
+abbrev pub quarantine_next : Writing → List Reply → Wanted
+quarantine_next writing heard =
+    quarantine_or_then writing heard (slice_get writing.keys (count_by is_had heard))
+
+-- Whether each key has been quarantined.
+abbrev pub has_all : Writing → List Reply → Bool
+has_all writing heard = if nat_lt (count_by is_had heard) (length writing.keys) then false else true
+
+-- A session that looks at a key of its own asks the store for the answer that its transaction would leave. After any other answer it commits.
+abbrev pub look_after : Then → Writing → Got → List Reply → Wanted
+look_after (Looks key) writing got.Own heard = wanted.Staged key writing.txn
+look_after next writing found heard = commit_with writing heard
+
+-- A request that wasn't made ends the session where it was a quarantine. A session that looked at a key commits all the same.
+abbrev pub after_fault : Bool → Writing → List Reply → Wanted
+after_fault true writing heard = commit_with writing heard
+after_fault false writing heard = wanted.End
+
+-- How grants are released: with the value kept, with the value dropped, or as the grant's mode says after the commit of this number.
+pub data Release : Type 0 where
+  Keeps : Release
+  Drops : Release
+  Finishes : (number : ℕ) → Release
+
+-- A session that has committed finishes, or drops each value where memory ran out at its commit. One that hasn't keeps each.
+abbrev pub release_after : Bool → Option ℕ → Release
+release_after short None = Keeps
+release_after true (Some number) = Drops
+release_after false (Some number) = Finishes number
+
+-- A grant that came back, since there was no memory to put its new value, is released with its value dropped.
+abbrev pub release_by : Bool → List Reply → Release
+release_by short (reply.SarBack grant ∷ heard) = Drops
+release_by short heard = release_after short (number_of heard)
+
+-- The new value of a key: its old one refreshed by the transaction. There is none where there was no old value, or where it can't be refreshed.
+abbrev pub new_value : QKey → List Change → Option (List ℕ × ℕ) → Option (List ℕ)
+new_value key txn None = None
+new_value key txn (Some old) = refreshed key old.0 txn
+
+-- The release of a grant after the commit of this number, by its mode: the value is dropped, replaced by the new one, or shifted.
+abbrev pub finish : Mode → List Change → ℕ → Given → Wanted
+finish mode.Invalidate txn number one = wanted.Dar one.permit
+finish mode.Refresh txn number one = wanted.Sar one.permit (new_value one.permit.key txn one.old) number
+finish mode.Delta txn number one = wanted.Apply one.permit number
+
+abbrev pub release_of : List Change → Release → Option Given → Wanted
+release_of txn how None = wanted.Nothing
+release_of txn Keeps (Some one) = wanted.Abort one.permit
+release_of txn Drops (Some one) = wanted.Dar one.permit
+release_of txn (Finishes number) (Some one) = finish one.permit.mode txn number one
 
 -- The next grant is released.
-abbrev pub release_next : List Reply → Wanted
-release_next heard = release_of (was_committed heard) (slice_get (granted heard) (released heard))
+abbrev pub release_next : Writing → Bool → List Reply → Wanted
+release_next writing short heard =
+    release_of writing.txn (release_by short heard) (slice_get (given heard) (released heard))
 
--- A writer of these keys quarantines them in turn, commits, and releases its grants; where it was refused a quarantine or the commit it is ended at the store first.
-abbrev pub write_wants : List QKey → List Change → List Reply → Wanted
-write_wants keys txn [] = quarantine_next keys txn []
-write_wants keys txn (reply.Quar (quarantine.Granted grant old) ∷ heard) =
-    quarantine_next keys txn (reply.Quar (quarantine.Granted grant old) ∷ heard)
-write_wants keys txn (reply.Quar quarantine.Held ∷ heard) =
-    quarantine_next keys txn (reply.Quar quarantine.Held ∷ heard)
-write_wants keys txn (reply.Quar (quarantine.Refused holder mode) ∷ heard) = wanted.End
-write_wants keys txn (reply.Fault fault ∷ heard) = wanted.End
-write_wants keys txn (reply.NotCommitted fault changes grants ∷ heard) = wanted.End
-write_wants keys txn (reply.Committed number changes grants ∷ heard) =
-    release_next (reply.Committed number changes grants ∷ heard)
-write_wants keys txn (reply.End was ∷ heard) = release_next (reply.End was ∷ heard)
-write_wants keys txn (reply.Rel told ∷ heard) = release_next (reply.Rel told ∷ heard)
-write_wants keys txn (other ∷ heard) = wanted.Nothing
+-- What a writer wants: it quarantines its keys in turn, goes on as it is to, and releases its grants. Where it was refused a quarantine or the commit it is ended at the store first. The flag says that memory ran out when it was told of its commit.
+abbrev pub write_wants : Writing → Bool → List Reply → Wanted
+write_wants writing short [] = quarantine_next writing []
+write_wants writing short (reply.Quar (quarantine.Granted grant old) ∷ heard) =
+    quarantine_next writing (reply.Quar (quarantine.Granted grant old) ∷ heard)
+write_wants writing short (reply.Quar quarantine.Held ∷ heard) =
+    quarantine_next writing (reply.Quar quarantine.Held ∷ heard)
+write_wants writing short (reply.Quar (quarantine.Refused holder held) ∷ heard) = wanted.End
+write_wants writing short (reply.Fault fault ∷ heard) = after_fault (has_all writing heard) writing heard
+write_wants writing short (reply.Got found ∷ heard) = look_after writing.next writing found heard
+write_wants writing short (reply.Staged value txn ∷ heard) = commit_with writing heard
+write_wants writing short (reply.NotStaged fault txn ∷ heard) = commit_with writing heard
+write_wants writing short (reply.NotCommitted fault txn grants ∷ heard) = wanted.End
+write_wants writing short (reply.Committed number txn grants ∷ heard) =
+    release_next writing short (reply.Committed number txn grants ∷ heard)
+write_wants writing short (reply.End was ∷ heard) = release_next writing short (reply.End was ∷ heard)
+write_wants writing short (reply.Rel told ∷ heard) = release_next writing short (reply.Rel told ∷ heard)
+write_wants writing short (reply.SarBack grant ∷ heard) =
+    release_next writing short (reply.SarBack grant ∷ heard)
+write_wants writing short (other ∷ heard) = wanted.Nothing
 
--- The keys without one of them.
-abbrev pub without_key : QKey → List QKey → List QKey
-without_key key keys = filter (λ other. not (same_key key other)) keys
-
--- The keys that a session of this plan quarantines, in their order.
-abbrev pub keys_of : Plan → List QKey
-keys_of (Read key floor) = []
-keys_of (Write mode txn) = footprint txn
-keys_of (Skip key txn) = without_key key (footprint txn)
-
--- What a session of this plan wants.
-abbrev pub wants : Plan → List Reply → Wanted
-wants (Read key floor) heard = read_wants key floor heard
-wants (Write mode txn) heard = write_wants (footprint txn) txn heard
-wants (Skip key txn) heard = write_wants (without_key key (footprint txn)) txn heard
+-- What a session of this plan wants. The flag says that memory ran out when it was told of its commit.
+abbrev pub wants : Plan → Bool → List Reply → Wanted
+wants (Read key floor) short heard = read_wants key floor heard
+wants (Write mode txn) short heard = write_wants (writing_of (Write mode txn)) short heard
+wants (Look mode key txn) short heard = write_wants (writing_of (Look mode key txn)) short heard
+wants (Quit mode txn) short heard = write_wants (writing_of (Quit mode txn)) short heard
+wants (Skip key txn) short heard = write_wants (writing_of (Skip key txn)) short heard
 
 -- How a reader ended, by the last reply that it was told; a turn of a session that is done tells nothing.
 abbrev pub read_outcome : List Reply → Option Outcome
@@ -139,19 +246,40 @@ read_outcome (reply.Set set.Void ∷ heard) = Some outcome.Void
 read_outcome (reply.Fault fault ∷ heard) = Some (outcome.Failed fault)
 read_outcome (other ∷ heard) = None
 
--- How a writer ended: it was committed, refused, not committed, or a request of its was not made.
-abbrev pub write_outcome : List Reply → Option Outcome
-write_outcome [] = None
-write_outcome (reply.Committed number txn grants ∷ heard) = Some (outcome.Committed number)
-write_outcome (reply.NotCommitted fault txn grants ∷ heard) = Some (outcome.NotCommitted fault)
-write_outcome (reply.Quar (quarantine.Refused holder mode) ∷ heard) = Some (outcome.Refused holder mode)
-write_outcome (reply.Fault fault ∷ heard) = Some (outcome.Failed fault)
-write_outcome (other ∷ heard) = write_outcome heard
+-- A commit that was told without memory for the new values is a failure.
+abbrev pub commit_outcome : Bool → ℕ → Outcome
+commit_outcome true number = outcome.Failed causes.Memory
+commit_outcome false number = outcome.Committed number
 
-abbrev pub outcome_of : Plan → List Reply → Option Outcome
-outcome_of (Read key floor) heard = read_outcome heard
-outcome_of (Write mode txn) heard = write_outcome heard
-outcome_of (Skip key txn) heard = write_outcome heard
+-- A quarantine that wasn't made is a failure; a key that couldn't be looked at is none.
+abbrev pub fault_outcome : Bool → Outcome → Option Outcome → Option Outcome
+fault_outcome true failed before = before
+fault_outcome false failed before = Some failed
+
+-- How a writer ended: it was committed, refused, not committed, or a request of its was not made.
+abbrev pub write_outcome : Writing → Bool → List Reply → Option Outcome
+write_outcome writing short [] = None
+write_outcome writing short (reply.Committed number txn grants ∷ heard) = Some (commit_outcome short number)
+write_outcome writing short (reply.NotCommitted fault txn grants ∷ heard) = Some (outcome.NotCommitted fault)
+write_outcome writing short (reply.Quar (quarantine.Refused holder held) ∷ heard) = Some (outcome.Refused holder held)
+write_outcome writing short (reply.Fault fault ∷ heard) =
+    fault_outcome (has_all writing heard) (outcome.Failed fault) (write_outcome writing short heard)
+write_outcome writing short (other ∷ heard) = write_outcome writing short heard
+
+-- One that quits and wasn't hindered has quit.
+abbrev pub end_outcome : Then → Option Outcome → Option Outcome
+end_outcome Quits None = Some outcome.Quit
+end_outcome next ended = ended
+
+abbrev pub writing_outcome : Writing → Bool → List Reply → Option Outcome
+writing_outcome writing short heard = end_outcome writing.next (write_outcome writing short heard)
+
+abbrev pub outcome_of : Plan → Bool → List Reply → Option Outcome
+outcome_of (Read key floor) short heard = read_outcome heard
+outcome_of (Write mode txn) short heard = writing_outcome (writing_of (Write mode txn)) short heard
+outcome_of (Look mode key txn) short heard = writing_outcome (writing_of (Look mode key txn)) short heard
+outcome_of (Quit mode txn) short heard = writing_outcome (writing_of (Quit mode txn)) short heard
+outcome_of (Skip key txn) short heard = writing_outcome (writing_of (Skip key txn)) short heard
 
 -- Whether nothing is wanted.
 abbrev pub is_nothing : Wanted → Bool
@@ -159,5 +287,5 @@ is_nothing wanted.Nothing = true
 is_nothing other = false
 
 -- How a session of this plan ended, which is told once it wants nothing more.
-abbrev pub done_by : Plan → List Reply → Option Outcome
-done_by plan heard = if is_nothing (wants plan heard) then outcome_of plan heard else None
+abbrev pub done_by : Plan → Bool → List Reply → Option Outcome
+done_by plan short heard = if is_nothing (wants plan short heard) then outcome_of plan short heard else None

@@ -1,7 +1,7 @@
 ghost use Rattle.std.specs.Prelude.{◌≡◌, List, Option, IfOk, OnErr};
 ghost use Rattle.rows_model.specs.declared.keys.Sid.{Sid};
 ghost use Rattle.session_client.specs.Belongs.{Belongs};
-ghost use Rattle.session_client.specs.Desks.{IsNew, with_member};
+ghost use Rattle.session_client.specs.Desks.{IsNew, IsProper, with_member};
 
 use crate::replies::{Reply, Wanted};
 use rows_model::{Memory, Sid};
@@ -22,6 +22,7 @@ pub trait Desk {
 
     /// Makes a request of a session. The reply is one that belongs to it.
     fn call(&mut self, sid: Sid, wanted: Wanted) -> Reply
+        requires { IsProper wanted }
         ensures belongs { Belongs sid wanted result }
         ensures begun { begun self.new ≡ begun self.old };
 

@@ -1,7 +1,8 @@
-ghost use Rattle.std.specs.Prelude.{◌≡◌, ◌↔◌, ℕ, List, [], ◌∷◌, IsTrue, IfOk, None};
+ghost use Rattle.std.specs.Prelude.{◌≡◌, ◌↔◌, ℕ, Bool, true, false, List, [], ◌∷◌, IsTrue, IfOk, OnErr, MatchResult, None};
 ghost use Rattle.rows_model.specs.Changes.{footprint};
-ghost use Rattle.session_client.specs.Plans.{IsPlan, changes_of};
-ghost use Rattle.session_client.specs.Wants.{wants, done_by, keys_of, without_key};
+ghost use Rattle.session_client.specs.Desks.{IsProper};
+ghost use Rattle.session_client.specs.Plans.{IsPlan, changes_of, keys_of, without_key};
+ghost use Rattle.session_client.specs.Wants.{wants, done_by};
 
 use crate::plans::Plan;
 use crate::readers::Reader;
@@ -29,17 +30,17 @@ pub struct Session {
 
 impl Session {
     ghost use Rattle.session_client.specs.Belongs.{Belongs};
-    ghost use Rattle.session_client.specs.Follows.{plan_of, sid_of, IsReady, IsAwaited, Follows};
+    ghost use Rattle.session_client.specs.Follows.{plan_of, sid_of, IsReady, IsAwaited, IsRefreshing, Follows};
     ghost use Rattle.session_client.specs.declared.replies.Reply.{Reply};
 
-    /// The session of this number, that was told nothing so far. It takes all the memory that it will
-    /// need: the keys that its transaction touches and room for their grants.
+    /// The session of this number, that was told nothing so far. It takes the keys that its transaction
+    /// touches and room for their grants and old values.
     pub fn new(alloc: Global, sid: Sid, plan: Plan) -> Result<Session, Memory>
         requires { IsPlan plan }
         ensures plan { IfOk result (λ session. plan_of session ≡ plan) }
         ensures sid { IfOk result (λ session. sid_of session ≡ sid) }
         ensures ready { IfOk result (λ session. IsReady session) }
-        ensures follows { IfOk result (λ session. Follows session []) }
+        ensures follows { IfOk result (λ session. Follows session false []) }
     {
         Ok(Session {
             sid,
@@ -70,9 +71,15 @@ impl Session {
         requires { IsReady self.old }
         ensures plan { plan_of self.new ≡ plan_of self.old }
         ensures sid { sid_of self.new ≡ sid_of self.old }
-        ensures wanted { (heard : List Reply) → Follows self.old heard → result ≡ wants (plan_of self.old) heard }
-        ensures follows { (heard : List Reply) → Follows self.old heard → Follows self.new heard }
-        ensures awaits { (heard : List Reply) (reply : Reply) → Follows self.old heard → (IsAwaited self.new reply ↔ Belongs (sid_of self.old) result reply) }
+        ensures wanted { (short : Bool) (heard : List Reply) → Follows self.old short heard →
+            result ≡ wants (plan_of self.old) short heard }
+        ensures follows { (short : Bool) (heard : List Reply) → Follows self.old short heard →
+            Follows self.new short heard }
+        ensures awaits { (short : Bool) (heard : List Reply) (reply : Reply) →
+            Follows self.old short heard →
+            (IsAwaited self.new reply ↔ Belongs (sid_of self.old) result reply) }
+        ensures proper { (short : Bool) (heard : List Reply) → Follows self.old short heard →
+            IsProper result }
     {
         self.out = true;
         match &mut self.course {
@@ -104,13 +111,19 @@ impl Session {
         }
     }
 
-    /// Takes in the reply to the request that is out. It takes no memory.
-    pub fn told(&mut self, reply: Reply)
+    /// Takes in the reply to the request that is out. Memory is taken alone where the reply tells of the
+    /// commit and brings a grant to refresh, since the new values are made then. Where there is none the
+    /// reply is taken all the same: the session drops the value of each grant, in order, and has failed
+    /// with want of memory.
+    pub fn told(&mut self, reply: Reply) -> Result<(), Memory>
         requires { IsAwaited self.old reply }
         ensures plan { plan_of self.new ≡ plan_of self.old }
         ensures sid { sid_of self.new ≡ sid_of self.old }
         ensures ready { IsReady self.new }
-        ensures follows { (heard : List Reply) → Follows self.old heard → Follows self.new (reply ∷ heard) }
+        ensures follows { (short : Bool) (heard : List Reply) → Follows self.old short heard →
+            MatchResult result (λ _. Follows self.new short (reply ∷ heard))
+            (λ _. Follows self.new true (reply ∷ heard)) }
+        ensures memory { OnErr result (IsRefreshing reply) }
     {
         self.out = false;
         match &mut self.course {
@@ -121,7 +134,8 @@ impl Session {
 
     /// How the session ended: `None` exactly where a request is still wanted or out. It takes no memory.
     pub fn done(&self) -> Option<Outcome>
-        ensures done { (heard : List Reply) → IsReady self.now → Follows self.now heard → result ≡ done_by (plan_of self.now) heard }
+        ensures done { (short : Bool) (heard : List Reply) → IsReady self.now →
+            Follows self.now short heard → result ≡ done_by (plan_of self.now) short heard }
         ensures going { (IsReady self.now → ⊥) → result ≡ None }
     {
         match &self.course {
