@@ -1,11 +1,11 @@
 #!/usr/bin/env python3
-"""Draws a replay as an SVG: a lane a session, a row a turn, and beside them the store's log and each key's
-value and leases as they are after the turn.
+"""Draws a replay as an SVG: a lane a session, one for the clock and one for the sweeper where they move, a row a
+turn, and beside them the store's log and each key's value and leases as they are after the turn.
 
 usage: draw_replay.py SCRIPT OUTPUT > PICTURE.svg
 
 SCRIPT is what `./iq replay` read, OUTPUT what it printed. The lines are only read: nothing is judged, and
-what a key holds is told from the lines alone.
+what a key holds is told from the lines alone. A value that a refresh puts is in no line, and is shown as such.
 """
 
 import sys
@@ -32,24 +32,40 @@ COLOURS = {
     "REJECTED": ("#fee4e2", "#d92d20"),
     "REFUSED": ("#fee4e2", "#d92d20"),
     "GONE": ("#fee4e2", "#d92d20"),
+    "FOUND": ("#ffead5", "#ef6820"),
 }
+
+# The verbs whose next word is a key.
+ON_A_KEY = ("get", "ask", "staged", "set", "qareg", "qaread", "delta", "dar", "sar", "apply", "abort")
+
+# What has a lane and is no session.
+OTHERS = {"tick": "clock", "sweep": "sweeper"}
+
+# The word behind the number of a session, by the verb of its line.
+ROLES = {"read": "reads", "write": "writes", "look": "writes and looks", "quit": "quits", "skip": "writes and skips"}
 
 
 class Session:
     """A session of the script: the lines above its lane, the key that it reads, and its transaction."""
 
     def __init__(self, words):
-        self.number = words[1]
-        self.key = words[2] if words[0] == "read" else None
-        self.change = ""
-        if words[0] == "read":
+        verb, self.number = words[:2]
+        self.key = words[2] if verb == "read" else None
+        self.change = " ".join(words[4 if verb == "look" else 3 :]) if verb != "read" else ""
+        if verb == "read":
             self.head = [f"{self.number} reads", " ".join(words[2:])]
-        elif words[0] == "write":
-            self.change = " ".join(words[3:])
-            self.head = [f"{self.number} writes, {words[2]}", self.change]
         else:
-            self.change = " ".join(words[3:])
-            self.head = [f"{self.number} writes, skips {words[2]}", self.change]
+            on = {"look": f"{words[2]}, {words[3]}"}.get(verb, words[2]) if len(words) > 3 else ""
+            self.head = [f"{self.number} {ROLES[verb]}, {on}", self.change]
+
+
+class Other:
+    """The clock, or the sweeper."""
+
+    key, change = None, ""
+
+    def __init__(self, name):
+        self.number, self.head = name, [f"the {name}", ""]
 
 
 class Key:
@@ -75,19 +91,37 @@ class Turn:
 
     def __init__(self, line, number):
         words = line.split(" ")
-        if len(words) < 2 or not words[0].isdigit():
+        if len(words) < 2 or not (words[0].isdigit() or words[0] in OTHERS):
             raise ValueError(f"line {number} of the output is no turn: {line}")
-        self.line, self.number, self.who, self.verb = line, number, words[0], words[1]
-        has_key = self.verb in ("get", "ask", "set", "qareg", "dar", "abort")
+        self.line, self.number = line, number
+        self.who = OTHERS.get(words[0], words[0])
+        self.verb = "tick" if words[0] == "tick" else words[1]
+        if self.who == "sweeper":
+            self.take_sweep(words)
+            return
+        has_key = self.verb in ON_A_KEY
         self.key = words[2] if has_key else None
-        self.answer = words[3 if has_key else 2 :]
+        self.answer = words[1:] if self.verb == "tick" else words[3 if has_key else 2 :]
+        self.by = int(self.answer.pop(0)) if self.verb == "delta" else 0
         self.word = self.answer[0] if self.answer else ""
+
+    def take_sweep(self, words):
+        """`sweep scan SHARD ..`, `sweep end SESSION ..` or `sweep drop KEY ..`."""
+        self.by, self.answer = 0, words[3:]
+        self.word = self.answer[0] if self.answer else ""
+        self.key = words[2] if self.verb == "drop" else None
+        if self.verb != "drop":
+            self.verb = f"{self.verb} {words[2]}"
 
     def label(self, own_key):
         """What the cell says: the key is left out where the session has but this one."""
         asked = self.verb if self.key in (None, own_key) else f"{self.verb} {self.key}"
         if self.verb == "ask" and self.word != "FAULT":
             told = answer_text(self.answer)
+        elif self.verb == "qaread" and self.word == "GRANTED" and self.answer[2] != "NONE":
+            told = f"GRANTED {self.answer[1]} {answer_text(self.answer[2:])}"
+        elif self.verb == "delta":
+            told = f"{self.by:+} {' '.join(self.answer)}"
         elif self.word == "HIT":
             told = f"HIT {answer_text(self.answer[1:])}"
         else:
@@ -100,6 +134,7 @@ class Replay:
 
     def __init__(self, sessions, turns):
         self.sessions, self.log, self.asked, self.keys = sessions, [], {}, {}
+        self.numbers, self.had, self.shifts, self.found = {}, set(), {}, ""
         named = [it.key for it in sessions.values()] + [it.key for it in turns]
         for name in named:
             if name is not None and name not in self.keys:
@@ -110,6 +145,9 @@ class Replay:
         before = self.shown()
         if turn.verb == "commit" and turn.word == "COMMITTED":
             self.log.append(f"{turn.answer[1]}: {self.sessions[turn.who].change}")
+            self.numbers[turn.who] = turn.answer[1]
+        elif turn.word == "FOUND":
+            self.found = turn.answer[2]
         elif turn.verb == "ask" and turn.word != "FAULT":
             self.asked[turn.who] = (" ".join(turn.answer[1:]), turn.answer[0])
         elif turn.key is not None:
@@ -129,10 +167,27 @@ class Replay:
         elif turn.word == "GRANTED":
             key.lease = None
             key.quarantines[turn.who] = turn.answer[1]
+            self.shifts[turn.who, key.name] = turn.by
+            if turn.verb == "qaread" and turn.answer[2] != "NONE":
+                self.had.add((turn.who, key.name))
         elif turn.word == "RELEASED":
-            key.quarantines.pop(turn.who, None)
-            if turn.verb == "dar":
-                key.entry = None
+            self.release(turn, key)
+
+    def release(self, turn, key):
+        """The value is dropped, left, refreshed or shifted. The sweeper drops it for the session that it found."""
+        who = self.found if turn.who == "sweeper" else turn.who
+        key.quarantines.pop(who, None)
+        number = self.numbers.get(who)
+        if turn.verb == "sar" and (who, key.name) in self.had:
+            key.entry = ("(refreshed)", number)
+        elif turn.verb in ("dar", "drop", "sar"):
+            key.entry = None
+        elif turn.verb == "apply" and key.entry is not None:
+            old = key.entry[0]
+            if old.isdigit():
+                key.entry = (str(int(old) + self.shifts[who, key.name]), number)
+            elif old == "(refreshed)":
+                key.entry = ("(shifted)", number)
 
     def shown(self):
         """The texts of the columns: the log's last line, and two for each key."""
@@ -154,8 +209,9 @@ def shorter(text):
 
 def sessions_in(script):
     lines = [it.split(" ") for it in script.split("\n")]
-    found = [Session(it) for it in lines if it[0] in ("read", "write", "skip")]
-    return {it.number: it for it in found}
+    found = [Session(it) for it in lines if it[0] in ROLES]
+    others = [Other(name) for verb, name in OTHERS.items() if any(it[0] == verb for it in lines)]
+    return {it.number: it for it in found + others}
 
 
 def turns_in(output):
