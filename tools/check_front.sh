@@ -54,7 +54,6 @@ check_cases() {
         add_case "$(basename "$script" .iq)" "$script" "${script%.iq}.out" 0 ""
     done
     add_case faulty_script "$work/faulty" /dev/null 2 ""
-    add_case line_to_come "$work/to_come" /dev/null 9 ""
     add_case further_word "$work/faulty" /dev/null 1 more
     (cd "$work/fresh/crates/iq" && rt try --cases "$work/cases" -- replay) >"$work/said" 2>&1
     while read -r name wanted; do
@@ -121,7 +120,6 @@ check_pictures() {
 }
 
 printf 'members 0\nend\n' >"$work/faulty"
-printf 'members 3\ntick 3\nend\n' >"$work/to_come"
 # A copy of the sources, in which no proved program stands.
 mkdir "$work/fresh"
 tar --exclude=out -cf - iq crates.txt crates | (cd "$work/fresh" && tar -xf -)

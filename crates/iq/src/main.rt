@@ -3,7 +3,6 @@
 #![tactic(auto)]
 
 use iq_outside::{ReaderSource, WriterSink};
-use run_inputs::ScriptKind;
 use sql_keeper::MapKeeper;
 use std::process::ExitCode;
 use std::{env, io};
@@ -55,10 +54,6 @@ fn tell(rt: &HostRuntime, status: Status) {
     let written = match status {
         Status::Done => Ok(()),
         Status::Usage => eprintln!(rt; "usage"),
-        Status::Script {
-            kind: ScriptKind::NotYet,
-            ..
-        } => eprintln!(rt; "not yet"),
         Status::Script { line, kind } => eprintln!(rt; "script line {line} {}", kind.word()),
         Status::ReadFault => eprintln!(rt; "read fault"),
         Status::WriteFault => eprintln!(rt; "write fault"),
@@ -74,10 +69,6 @@ fn exit_code(status: Status) -> u8 {
     match status {
         Status::Done => 0,
         Status::Usage => 1,
-        Status::Script {
-            kind: ScriptKind::NotYet,
-            ..
-        } => 9,
         Status::Script { .. } => 2,
         Status::ReadFault => 3,
         Status::WriteFault => 4,

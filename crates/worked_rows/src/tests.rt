@@ -111,7 +111,7 @@ const TWO_SHARDS: [(&str, &[u8], &[u8]); 2] = [
 ];
 
 /// Texts that are no scripts, and the line and kind of their first fault.
-const NO_SCRIPTS: [(&str, &[u8], u64, ScriptKind); 9] = [
+const NO_SCRIPTS: [(&str, &[u8], u64, ScriptKind); 7] = [
     ("an empty text", b"", 1, ScriptKind::NoEnd),
     (
         "a turn of no session",
@@ -139,22 +139,10 @@ const NO_SCRIPTS: [(&str, &[u8], u64, ScriptKind); 9] = [
         2,
         ScriptKind::Number,
     ),
-    (
-        "a line that isn't run yet",
-        b"members 3\ntick 5\nend\n",
-        2,
-        ScriptKind::NotYet,
-    ),
-    (
-        "a mode that isn't run yet",
-        b"members 3\nwrite 1 refresh rename 2 bob\nend\n",
-        2,
-        ScriptKind::NotYet,
-    ),
 ];
 
 /// Scripts whose keeper fails at some calls, counted from 1 and with its start, and what they print.
-const FAULTS: [(&str, &[u8], &[u64], &[u8]); 4] = [
+const FAULTS: [(&str, &[u8], &[u64], &[u8]); 6] = [
     (
         "a commit that the keeper fails leaves the entry",
         b"members 3\nread 1 profile:2\nwrite 2 invalidate rename 2 bob\nread 3 profile:2\nturn 1 3\nturn 2 4\nturn 3\nend\n",
@@ -178,6 +166,18 @@ const FAULTS: [(&str, &[u8], &[u64], &[u8]); 4] = [
         b"members 3\nread 1 profile:1\nread 2 profile:2\nread 3 profile:3\nturn 1 2\nturn 2 2\nturn 3 2\nend\n",
         &[2, 3],
         b"1 get profile:1 LEASE 1\n1 ask profile:1 FAULT\n2 get profile:2 LEASE 2\n2 ask profile:2 FAULT\n3 get profile:3 LEASE 3\n3 ask profile:3 0 m3 0 0\nend commits 0 hits 0 stores 0 agains 0\n",
+    ),
+    (
+        "a session that looks and is told of a fault commits all the same",
+        b"members 3\nread 1 profile:2\nlook 2 refresh profile:2 rename 2 bob\nread 3 profile:2\nturn 1 3\nturn 2 5\nturn 3\nend\n",
+        &[3],
+        b"1 get profile:2 LEASE 1\n1 ask profile:2 0 m2 0 0\n1 set profile:2 STORED\n2 qaread profile:2 GRANTED 2 0 m2 0 0\n2 get profile:2 OWN\n2 staged profile:2 FAULT\n2 commit COMMITTED 1\n2 sar profile:2 RELEASED\n3 get profile:2 HIT 1 bob 0 0\nend commits 1 hits 1 stores 1 agains 0\n",
+    ),
+    (
+        "a commit that the keeper fails leaves the value that was to be refreshed",
+        b"members 3\nread 1 profile:2\nlook 2 refresh profile:2 rename 2 bob\nread 3 profile:2\nturn 1 3\nturn 2 5\nturn 3\nend\n",
+        &[4],
+        b"1 get profile:2 LEASE 1\n1 ask profile:2 0 m2 0 0\n1 set profile:2 STORED\n2 qaread profile:2 GRANTED 2 0 m2 0 0\n2 get profile:2 OWN\n2 staged profile:2 bob 0 0\n2 commit FAULT\n2 end YES\n3 get profile:2 HIT 0 m2 0 0\nend commits 0 hits 1 stores 1 agains 0\n",
     ),
 ];
 
