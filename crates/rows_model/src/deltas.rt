@@ -1,5 +1,6 @@
 ghost use Rattle.std.specs.Prelude.{◌≡◌, ◌≤◌, length};
 ghost use Rattle.rows_model.specs.Delta.{delta_of, is_count, is_counting, step_by, sum_of};
+ghost use Rattle.rows_model.specs.DeltaIsAnswer.{DeltaIsAnswer};
 
 use crate::changes::{Change, Txn};
 use crate::keys::{Kind, QKey};
@@ -17,6 +18,12 @@ pub fn delta_of(key: &QKey, txn: &Txn) -> i32
         Kind::Profile | Kind::Friends | Kind::Pending => 0,
     }
 }
+
+/// The count that answers a key before a transaction, shifted by what the transaction adds, is the
+/// answer after it, on all rows on which it applies.
+pub fn delta_is_answer()
+    ensures { DeltaIsAnswer }
+{}
 
 impl Kind {
     /// Whether keys of this kind are answered by a count.
