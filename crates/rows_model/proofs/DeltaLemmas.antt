@@ -1,5 +1,5 @@
 -- A count before changes, shifted by what they add, is the count after them; the changes add nothing to a key that is no count.
-use Rattle.std.proofs.Common.{ℕ, ◌+◌, ◌-◌, ◌<◌, ◌≡◌, ◌^◌, ℤ, pos, negsuc, ◌+ℤ◌, true, false, List, [], ◌∷◌, map, fold, decimal, All, Option, Some, Ok, refl, sym, ap, ◌∙◌, arith}
+use Rattle.std.proofs.Common.{ℕ, ◌+◌, ◌-◌, ◌<◌, ◌≡◌, ◌^◌, ℤ, pos, negsuc, ◌+ℤ◌, true, false, List, [], ◌∷◌, map, fold, decimal, All, Option, Some, None, Ok, refl, sym, ap, ◌∙◌, arith}
 use Rattle.std.specs.Prelude.{nat_lt, option_map}
 use Rattle.std.proofs.lemmas.Bool.Decides.{nat_tests}
 use Rattle.std.proofs.lemmas.Int.{ints}
@@ -88,6 +88,17 @@ kind_shifted NPending id changes t after counts fit ids e = count_shifted Inviti
 pub delta_shifts : DeltaIsAnswer
 unfolding answer delta_of
 delta_shifts key changes before after counts fit ids e = kind_shifted key.kind key.id changes before after counts fit ids e
+
+mapped : {A : Type 0} (f : List ℕ → A) (o : Option ℕ) (text : List ℕ) → option_map decimal o ≡ Some text → option_map (λ n. f (decimal n)) o ≡ Some (f text)
+mapped f (Some n) text e = ap (λ (t : List ℕ). Some (f t)) (same_Some (decimal n) text e)
+mapped f None text e = absurd cc
+
+-- the same where the count is put in something, as in an entry beside a stamp
+pub delta_shifts_in : {A : Type 0} (f : List ℕ → A) (key : QKey) (changes : List Change) (before after : Tables) → is_count key ≡ true
+    → Fit before → All HasIds changes → apply_all changes before ≡ Ok after
+    → option_map (λ n. f (decimal n)) (shifted (answer key before) (delta_of key changes)) ≡ Some (f (answer key after))
+delta_shifts_in f key changes before after counts fit ids e =
+    mapped f (shifted (answer key before) (delta_of key changes)) (answer key after) (delta_shifts key changes before after counts fit ids e)
 
 nothing_by : (kind : Kind) (id : ℕ) (changes : List Change) → is_counting kind ≡ false → delta_by kind id changes ≡ pos 0
 nothing_by Profile id changes none = refl
