@@ -9,6 +9,7 @@ pub mod RefreshTextLemmas
 pub mod RefreshListLemmas
 pub mod RefreshStepLemmas
 pub mod RefreshLawLemmas
+pub mod DeltaLemmas
 pub mod NameLemmas
 pub mod NumberLemmas
 pub mod RowsLemmas

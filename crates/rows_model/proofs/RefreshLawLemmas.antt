@@ -30,7 +30,7 @@ use Rattle.rows_model.proofs.RefreshTextLemmas.{small_number-decimal, ids_in-id_
 use Rattle.rows_model.proofs.RefreshStepLemmas.{ids_of, count_of, ids_ascend, few_ids, step_listed, step_counted}
 
 -- what one change keeps is kept by changes in turn
-abbrev Steps : {A : Type 0} → (Change → A → Option A) → (Tables → A) → Type 0
+abbrev pub Steps : {A : Type 0} → (Change → A → Option A) → (Tables → A) → Type 0
 Steps step view =
     (change : Change) (t : Tables) → Fit t → HasIds change → applies change t ≡ true → step change (view t) ≡ Some (view (changed change t))
 
@@ -44,7 +44,7 @@ law_go step view place change changes t after true takes fit ids steps e rest =
     ap (option_and_then (after_all step changes)) (steps change t fit ids takes) ∙ rest (Fit-changed change t fit ids takes) e
 law_go step view place change changes t after false takes fit ids steps e rest = absurd cc
 
-law_from : {A : Type 0} (step : Change → A → Option A) (view : Tables → A) → Steps step view → (place : ℕ) (changes : List Change) (t after : Tables)
+pub law_from : {A : Type 0} (step : Change → A → Option A) (view : Tables → A) → Steps step view → (place : ℕ) (changes : List Change) (t after : Tables)
     → Fit t → All HasIds changes → apply_from place changes t ≡ Ok after → after_all step changes (view t) ≡ Some (view after)
 law_from step view steps place [] t after fit ids e =
     let same : t ≡ after = cc in ap (λ (u : Tables). Some (view u)) same

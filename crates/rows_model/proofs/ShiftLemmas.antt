@@ -108,7 +108,8 @@ number_in-decimal (suc n) small =
     let found : number_in (decimal (suc n)) ≡ Some (number_from 0 (decimal (suc n))) = some_from (decimal (suc n)) (omega arith) (omega arith) high.1 digits (omega arith) in
     found ∙ ap (λ (k : ℕ). Some k) value
 
-some_parts : (b : Bool) (v n : ℕ) → (if b then Some v else None) ≡ Some n → (b ≡ true) × (v ≡ n)
+-- what a test lets through has passed it
+pub some_parts : (b : Bool) (v n : ℕ) → (if b then Some v else None) ≡ Some n → (b ≡ true) × (v ≡ n)
 some_parts true v n e = (refl, cc)
 some_parts false v n e = absurd cc
 

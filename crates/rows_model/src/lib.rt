@@ -2,6 +2,7 @@
 #![tactic(auto)]
 
 pub use changes::{Change, Txn};
+pub use deltas::{delta_is_answer, delta_of};
 pub use footprints::{
     footprint, footprints_are_exact, rows_stay_fit, touches, untouched_keeps_its_answer,
 };
@@ -16,6 +17,9 @@ pub use shifts::{numbers_are_decimal, shift};
 pub use values::Value;
 
 pub mod changes;
+#[cfg(test)]
+mod delta_tests;
+pub mod deltas;
 mod edits;
 pub mod footprints;
 pub mod keys;

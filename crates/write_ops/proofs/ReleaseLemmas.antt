@@ -53,14 +53,14 @@ was-gone past permit stands = record {
 }
 
 -- what a release leaves that puts no value, by the quarantine of its token
-leaves-by : (past : List Step) (permit : Permit) (how : How) (found : Option (List ℕ × ℕ)) (rel : Rel) (o : Option Quar) → quar_of permit.key permit.token past ≡ o → ((quar : Quar) → evicted_by (ended_as quar how) ≡ None) → ((quar : Quar) → entry_ended (ended_as quar how) (entry permit.key past) ≡ found) → ShowsRelease (release_by permit how o) rel → LeavesEntry found permit past (release_by permit how o ∷ past) rel
+leaves-by : (past : List Step) (permit : Permit) (how : How) (found : Option (List ℕ × ℕ)) (rel : Rel) (o : Option Quar) → quar_of permit.key permit.token past ≡ o → ((quar : Quar) → evicted_by (ended_as quar how) ≡ None) → ((quar : Quar) → quar_of permit.key permit.token past ≡ Some quar → entry_ended (ended_as quar how) (entry permit.key past) ≡ found) → ShowsRelease (release_by permit how o) rel → LeavesEntry found permit past (release_by permit how o ∷ past) rel
 leaves-by past permit how found rel (Some quar) stands quiet entry_ shows =
-    subst (LeavesEntry found permit past (release_by permit how (Some quar) ∷ past)) (sym shows) (quiet quar, ended-with past permit quar.sid (ended_as quar how) found None quar stands (quiet quar) (entry_ quar))
+    subst (LeavesEntry found permit past (release_by permit how (Some quar) ∷ past)) (sym shows) (quiet quar, ended-with past permit quar.sid (ended_as quar how) found None quar stands (quiet quar) (entry_ quar stands))
 leaves-by past permit how found rel None stands quiet entry_ shows =
     subst (LeavesEntry found permit past (release_by permit how None ∷ past)) (sym shows) (was-gone past permit stands)
 
 -- what a release of a grant that is out leaves
-pub leaves-entry : (old new : ShardView) (permit : Permit) (how : How) (found : Option (List ℕ × ℕ)) (rel : Rel) → ((quar : Quar) → evicted_by (ended_as quar how) ≡ None) → ((quar : Quar) → entry_ended (ended_as quar how) (entry permit.key (past_of old)) ≡ found) → new ≡ returned old permit (release_step (past_of old) permit how) → ShowsRelease (release_step (past_of old) permit how) rel → LeavesEntry found permit (past_of old) (past_of new) rel
+pub leaves-entry : (old new : ShardView) (permit : Permit) (how : How) (found : Option (List ℕ × ℕ)) (rel : Rel) → ((quar : Quar) → evicted_by (ended_as quar how) ≡ None) → ((quar : Quar) → quar_of permit.key permit.token (past_of old) ≡ Some quar → entry_ended (ended_as quar how) (entry permit.key (past_of old)) ≡ found) → new ≡ returned old permit (release_step (past_of old) permit how) → ShowsRelease (release_step (past_of old) permit how) rel → LeavesEntry found permit (past_of old) (past_of new) rel
 leaves-entry old new permit how found rel quiet entry_ step shows =
     subst (λ past. LeavesEntry found permit (past_of old) past rel) (sym (past-returned old new permit (release_step (past_of old) permit how) step)) (leaves-by (past_of old) permit how found rel (quar_of permit.key permit.token (past_of old)) refl quiet entry_ shows)
 

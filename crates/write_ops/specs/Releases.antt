@@ -1,5 +1,5 @@
 -- What a writer's verbs ask of a shard, and what their releases leave of it.
-use Rattle.std.specs.Prelude.{ℕ, ◌≡◌, pos, not, if◌then◌else◌, filter, List, Option, Some, None, IsSome}
+use Rattle.std.specs.Prelude.{ℕ, ◌≡◌, ℤ, pos, not, if◌then◌else◌, filter, List, Option, Some, None, IsSome, Result, Ok, Err, option_and_then}
 use Rattle.std.specs.Bool.{IsFalse}
 use Rattle.rows_model.specs.declared.keys.QKey.{QKey}
 use Rattle.rows_model.specs.declared.keys.Sid.{Sid}
@@ -9,11 +9,15 @@ use Rattle.lease_table.specs.Leases.{has_token}
 use Rattle.key_shard.specs.declared.replies.How.TheVariants as hows
 use Rattle.key_shard.specs.declared.replies.Rel.{Rel}
 use Rattle.key_shard.specs.declared.replies.Rel.TheVariants as rels
+use Rattle.key_shard.specs.declared.replies.ShardFault.{ShardFault}
+use Rattle.key_shard.specs.declared.replies.ShardFault.TheVariants as faults
 use Rattle.key_shard.specs.declared.steps.Step.{Step}
 use Rattle.key_shard.specs.Permit.{Permit}
-use Rattle.key_shard.specs.Past.{entry, is_evicted, quar_of, recorded, standing}
+use Rattle.key_shard.specs.Past.{entry, entry_shifted, is_evicted, quar_of, recorded, standing}
 use Rattle.key_shard.specs.Answers.{quarantine_step, release_step, replace_step}
 use Rattle.key_shard.specs.Shards.{ShardView, past_of}
+use Rattle.write_ops.specs.declared.delta.DeltaFault.{DeltaFault}
+use Rattle.write_ops.specs.declared.delta.DeltaFault.TheVariants as deltas
 
 -- The step of a quarantine to invalidate.
 abbrev pub qa_step : ShardView → QKey → Sid → ℕ → Step
@@ -34,6 +38,23 @@ read_step shard key sid now = quarantine_step shard.terms (past_of shard) key si
 abbrev pub sar_step : ShardView → Permit → Option (List ℕ) → ℕ → Step
 sar_step shard permit (Some value) stamp = replace_step shard.terms (past_of shard) permit value stamp
 sar_step shard permit None stamp = dar_step shard permit
+
+-- The step of a quarantine to shift a count by this number.
+abbrev pub delta_step : ShardView → QKey → Sid → ℤ → ℕ → Step
+delta_step shard key sid by now = quarantine_step shard.terms (past_of shard) key sid modes.Delta by now
+
+-- The step of a release that shifts the count, and gives it this stamp.
+abbrev pub apply_step : ShardView → Permit → ℕ → Step
+apply_step shard permit stamp = release_step (past_of shard) permit (hows.Shift stamp)
+
+-- Where the shard refuses, the result is its refusal; where it doesn't, the result is an answer, unless memory ran out.
+abbrev pub RefusesDelta : {X : Type 0} → Option ShardFault → Result X DeltaFault → Type 0
+RefusesDelta (Some fault) result = result ≡ Err (deltas.Shard fault)
+RefusesDelta None (Ok answer) = Unit {0}
+RefusesDelta None (Err (deltas.Shard faults.Memory)) = Unit {0}
+RefusesDelta None (Err (deltas.Shard (faults.Stranger shard))) = ⊥
+RefusesDelta None (Err (deltas.Shard (faults.Spent next))) = ⊥
+RefusesDelta None (Err deltas.NotCount) = ⊥
 
 -- A key has the I lease and the quarantines that it had before, and the entry, unless it is the one that made room.
 pub record SameOn (evicted : Option QKey) (key : QKey) (old new : List Step) : Type 0 where
@@ -77,3 +98,12 @@ LeavesPut value stamp permit old new rels.Gone = WasGone permit old new
 abbrev pub LeavesNew : Option (List ℕ) → ℕ → Permit → List Step → List Step → Rel → Type 0
 LeavesNew (Some value) stamp permit old new rel = LeavesPut value stamp permit old new rel
 LeavesNew None stamp permit old new rel = LeavesNone permit old new rel
+
+-- The entry of a permit's key, shifted by the shift of the quarantine of its token, with this stamp: none where no such quarantine stands, where there is no entry, and where its value is no number.
+abbrev pub shifted_entry : ℕ → Permit → List Step → Option (List ℕ × ℕ)
+shifted_entry stamp permit past =
+    option_and_then (λ quar. entry_shifted quar.shift stamp (entry permit.key past)) (quar_of permit.key permit.token past)
+
+-- Where its quarantine ended the key has the entry that it had, shifted by the quarantine's own shift, with this stamp.
+abbrev pub LeavesShifted : ℕ → Permit → List Step → List Step → Rel → Type 0
+LeavesShifted stamp permit old new rel = LeavesEntry (shifted_entry stamp permit old) permit old new rel

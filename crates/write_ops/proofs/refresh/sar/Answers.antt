@@ -12,4 +12,4 @@ returns-in-Some-clause-leaves c out =
 pub returns-in-None-clause-leaves : goal.returns-in-None-clause-leaves
 returns-in-None-clause-leaves c out =
     subst (λ o. LeavesNew o c.args.stamp c.args.grant (past_of c.args.shard.now) (past_of c.release.new.self) c.release.result) (sym c.in-None.is)
-    (leaves-entry c.args.shard.now c.release.new.self c.args.grant hows.Drop None c.release.result (λ quar. refl) (λ quar. refl) (c.release.ensures.out out) (c.release.ensures.shows out))
+    (leaves-entry c.args.shard.now c.release.new.self c.args.grant hows.Drop None c.release.result (λ quar. refl) (λ quar stands. refl) (c.release.ensures.out out) (c.release.ensures.shows out))
