@@ -4,7 +4,6 @@ use Rattle.std.specs.Prelude.{◌≢◌, nat_lt, flat_map, not, sum_by}
 use Rattle.std.proofs.lemmas.Bool.{false≢true}
 use Rattle.std.proofs.lemmas.Bool.Decides.{nat_tests}
 use Rattle.std.proofs.lemmas.List.Sums.{sum_by-append}
-use Rattle.lease_table.specs.declared.records.Mode.TheVariants.{Invalidate, Refresh, Delta}
 use Rattle.session_client.specs.declared.plans.Shape.{Shape}
 use Rattle.run_inputs.specs.declared.lines.Part.TheVariants.{Members, Shards, Room, Life}
 use Rattle.run_inputs.specs.declared.lines.Verb.{Verb}
@@ -18,7 +17,7 @@ use Rattle.run_inputs.specs.declared.stages.Progress.{Progress}
 use Rattle.run_inputs.specs.declared.scripts.Act.{Act}
 use Rattle.run_inputs.specs.Texts.{words_in}
 use Rattle.run_inputs.specs.Lines.{AreArgs, AreWords, verb_of}
-use Rattle.run_inputs.specs.Script.{start, after, after_all, is_in_place, stage_after, shape_after, sessions_in, turns_in, acts_in, is_numbered, has_key, is_known, fault_of, AreSound, IsScript}
+use Rattle.run_inputs.specs.Script.{start, after, after_all, is_in_place, stage_after, shape_after, sessions_in, turns_in, acts_in, is_numbered, has_key, fault_of, AreSound, IsScript}
 use Rattle.run_inputs.specs.Fit.{turns_of, AreFit, IsShape, IsPlayable}
 use Rattle.run_inputs.proofs.ScriptLemmas.{Passes, passes, few_turns}
 
@@ -114,8 +113,8 @@ shaped_start = record {
 
 -- what a line without a fault is
 tests_of : (progress : Progress) (said : Line) → fault_of progress said ≡ None
-    → Passes (not (is_numbered progress.begun said)) (not (has_key said)) (nat_lt 1000000 (progress.turns + turns_in said)) (not (is_known said))
-tests_of progress said e = passes _ _ _ _ e
+    → Passes (not (is_numbered progress.begun said)) (not (has_key said)) (nat_lt 1000000 (progress.turns + turns_in said))
+tests_of progress said e = passes _ _ _ e
 
 true_from : (b : Bool) → not b ≡ false → b ≡ true
 true_from true e = refl
@@ -123,32 +122,33 @@ true_from false e = sym e
 
 -- the acts of a line go before fit ones
 fit_before : (begun : ℕ) (said : Line) (words : List (List ℕ)) (acts : List Act)
-    → AreArgs said words → is_numbered begun said ≡ true → has_key said ≡ true → is_known said ≡ true
+    → AreArgs said words → is_numbered begun said ≡ true → has_key said ≡ true
     → AreFit (begun + sessions_in said) acts → AreFit begun (acts_in said ++ acts)
-fit_before begun (Session number job) [] acts k a b c h = absurd k
-fit_before begun (Session number (Read key floor)) (word ∷ words) acts k a b c h = (tt, h)
-fit_before begun (Session number (Write Invalidate txn)) (word ∷ []) acts k a b c h = absurd k.1
-fit_before begun (Session number (Write Invalidate txn)) (word ∷ next ∷ words) acts k a b c h = ((k.1.1.0, refl), h)
-fit_before begun (Session number (Write Refresh txn)) (word ∷ words) acts k a b c h = absurd (false≢true c)
-fit_before begun (Session number (Write Delta txn)) (word ∷ words) acts k a b c h = absurd (false≢true c)
-fit_before begun (Session number (Look mode key txn)) (word ∷ words) acts k a b c h = absurd (false≢true c)
-fit_before begun (Session number (Quit mode txn)) (word ∷ words) acts k a b c h = absurd (false≢true c)
-fit_before begun (Session number (Skip key txn)) (word ∷ []) acts k a b c h = absurd k.1
-fit_before begun (Session number (Skip key txn)) (word ∷ next ∷ words) acts k a b c h = ((k.1.1.0, b), h)
-fit_before begun (Turn None count) words acts k a b c h = absurd (false≢true a)
-fit_before begun (Turn (Some number) count) words acts k a b c h =
+fit_before begun (Session number job) [] acts k a b h = absurd k
+fit_before begun (Session number (Read key floor)) (word ∷ words) acts k a b h = (tt, h)
+fit_before begun (Session number (Write mode txn)) (word ∷ []) acts k a b h = absurd k.1
+fit_before begun (Session number (Write mode txn)) (word ∷ next ∷ words) acts k a b h = (k.1.1.0, h)
+fit_before begun (Session number (Look mode key txn)) (word ∷ []) acts k a b h = absurd k.1
+fit_before begun (Session number (Look mode key txn)) (word ∷ next ∷ []) acts k a b h = absurd k.1
+fit_before begun (Session number (Look mode key txn)) (word ∷ next ∷ third ∷ words) acts k a b h = ((k.1.2.0, b), h)
+fit_before begun (Session number (Quit mode txn)) (word ∷ []) acts k a b h = absurd k.1
+fit_before begun (Session number (Quit mode txn)) (word ∷ next ∷ words) acts k a b h = (k.1.1.0, h)
+fit_before begun (Session number (Skip key txn)) (word ∷ []) acts k a b h = absurd k.1
+fit_before begun (Session number (Skip key txn)) (word ∷ next ∷ words) acts k a b h = ((k.1.1.0, b), h)
+fit_before begun (Turn None count) words acts k a b h = absurd (false≢true a)
+fit_before begun (Turn (Some number) count) words acts k a b h =
     ((grind (arith, nat_tests), grind (arith, nat_tests)), subst (λ (n : ℕ). AreFit n acts) (omega arith) h)
-fit_before begun (Tick ticks) words acts k a b c h = absurd (false≢true c)
-fit_before begun (Sweep count) words acts k a b c h = absurd (false≢true c)
-fit_before begun (Head part number) words acts k a b c h = subst (λ (n : ℕ). AreFit n acts) (omega arith) h
-fit_before begun End words acts k a b c h = subst (λ (n : ℕ). AreFit n acts) (omega arith) h
+fit_before begun (Tick ticks) words acts k a b h = (tt, h)
+fit_before begun (Sweep count) words acts k a b h = (tt, h)
+fit_before begun (Head part number) words acts k a b h = subst (λ (n : ℕ). AreFit n acts) (omega arith) h
+fit_before begun End words acts k a b h = subst (λ (n : ℕ). AreFit n acts) (omega arith) h
 
 fit_line : (progress : Progress) (said : Line) (words : List (List ℕ)) (acts : List Act)
     → AreWords said words → fault_of progress said ≡ None → AreFit (progress.begun + sessions_in said) acts → AreFit progress.begun (acts_in said ++ acts)
 fit_line progress said [] acts k e h = absurd k
 fit_line progress said (word ∷ words) acts k e h =
     let p = tests_of progress said e in
-    fit_before progress.begun said words acts k.1 (true_from _ p.first) (true_from _ p.second) (true_from _ p.fourth) h
+    fit_before progress.begun said words acts k.1 (true_from _ p.first) (true_from _ p.second) h
 
 fit_all : (progress : Progress) (lines : List (List ℕ)) (said : List Line) → AreSound progress lines said → AreFit progress.begun (flat_map acts_in said)
 fit_all progress [] [] k = tt

@@ -72,24 +72,21 @@ abbrev is_of_saying : ScriptKind → Bool
 is_of_saying kind.Number = true
 is_of_saying kind.Key = true
 is_of_saying kind.Turns = true
-is_of_saying kind.NotYet = true
 is_of_saying other = false
 
-of_saying : (a b c d : Bool) (k : ScriptKind) → (if a then Some kind.Number else if b then Some kind.Key else if c then Some kind.Turns else if d then Some kind.NotYet else None) ≡ Some k → is_of_saying k ≡ true
-of_saying true b c d k e = let same : kind.Number ≡ k = cc in ap is_of_saying (sym same)
-of_saying false true c d k e = let same : kind.Key ≡ k = cc in ap is_of_saying (sym same)
-of_saying false false true d k e = let same : kind.Turns ≡ k = cc in ap is_of_saying (sym same)
-of_saying false false false true k e = let same : kind.NotYet ≡ k = cc in ap is_of_saying (sym same)
-of_saying false false false false k e = absurd cc
+of_saying : (a b c : Bool) (k : ScriptKind) → (if a then Some kind.Number else if b then Some kind.Key else if c then Some kind.Turns else None) ≡ Some k → is_of_saying k ≡ true
+of_saying true b c k e = let same : kind.Number ≡ k = cc in ap is_of_saying (sym same)
+of_saying false true c k e = let same : kind.Key ≡ k = cc in ap is_of_saying (sym same)
+of_saying false false true k e = let same : kind.Turns ≡ k = cc in ap is_of_saying (sym same)
+of_saying false false false k e = absurd cc
 
 -- the first fault of what a line says is the line's
 pub faulty : (progress : Progress) (line : List ℕ) (said : Line) (k : ScriptKind) → MayStand progress line → Says progress line said → fault_of progress said ≡ Some k → IsFaulty progress line k
 faulty progress line said kind.Number h w e = (h, said, w, e)
 faulty progress line said kind.Key h w e = (h, said, w, e)
 faulty progress line said kind.Turns h w e = (h, said, w, e)
-faulty progress line said kind.NotYet h w e = (h, said, w, e)
 faulty progress line said kind.LongText h w e = (h, said, w, e)
 faulty progress line said kind.NoEnd h w e = (h, said, w, e)
-faulty progress line said kind.LongLine h w e = absurd (false≢true (of_saying _ _ _ _ kind.LongLine e))
-faulty progress line said kind.AfterEnd h w e = absurd (false≢true (of_saying _ _ _ _ kind.AfterEnd e))
-faulty progress line said kind.Form h w e = absurd (false≢true (of_saying _ _ _ _ kind.Form e))
+faulty progress line said kind.LongLine h w e = absurd (false≢true (of_saying _ _ _ kind.LongLine e))
+faulty progress line said kind.AfterEnd h w e = absurd (false≢true (of_saying _ _ _ kind.AfterEnd e))
+faulty progress line said kind.Form h w e = absurd (false≢true (of_saying _ _ _ kind.Form e))

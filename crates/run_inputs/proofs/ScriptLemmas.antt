@@ -10,26 +10,24 @@ use Rattle.run_inputs.specs.declared.stages.Progress.{Progress}
 use Rattle.run_inputs.specs.declared.faults.ScriptKind.TheVariants as kind
 use Rattle.run_inputs.specs.declared.scripts.Act.{Act}
 use Rattle.run_inputs.specs.Texts.{lines_in}
-use Rattle.run_inputs.specs.Script.{start, after, after_all, sessions_in, turns_in, acts_in, is_numbered, has_key, is_known, fault_of, IsSound, AreSound, IsScript}
+use Rattle.run_inputs.specs.Script.{start, after, after_all, sessions_in, turns_in, acts_in, is_numbered, has_key, fault_of, IsSound, AreSound, IsScript}
 
--- the four tests that a line without a fault passes
-pub record Passes (a b c d : Bool) : Type 0 where
+-- the three tests that a line without a fault passes
+pub record Passes (a b c : Bool) : Type 0 where
   pub first : a ≡ false
   pub second : b ≡ false
   pub third : c ≡ false
-  pub fourth : d ≡ false
 
-pub passes : (a b c d : Bool) → (if a then Some kind.Number else if b then Some kind.Key else if c then Some kind.Turns else if d then Some kind.NotYet else None) ≡ None → Passes a b c d
-passes true b c d e = absurd cc
-passes false true c d e = absurd cc
-passes false false true d e = absurd cc
-passes false false false true e = absurd cc
-passes false false false false e = record { first = refl; second = refl; third = refl; fourth = refl }
+pub passes : (a b c : Bool) → (if a then Some kind.Number else if b then Some kind.Key else if c then Some kind.Turns else None) ≡ None → Passes a b c
+passes true b c e = absurd cc
+passes false true c e = absurd cc
+passes false false true e = absurd cc
+passes false false false e = record { first = refl; second = refl; third = refl }
 
 -- a line without a fault keeps the turns within their limit
 pub few_turns : (progress : Progress) (said : Line) → fault_of progress said ≡ None → progress.turns + turns_in said ≤ 1000000
 few_turns progress said e =
-    let p = passes (not (is_numbered progress.begun said)) (not (has_key said)) (nat_lt 1000000 (progress.turns + turns_in said)) (not (is_known said)) e in
+    let p = passes (not (is_numbered progress.begun said)) (not (has_key said)) (nat_lt 1000000 (progress.turns + turns_in said)) e in
     let small : nat_lt 1000000 (progress.turns + turns_in said) ≡ false = p.third in
     grind (arith, nat_tests)
 

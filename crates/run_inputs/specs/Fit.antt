@@ -2,7 +2,7 @@
 use Rattle.std.specs.Prelude.{ℕ, ◌+◌, ◌≤◌, List, [], ◌∷◌, sum_by}
 use Rattle.session_client.specs.declared.plans.Shape.{Shape}
 use Rattle.session_client.specs.declared.plans.Turn.{Turn}
-use Rattle.session_client.specs.declared.plans.Turn.TheVariants.{Session}
+use Rattle.session_client.specs.declared.plans.Turn.TheVariants.{Session, Tick, Sweep}
 use Rattle.session_client.specs.Plans.{IsPlan}
 use Rattle.run_inputs.specs.declared.scripts.Act.{Act}
 use Rattle.run_inputs.specs.declared.scripts.Act.TheVariants.{Add, Run}
@@ -17,16 +17,18 @@ abbrev pub sessions_of : Act → ℕ
 sessions_of (Add plan) = 1
 sessions_of (Run turn count) = 0
 
--- How many turns an act is.
+-- How many turns, ticks and sweeps an act is.
 abbrev pub turns_of : Act → ℕ
 turns_of (Add plan) = 0
 turns_of (Run turn count) = count
 
--- The turn is of one of so many sessions.
+-- A turn of a session is of one of so many. The clock and the sweeper are always there.
 abbrev pub IsTurnOf : ℕ → Turn → Type 0
 IsTurnOf begun (Session who) = (1 ≤ who.number) × (who.number ≤ begun)
+IsTurnOf begun (Tick by) = Unit {0}
+IsTurnOf begun Sweep = Unit {0}
 
--- After so many sessions began, the act begins one of a plan that a session takes, or is turns of one that has begun.
+-- After so many sessions began, the act begins one of a plan that a session takes, or is turns of one that has begun, a tick or sweeps.
 abbrev pub IsFit : ℕ → Act → Type 0
 IsFit begun (Add plan) = IsPlan plan
 IsFit begun (Run turn count) = IsTurnOf begun turn

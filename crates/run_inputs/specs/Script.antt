@@ -1,6 +1,5 @@
 -- Scripts: which text says which acts, and which fault a text has.
-use Rattle.std.specs.Prelude.{ℕ, ◌≡◌, ◌≢◌, ◌+◌, ◌≤◌, ◌<◌, Bool, true, false, ◌==◌, ◌&&◌, not, nat_le, nat_lt, if◌then◌else◌, List, [], ◌∷◌, ◌++◌, length, map, flat_map, codes, Option, Some, None, unwrap_or}
-use Rattle.lease_table.specs.declared.records.Mode.TheVariants.{Invalidate}
+use Rattle.std.specs.Prelude.{ℕ, ◌≡◌, ◌≢◌, ◌+◌, ◌≤◌, ◌<◌, Bool, true, false, ◌==◌, ◌&&◌, not, nat_le, nat_lt, if◌then◌else◌, List, [], ◌∷◌, ◌++◌, length, flat_map, codes, Option, Some, None, unwrap_or}
 use Rattle.rows_model.specs.Changes.{touches}
 use Rattle.session_client.specs.declared.plans.Plan.{Plan}
 use Rattle.session_client.specs.declared.plans.Plan.TheVariants as plan
@@ -11,7 +10,7 @@ use Rattle.run_inputs.specs.declared.lines.Part.TheVariants.{Members, Shards, Ro
 use Rattle.run_inputs.specs.declared.lines.Verb.{Verb}
 use Rattle.run_inputs.specs.declared.lines.Verb.TheVariants as verb
 use Rattle.run_inputs.specs.declared.lines.Job.{Job}
-use Rattle.run_inputs.specs.declared.lines.Job.TheVariants.{Read, Write, Look, Skip}
+use Rattle.run_inputs.specs.declared.lines.Job.TheVariants.{Read, Write, Look, Quit, Skip}
 use Rattle.run_inputs.specs.declared.lines.Line.{Line}
 use Rattle.run_inputs.specs.declared.lines.Line.TheVariants.{Head, Session, Turn, Tick, Sweep, End}
 use Rattle.run_inputs.specs.declared.stages.Stage.{Stage}
@@ -108,23 +107,12 @@ has_key (Session number (Look mode key txn)) = touches txn key
 has_key (Session number (Skip key txn)) = touches txn key
 has_key line = true
 
--- Whether lines of this form can be run so far.
-abbrev pub is_known : Line → Bool
-is_known (Session number (Read key floor)) = true
-is_known (Session number (Write Invalidate txn)) = true
-is_known (Session number (Skip key txn)) = true
-is_known (Session number job) = false
-is_known (Tick ticks) = false
-is_known (Sweep count) = false
-is_known line = true
-
 -- The first fault of what a line says, after such lines.
 abbrev pub fault_of : Progress → Line → Option ScriptKind
 fault_of progress line =
     if not (is_numbered progress.begun line) then Some kind.Number else
     if not (has_key line) then Some kind.Key else
-    if nat_lt 1000000 (progress.turns + turns_in line) then Some kind.Turns else
-    if not (is_known line) then Some kind.NotYet else None
+    if nat_lt 1000000 (progress.turns + turns_in line) then Some kind.Turns else None
 
 -- The line has the words of what it says, and may stand next.
 pub record Says (progress : Progress) (line : List ℕ) (said : Line) : Type 0 where
@@ -156,17 +144,20 @@ AreSound progress [] [] = Unit {0}
 AreSound progress (line ∷ lines) (said ∷ more) = IsSound progress line said × AreSound (after progress said) lines more
 AreSound progress lines other = ⊥
 
--- The plan of a job, for those that can be run so far.
-abbrev pub plans_in : Job → List Plan
-plans_in (Read key floor) = plan.Read key (unwrap_or floor 0) ∷ []
-plans_in (Write mode txn) = plan.Write mode txn ∷ []
-plans_in (Skip key txn) = plan.Skip key txn ∷ []
-plans_in other = []
+-- The plan of a job.
+abbrev pub plan_of : Job → Plan
+plan_of (Read key floor) = plan.Read key (unwrap_or floor 0)
+plan_of (Write mode txn) = plan.Write mode txn
+plan_of (Look mode key txn) = plan.Look mode key txn
+plan_of (Quit mode txn) = plan.Quit mode txn
+plan_of (Skip key txn) = plan.Skip key txn
 
 -- The acts of a line.
 abbrev pub acts_in : Line → List Act
-acts_in (Session number job) = map Add (plans_in job)
+acts_in (Session number job) = Add (plan_of job) ∷ []
 acts_in (Turn (Some number) count) = Run (turn.Session (record { number = number })) (unwrap_or count 1) ∷ []
+acts_in (Tick ticks) = Run (turn.Tick ticks) 1 ∷ []
+acts_in (Sweep count) = Run turn.Sweep (unwrap_or count 1) ∷ []
 acts_in line = []
 
 -- The text says these acts, to be run in this shape: it has no fault, and its last line is `end`.
@@ -223,7 +214,6 @@ kind_word kind.Key = codes "key"
 kind_word kind.Turns = codes "turns"
 kind_word kind.NoEnd = codes "noend"
 kind_word kind.AfterEnd = codes "afterend"
-kind_word kind.NotYet = codes "notyet"
 
 -- A text says one script at most and has one fault at most, and never both.
 pub record TextsTellScripts : Type 0 where

@@ -24,8 +24,6 @@ pub enum ScriptKind {
     NoEnd,
     /// The line stands behind the line `end`.
     AfterEnd,
-    /// The line is of a form that there isn't yet.
-    NotYet,
 }
 
 /// Why a text was not read as a script.
@@ -52,7 +50,6 @@ impl ScriptKind {
             ScriptKind::Turns => "turns",
             ScriptKind::NoEnd => "noend",
             ScriptKind::AfterEnd => "afterend",
-            ScriptKind::NotYet => "notyet",
         }
     }
 }

@@ -1,5 +1,5 @@
 ghost use Rattle.std.specs.Prelude.{◌≡◌, ◌++◌, Err, OnOk, IfOk, IfErr, option_to_list};
-ghost use Rattle.run_inputs.specs.Script.{plans_in, acts_in, IsLong, IsScript, ComesFrom};
+ghost use Rattle.run_inputs.specs.Script.{plan_of, acts_in, IsLong, IsScript, ComesFrom};
 ghost use Rattle.run_inputs.specs.declared.faults.ScriptKind.TheVariants.{LongText};
 ghost use Rattle.run_inputs.specs.declared.faults.ScriptFault.TheVariants.{Bad};
 ghost use Rattle.run_inputs.specs.Fit.{IsPlayable};
@@ -42,7 +42,8 @@ impl Model for Script {
 
 impl Script {
     /// The script that the text says, or the first fault of its first line that has one. The acts
-    /// can be run in a core of the shape: each turn is of a session that an act before began.
+    /// can be run in a core of the shape: each turn of a session is of one that an act before
+    /// began, and the turns, ticks and sweeps are at most 1,000,000.
     ///
     /// A text that is too long is told before any memory is asked for.
     pub fn parse(alloc: Global, text: &[u8]) -> Result<Script, ScriptFault>
@@ -126,9 +127,7 @@ fn act_of(said: Line) -> Option<Act>
     ensures { option_to_list result ≡ acts_in said }
 {
     match said {
-        Line::Session { job, .. } => Some(Act::Add {
-            plan: plan_of(job)?,
-        }),
+        Line::Session { job, .. } => Some(Act::Add { plan: plan_of(job) }),
         Line::Turn {
             number: Some(number),
             count,
@@ -138,21 +137,30 @@ fn act_of(said: Line) -> Option<Act>
             },
             count: count.unwrap_or(1),
         }),
-        _ => None,
+        Line::Tick { ticks } => Some(Act::Run {
+            turn: Turn::Tick { by: ticks },
+            count: 1,
+        }),
+        Line::Sweep { count } => Some(Act::Run {
+            turn: Turn::Sweep,
+            count: count.unwrap_or(1),
+        }),
+        Line::Head { .. } | Line::Turn { number: None, .. } | Line::End => None,
     }
 }
 
-// The plan of a job, if sessions have such plans so far.
-fn plan_of(job: Job) -> Option<Plan>
-    ensures { option_to_list result ≡ plans_in job }
+// The plan of a job.
+fn plan_of(job: Job) -> Plan
+    ensures { result ≡ plan_of job }
 {
     match job {
-        Job::Read { key, floor } => Some(Plan::Read {
+        Job::Read { key, floor } => Plan::Read {
             key,
             floor: floor.unwrap_or(0),
-        }),
-        Job::Write { mode, txn } => Some(Plan::Write { mode, txn }),
-        Job::Skip { key, txn } => Some(Plan::Skip { key, txn }),
-        Job::Look { .. } | Job::Quit { .. } => None,
+        },
+        Job::Write { mode, txn } => Plan::Write { mode, txn },
+        Job::Look { mode, key, txn } => Plan::Look { mode, key, txn },
+        Job::Quit { mode, txn } => Plan::Quit { mode, txn },
+        Job::Skip { key, txn } => Plan::Skip { key, txn },
     }
 }

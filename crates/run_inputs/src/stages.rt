@@ -4,12 +4,11 @@ ghost use Rattle.run_inputs.specs.declared.stages.Stage.TheVariants as stage;
 ghost use Rattle.run_inputs.specs.declared.lines.Line.{Line};
 ghost use Rattle.run_inputs.specs.Texts.{words_in};
 ghost use Rattle.run_inputs.specs.Lines.{most, verb_of, AreWords};
-ghost use Rattle.run_inputs.specs.Script.{is_in_place, sessions_in, turns_in, shape_with, shape_after, stage_after, after, start, is_numbered, has_key, is_known, fault_of, Says, IsSound};
+ghost use Rattle.run_inputs.specs.Script.{is_in_place, sessions_in, turns_in, shape_with, shape_after, stage_after, after, start, is_numbered, has_key, fault_of, Says, IsSound};
 ghost use Rattle.run_inputs.specs.Parsing.{IsWithin, IsLineFault};
 
 use crate::faults::ScriptKind;
 use crate::lines::{Job, Line, LineFault, Part, line_of};
-use lease_table::Mode;
 use rows_model::{Memory, touches};
 use session_client::Shape;
 use std::alloc::Global;
@@ -123,25 +122,6 @@ impl Line {
             _ => true,
         }
     }
-
-    // Whether lines of this form can be run so far.
-    fn is_known(&self) -> bool
-        ensures { result ≡ is_known self.now }
-    {
-        match self {
-            Line::Session {
-                job: Job::Write { mode, .. },
-                ..
-            } => *mode == Mode::Invalidate,
-            Line::Session {
-                job: Job::Look { .. } | Job::Quit { .. },
-                ..
-            }
-            | Line::Tick { .. }
-            | Line::Sweep { .. } => false,
-            _ => true,
-        }
-    }
 }
 
 // The shape with this number of the head.
@@ -232,9 +212,6 @@ impl Progress {
         }
         if self.turns.saturating_add(line.turns()) > MOST_TURNS {
             return Some(ScriptKind::Turns);
-        }
-        if !line.is_known() {
-            return Some(ScriptKind::NotYet);
         }
         None
     }

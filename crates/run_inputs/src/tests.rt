@@ -18,7 +18,7 @@ fn bad(line: u64, kind: ScriptKind) -> Option<ScriptFault> {
 }
 
 /// Faulty texts, and the line and kind of the first fault of each.
-const FAULTY: [(&str, u64, ScriptKind); 79] = [
+const FAULTY: [(&str, u64, ScriptKind); 90] = [
     ("members 3\nturn 1\nend", 2, Number),
     ("members 3", 2, NoEnd),
     ("members 0\nend", 1, Form),
@@ -105,6 +105,25 @@ const FAULTY: [(&str, u64, ScriptKind); 79] = [
     ),
     ("members 3\nskip 1 friends:2 rename 2 bob\nend", 2, Key),
     ("members 3\nskip 1 pending:1 accept 1 2\nend", 2, Key),
+    // Looks and quits.
+    (
+        "members 3\nlook 1 drop profile:2 rename 2 bob\nend",
+        2,
+        Form,
+    ),
+    ("members 3\nlook 1 profile:2 rename 2 bob\nend", 2, Form),
+    ("members 3\nlook 1 refresh rename 2 bob\nend", 2, Form),
+    ("members 3\nlook 1 refresh profile:2\nend", 2, Form),
+    (
+        "members 3\nlook 1 refresh pending:1 accept 1 2\nend",
+        2,
+        Key,
+    ),
+    ("members 3\nlook 1 delta nfriends:2 invite 1 2\nend", 2, Key),
+    ("members 3\nquit 1 drop rename 2 bob\nend", 2, Form),
+    ("members 3\nquit 1 rename 2 bob\nend", 2, Form),
+    ("members 3\nquit 1 Delta rename 2 bob\nend", 2, Form),
+    ("members 3\nquit 1 delta\nend", 2, Form),
     // Turns.
     ("members 3\nturn 0\nend", 2, Number),
     ("members 3\nturn 18446744073709551616\nend", 2, Number),
@@ -116,20 +135,17 @@ const FAULTY: [(&str, u64, ScriptKind); 79] = [
     ("members 3\nread 1 profile:1\nturn 1 0\nend", 3, Form),
     ("members 3\nread 1 profile:1\nturn 1 1001\nend", 3, Form),
     ("members 3\nread 1 profile:1\nturn 1 1 1\nend", 3, Form),
+    // Ticks and sweeps.
+    ("members 3\ntick\nend", 2, Form),
+    ("members 3\ntick 01\nend", 2, Form),
+    ("members 3\ntick 1 1\nend", 2, Form),
     ("members 3\ntick 18446744073709551616\nend", 2, Form),
+    ("members 3\nsweep 0\nend", 2, Form),
     ("members 3\nsweep 1001\nend", 2, Form),
-    // What there isn't yet.
-    (
-        "members 3\nlook 1 delta profile:2 rename 2 bob\nend",
-        2,
-        NotYet,
-    ),
-    ("members 3\nquit 1 invalidate rename 2 bob\nend", 2, NotYet),
-    ("members 3\nwrite 1 refresh rename 2 bob\nend", 2, NotYet),
-    ("members 3\nwrite 1 delta rename 2 bob\nend", 2, NotYet),
-    ("members 3\ntick 18446744073709551615\nend", 2, NotYet),
-    ("members 3\nsweep\nend", 2, NotYet),
-    ("members 3\nsweep 1000\nend", 2, NotYet),
+    ("members 3\nsweep 1 1\nend", 2, Form),
+    ("members 3\nsweep \nend", 2, Form),
+    ("tick 1\nmembers 3\nend", 1, Form),
+    ("members 3\nsweep\nshards 2\nend", 3, Form),
     // Two faults in a line.
     ("members 3\nread 2 profile:0\nend", 2, Form),
     ("members 3\nread 1 profile:1\nturn 2 1001\nend", 3, Form),
@@ -143,7 +159,7 @@ const FAULTY: [(&str, u64, ScriptKind); 79] = [
     ("members 3\nend\nturn 1 ", 3, AfterEnd),
     // Faults in two lines.
     ("members 3\nturn 1\nmembers 0\nend", 2, Number),
-    ("members 3\ntick 1\nturn 1\nend", 2, NotYet),
+    ("members 3\ntick 1\nturn 1\nend", 3, Number),
     (
         "members 3\nread 1 profile\nread 3 profile:1\nend\nend",
         2,
@@ -204,16 +220,21 @@ fn lines_and_texts_are_bounded(rt: HostRuntime) -> Result<(), Fail> {
 #[test]
 fn turns_are_bounded(rt: HostRuntime) -> Result<(), Fail> {
     for (last, want) in [
-        ("end", None),
-        ("read 2 profile:1\nend", None),
-        ("turn 1\nend", bad(1003, ScriptKind::Turns)),
-        ("turn 1 1000\nturn 1", bad(1003, ScriptKind::Turns)),
-        ("tick 1\nend", bad(1003, ScriptKind::Turns)),
-        ("sweep 2\nend", bad(1003, ScriptKind::Turns)),
-        ("turn 2\nend", bad(1003, ScriptKind::Number)),
+        ("turn 1 1000\nend", None),
+        ("turn 1 1000\nread 2 profile:1\nend", None),
+        ("turn 1 900\nsweep 99\ntick 18446744073709551615\nend", None),
+        ("turn 1 1000\nturn 1\nend", bad(1003, ScriptKind::Turns)),
+        ("turn 1 1000\ntick 0\nend", bad(1003, ScriptKind::Turns)),
+        ("turn 1 1000\nsweep\nend", bad(1003, ScriptKind::Turns)),
+        ("turn 1\nsweep 1000\nturn 1", bad(1003, ScriptKind::Turns)),
+        (
+            "turn 1 900\nsweep 99\ntick 1\nsweep\nend",
+            bad(1005, ScriptKind::Turns),
+        ),
+        ("turn 1 1000\nturn 2\nend", bad(1003, ScriptKind::Number)),
     ] {
         let mut text = Vec::from_slice(rt.alloc(), b"members 3\nread 1 profile:1\n")?;
-        for _ in 0..1000 {
+        for _ in 0..999 {
             text.extend_from_slice(b"turn 1 1000\n")?;
         }
         text.extend_from_slice(last.as_bytes())?;
@@ -250,26 +271,46 @@ fn key_told(alloc: Global, key: &QKey) -> Result<String, AllocError> {
     format!(in alloc; "{:?}:{}", key.kind, key.id)
 }
 
+fn plan_told(alloc: Global, plan: &Plan) -> Result<String, AllocError> {
+    match plan {
+        Plan::Read { key, floor } => {
+            format!(in alloc; "read {} floor {floor}", key_told(alloc, key)?)
+        }
+        Plan::Write { mode, txn } => format!(in alloc; "write {mode:?}{}", txn_told(alloc, txn)?),
+        Plan::Look { mode, key, txn } => {
+            format!(in alloc;
+                "look {mode:?} {}{}",
+                key_told(alloc, key)?,
+                txn_told(alloc, txn)?
+            )
+        }
+        Plan::Quit { mode, txn } => format!(in alloc; "quit {mode:?}{}", txn_told(alloc, txn)?),
+        Plan::Skip { key, txn } => {
+            format!(in alloc; "skip {}{}", key_told(alloc, key)?, txn_told(alloc, txn)?)
+        }
+    }
+}
+
 fn act_told(alloc: Global, act: &Act) -> Result<String, AllocError> {
     match act {
-        Act::Add {
-            plan: Plan::Read { key, floor },
-        } => format!(in alloc; "read {} floor {floor}", key_told(alloc, key)?),
-        Act::Add {
-            plan: Plan::Write { mode, txn },
-        } => format!(in alloc; "write {mode:?}{}", txn_told(alloc, txn)?),
-        Act::Add {
-            plan: Plan::Skip { key, txn },
-        } => format!(in alloc; "skip {}{}", key_told(alloc, key)?, txn_told(alloc, txn)?),
+        Act::Add { plan } => plan_told(alloc, plan),
         Act::Run {
             turn: Turn::Session { sid },
             count,
         } => format!(in alloc; "run {} {count}", sid.number),
+        Act::Run {
+            turn: Turn::Tick { by },
+            count,
+        } => format!(in alloc; "tick {by} {count}"),
+        Act::Run {
+            turn: Turn::Sweep,
+            count,
+        } => format!(in alloc; "sweep {count}"),
     }
 }
 
 /// Scripts, and for each its members, shards, room and life, and its acts.
-const SCRIPTS: [(&str, u32, u32, u32, u64, &str); 7] = [
+const SCRIPTS: [(&str, u32, u32, u32, u64, &str); 10] = [
     ("members 1\nend", 1, 1, 16, 100, ""),
     (
         "members 100000\nshards 64\nroom 65536\nlife 18446744073709551615\nend\n",
@@ -304,6 +345,30 @@ const SCRIPTS: [(&str, u32, u32, u32, u64, &str); 7] = [
         16,
         100,
         "write Invalidate + reject 1 2 + thaw 1 2 + thaw 1 2 + thaw 1 2 + thaw 1 2 + thaw 1 2 + thaw 1 2 + thaw 9 8; ",
+    ),
+    (
+        "members 7\nwrite 1 refresh accept 1 2\nwrite 2 delta invite 1 2 + thaw 3 4\nquit 3 invalidate reject 1 2\nquit 4 refresh rename 2 bob\nquit 5 delta thaw 6 7\nturn 5 9\nend",
+        7,
+        1,
+        16,
+        100,
+        "write Refresh + accept 1 2; write Delta + invite 1 2 + thaw 3 4; quit Invalidate + reject 1 2; quit Refresh + rename 2 bob; quit Delta + thaw 6 7; run 5 9; ",
+    ),
+    (
+        "members 7\nlook 1 invalidate pending:2 reject 1 2\nlook 2 refresh profile:3 thaw 5 6 + rename 3 refresh\nlook 3 delta nfriends:1 accept 1 2\nturn 3\nend",
+        7,
+        1,
+        16,
+        100,
+        "look Invalidate Pending:2 + reject 1 2; look Refresh Profile:3 + thaw 5 6 + rename 3 refresh; look Delta NFriends:1 + accept 1 2; run 3 1; ",
+    ),
+    (
+        "members 7\ntick 0\nread 1 profile:7\nsweep\ntick 18446744073709551615\nturn 1 2\nsweep 1000\nend",
+        7,
+        1,
+        16,
+        100,
+        "tick 0 1; read Profile:7 floor 0; sweep 1; tick 18446744073709551615 1; run 1 2; sweep 1000; ",
     ),
 ];
 
@@ -353,7 +418,6 @@ fn kinds_have_words(rt: HostRuntime) {
         (ScriptKind::Turns, "turns"),
         (ScriptKind::NoEnd, "noend"),
         (ScriptKind::AfterEnd, "afterend"),
-        (ScriptKind::NotYet, "notyet"),
     ] {
         assert_eq!(rt; kind.word(), word);
     }
