@@ -1,6 +1,6 @@
 #!/bin/sh
 # Checks the front door: what ./iq prints and how it ends, with no proof and, where a proved program stands,
-# with it; and the pictures of the examples. The last line is 'N passed, M failed', and the status is 1 where
+# with it, on the examples and on those of docs/script.md; and the pictures of the examples. The last line is 'N passed, M failed', and the status is 1 where
 # one failed. Takes three runs of `rt try`, some 20 seconds each on a free machine.
 top=$(cd "$(dirname "$0")/.." && pwd) || exit 1
 cd "$top" || exit 1
@@ -36,6 +36,15 @@ ended() {
     printf "$3" | cmp -s - "$work/told" && cmp -s "$2" "$work/out" && [ "$status" = "$1" ]
 }
 
+# Whether it printed what an example of the page says: all of it, or the last lines.
+ends_as() {
+    if [ -f "$1.out" ]; then
+        ended 0 "$1.out" ""
+    else
+        tail -n "$(wc -l <"$1.end")" "$work/out" | cmp -s - "$1.end" && [ "$status" = 0 ]
+    fi
+}
+
 says_unproved() {
     [ "$(grep -c '^iq: not proved: ' "$work/err")" = 1 ]
 }
@@ -52,6 +61,9 @@ check_cases() {
     mkdir "$work/cases"
     for script in examples/*.iq; do
         add_case "$(basename "$script" .iq)" "$script" "${script%.iq}.out" 0 ""
+    done
+    for script in "$work"/page/*.iq; do
+        [ ! -f "${script%.iq}.out" ] || add_case "$(basename "$script" .iq)" "$script" "${script%.iq}.out" 0 ""
     done
     add_case faulty_script "$work/faulty" /dev/null 2 ""
     add_case further_word "$work/faulty" /dev/null 1 more
@@ -87,6 +99,11 @@ check_proved() {
         ended 0 "${script%.iq}.out" ""
         count "$(basename "$script" .iq), proved" $?
     done
+    for script in "$work"/page/*.iq; do
+        run_iq "$top" "$script" replay
+        ends_as "${script%.iq}"
+        count "$(basename "$script" .iq), proved" $?
+    done
     run_iq "$top" /dev/null
     ended 1 /dev/null 'usage\n'
     count "./iq without words, proved" $?
@@ -120,6 +137,13 @@ check_pictures() {
 }
 
 printf 'members 0\nend\n' >"$work/faulty"
+mkdir "$work/page"
+if command -v python3 >/dev/null; then
+    python3 tools/doc_examples.py docs/script.md "$work/page"
+    count "the examples of docs/script.md" $?
+else
+    echo "front: no python3 here, so the examples of docs/script.md aren't run"
+fi
 # A copy of the sources, in which no proved program stands.
 mkdir "$work/fresh"
 tar --exclude=out -cf - iq crates.txt crates | (cd "$work/fresh" && tar -xf -)
