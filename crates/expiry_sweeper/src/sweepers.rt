@@ -28,7 +28,7 @@ pub struct Sweeper {
 
 impl Sweeper {
     ghost use Rattle.expiry_sweeper.specs.Sweeps.{sweep_wants, BelongsTo, IsWithin};
-    ghost use Rattle.expiry_sweeper.specs.Follows.{shards_of, wanted_of, next_of, Follows};
+    ghost use Rattle.expiry_sweeper.specs.Follows.{shards_of, wanted_of, Follows};
     ghost use Rattle.expiry_sweeper.specs.declared.replies.SweepReply.{SweepReply};
 
     /// A sweeper of so many shards, which begins at shard 0. It takes no memory.
@@ -55,8 +55,9 @@ impl Sweeper {
     /// to scan the same shard again. Where none was found, to scan the next shard, and shard 0 after
     /// the last. It takes no memory.
     pub fn wants(&self) -> SweepWanted
-        ensures wanted { (told : List SweepReply) → Follows self.now told → result ≡ sweep_wants (shards_of self.now) told }
-        ensures same { result ≡ wanted_of self.now }
+        ensures wanted { (told : List SweepReply) → Follows self.now told
+            → result ≡ sweep_wants (shards_of self.now) told }
+        ensures by_stage { result ≡ wanted_of self.now }
         ensures within { IsWithin (shards_of self.now) result }
     {
         match self.stage {
@@ -84,11 +85,12 @@ impl Sweeper {
     pub fn told(&mut self, reply: SweepReply)
         requires { BelongsTo (wanted_of self.old) reply }
         ensures shards { shards_of self.new ≡ shards_of self.old }
-        ensures follows { (told : List SweepReply) → Follows self.old told → Follows self.new (reply ∷ told) }
+        ensures follows { (told : List SweepReply) → Follows self.old told
+            → Follows self.new (reply ∷ told) }
     {
         match reply {
             SweepReply::Found { due } => self.stage = Stage::Ending { due },
-            SweepReply::NoneFound => self.shard = self.next_shard(),
+            SweepReply::NoneFound => self.go_on(),
             SweepReply::Ended { was: _ } => {
                 if let Stage::Ending { due } = self.stage {
                     self.stage = Stage::Dropping { due };
@@ -98,12 +100,14 @@ impl Sweeper {
         }
     }
 
-    /// The shard behind the one that is being swept.
-    fn next_shard(&self) -> u32
-        ensures next { result ≡ next_of self.now }
-        ensures within { result < self.now.shards }
+    /// Goes on to the next shard, and to shard 0 after the last.
+    fn go_on(&mut self)
+        requires { BelongsTo (wanted_of self.old) SweepReply.NoneFound }
+        ensures shards { shards_of self.new ≡ shards_of self.old }
+        ensures follows { (told : List SweepReply) → Follows self.old told
+            → Follows self.new (SweepReply.NoneFound ∷ told) }
     {
         let next = self.shard + 1;
-        if next < self.shards { next } else { 0 }
+        self.shard = if next < self.shards { next } else { 0 };
     }
 }

@@ -1,4 +1,4 @@
-ghost use Rattle.std.specs.Prelude.{◌≡◌, ◌≢◌, ◌≤◌, ◌<◌, ◌∷◌, ◌++◌, [], reverse, IfOk, OnOk, OnErr, IfErr, IfSome, IfNone, IsTrue, None};
+ghost use Rattle.std.specs.Prelude.{◌≡◌, ◌≢◌, ◌↔◌, ◌≤◌, ◌<◌, ◌∷◌, ◌++◌, [], reverse, IfOk, OnOk, OnErr, IfErr, IfSome, IfNone, IsTrue, None};
 ghost use Rattle.std.specs.Bool.{IsFalse};
 ghost use Rattle.lease_table.specs.Expiry.{NoneDue, NoneDueBefore, StandsDue};
 ghost use Rattle.key_shard.specs.Answers.{get_step, set_step, quarantine_step, release_step, replace_step, sweep_step, FitsMode, FitsShift, IsAtHome, Legal};
@@ -153,6 +153,13 @@ impl Shard {
         ensures err { OnErr result (self.new ≡ self.old) }
     {
         self.body.replace(grant, value, stamp)
+    }
+
+    /// Whether the key is this shard's, by its hash. It takes no memory.
+    pub fn is_home(&self, key: &QKey) -> bool
+        ensures { IsTrue result ↔ IsAtHome self.now.terms key.now }
+    {
+        self.body.is_home(key)
     }
 
     /// The quarantine whose deadline has come that is first by key, and then by token; none exactly where

@@ -1,4 +1,4 @@
-ghost use Rattle.std.specs.Prelude.{◌≡◌, IfSome, IfNone, Some};
+ghost use Rattle.std.specs.Prelude.{◌≡◌, ◌↔◌, IfSome, IfNone, IsTrue};
 ghost use Rattle.lease_table.specs.Expiry.{NoneDue, NoneDueBefore, StandsDue};
 ghost use Rattle.key_shard.specs.Answers.{IsAtHome, sweep_step};
 ghost use Rattle.key_shard.specs.Kept.{IsKept, shown, steps_of, terms_of};
@@ -10,9 +10,17 @@ use crate::bodies::Body;
 use crate::replies::Rel;
 use crate::steps::{Ended, Step};
 use lease_table::Due;
-use rows_model::QKey;
+use rows_model::{QKey, shard_number};
 
 impl Body {
+    /// Whether the key is this shard's.
+    pub fn is_home(&self, key: &QKey) -> bool
+        requires { IsKept self.now }
+        ensures { IsTrue result ↔ IsAtHome (terms_of self.now) key.now }
+    {
+        shard_number(key, self.count) == self.no
+    }
+
     /// The first quarantine whose deadline has come, by key and then by token.
     pub fn expired(&self, now: u64) -> Option<Due>
         requires { IsKept self.now }
@@ -29,7 +37,8 @@ impl Body {
         requires kept { IsKept self.old }
         requires home { IsAtHome (terms_of self.old) key }
         ensures kept { IsKept self.new }
-        ensures step { shown self.new ≡ swept (shown self.old) (sweep_step (steps_of self.old) key token) }
+        ensures step { shown self.new
+            ≡ swept (shown self.old) (sweep_step (steps_of self.old) key token) }
         ensures told { result ≡ sweep_told (sweep_step (steps_of self.old) key token) }
     {
         let Some(quar) = self.leases.end_q(&key, token) else {
