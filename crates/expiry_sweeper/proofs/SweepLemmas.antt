@@ -4,7 +4,6 @@ use Rattle.std.specs.List.{count_by}
 use Rattle.std.proofs.Math.Nat.{suc-mod, mod-lt, mod_self, mod-eq_of_lt, zero-mod, eq-or-lt_of_le}
 use Rattle.std.proofs.lemmas.Bool.{cond_above, cond_below}
 use Rattle.std.proofs.lemmas.List.Sums.{sum_by-cons}
-use Rattle.rows_model.specs.declared.keys.QKey.{QKey}
 use Rattle.expiry_sweeper.specs.declared.replies.SweepReply.{SweepReply}
 use Rattle.expiry_sweeper.specs.declared.replies.SweepReply.TheVariants as reply
 use Rattle.expiry_sweeper.specs.declared.replies.SweepWanted.{SweepWanted}
@@ -14,7 +13,7 @@ use Rattle.expiry_sweeper.specs.declared.sweepers.Stage.TheVariants as stages
 use Rattle.expiry_sweeper.specs.declared.sweepers.Sweeper.{Sweeper}
 use Rattle.expiry_sweeper.specs.Sweeps.{is_none_found, shard_at, drop_found, sweep_wants, BelongsTo, AreAnswers, IsWithin}
 use Rattle.expiry_sweeper.specs.EndsFirst.{EndedFirst, EndsBeforeDrops}
-use Rattle.expiry_sweeper.specs.Follows.{shards_of, wanted_at, wanted_of, next_of, DropsFound, Follows}
+use Rattle.expiry_sweeper.specs.Follows.{wanted_at, wanted_of, DropsFound, Follows}
 
 -- a reply other than that none was found leaves the shard
 pub shard-kept : (shards : ℕ) (told : SweepReply) (before : List SweepReply) → is_none_found told ≡ false → shard_at shards (told ∷ before) ≡ shard_at shards before
@@ -108,6 +107,10 @@ ends_before_drops shards (reply.Ended was ∷ told) key token are e = by told ar
           scanned = scan.1 ∙ ap wanted.Scan (sym (scan-at shards before scan.0 scan.1));
           ended = refl;
         }
+
+-- the shard behind the one that is being swept
+abbrev pub next_of : Sweeper → ℕ
+next_of sweeper = cond (ltb (sweeper.shard + 1) sweeper.shards) (sweeper.shard + 1) 0
 
 -- a sweeper that found none, and goes on to the next shard
 pub follows_none_found : (old new : Sweeper) (before : List SweepReply) → BelongsTo (wanted_of old) reply.NoneFound → new.shards ≡ old.shards → new.shard ≡ next_of old → new.stage ≡ old.stage → Follows old before → Follows new (reply.NoneFound ∷ before)

@@ -1,5 +1,5 @@
 -- How a sweeper's stage follows from what it was told. A sweeper keeps no list of that.
-use Rattle.std.specs.Prelude.{ℕ, ◌≡◌, ◌+◌, nat_lt, if◌then◌else◌, List}
+use Rattle.std.specs.Prelude.{ℕ, ◌≡◌, List}
 use Rattle.expiry_sweeper.specs.declared.replies.SweepReply.{SweepReply}
 use Rattle.expiry_sweeper.specs.declared.replies.SweepWanted.{SweepWanted}
 use Rattle.expiry_sweeper.specs.declared.replies.SweepWanted.TheVariants as wanted
@@ -21,10 +21,6 @@ wanted_at shard (stages.Dropping due) = wanted.Drop due.key due.token
 -- What a sweeper wants.
 abbrev pub wanted_of : Sweeper → SweepWanted
 wanted_of sweeper = wanted_at sweeper.shard sweeper.stage
-
--- The shard behind the one that is being swept.
-abbrev pub next_of : Sweeper → ℕ
-next_of sweeper = if nat_lt (sweeper.shard + 1) sweeper.shards then sweeper.shard + 1 else 0
 
 -- Where a session is to be ended, the drop that is wanted then is that of what was found.
 abbrev pub DropsFound : ℕ → Stage → List SweepReply → Type 0

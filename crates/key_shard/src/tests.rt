@@ -419,8 +419,9 @@ fn stops_deadlines_at_the_end_of_time(rt: HostRuntime) -> Result<(), Fail> {
 
 /// Sweeps a key that is to be the shard's.
 fn swept(rt: &impl Abort, shard: &mut Shard, id: u32, token: u64) -> Rel {
-    assert!(rt; shard.is_home(&profile(id)));
-    shard.sweep_drop(profile(id), token)
+    let key = profile(id);
+    assert!(rt; shard.is_home(&key));
+    shard.sweep_drop(key, token)
 }
 
 fn due(id: u32, who: u64, token: u64) -> Option<Due> {

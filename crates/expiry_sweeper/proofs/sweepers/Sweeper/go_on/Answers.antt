@@ -1,7 +1,6 @@
 use Rattle.std.proofs.Common.{◌≡◌, ◌+◌, ◌≤◌, ◌∙◌, refl, arith}
 use Rattle.std.proofs.lemmas.Bool.{cond_above, cond_below}
-use Rattle.expiry_sweeper.specs.Follows.{next_of}
-use Rattle.expiry_sweeper.proofs.SweepLemmas.{follows_none_found}
+use Rattle.expiry_sweeper.proofs.SweepLemmas.{next_of, follows_none_found}
 use Rattle.expiry_sweeper.proofs.sweepers.Sweeper.go_on.Goals as goal
 use Rattle.expiry_sweeper.proofs.sweepers.Sweeper.go_on.Goals.{then-next-self, else-next-self}
 
