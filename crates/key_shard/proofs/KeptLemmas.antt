@@ -1,7 +1,10 @@
 -- A shard keeps what it keeps through a step.
-use Rattle.std.proofs.Common.{◌≡◌, ◌<◌, ◌≤◌, ◌+◌, ℕ, cond, find, List, [], ◌∷◌, ◌++◌, reverse, Some, refl, sym, ap, subst, ◌∙◌, arith, vec_len}
+use Rattle.std.proofs.Common.{◌≡◌, ◌<◌, ◌≤◌, ◌+◌, ◌==◌, ◌||◌, ℕ, Bool, true, false, cond, find, List, [], ◌∷◌, ◌++◌, reverse, Some, refl, sym, ap, subst, ◌∙◌, arith, vec_len}
 use Rattle.std.specs.Prelude.{vec_capacity}
-use Rattle.std.specs.List.{All, count_by}
+use Rattle.std.specs.List.{All, count_by, list_any}
+use Rattle.std.specs.Option.{option_or}
+use Rattle.std.proofs.lemmas.List.Folds.{find-append, list_any-append}
+use Rattle.rows_model.specs.Key.{same_key}
 use Rattle.std.proofs.lemmas.Bool.{or_left, or_right, and_from, eq-eqb}
 use Rattle.std.specs.Prelude.{ℤ}
 use Rattle.rows_model.proofs.SameKey.{same_key-refl}
@@ -21,8 +24,8 @@ use Rattle.key_shard.specs.Shards.{ShardView, stepped, out_after}
 use Rattle.key_shard.specs.Past.{Terms, standing, quar_of, draws, next_token}
 use Rattle.key_shard.specs.Permit.{Permit}
 use Rattle.key_shard.specs.Answers.{IsAtHome, IsOf}
-use Rattle.key_shard.specs.Kept.{Ties, IsKept, IsOut, permit_of, places_of, terms_of, steps_of}
-use Rattle.key_shard.proofs.PlaceLemmas.{StoodBefore, next-grows, places-kept, found-last}
+use Rattle.key_shard.specs.Kept.{Ties, IsKept, IsOut, AreHeld, is_for, permit_of, places_of, terms_of, steps_of}
+use Rattle.key_shard.proofs.PlaceLemmas.{StoodBefore, AddsNone, stood-still, next-grows, places-kept, found-last, found-one, or-none}
 
 -- what was granted stays so, and what stands of it stood
 pub IsOut-later : (terms : Terms) (past : List Step) (step : Step) → StoodBefore terms past step → (out : List Out) → All (IsOut terms past) out → All (IsOut terms (step ∷ past)) out
@@ -39,6 +42,37 @@ hit-pushed old mid new key who floor v w s found pushed before copied there =
     let e : (v, s) ≡ found = cc in
     pushed ∙ ap (λ h. h ++ Hit key who floor w s ∷ []) before ∙ ap (λ x. old ++ Hit key who floor x s ∷ []) copied ∙ ap (λ (f : List ℕ × ℕ). old ++ Hit key who floor f.0 f.1 ∷ []) e
 
+-- each quarantine that stands has a grant that is out, where a step adds no quarantine
+pub held-later : (past : List Step) (step : Step) → AddsNone past step → (outs : List Out) → AreHeld past outs → AreHeld (step ∷ past) outs
+held-later past step none outs held key token quar e = held key token quar (none key token quar e)
+
+-- and where it adds the one whose grant is out behind it
+pub held-granted : (past : List Step) (outs : List Out) (out : Out) (shift : ℤ) (now deadline : ℕ) → AreHeld past outs → AreHeld (Granted out.key out.sid out.mode shift now out.token deadline ∷ past) (outs ++ out ∷ [])
+held-granted past outs out shift now deadline held key token quar e =
+    list_any-append (is_for key token) outs (out ∷ []) ∙ by (same_key key out.key) refl e
+  where
+    new : Quar
+    new = record { sid = out.sid; mode = out.mode; token = out.token; deadline = deadline; shift = shift }
+
+    IsHeld : Type 0
+    IsHeld = (list_any (is_for key token) outs || list_any (is_for key token) (out ∷ [])) ≡ true
+
+    before : quar_of key token past ≡ Some quar → IsHeld
+    before f =
+        or_left (list_any (is_for key token) outs) (list_any (is_for key token) (out ∷ [])) (held key token quar f)
+
+    at_token : same_key key out.key ≡ true → (b : Bool) → (out.token == token) ≡ b → find (has_token token) (standing key past ++ new ∷ []) ≡ Some quar → IsHeld
+    at_token same true here f =
+        or_right (list_any (is_for key token) outs) (list_any (is_for key token) (out ∷ [])) (or_left (is_for key token out) false (and_from (same_key key out.key) (out.token == token) same here))
+    at_token same false other f =
+        let less : find (has_token token) (standing key past ++ new ∷ []) ≡ quar_of key token past =
+        find-append (has_token token) (standing key past) (new ∷ []) ∙ ap (option_or (quar_of key token past)) (found-one token new false other) ∙ or-none (quar_of key token past) in
+        before (sym less ∙ f)
+
+    by : (b : Bool) → same_key key out.key ≡ b → find (has_token token) (cond b (standing key past ++ new ∷ []) (standing key past)) ≡ Some quar → IsHeld
+    by true same f = at_token same (out.token == token) refl f
+    by false apart f = before f
+
 -- what callers see behind a step
 pub view-after : (old new : ShardView) (step : Step) → new.terms ≡ old.terms → new.history ≡ old.history ++ step ∷ [] → new.out ≡ old.out → out_after old.terms step old.out ≡ old.out → new ≡ stepped old step
 view-after old new step terms history out quiet =
@@ -46,22 +80,24 @@ view-after old new step terms history out quiet =
     ap (λ t. made t new.history new.out) terms ∙ ap (λ h. made old.terms h new.out) history ∙ ap (made old.terms (old.history ++ step ∷ [])) (out ∙ sym quiet)
 
 -- what a shard keeps after a step
-pub IsKept-after : (old new : Body) (step : Step) → new.history.items ≡ old.history.items ++ step ∷ [] → terms_of new ≡ terms_of old → Ties (terms_of old) (step ∷ steps_of old) new.entries.list new.leases new.next → new.no < new.count → All (IsOut (terms_of old) (step ∷ steps_of old)) new.out.items → places_of (step ∷ steps_of old) new.out.items ≤ new.promised → vec_len new.history + new.promised ≤ vec_capacity new.history → IsKept new
-IsKept-after old new step pushed same ties one outs promises reserved =
+pub IsKept-after : (old new : Body) (step : Step) → new.history.items ≡ old.history.items ++ step ∷ [] → terms_of new ≡ terms_of old → Ties (terms_of old) (step ∷ steps_of old) new.entries.list new.leases new.next → new.no < new.count → All (IsOut (terms_of old) (step ∷ steps_of old)) new.out.items → AreHeld (step ∷ steps_of old) new.out.items → places_of (step ∷ steps_of old) new.out.items ≤ new.promised → vec_len new.history + new.promised ≤ vec_capacity new.history → IsKept new
+IsKept-after old new step pushed same ties one outs held promises reserved =
     let past : steps_of new ≡ step ∷ steps_of old = steps-pushed old.history.items new.history.items step pushed in
     record {
       one_of = one;
       ties = subst (λ p. Ties (terms_of new) p new.entries.list new.leases new.next) (sym past) (subst (λ t. Ties t (step ∷ steps_of old) new.entries.list new.leases new.next) (sym same) ties);
       outs = subst (λ p. All (IsOut (terms_of new) p) new.out.items) (sym past) (subst (λ t. All (IsOut t (step ∷ steps_of old)) new.out.items) (sym same) outs);
+      held = subst (λ p. AreHeld p new.out.items) (sym past) held;
       promises = subst (λ p. places_of p new.out.items ≤ new.promised) (sym past) promises;
       reserved = reserved;
     }
 
 -- a step that makes no grant
-pub IsKept-step : (old new : Body) (step : Step) → StoodBefore (terms_of old) (steps_of old) step → IsKept old → new.history.items ≡ old.history.items ++ step ∷ [] → terms_of new ≡ terms_of old → Ties (terms_of old) (step ∷ steps_of old) new.entries.list new.leases new.next → new.no < new.count → All (IsOut (terms_of old) (steps_of old)) new.out.items → places_of (steps_of old) new.out.items ≤ new.promised → vec_len new.history + new.promised ≤ vec_capacity new.history → IsKept new
-IsKept-step old new step stood kept pushed same ties one outs promises reserved =
+pub IsKept-step : (old new : Body) (step : Step) → AddsNone (steps_of old) step → IsKept old → new.history.items ≡ old.history.items ++ step ∷ [] → terms_of new ≡ terms_of old → Ties (terms_of old) (step ∷ steps_of old) new.entries.list new.leases new.next → new.no < new.count → All (IsOut (terms_of old) (steps_of old)) new.out.items → AreHeld (steps_of old) new.out.items → places_of (steps_of old) new.out.items ≤ new.promised → vec_len new.history + new.promised ≤ vec_capacity new.history → IsKept new
+IsKept-step old new step none kept pushed same ties one outs held promises reserved =
+    let stood = stood-still (terms_of old) (steps_of old) step none in
     let kept_places = places-kept (terms_of old) (steps_of old) step stood new.out.items outs in
-    IsKept-after old new step pushed same ties one (IsOut-later (terms_of old) (steps_of old) step stood new.out.items outs) (omega (arith, kept_places, promises)) reserved
+    IsKept-after old new step pushed same ties one (IsOut-later (terms_of old) (steps_of old) step stood new.out.items outs) (held-later (steps_of old) step none new.out.items held) (omega (arith, kept_places, promises)) reserved
 
 -- what a shard keeps where all stays but the room of its lists
 pub IsKept-still : (old new : Body) → IsKept old → terms_of new ≡ terms_of old → new.history.items ≡ old.history.items → new.entries.list ≡ old.entries.list → new.leases ≡ old.leases → new.next ≡ old.next → new.out.items ≡ old.out.items → new.no < new.count → places_of (steps_of old) old.out.items ≤ new.promised → vec_len new.history + new.promised ≤ vec_capacity new.history → IsKept new
@@ -74,6 +110,7 @@ IsKept-still old new kept same history list table next out one promises reserved
       one_of = one;
       ties = subst (λ p. Ties (terms_of new) p new.entries.list new.leases new.next) (sym past) (subst (λ t. Ties t (steps_of old) new.entries.list new.leases new.next) (sym same) ties);
       outs = subst (λ p. All (IsOut (terms_of new) p) new.out.items) (sym past) (subst (λ t. All (IsOut t (steps_of old)) new.out.items) (sym same) outs);
+      held = subst (λ p. AreHeld p new.out.items) (sym past) (subst (AreHeld (steps_of old)) (sym out) kept.held);
       promises = subst (λ p. places_of p new.out.items ≤ new.promised) (sym past) (subst (λ l. places_of (steps_of old) l ≤ new.promised) (sym out) promises);
       reserved = reserved;
     }
@@ -128,6 +165,7 @@ IsKept-new body one roomy entries leases out history next promised empty =
       one_of = one;
       ties = subst (λ p. Ties (terms_of body) p body.entries.list body.leases body.next) (sym past) (subst (λ l. Ties (terms_of body) [] l body.leases body.next) (sym entries) (subst (λ l. Ties (terms_of body) [] [] l body.next) (sym leases) start));
       outs = subst (All (IsOut (terms_of body) (steps_of body))) (sym out) (All-nil (IsOut (terms_of body) (steps_of body)));
+      held = subst (λ p. AreHeld p body.out.items) (sym past) (λ key token quar e. absurd cc);
       promises = omega (arith, none);
       reserved = omega (arith, empty, promised);
     }

@@ -10,5 +10,6 @@ pub mod OutLemmas
 pub mod PlaceLemmas
 pub mod PutLemmas
 pub mod QuarantineLemmas
+pub mod SweepLemmas
 pub mod TiesLemmas
 pub mod PermitLemmas

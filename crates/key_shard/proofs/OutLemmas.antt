@@ -3,6 +3,7 @@ use Rattle.std.proofs.Common.{◌≡◌, ◌<◌, ◌≤◌, ◌+◌, ◌&&◌, 
 use Rattle.std.specs.Prelude.{vec_capacity}
 use Rattle.std.specs.List.{All, list_any}
 use Rattle.std.proofs.lemmas.Bool.{cases_Bool, and_parts, eqb-true, false≢true}
+use Rattle.std.proofs.lemmas.Map.Views.{any-filter_same}
 use Rattle.std.proofs.lemmas.List.Elements.{All-head, All-tail, All-filter, All-weaker}
 use Rattle.rows_model.specs.declared.keys.QKey.{QKey}
 use Rattle.rows_model.specs.declared.keys.Sid.{Sid}
@@ -26,9 +27,9 @@ use Rattle.key_shard.specs.declared.replies.How.{How}
 use Rattle.key_shard.specs.declared.replies.How.TheVariants as hows
 use Rattle.key_shard.specs.Answers.{WasGranted, IsAtHome, IsOf, FitsMode, OwesRelease, OwesReplace, ended_as}
 use Rattle.key_shard.specs.Shards.{ShardView, is_out, without_permit, returned}
-use Rattle.key_shard.specs.Kept.{Ties, PutsNone, IsKept, IsOut, places_for, places_of, terms_of, steps_of, permit_of, shown}
-use Rattle.key_shard.proofs.KeptLemmas.{IsKept-after, IsOut-later}
-use Rattle.key_shard.proofs.PlaceLemmas.{StoodBefore, places-less, places-some, place-one, place-two}
+use Rattle.key_shard.specs.Kept.{Ties, PutsNone, IsKept, IsOut, AreHeld, is_for, places_for, places_of, terms_of, steps_of, permit_of, shown}
+use Rattle.key_shard.proofs.KeptLemmas.{IsKept-after, IsOut-later, held-later}
+use Rattle.key_shard.proofs.PlaceLemmas.{AddsNone, stood-still, places-less, places-some, place-one, place-two}
 
 -- a test of what a map gives, and a test behind the map
 pub any-map : {X Y : Type 0} (p : Y → Bool) (f : X → Y) (xs : List X) → list_any p (map f xs) ≡ list_any (λ x. p (f x)) xs
@@ -121,14 +122,37 @@ places-out body grant n may kept out =
     let some = places-some (steps_of body) (λ o. same_permit grant (permit_of body.no o)) n may body.out.items (some-out body grant out) in
     omega (arith, some, kept.promises)
 
+-- without a grant whose quarantine stands no longer, each quarantine that stands has a grant that is out
+pub held-less : (number : ℕ) (past : List Step) (grant : Permit) (outs : List Out) → quar_of grant.key grant.token past ≡ None → AreHeld past outs → AreHeld past (filter (λ out. not (same_permit grant (permit_of number out))) outs)
+held-less number past grant outs gone held key token quar e =
+    any-filter_same (is_for key token) (λ out. not (same_permit grant (permit_of number out))) true other outs ∙ held key token quar e
+  where
+    no_more : key ≡ grant.key → token ≡ grant.token → ⊥
+    no_more at_key at_token =
+        let none : quar_of key token past ≡ None =
+        ap (λ k. quar_of k token past) at_key ∙ ap (λ t. quar_of grant.key t past) at_token ∙ gone in
+        let same : Some quar ≡ None = sym e ∙ none in cc
+
+    other : (out : Out) → is_for key token out ≡ true → not (same_permit grant (permit_of number out)) ≡ true
+    other out for =
+        elim (cases_Bool (same_permit grant (permit_of number out))) [
+          | inl same ↦
+              let told : permit_of number out ≡ grant = same_permit-true grant (permit_of number out) same in
+              let parts = and_parts (same_key key out.key) (out.token == token) for in
+              absurd (no_more (same_key-true key out.key parts.0 ∙ ap (λ (p : Permit). p.key) told) (sym (eqb-true out.token token parts.1) ∙ ap (λ (p : Permit). p.token) told))
+          | inr apart ↦ ap not apart
+        ]
+
 -- a step that takes a grant from those that are out, and gives back so many places
-pub IsKept-returned : (old new : Body) (step : Step) (grant : Permit) (n : ℕ) → MayTake old grant n → StoodBefore (terms_of old) (steps_of old) step → IsKept old → is_out (shown old) grant ≡ true → new.out.items ≡ filter (λ out. not (same_permit grant (permit_of old.no out))) old.out.items → new.history.items ≡ old.history.items ++ step ∷ [] → terms_of new ≡ terms_of old → Ties (terms_of old) (step ∷ steps_of old) new.entries.list new.leases new.next → new.no < new.count → new.promised + n ≡ old.promised → vec_len new.history + new.promised ≤ vec_capacity new.history → IsKept new
-IsKept-returned old new step grant n may stood kept out less pushed same ties one promised reserved =
+pub IsKept-returned : (old new : Body) (step : Step) (grant : Permit) (n : ℕ) → MayTake old grant n → AddsNone (steps_of old) step → quar_of grant.key grant.token (step ∷ steps_of old) ≡ None → IsKept old → is_out (shown old) grant ≡ true → new.out.items ≡ filter (λ out. not (same_permit grant (permit_of old.no out))) old.out.items → new.history.items ≡ old.history.items ++ step ∷ [] → terms_of new ≡ terms_of old → Ties (terms_of old) (step ∷ steps_of old) new.entries.list new.leases new.next → new.no < new.count → new.promised + n ≡ old.promised → vec_len new.history + new.promised ≤ vec_capacity new.history → IsKept new
+IsKept-returned old new step grant n may none gone kept out less pushed same ties one promised reserved =
+    let stood = stood-still (terms_of old) (steps_of old) step none in
     let left : List Out = filter (λ o. not (same_permit grant (permit_of old.no o))) old.out.items in
     let fewer = places-less (terms_of old) (steps_of old) step (λ o. same_permit grant (permit_of old.no o)) n stood may old.out.items kept.outs (some-out old grant out) in
     let fits : places_of (step ∷ steps_of old) left ≤ new.promised = omega (arith, fewer, promised, kept.promises) in
     let outs = IsOut-later (terms_of old) (steps_of old) step stood left (All-filter (λ o. not (same_permit grant (permit_of old.no o))) (IsOut (terms_of old) (steps_of old)) old.out.items kept.outs) in
-    IsKept-after old new step pushed same ties one (subst (All (IsOut (terms_of old) (step ∷ steps_of old))) (sym less) outs) (subst (λ os. places_of (step ∷ steps_of old) os ≤ new.promised) (sym less) fits) reserved
+    let held = held-less old.no (step ∷ steps_of old) grant old.out.items gone (held-later (steps_of old) step none old.out.items kept.held) in
+    IsKept-after old new step pushed same ties one (subst (All (IsOut (terms_of old) (step ∷ steps_of old))) (sym less) outs) (subst (AreHeld (step ∷ steps_of old)) (sym less) held) (subst (λ os. places_of (step ∷ steps_of old) os ≤ new.promised) (sym less) fits) reserved
 
 -- what callers see behind it
 pub view-returned : (old : Body) (terms : Terms) (history : List Step) (outs : List Out) (step : Step) (grant : Permit) → terms ≡ terms_of old → history ≡ old.history.items ++ step ∷ [] → outs ≡ filter (λ out. not (same_permit grant (permit_of old.no out))) old.out.items → record { terms = terms; history = history; out = map (permit_of old.no) outs } ≡ returned (shown old) grant step

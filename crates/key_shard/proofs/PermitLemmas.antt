@@ -1,6 +1,6 @@
 -- The quarantine of a permit, among those that stand on a key.
 use Rattle.std.proofs.Common.{ℕ, ◌≡◌, ◌≢◌, ◌==◌, Bool, true, false, not, cond, ◌&&◌, List, [], ◌∷◌, filter, find, Some, refl, sym, ap, ◌∙◌, inl, inr}
-use Rattle.std.specs.List.{AllByRecursion, list_any}
+use Rattle.std.specs.List.{list_any}
 use Rattle.std.proofs.lemmas.Bool.{false≢true, eqb-true, and_parts, or_cases, false_from_ne_true}
 use Rattle.std.proofs.lemmas.Map.Views.{any-filter_same}
 use Rattle.rows_model.specs.declared.keys.Sid.{Sid}

@@ -3,7 +3,7 @@ use Rattle.std.proofs.Common.{◌≡◌, ◌<◌, ◌≤◌, ◌+◌, ◌==◌, 
 use Rattle.std.specs.Prelude.{ℤ}
 use Rattle.std.specs.List.{All, list_any, sum_by, count_by}
 use Rattle.std.specs.Option.{option_or}
-use Rattle.std.proofs.lemmas.Bool.{cases_Bool, eq-eqb, eqb-true, false≢true}
+use Rattle.std.proofs.lemmas.Bool.{cases_Bool, and_parts, eq-eqb, eqb-true, false≢true}
 use Rattle.std.proofs.lemmas.List.Elements.{All-head, All-tail, All-filter}
 use Rattle.std.proofs.lemmas.List.Filters.{sum_by-filter_both}
 use Rattle.std.proofs.lemmas.List.Folds.{find-append}
@@ -11,6 +11,7 @@ use Rattle.std.proofs.lemmas.List.Sums.{sum_by-cons, sum_by_push}
 use Rattle.rows_model.specs.declared.keys.QKey.{QKey}
 use Rattle.rows_model.specs.declared.keys.Sid.{Sid}
 use Rattle.rows_model.specs.Key.{same_key}
+use Rattle.rows_model.proofs.SameKey.{same_key-true, same_key-refl}
 use Rattle.lease_table.specs.declared.records.Mode.{Mode}
 use Rattle.lease_table.specs.declared.records.Quar.{Quar}
 use Rattle.lease_table.specs.Leases.{has_token}
@@ -19,12 +20,20 @@ use Rattle.key_shard.specs.declared.steps.Ended.{Ended}
 use Rattle.key_shard.specs.declared.steps.Step.{Step}
 use Rattle.key_shard.specs.declared.steps.Step.TheVariants.{Hit, Lease, Again, Own, Stored, Void, Granted, Held, Refused, Released, Gone}
 use Rattle.key_shard.specs.Past.{Terms, standing, quar_of, draws, next_token}
-use Rattle.key_shard.specs.Kept.{IsOut, IsQuiet, places_for, places_of}
+use Rattle.key_shard.specs.Kept.{IsOut, IsQuiet, is_for, places_for, places_of}
 
 -- of a token drawn before, what stands after a step stood before it
 abbrev pub StoodBefore : Terms → List Step → Step → Type 0
 StoodBefore terms past step =
     (key : QKey) (token : ℕ) (quar : Quar) → token < next_token terms past → quar_of key token (step ∷ past) ≡ Some quar → quar_of key token past ≡ Some quar
+
+-- what stands after a step stood before it, of whichever token
+abbrev pub AddsNone : List Step → Step → Type 0
+AddsNone past step =
+    (key : QKey) (token : ℕ) (quar : Quar) → quar_of key token (step ∷ past) ≡ Some quar → quar_of key token past ≡ Some quar
+
+pub stood-still : (terms : Terms) (past : List Step) (step : Step) → AddsNone past step → StoodBefore terms past step
+stood-still terms past step none key token quar low e = none key token quar e
 
 -- what is found behind a filter that keeps all that the test passes
 find-kept-step : (p : Quar → Bool) (x : Quar) (xs ys : List Quar) (b c : Bool) → p x ≡ b → (b ≡ true → c ≡ true) → find p ys ≡ find p xs → find p (cond c (x ∷ ys) ys) ≡ cond b (Some x) (find p xs)
@@ -63,19 +72,24 @@ ended-from token gone quars quar e =
     ]
 
 -- the end of a quarantine leaves only what stood
-pub stood-ended : (terms : Terms) (past : List Step) (on : QKey) (sid : Sid) (gone : ℕ) (how : Ended) → StoodBefore terms past (Released on sid gone how)
-stood-ended terms past on sid gone how key token quar low e =
+pub ended-adds_none : (past : List Step) (on : QKey) (sid : Sid) (gone : ℕ) (how : Ended) → AddsNone past (Released on sid gone how)
+ended-adds_none past on sid gone how key token quar e =
     by (same_key key on) e
   where
     by : (b : Bool) → find (has_token token) (cond b (filter (λ q. not (has_token gone q)) (standing key past)) (standing key past)) ≡ Some quar → quar_of key token past ≡ Some quar
     by true h = ended-from token gone (standing key past) quar h
     by false h = h
 
-or-none : (o : Option Quar) → option_or o None ≡ o
+-- of the quarantine that ended nothing stands
+pub ended-gone : (past : List Step) (key : QKey) (sid : Sid) (token : ℕ) (how : Ended) → quar_of key token (Released key sid token how ∷ past) ≡ None
+ended-gone past key sid token how =
+    ap (λ b. find (has_token token) (cond b (filter (λ q. not (has_token token q)) (standing key past)) (standing key past))) (same_key-refl key) ∙ find-lost (has_token token) (standing key past)
+
+pub or-none : (o : Option Quar) → option_or o None ≡ o
 or-none None = refl
 or-none (Some q) = refl
 
-found-one : (token : ℕ) (quar : Quar) (b : Bool) → has_token token quar ≡ b → find (has_token token) (quar ∷ []) ≡ cond b (Some quar) None
+pub found-one : (token : ℕ) (quar : Quar) (b : Bool) → has_token token quar ≡ b → find (has_token token) (quar ∷ []) ≡ cond b (Some quar) None
 found-one token quar b e = rw e refl
 
 below-apart : (drawn token : ℕ) → token < drawn → (drawn == token) ≡ false
@@ -161,6 +175,17 @@ sum-less p f g P n le worth xs h some =
     let left = sum-le f g P le (filter (λ x. not (p x)) xs) (All-filter (λ x. not (p x)) P xs h) in
     omega (arith, parts, out, left)
 
+-- a sum of what is no more is less where what passes a test is less, and there is one
+sum-drops : {X : Type 0} (p : X → Bool) (f g : X → ℕ) (P : X → Type 0) → ((x : X) → P x → f x ≤ g x) → ((x : X) → p x ≡ true → f x + 1 ≤ g x) → (xs : List X) → All P xs → list_any p xs ≡ true → sum_by f xs + 1 ≤ sum_by g xs
+sum-drops p f g P le less [] h some = absurd (false≢true some)
+sum-drops p f g P le less (x ∷ xs) h some =
+    let fs = sum_by-cons f x xs in
+    let gs = sum_by-cons g x xs in
+    elim (cases_Bool (p x)) [
+      | inl here ↦ let one = less x here in let rest = sum-le f g P le xs (All-tail P x xs h) in omega (arith, one, rest, fs, gs)
+      | inr apart ↦ let one = le x (All-head P x xs h) in let rest = sum-drops p f g P le less xs (All-tail P x xs h) (any-rest (p x) (list_any p xs) some apart) in omega (arith, one, rest, fs, gs)
+    ]
+
 no-more : (new old : Option Quar) → ((quar : Quar) → new ≡ Some quar → old ≡ Some quar) → cond (is_some new) 2 1 ≤ cond (is_some old) 2 1
 no-more None None stood = omega arith
 no-more None (Some q) stood = omega arith
@@ -209,6 +234,28 @@ place-two past out quar e =
     two : 2 ≤ 2
     two = omega arith
 
+-- the end of a quarantine gives back a place of a grant that is out for it
+pub places-dropped : (terms : Terms) (past : List Step) (key : QKey) (sid : Sid) (token : ℕ) (how : Ended) (quar : Quar) → quar_of key token past ≡ Some quar → (outs : List Out) → All (IsOut terms past) outs → list_any (is_for key token) outs ≡ true → places_of (Released key sid token how ∷ past) outs + 1 ≤ places_of past outs
+places-dropped terms past key sid token how quar stands outs h some =
+    sum-drops (is_for key token) (places_for (step ∷ past)) (places_for past) (IsOut terms past) (places-later terms past step (stood-still terms past step (ended-adds_none past key sid token how))) less outs h some
+  where
+    step : Step
+    step = Released key sid token how
+
+    two : 1 + 1 ≤ 2
+    two = omega arith
+
+    less : (out : Out) → is_for key token out ≡ true → places_for (step ∷ past) out + 1 ≤ places_for past out
+    less out for =
+        let parts = and_parts (same_key key out.key) (out.token == token) for in
+        let at_key : key ≡ out.key = same_key-true key out.key parts.0 in
+        let at_token : out.token ≡ token = eqb-true out.token token parts.1 in
+        let stood : quar_of out.key out.token past ≡ Some quar =
+        ap (λ t. quar_of out.key t past) at_token ∙ ap (λ k. quar_of k token past) (sym at_key) ∙ stands in
+        let gone : quar_of out.key out.token (step ∷ past) ≡ None =
+        ap (λ t. quar_of out.key t (step ∷ past)) at_token ∙ ap (λ k. quar_of k token (step ∷ past)) (sym at_key) ∙ ended-gone past key sid token how in
+        subst (λ o. cond (is_some (quar_of out.key out.token (step ∷ past))) 2 1 + 1 ≤ cond (is_some o) 2 1) (sym stood) (subst (λ o. cond (is_some o) 2 1 + 1 ≤ 2) (sym gone) two)
+
 -- the places with those of one more
 pub places-more : (terms : Terms) (past : List Step) (step : Step) → StoodBefore terms past step → (outs : List Out) (out : Out) → All (IsOut terms past) outs → places_of (step ∷ past) (outs ++ out ∷ []) ≤ places_of past outs + 2
 places-more terms past step stood outs out h =
@@ -218,15 +265,15 @@ places-more terms past step stood outs out h =
     omega (arith, grown, before, one)
 
 -- a step that changes no entry, order or lease leaves what stands
-pub stood-quiet : (terms : Terms) (past : List Step) (step : Step) → IsQuiet step → StoodBefore terms past step
-stood-quiet terms past (Hit key sid floor value stamp) quiet = absurd quiet
-stood-quiet terms past (Lease key sid floor now token deadline) quiet = absurd quiet
-stood-quiet terms past (Again key sid floor now stands) quiet = absurd quiet
-stood-quiet terms past (Stored key token now value stamp evicted) quiet = absurd quiet
-stood-quiet terms past (Granted key sid mode shift now token deadline) quiet = absurd quiet
-stood-quiet terms past (Released key sid token how) quiet = absurd quiet
-stood-quiet terms past (Own key sid) quiet = λ k t q low e. e
-stood-quiet terms past (Void key token now) quiet = λ k t q low e. e
-stood-quiet terms past (Held key sid mode) quiet = λ k t q low e. e
-stood-quiet terms past (Refused key sid mode holder held) quiet = λ k t q low e. e
-stood-quiet terms past (Gone key sid token) quiet = λ k t q low e. e
+pub quiet-adds_none : (past : List Step) (step : Step) → IsQuiet step → AddsNone past step
+quiet-adds_none past (Hit key sid floor value stamp) quiet = absurd quiet
+quiet-adds_none past (Lease key sid floor now token deadline) quiet = absurd quiet
+quiet-adds_none past (Again key sid floor now stands) quiet = absurd quiet
+quiet-adds_none past (Stored key token now value stamp evicted) quiet = absurd quiet
+quiet-adds_none past (Granted key sid mode shift now token deadline) quiet = absurd quiet
+quiet-adds_none past (Released key sid token how) quiet = absurd quiet
+quiet-adds_none past (Own key sid) quiet = λ k t q e. e
+quiet-adds_none past (Void key token now) quiet = λ k t q e. e
+quiet-adds_none past (Held key sid mode) quiet = λ k t q e. e
+quiet-adds_none past (Refused key sid mode holder held) quiet = λ k t q e. e
+quiet-adds_none past (Gone key sid token) quiet = λ k t q e. e

@@ -1,5 +1,5 @@
 -- The one step that a request gives after a past, and which histories are legal.
-use Rattle.std.specs.Prelude.{ℕ, ◌≡◌, ℤ, pos, IsTrue, nat_le, if◌then◌else◌, List, [], ◌∷◌, reverse, Option, Some, None}
+use Rattle.std.specs.Prelude.{ℕ, ◌≡◌, ℤ, pos, IsTrue, nat_le, if◌then◌else◌, List, [], ◌∷◌, reverse, Option, Some, None, option_map}
 use Rattle.std.specs.List.{list_any}
 use Rattle.rows_model.specs.declared.keys.QKey.{QKey}
 use Rattle.rows_model.specs.declared.keys.Sid.{Sid}
@@ -110,6 +110,10 @@ replace_by terms past permit value stamp None = Gone permit.key permit.sid permi
 abbrev pub replace_step : Terms → List Step → Permit → List ℕ → ℕ → Step
 replace_step terms past permit value stamp =
     replace_by terms past permit value stamp (quar_of permit.key permit.token past)
+
+-- The step of a sweep: the quarantine of the token ends with Drop, where one stands on the key, and else there is none.
+abbrev pub sweep_step : List Step → QKey → ℕ → Option Step
+sweep_step past key token = option_map (λ quar. Released key quar.sid token ended.Drop) (quar_of key token past)
 
 -- What is asked of a shard.
 pub data Request : Type 0 where

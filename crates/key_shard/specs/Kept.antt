@@ -1,6 +1,6 @@
 -- What a shard keeps: entries, leases and the next token are those that its past tells.
-use Rattle.std.specs.Prelude.{ℕ, ◌≡◌, ◌<◌, ◌≤◌, ◌+◌, [], ◌∷◌, Bool, false, not, nat_lt, nat_le, if◌then◌else◌, List, map, filter, length, reverse, Option, Some, None, is_some, vec_len, vec_capacity}
-use Rattle.std.specs.List.{All, sum_by}
+use Rattle.std.specs.Prelude.{ℕ, ◌≡◌, ◌<◌, ◌≤◌, ◌+◌, ◌==◌, ◌&&◌, IsTrue, [], ◌∷◌, Bool, false, not, nat_lt, nat_le, if◌then◌else◌, List, map, filter, length, reverse, Option, Some, None, is_some, vec_len, vec_capacity}
+use Rattle.std.specs.List.{All, list_any, sum_by}
 use Rattle.rows_model.specs.declared.keys.QKey.{QKey}
 use Rattle.rows_model.specs.declared.keys.Sid.{Sid}
 use Rattle.rows_model.specs.Key.{same_key}
@@ -66,11 +66,21 @@ places_for past out = if is_some (quar_of out.key out.token past) then 2 else 1
 abbrev pub places_of : List Step → List Out → ℕ
 places_of past outs = sum_by (places_for past) outs
 
--- what a shard keeps: that, and the places of the history that the grants that are out may still take
+-- Whether a grant that is out is of this key and token.
+abbrev pub is_for : QKey → ℕ → Out → Bool
+is_for key token out = same_key key out.key && (out.token == token)
+
+-- Each quarantine that stands has a grant that is out.
+abbrev pub AreHeld : List Step → List Out → Type 0
+AreHeld past outs =
+    (key : QKey) (token : ℕ) (quar : Quar) → quar_of key token past ≡ Some quar → IsTrue (list_any (is_for key token) outs)
+
+-- What a shard keeps: that, a grant for each quarantine that stands, and the places of the history that the grants that are out may still take.
 pub record IsKept (body : Body) : Type 0 where
   pub one_of : body.no < body.count
   pub ties : Ties (terms_of body) (steps_of body) body.entries.list body.leases body.next
   pub outs : All (IsOut (terms_of body) (steps_of body)) body.out.items
+  pub held : AreHeld (steps_of body) body.out.items
   pub promises : places_of (steps_of body) body.out.items ≤ body.promised
   pub reserved : vec_len body.history + body.promised ≤ vec_capacity body.history
 

@@ -1,5 +1,5 @@
 -- What a step shows to who asked.
-use Rattle.std.specs.Prelude.{ℕ, ◌≡◌, List, Option, None}
+use Rattle.std.specs.Prelude.{ℕ, ◌≡◌, List, Option, Some, None}
 use Rattle.lease_table.specs.declared.records.Mode.{Mode}
 use Rattle.lease_table.specs.declared.records.Mode.TheVariants.{Invalidate, Refresh, Delta}
 use Rattle.key_shard.specs.declared.steps.Step.{Step}
@@ -47,3 +47,8 @@ abbrev pub ShowsRelease : Step → Rel → Type 0
 ShowsRelease (Released key sid token how) answer = answer ≡ rel.Released (evicted_by how)
 ShowsRelease (Gone key sid token) answer = answer ≡ rel.Gone
 ShowsRelease step answer = ⊥
+
+-- The answer to a sweep: Released where its step ends a quarantine, for which no key makes room, and else Gone.
+abbrev pub sweep_told : Option Step → Rel
+sweep_told (Some step) = rel.Released None
+sweep_told None = rel.Gone

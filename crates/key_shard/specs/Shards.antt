@@ -50,6 +50,11 @@ returned shard permit step = record {
   out = without_permit permit shard.out;
 }
 
+-- The shard after a sweep: after its step, where it has one.
+abbrev pub swept : ShardView → Option Step → ShardView
+swept shard (Some step) = stepped shard step
+swept shard None = shard
+
 -- why the shard refuses this step on this key, if it does: the key is another shard's, or the next token would be the last number
 abbrev pub spent_at : ℕ → Step → Option ShardFault
 spent_at next step = if draws step && (next == 2 ^ 64 - 1) then Some (faults.Spent next) else None

@@ -18,5 +18,6 @@ pub mod replies;
 mod sets;
 pub mod shards;
 pub mod steps;
+mod sweeps;
 #[cfg(test)]
 mod tests;

@@ -112,6 +112,7 @@ impl Body {
     fn gone(&mut self, grant: Grant) -> Rel
         requires kept { IsKept self.old }
         requires out { IsTrue (is_out (shown self.old) grant) }
+        requires none { quar_of grant.key grant.token (steps_of self.old) ≡ None }
         requires answers { Answers (terms_of self.old) (steps_of self.old) (Step.Gone grant.key grant.sid grant.token) }
         ensures kept { IsKept self.new }
         ensures step { shown self.new ≡ returned (shown self.old) grant (Step.Gone grant.key grant.sid grant.token) }

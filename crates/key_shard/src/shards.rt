@@ -1,15 +1,17 @@
-ghost use Rattle.std.specs.Prelude.{◌≡◌, ◌≤◌, ◌<◌, ◌∷◌, ◌++◌, [], reverse, IfOk, OnOk, OnErr, IfErr, IsTrue};
+ghost use Rattle.std.specs.Prelude.{◌≡◌, ◌≢◌, ◌↔◌, ◌≤◌, ◌<◌, ◌∷◌, ◌++◌, [], reverse, IfOk, OnOk, OnErr, IfErr, IfSome, IfNone, IsTrue, None};
 ghost use Rattle.std.specs.Bool.{IsFalse};
-ghost use Rattle.key_shard.specs.Answers.{get_step, set_step, quarantine_step, release_step, replace_step, FitsMode, FitsShift, Legal};
-ghost use Rattle.key_shard.specs.Replies.{ShowsGot, ShowsSet, ShowsQuarantine, ShowsRelease};
-ghost use Rattle.key_shard.specs.Shards.{past_of, is_out, stepped, returned, refusal, Refuses};
+ghost use Rattle.lease_table.specs.Expiry.{NoneDue, NoneDueBefore, StandsDue};
+ghost use Rattle.key_shard.specs.Answers.{get_step, set_step, quarantine_step, release_step, replace_step, sweep_step, FitsMode, FitsShift, IsAtHome, Legal};
+ghost use Rattle.key_shard.specs.Past.{entry, quar_of, standing};
+ghost use Rattle.key_shard.specs.Replies.{ShowsGot, ShowsSet, ShowsQuarantine, ShowsRelease, sweep_told};
+ghost use Rattle.key_shard.specs.Shards.{past_of, is_out, stepped, returned, swept, refusal, Refuses};
 
 use crate::bodies::Body;
 use crate::grants::Grant;
 use crate::replies::{Back, Got, How, QAnswer, Rel, SetAnswer, ShardFault};
 use crate::steps::Step;
 use entry_table::Entries;
-use lease_table::{Leases, Mode};
+use lease_table::{Due, Leases, Mode};
 use rows_model::{Memory, QKey, Sid, Value};
 use std::alloc::Global;
 use std::marker::Model;
@@ -151,6 +153,36 @@ impl Shard {
         ensures err { OnErr result (self.new ≡ self.old) }
     {
         self.body.replace(grant, value, stamp)
+    }
+
+    /// Whether the key is this shard's, by its hash. It takes no memory.
+    pub fn is_home(&self, key: &QKey) -> bool
+        ensures { IsTrue result ↔ IsAtHome self.now.terms key.now }
+    {
+        self.body.is_home(key)
+    }
+
+    /// The quarantine whose deadline has come that is first by key, and then by token; none exactly where
+    /// no deadline of a quarantine has come. It takes no memory.
+    pub fn expired(&self, now: u64) -> Option<Due>
+        ensures due { IfSome result (StandsDue now (λ key. standing key (past_of self.now))) }
+        ensures least { IfSome result (NoneDueBefore now (λ key. standing key (past_of self.now))) }
+        ensures none { IfNone result (NoneDue now (λ key. standing key (past_of self.now))) }
+    {
+        self.body.expired(now)
+    }
+
+    /// Ends the quarantine of this token on this key, whose session won't commit any more, and drops the
+    /// key's entry. Where no such quarantine stands the answer is Gone, and nothing changes. The
+    /// quarantine's grant stays out: its release will be answered Gone. It takes no memory.
+    pub fn sweep_drop(&mut self, key: QKey, token: u64) -> Rel
+        requires { IsAtHome self.old.terms key }
+        ensures step { self.new ≡ swept self.old (sweep_step (past_of self.old) key token) }
+        ensures told { result ≡ sweep_told (sweep_step (past_of self.old) key token) }
+        ensures ended { quar_of key token (past_of self.new) ≡ None }
+        ensures dropped { result ≢ Rel.Gone → entry key (past_of self.new) ≡ None }
+    {
+        self.body.sweep_drop(key, token)
     }
 
     /// The steps so far, the earliest first.

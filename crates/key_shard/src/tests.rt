@@ -2,7 +2,7 @@ ghost use Rattle.std.specs.Prelude.{◌≤◌, ◌<◌};
 ghost use Rattle.key_shard.specs.Answers.{FitsShift};
 
 use super::*;
-use lease_table::Mode;
+use lease_table::{Due, Mode};
 use rows_model::{Kind, Memory, QKey, Sid, Value};
 use std::alloc::{AllocError, Global};
 use std::process::Abort;
@@ -90,7 +90,7 @@ fn new_shard(alloc: Global, room: u32) -> Result<Shard, Memory>
     Shard::new(alloc, 0, 1, room, 100, 1)
 }
 
-/// Asks for a quarantine that is to be granted.
+/// Asks for a quarantine at time 0 that is to be granted.
 fn granted(
     rt: &impl Abort,
     shard: &mut Shard,
@@ -101,7 +101,21 @@ fn granted(
 ) -> (Grant, Option<(Value, u64)>)
     requires { FitsShift mode shift }
 {
-    match shard.quarantine(profile(id), sid(who), mode, shift, 0) {
+    granted_at(rt, shard, id, who, mode, shift, 0)
+}
+
+fn granted_at(
+    rt: &impl Abort,
+    shard: &mut Shard,
+    id: u32,
+    who: u64,
+    mode: Mode,
+    shift: i32,
+    now: u64,
+) -> (Grant, Option<(Value, u64)>)
+    requires { FitsShift mode shift }
+{
+    match shard.quarantine(profile(id), sid(who), mode, shift, now) {
         Ok(QAnswer::Granted { grant, old }) => (grant, old),
         Ok(QAnswer::Held) => panic!(rt; "held"),
         Ok(QAnswer::Refused { holder, mode: _ }) => panic!(rt; "refused by {}", holder.number),
@@ -400,5 +414,99 @@ fn stops_deadlines_at_the_end_of_time(rt: HostRuntime) -> Result<(), Fail> {
             (Call::Get(1, 2, 0, u64::MAX), "lease 2"),
         ],
     );
+    Ok(())
+}
+
+/// Sweeps a key that is to be the shard's.
+fn swept(rt: &impl Abort, shard: &mut Shard, id: u32, token: u64) -> Rel {
+    let key = profile(id);
+    assert!(rt; shard.is_home(&key));
+    shard.sweep_drop(key, token)
+}
+
+fn due(id: u32, who: u64, token: u64) -> Option<Due> {
+    Some(Due {
+        key: profile(id),
+        sid: sid(who),
+        token,
+    })
+}
+
+#[test]
+fn drops_what_is_past_its_deadline(rt: HostRuntime) -> Result<(), Fail> {
+    let alloc = rt.alloc();
+    let mut shard = new_shard(alloc, 2)?;
+    check(
+        &rt,
+        alloc,
+        &mut shard,
+        &[
+            (Call::Get(1, 1, 0, 0), "lease 1"),
+            (Call::Set(1, 1, "a", 0, 0), "stored"),
+        ],
+    );
+    let (grant, _) = granted(&rt, &mut shard, 1, 2, Mode::Refresh, 0);
+    assert_eq!(rt; shard.expired(99), None);
+    assert_eq!(rt; shard.expired(100), due(1, 2, 2));
+    // Another token, and another key.
+    assert_eq!(rt; swept(&rt, &mut shard, 1, 3), Rel::Gone);
+    assert_eq!(rt; swept(&rt, &mut shard, 2, 2), Rel::Gone);
+    assert_eq!(rt; shard.history().len(), 3);
+    assert_eq!(rt;
+        swept(&rt, &mut shard, 1, 2),
+        Rel::Released { evicted: None }
+    );
+    assert_eq!(rt; swept(&rt, &mut shard, 1, 2), Rel::Gone);
+    assert_eq!(rt; shard.expired(u64::MAX), None);
+    check(
+        &rt,
+        alloc,
+        &mut shard,
+        &[(Call::Get(1, 3, 0, 100), "lease 3")],
+    );
+    // The session comes too late with its release.
+    assert_eq!(rt; shard.release(grant, How::Keep), Rel::Gone);
+    assert_eq!(rt; shard.history().len(), 6);
+    Ok(())
+}
+
+#[test]
+fn finds_the_first_that_is_due(rt: HostRuntime) -> Result<(), Fail> {
+    let alloc = rt.alloc();
+    let mut shard = new_shard(alloc, 2)?;
+    let (first, _) = granted_at(&rt, &mut shard, 2, 1, Mode::Invalidate, 0, 50);
+    let (second, _) = granted_at(&rt, &mut shard, 2, 2, Mode::Invalidate, 0, 0);
+    let (third, _) = granted_at(&rt, &mut shard, 1, 1, Mode::Delta, 0, 50);
+    first.let_go();
+    second.let_go();
+    third.let_go();
+    assert_eq!(rt; shard.expired(149), due(2, 2, 2));
+    assert_eq!(rt;
+        swept(&rt, &mut shard, 2, 2),
+        Rel::Released { evicted: None }
+    );
+    assert_eq!(rt; shard.expired(149), None);
+    check(
+        &rt,
+        alloc,
+        &mut shard,
+        &[(Call::Get(2, 3, 0, 149), "again Q")],
+    );
+    assert_eq!(rt; shard.expired(150), due(1, 1, 3));
+    assert_eq!(rt;
+        swept(&rt, &mut shard, 1, 3),
+        Rel::Released { evicted: None }
+    );
+    assert_eq!(rt; shard.expired(150), due(2, 1, 1));
+    Ok(())
+}
+
+#[test]
+fn ends_no_quarantine_before_the_end_of_time(rt: HostRuntime) -> Result<(), Fail> {
+    let mut shard = new_shard(rt.alloc(), 1)?;
+    let (grant, _) = granted_at(&rt, &mut shard, 1, 1, Mode::Invalidate, 0, u64::MAX - 1);
+    grant.let_go();
+    assert_eq!(rt; shard.expired(u64::MAX - 1), None);
+    assert_eq!(rt; shard.expired(u64::MAX), due(1, 1, 1));
     Ok(())
 }

@@ -25,7 +25,7 @@ returns-clause-kept c =
     let pushed = c.push_reserved.ensures.items ∙ ap (λ (s : Step). old.history.items ++ s ∷ []) same in
     let ties = Ties-quiet (terms_of old) (steps_of old) old.entries.list old.leases old.next step tt c.requires.answers c.requires.kept.ties in
     let two = places-out old grant 1 (may-take-one old grant) c.requires.kept c.requires.out in
-    IsKept-returned old _ step grant 1 (may-take-one old grant) (λ k t q low e. e) c.requires.kept c.requires.out c.drop_out.ensures.items pushed refl ties c.requires.kept.one_of (omega (arith, two)) (omega (arith, two, c.requires.kept.reserved))
+    IsKept-returned old _ step grant 1 (may-take-one old grant) (λ k t q e. e) c.requires.none c.requires.kept c.requires.out c.drop_out.ensures.items pushed refl ties c.requires.kept.one_of (omega (arith, two)) (omega (arith, two, c.requires.kept.reserved))
 
 pub returns-clause-step : goal.returns-clause-step
 returns-clause-step c =

@@ -13,8 +13,8 @@ use Rattle.key_shard.specs.declared.steps.Step.{Step}
 use Rattle.key_shard.specs.declared.steps.Step.TheVariants.{Granted}
 use Rattle.key_shard.specs.Past.{next_token}
 use Rattle.key_shard.specs.Answers.{Answers}
-use Rattle.key_shard.specs.Kept.{IsOut, places_of, terms_of, steps_of}
-use Rattle.key_shard.proofs.KeptLemmas.{IsKept-still, IsKept-after, IsOut-later, IsOut-granted}
+use Rattle.key_shard.specs.Kept.{IsOut, AreHeld, places_of, terms_of, steps_of}
+use Rattle.key_shard.proofs.KeptLemmas.{IsKept-still, IsKept-after, IsOut-later, IsOut-granted, held-granted}
 use Rattle.key_shard.proofs.LookLemmas.{holding-seen}
 use Rattle.key_shard.proofs.PlaceLemmas.{places-more, stood-granted}
 use Rattle.key_shard.proofs.TiesLemmas.{Ties-granted}
@@ -61,4 +61,5 @@ returns-clause-kept c =
     let after = All-append (IsOut (terms_of old) (step ∷ steps_of old)) old.out.items (out ∷ []) before (All-cons (IsOut (terms_of old) (step ∷ steps_of old)) out [] (IsOut-granted (terms_of old) (steps_of old) out shift c.args.now deadline c.requires.home drawn (c.requires.kept.ties.below c.args.key)) (All-nil (IsOut (terms_of old) (step ∷ steps_of old)))) in
     let fits = places-more (terms_of old) (steps_of old) step stood old.out.items out c.requires.kept.outs in
     let places = ap (places_of (step ∷ steps_of old)) grown in
-    IsKept-after old _ step pushed refl ties c.requires.kept.one_of (subst (All (IsOut (terms_of old) (step ∷ steps_of old))) (sym grown) after) (omega (arith, fits, places, c.requires.kept.promises)) (omega (arith, c.in_ok-make_room.ensures.ok))
+    let held = held-granted (steps_of old) old.out.items out shift c.args.now deadline c.requires.kept.held in
+    IsKept-after old _ step pushed refl ties c.requires.kept.one_of (subst (All (IsOut (terms_of old) (step ∷ steps_of old))) (sym grown) after) (subst (AreHeld (step ∷ steps_of old)) (sym grown) held) (omega (arith, fits, places, c.requires.kept.promises)) (omega (arith, c.in_ok-make_room.ensures.ok))

@@ -17,7 +17,7 @@ returns-clause-kept c =
     let pushed = hit-pushed old.history.items c.make_room.new.history.items c.push_reserved.new.self.items c.args.key c.args.who c.args.floor c.unwrap-stamp.result.0.now c.in_ok-value.value c.unwrap-stamp.result.1 found c.push_reserved.ensures.items c.make_room.ensures.items c.in_ok-value.ensures there in
     let ties = Ties-hit (terms_of old) (steps_of old) old.entries.list old.leases old.next c.args.key c.args.who c.args.floor found c.requires.found.1 c.requires.found.2 c.requires.kept.ties in
     let room = ap (λ (t : Table). t.room) c.find.follows.holds-at-none ∙ room-promoted c.args.key old.entries in
-    IsKept-step old _ step (λ k t q low e. e) c.requires.kept pushed (terms-kept old c.find.follows.lender-at-none.room room) (subst (λ (t : Table). Ties (terms_of old) (step ∷ steps_of old) t.list old.leases old.next) (sym c.find.follows.holds-at-none) ties) c.requires.kept.one_of c.requires.kept.outs c.requires.kept.promises (omega (arith, c.in_ok-make_room.ensures.ok))
+    IsKept-step old _ step (λ k t q e. e) c.requires.kept pushed (terms-kept old c.find.follows.lender-at-none.room room) (subst (λ (t : Table). Ties (terms_of old) (step ∷ steps_of old) t.list old.leases old.next) (sym c.find.follows.holds-at-none) ties) c.requires.kept.one_of c.requires.kept.outs c.requires.kept.held c.requires.kept.promises (omega (arith, c.in_ok-make_room.ensures.ok))
 
 pub returns-clause-step : goal.returns-clause-step
 returns-clause-step c found there =

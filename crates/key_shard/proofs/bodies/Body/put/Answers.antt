@@ -9,7 +9,7 @@ use Rattle.key_shard.specs.Past.{evicts}
 use Rattle.key_shard.specs.Kept.{Puts, terms_of, steps_of}
 use Rattle.key_shard.proofs.KeptLemmas.{IsKept-still, terms-kept}
 use Rattle.key_shard.proofs.OutLemmas.{IsKept-returned, may-take-two, places-out, view-returned, ended-leaves}
-use Rattle.key_shard.proofs.PlaceLemmas.{stood-ended}
+use Rattle.key_shard.proofs.PlaceLemmas.{ended-adds_none, ended-gone}
 use Rattle.key_shard.proofs.TiesLemmas.{Ties-put, evicts-room}
 use Rattle.key_shard.proofs.bodies.Body.put.Goals as goal
 
@@ -50,7 +50,7 @@ returns-clause-kept c =
     let leaves = ended-leaves c.requires.kept.ties grant.key grant.token c.key-key.result c.token-token.result c.end_q.result c.args.quar c.end_q.new.self c.key-key.ensures c.token-token.ensures c.end_q.ensures.ended c.end_q.ensures.after c.requires.stands in
     let ties = Ties-put (terms_of old) (steps_of old) old.entries.list old.leases c.end_q.new.self old.next grant.key c.args.quar.sid grant.token c.args.value c.args.stamp evicted c.put_in_front.new.entries puts leaves c.requires.answers c.requires.kept.ties in
     let two = places-out old grant 2 (may-take-two old grant c.args.quar c.requires.stands) c.requires.kept c.requires.out in
-    IsKept-returned old _ step grant 2 (may-take-two old grant c.args.quar c.requires.stands) (stood-ended (terms_of old) (steps_of old) grant.key c.args.quar.sid grant.token (Put c.args.value c.args.stamp evicted)) c.requires.kept c.requires.out c.drop_out.ensures.items pushed (terms-kept old c.put_in_front.new.entries.room puts.same_room) ties c.requires.kept.one_of (omega (arith, two)) (omega (arith, two, c.requires.kept.reserved))
+    IsKept-returned old _ step grant 2 (may-take-two old grant c.args.quar c.requires.stands) (ended-adds_none (steps_of old) grant.key c.args.quar.sid grant.token (Put c.args.value c.args.stamp evicted)) (ended-gone (steps_of old) grant.key c.args.quar.sid grant.token (Put c.args.value c.args.stamp evicted)) c.requires.kept c.requires.out c.drop_out.ensures.items pushed (terms-kept old c.put_in_front.new.entries.room puts.same_room) ties c.requires.kept.one_of (omega (arith, two)) (omega (arith, two, c.requires.kept.reserved))
 
 pub returns-clause-step : goal.returns-clause-step
 returns-clause-step c =

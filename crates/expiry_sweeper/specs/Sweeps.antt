@@ -1,0 +1,47 @@
+-- What a sweeper wants next, read off what it was told, the latest first.
+use Rattle.std.specs.Prelude.{ℕ, ◌<◌, ◌%◌, Bool, true, false, List, [], ◌∷◌, count_by}
+use Rattle.expiry_sweeper.specs.declared.replies.SweepReply.{SweepReply}
+use Rattle.expiry_sweeper.specs.declared.replies.SweepReply.TheVariants as reply
+use Rattle.expiry_sweeper.specs.declared.replies.SweepWanted.{SweepWanted}
+use Rattle.expiry_sweeper.specs.declared.replies.SweepWanted.TheVariants as wanted
+
+-- Whether a reply says that a shard has no quarantine that is past its deadline.
+abbrev pub is_none_found : SweepReply → Bool
+is_none_found reply.NoneFound = true
+is_none_found other = false
+
+-- The shard that is being swept: a sweeper goes on to the next one as often as none was found, and to shard 0 after the last.
+abbrev pub shard_at : ℕ → List SweepReply → ℕ
+shard_at shards told = count_by is_none_found told % shards
+
+-- What is wanted once a session was ended: to drop the key on which its quarantine was found just before.
+abbrev pub drop_found : ℕ → List SweepReply → SweepWanted
+drop_found shards (reply.Found due ∷ told) = wanted.Drop due.key due.token
+drop_found shards told = wanted.Scan (shard_at shards told)
+
+-- What a sweeper of so many shards wants: to end the session of what was found, then to drop the key, and then to scan the same shard again; where none was found, to scan the next.
+abbrev pub sweep_wants : ℕ → List SweepReply → SweepWanted
+sweep_wants shards [] = wanted.Scan 0
+sweep_wants shards (reply.Found due ∷ told) = wanted.End due.sid
+sweep_wants shards (reply.Ended was ∷ told) = drop_found shards told
+sweep_wants shards (reply.Dropped rel ∷ told) = wanted.Scan (shard_at shards told)
+sweep_wants shards (reply.NoneFound ∷ told) = wanted.Scan (shard_at shards (reply.NoneFound ∷ told))
+
+-- The reply belongs to what is wanted.
+abbrev pub BelongsTo : SweepWanted → SweepReply → Type 0
+BelongsTo (wanted.Scan shard) (reply.Found due) = Unit {0}
+BelongsTo (wanted.Scan shard) reply.NoneFound = Unit {0}
+BelongsTo (wanted.End sid) (reply.Ended was) = Unit {0}
+BelongsTo (wanted.Drop key token) (reply.Dropped rel) = Unit {0}
+BelongsTo request told = ⊥
+
+-- Each reply belongs to what was wanted after those before it.
+abbrev pub AreAnswers : ℕ → List SweepReply → Type 0
+AreAnswers shards [] = Unit {0}
+AreAnswers shards (told ∷ before) = BelongsTo (sweep_wants shards before) told × AreAnswers shards before
+
+-- A scan that is wanted is of one of the shards.
+abbrev pub IsWithin : ℕ → SweepWanted → Type 0
+IsWithin shards (wanted.Scan shard) = shard < shards
+IsWithin shards (wanted.End sid) = Unit {0}
+IsWithin shards (wanted.Drop key token) = Unit {0}

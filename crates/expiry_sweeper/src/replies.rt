@@ -1,0 +1,27 @@
+use key_shard::Rel;
+use lease_table::Due;
+use rows_model::{QKey, Sid};
+
+/// What a sweeper wants next.
+#[derive(Clone, Copy, Debug, PartialEq, Eq)]
+pub enum SweepWanted {
+    /// To look for a quarantine of this shard that is past its deadline.
+    Scan { shard: u32 },
+    /// To end the session at the store, so that it won't commit.
+    End { sid: Sid },
+    /// To drop the key's value and end the quarantine of this token on it.
+    Drop { key: QKey, token: u64 },
+}
+
+/// What a sweeper is told.
+#[derive(Clone, Copy, Debug, PartialEq, Eq)]
+pub enum SweepReply {
+    /// This quarantine is past its deadline.
+    Found { due: Due },
+    /// No quarantine of the shard is.
+    NoneFound,
+    /// Whether the session was open at the store. It isn't now.
+    Ended { was: bool },
+    /// The answer to the drop.
+    Dropped { told: Rel },
+}

@@ -1,0 +1,113 @@
+ghost use Rattle.std.specs.Prelude.{◌≡◌, ◌≤◌, ◌<◌, ◌↔◌, List, [], ◌∷◌, IsTrue};
+
+use crate::replies::{SweepReply, SweepWanted};
+use lease_table::Due;
+
+/// Where a sweeper stands.
+#[derive(Clone, Copy, Debug, PartialEq, Eq)]
+enum Stage {
+    /// It looks for a quarantine that is past its deadline.
+    Scanning,
+    /// It found one, whose session is to be ended.
+    Ending { due: Due },
+    /// The session is ended, and the quarantine is to be dropped.
+    Dropping { due: Due },
+}
+
+/// A sweeper goes round the shards for ever. It looks for a quarantine that is past its deadline, ends
+/// the session that holds it, and then drops the key; where a shard has none, it goes on to the next.
+/// It says what it wants next, and is told what came of it.
+#[derive(Clone, Copy, Debug, PartialEq, Eq)]
+pub struct Sweeper {
+    shards: u32,
+    /// The shard that is being swept.
+    shard: u32,
+    stage: Stage,
+    ghost within: { shard < shards },
+}
+
+impl Sweeper {
+    ghost use Rattle.expiry_sweeper.specs.Sweeps.{sweep_wants, BelongsTo, IsWithin};
+    ghost use Rattle.expiry_sweeper.specs.Follows.{shards_of, wanted_of, Follows};
+    ghost use Rattle.expiry_sweeper.specs.declared.replies.SweepReply.{SweepReply};
+
+    /// A sweeper of so many shards, which begins at shard 0. It takes no memory.
+    pub fn new(shards: u32) -> Sweeper
+        requires { 1 ≤ shards }
+        ensures shards { shards_of result ≡ shards }
+        ensures follows { Follows result [] }
+    {
+        Sweeper {
+            shards,
+            shard: 0,
+            stage: Stage::Scanning,
+        }
+    }
+
+    /// How many shards it sweeps.
+    pub fn shards(&self) -> u32
+        ensures { result ≡ shards_of self.now }
+    {
+        self.shards
+    }
+
+    /// What it wants next: after a quarantine was found, to end its session; then to drop the key; then
+    /// to scan the same shard again. Where none was found, to scan the next shard, and shard 0 after
+    /// the last. It takes no memory.
+    pub fn wants(&self) -> SweepWanted
+        ensures wanted { (told : List SweepReply) → Follows self.now told
+            → result ≡ sweep_wants (shards_of self.now) told }
+        ensures by_stage { result ≡ wanted_of self.now }
+        ensures within { IsWithin (shards_of self.now) result }
+    {
+        match self.stage {
+            Stage::Scanning => SweepWanted::Scan { shard: self.shard },
+            Stage::Ending { due } => SweepWanted::End { sid: due.sid },
+            Stage::Dropping { due } => SweepWanted::Drop {
+                key: due.key,
+                token: due.token,
+            },
+        }
+    }
+
+    /// Whether the reply belongs to what is wanted. It takes no memory.
+    pub fn takes(&self, reply: &SweepReply) -> bool
+        ensures { IsTrue result ↔ BelongsTo (wanted_of self.now) reply.now }
+    {
+        match self.stage {
+            Stage::Scanning => matches!(reply, SweepReply::Found { .. } | SweepReply::NoneFound),
+            Stage::Ending { .. } => matches!(reply, SweepReply::Ended { .. }),
+            Stage::Dropping { .. } => matches!(reply, SweepReply::Dropped { .. }),
+        }
+    }
+
+    /// Takes in the reply to what is wanted. It takes no memory.
+    pub fn told(&mut self, reply: SweepReply)
+        requires { BelongsTo (wanted_of self.old) reply }
+        ensures shards { shards_of self.new ≡ shards_of self.old }
+        ensures follows { (told : List SweepReply) → Follows self.old told
+            → Follows self.new (reply ∷ told) }
+    {
+        match reply {
+            SweepReply::Found { due } => self.stage = Stage::Ending { due },
+            SweepReply::NoneFound => self.go_on(),
+            SweepReply::Ended { was: _ } => {
+                if let Stage::Ending { due } = self.stage {
+                    self.stage = Stage::Dropping { due };
+                }
+            }
+            SweepReply::Dropped { told: _ } => self.stage = Stage::Scanning,
+        }
+    }
+
+    /// Goes on to the next shard, and to shard 0 after the last.
+    fn go_on(&mut self)
+        requires { BelongsTo (wanted_of self.old) SweepReply.NoneFound }
+        ensures shards { shards_of self.new ≡ shards_of self.old }
+        ensures follows { (told : List SweepReply) → Follows self.old told
+            → Follows self.new (SweepReply.NoneFound ∷ told) }
+    {
+        let next = self.shard + 1;
+        self.shard = if next < self.shards { next } else { 0 };
+    }
+}
