@@ -14,3 +14,5 @@ pub mod RowsStayFit
 pub mod Undo
 pub mod Refresh
 pub mod RefreshIsAnswer
+pub mod Delta
+pub mod DeltaIsAnswer

@@ -2,6 +2,7 @@
 #![tactic(auto)]
 
 pub use changes::{Change, Txn};
+pub use deltas::delta_of;
 pub use footprints::{
     footprint, footprints_are_exact, rows_stay_fit, touches, untouched_keeps_its_answer,
 };
@@ -16,6 +17,7 @@ pub use shifts::{numbers_are_decimal, shift};
 pub use values::Value;
 
 pub mod changes;
+pub mod deltas;
 mod edits;
 pub mod footprints;
 pub mod keys;

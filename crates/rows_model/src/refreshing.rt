@@ -32,7 +32,7 @@ pub fn refresh(alloc: Global, key: &QKey, old: &Value, txn: &Txn) -> Result<Opti
 
 // The members with whom a member is linked in one way.
 #[derive(Clone, Copy)]
-enum Circle {
+pub(crate) enum Circle {
     // Its friends.
     Befriended,
     // Those who invited it and wait for an answer.
@@ -41,7 +41,7 @@ enum Circle {
 
 // What a change does to the ids of a circle.
 #[derive(Clone, Copy)]
-enum IdStep {
+pub(crate) enum IdStep {
     Stay,
     Put { id: u32 },
     Take { id: u32 },
@@ -57,7 +57,7 @@ struct Person {
 
 impl Circle {
     // What the change does to this circle of the member.
-    fn step(self, id: u32, change: &Change) -> IdStep
+    pub(crate) fn step(self, id: u32, change: &Change) -> IdStep
         ensures { result ≡ step_in self id change.now }
     {
         match (self, *change) {
