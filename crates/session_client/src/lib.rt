@@ -14,6 +14,8 @@ mod hands;
 mod looks;
 #[cfg(test)]
 mod memory_desk;
+#[cfg(test)]
+mod mode_tests;
 mod notes;
 pub mod plans;
 mod quarantines;
