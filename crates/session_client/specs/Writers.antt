@@ -78,11 +78,18 @@ IsNewBeside releases.Keep txn one value = Unit {0}
 IsNewBeside releases.Drop txn one value = Unit {0}
 IsNewBeside (releases.Finish number) txn one value = value ≡ renewed txn one.permit (old_value one)
 
--- A writer has each grant that it was given, and a value beside each.
+-- A writer has each grant that it was given, a value beside each, and room for as many as it has keys.
 abbrev pub HoldsAll : HandView → Type 0
-HoldsAll hand = (length hand.grants.items ≡ length hand.given) × (length hand.values ≡ length hand.given)
+HoldsAll hand =
+    (length hand.grants.items ≡ length hand.given) × (length hand.values ≡ length hand.given)
+    × (length hand.given ≤ hand.room) × (hand.room ≤ hand.grants.room)
 
--- There is room for the grants of the keys to come, a value lies beside each grant, and a grant is there to be released.
+-- A value lies beside each grant that a writer has, and there is room for these.
+abbrev pub IsPaired : HandView → Type 0
+IsPaired hand =
+    (length hand.values ≡ length hand.grants.items) × (length hand.grants.items ≤ hand.grants.room)
+
+-- There is room for the grants of the keys to come, and a grant is there to be released.
 abbrev pub HasRoom : List QKey → HandView → WriteStage → Type 0
 HasRoom keys hand (stages.Quarantining count txn) =
     (count < length keys) × (length hand.given ≤ count) × HoldsAll hand × (hand.grants.room ≡ length keys)
@@ -90,12 +97,13 @@ HasRoom keys hand (stages.Getting key txn) = HoldsAll hand
 HasRoom keys hand (stages.Staging key txn) = HoldsAll hand
 HasRoom keys hand stages.Asking = HoldsAll hand
 HasRoom keys hand (stages.Ready txn) = HoldsAll hand
-HasRoom keys hand stages.Committing = length hand.values ≡ length hand.given
-HasRoom keys hand (stages.Ending ended) = HoldsAll hand
-HasRoom keys hand (stages.Releasing ended how) =
-    (1 ≤ length hand.grants.items) × (length hand.values ≡ length hand.grants.items)
+HasRoom keys hand stages.Committing =
+    (length hand.values ≡ length hand.given) × (length hand.given ≤ hand.room)
+HasRoom keys hand (stages.Ending ended) = IsPaired hand
+HasRoom keys hand (stages.Releasing ended how) = (1 ≤ length hand.grants.items) × IsPaired hand
 HasRoom keys hand (stages.Returning ended how back) =
-    (length hand.grants.items < hand.grants.room) × (length hand.values ≡ length hand.grants.items)
+    (length hand.values ≡ length hand.grants.items) × (length hand.grants.items < hand.grants.room)
 HasRoom keys hand (stages.Dropping ended how) =
     (1 ≤ length hand.grants.items) × (length hand.values + 1 ≡ length hand.grants.items)
+    × (length hand.grants.items ≤ hand.grants.room)
 HasRoom keys hand (stages.Done ended) = Unit {0}

@@ -105,6 +105,7 @@ impl Hand {
     /// Makes each old value beside a grant to refresh the new one, by the transaction. For want of memory
     /// some are as before.
     pub fn refresh(&mut self, alloc: Global, txn: &Txn) -> Result<(), Memory>
+        requires { length self.old.values ≡ length self.old.given }
         ensures ok { OnOk result (self.new ≡ record {
             room = self.old.room;
             given = self.old.given;
@@ -198,15 +199,13 @@ fn refresh_all(
     notes: &[Note],
     values: &mut [Option<Value>],
 ) -> Result<(), Memory>
+    requires { length values.old ≡ length notes.now }
     ensures ok { OnOk result (values.new ≡ all_renewed txn.now notes.now values.old) }
     ensures as_many { length values.new ≡ length values.old }
     ensures memory { OnErr result (Any (λ (grant : Permit). grant.mode ≡ Mode.Refresh) notes.now) }
 {
-    match (notes, values) {
-        ([note, notes @ ..], [value, values @ ..]) => {
-            refresh_one(alloc, txn, note, value)?;
-            refresh_all(alloc, txn, notes, values)
-        }
-        _ => Ok(()),
+    for i in 0..notes.len() {
+        refresh_one(alloc, txn, &notes[i], &mut values[i])?;
     }
+    Ok(())
 }

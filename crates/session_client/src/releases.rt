@@ -1,13 +1,13 @@
-ghost use Rattle.std.specs.Prelude.{◌≡◌, ◌↔◌, List, [], ◌∷◌, Bool, true, false, IsTrue, Option, Some, IfSome, ℕ, length, slice_get, OnErr, MatchResult};
+ghost use Rattle.std.specs.Prelude.{◌≡◌, ◌↔◌, ◌<◌, ◌≤◌, List, [], ◌∷◌, Bool, true, false, IsTrue, Option, Some, IfSome, ℕ, length, slice_get, OnErr, MatchResult};
 ghost use Rattle.rows_model.specs.declared.changes.Change.{Change};
 ghost use Rattle.rows_model.specs.declared.keys.QKey.{QKey};
 ghost use Rattle.rows_model.specs.declared.keys.Sid.{Sid};
 ghost use Rattle.key_shard.specs.Permit.{Permit};
 ghost use Rattle.session_client.specs.Belongs.{Belongs};
 ghost use Rattle.session_client.specs.Desks.{IsProper};
-ghost use Rattle.session_client.specs.Follows.{CommitAwaits, IsEnding, IsRefreshing, PartsFollow, ReleaseAwaits, WriteIsReady};
+ghost use Rattle.session_client.specs.Follows.{CommitAwaits, IsEnding, IsRefreshing, PartsFollow, ReleaseAwaits, StageAwaits, WriteIsReady};
 ghost use Rattle.session_client.specs.Wants.{Given, Writing, given, granted, released, release_of, finish, write_wants};
-ghost use Rattle.session_client.specs.Writers.{HandView, HasRoom, IsNewBeside, release_as};
+ghost use Rattle.session_client.specs.Writers.{HandView, HasRoom, IsNewBeside, IsPaired, release_as};
 ghost use Rattle.session_client.specs.declared.replies.Reply.{Reply};
 ghost use Rattle.session_client.specs.declared.stages.Release.TheVariants as Release;
 ghost use Rattle.session_client.specs.declared.stages.WriteStage.TheVariants as WriteStage;
@@ -120,8 +120,9 @@ pub fn release(how: Release, grant: Grant, value: Option<Value>) -> (Wanted, Opt
 }
 
 /// Where a writer stands that releases what it has in hand in this way.
+#[tactic(auto, using(crate::proofs::HandLemmas::none_given))]
 fn releasing(hand: &Hand, outcome: Outcome, how: Release) -> WriteStage
-    requires { length hand.now.values ≡ length hand.now.grants.items }
+    requires { IsPaired hand.now }
     ensures ready { WriteIsReady result }
     ensures room { (keys : List QKey) → HasRoom keys hand.now result }
     ensures follows { (writing : Writing) (short : Bool) (heard : List Reply) → write_wants writing short heard ≡ release_of writing.txn (release_as how) (slice_get (given heard) (released heard)) → IsEnding writing hand.now outcome how (released heard) (released heard) short heard → PartsFollow writing hand.now result short heard }
@@ -140,14 +141,15 @@ pub fn stage_after_commit(
     hand: &mut Hand,
     reply: Reply,
 ) -> (WriteStage, Result<(), Memory>)
-    requires room { length hand.old.values ≡ length hand.old.given }
-    requires awaits { (changes : List Change) × (room : ℕ) × CommitAwaits changes (record { items = hand.old.given; room = room }) reply }
+    requires values { length hand.old.values ≡ length hand.old.given }
+    requires room { length hand.old.given ≤ hand.old.room }
+    requires awaits { (changes : List Change) × CommitAwaits changes (record { items = hand.old.given; room = hand.old.room }) reply }
     ensures ready { WriteIsReady result.0 }
     ensures room { (keys : List QKey) → HasRoom keys hand.new result.0 }
     ensures as_long { hand.new.room ≡ hand.old.room }
     ensures given { hand.new.given ≡ hand.old.given }
     ensures granted { (heard : List Reply) → granted (reply ∷ heard) ≡ granted heard }
-    ensures follows { (writing : Writing) (room : ℕ) (short : Bool) (heard : List Reply) → CommitAwaits writing.txn (record { items = hand.old.given; room = room }) reply → hand.old.given ≡ granted heard → PartsFollow writing hand.old WriteStage.Committing short heard → MatchResult result.1 (λ _. PartsFollow writing hand.new result.0 short (reply ∷ heard)) (λ _. PartsFollow writing hand.new result.0 true (reply ∷ heard)) }
+    ensures follows { (writing : Writing) (short : Bool) (heard : List Reply) → CommitAwaits writing.txn (record { items = hand.old.given; room = hand.old.room }) reply → hand.old.given ≡ granted heard → PartsFollow writing hand.old WriteStage.Committing short heard → MatchResult result.1 (λ _. PartsFollow writing hand.new result.0 short (reply ∷ heard)) (λ _. PartsFollow writing hand.new result.0 true (reply ∷ heard)) }
     ensures memory { OnErr result.1 (IsRefreshing reply) }
 {
     match reply {
@@ -201,7 +203,7 @@ pub fn stage_after_commit(
 
 /// Where a writer that was to be ended at the store stands after that: it keeps every value.
 pub fn stage_after_end(hand: &Hand, outcome: Outcome, reply: Reply) -> WriteStage
-    requires room { length hand.now.values ≡ length hand.now.grants.items }
+    requires room { IsPaired hand.now }
     requires awaits { (who : Sid) × (writing : Writing) × (given : List Permit) × StageAwaits who writing given (WriteStage.Ending outcome) reply }
     ensures ready { WriteIsReady result }
     ensures room { (keys : List QKey) → HasRoom keys hand.now result }
@@ -236,7 +238,8 @@ pub fn stage_after_release(
     how: Release,
     reply: Reply,
 ) -> WriteStage
-    requires room { (keys : List QKey) × (back : Option Permit) × HasRoom keys hand.old (WriteStage.Returning outcome how back) }
+    requires values { length hand.old.values ≡ length hand.old.grants.items }
+    requires room { length hand.old.grants.items < hand.old.grants.room }
     requires awaits { (back : Option Permit) × ReleaseAwaits back reply }
     ensures ready { WriteIsReady result }
     ensures room { (keys : List QKey) → HasRoom keys hand.new result }

@@ -213,6 +213,8 @@ impl Writer {
     }
 }
 
+ghost use Rattle.std.specs.Prelude.{◌≢◌};
+ghost use Rattle.session_client.specs.declared.stages.WriteStage.TheVariants as WriteStage;
 ghost use Rattle.session_client.specs.Follows.{PartsFollow, StageAwaits, WriteIsReady, write_is_over};
 ghost use Rattle.session_client.specs.Wants.{Writing, granted};
 ghost use Rattle.session_client.specs.Writers.{HasRoom, then_as};
@@ -228,6 +230,7 @@ fn next_stage(
 ) -> WriteStage
     requires as_long { hand.old.room ≡ length keys.now }
     requires room { HasRoom keys.now hand.old stage }
+    requires apart { stage ≢ WriteStage.Committing }
     requires awaits { (who : Sid) × (writing : Writing) × (writing.keys ≡ keys.now) × StageAwaits who writing hand.old.given stage reply }
     ensures ready { WriteIsReady result }
     ensures as_long { hand.new.room ≡ hand.old.room }
@@ -251,10 +254,13 @@ fn next_stage(
         | WriteStage::Ready { .. }
         | WriteStage::Committing
         | WriteStage::Releasing { .. }
-        | WriteStage::Dropping { .. }
-        | WriteStage::Done { .. }) => {
+        | WriteStage::Dropping { .. }) => {
             reply.let_go();
             other
+        }
+        WriteStage::Done { outcome } => {
+            reply.let_go();
+            WriteStage::Done { outcome }
         }
     }
 }
