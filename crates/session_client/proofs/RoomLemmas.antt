@@ -9,7 +9,7 @@ use Rattle.rows_model.specs.declared.changes.Change.{Change}
 use Rattle.rows_model.specs.declared.changes.Change.TheVariants.{Invite, Accept, Reject, Thaw, Rename}
 use Rattle.rows_model.specs.Key.{same_key}
 use Rattle.rows_model.specs.Changes.{foot_of, footprint, has_key, is_key_before, with_key, IsTxn}
-use Rattle.session_client.specs.Wants.{without_key}
+use Rattle.session_client.specs.Plans.{without_key}
 
 foot_few : (change : Change) → length (foot_of change) ≤ 8
 foot_few (Invite a b) = omega arith

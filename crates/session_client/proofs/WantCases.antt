@@ -1,5 +1,5 @@
 -- What a session wants, by cases of what it was told, and which keys it quarantines.
-use Rattle.std.proofs.Common.{append-nil, ℕ, ◌≡◌, ◌+◌, ◌<◌, Bool, true, false, not, nat_lt, List, [], ◌∷◌, ◌++◌, length, append_assoc, count_by, Option, Some, None, slice_get, get_or, AllPairs, refl, sym, ap, subst, ◌∙◌, inl, inr, ◌⊎◌, arith}
+use Rattle.std.proofs.Common.{append-nil, ℕ, zero, suc, ◌≡◌, ◌+◌, ◌<◌, Bool, true, false, not, nat_lt, List, [], ◌∷◌, ◌++◌, length, append_assoc, count_by, map, Option, Some, None, slice_get, get_or, AllPairs, refl, sym, ap, subst, ◌∙◌, inl, inr, ◌⊎◌, arith}
 use Rattle.std.proofs.lemmas.Bool.{cases_order, cond_both}
 use Rattle.std.proofs.lemmas.Bool.Decides.{nat_tests}
 use Rattle.std.proofs.lemmas.Option.{slice_get_within, get_or_from_slice_get}
@@ -9,76 +9,265 @@ use Rattle.rows_model.specs.declared.changes.Change.{Change}
 use Rattle.rows_model.specs.Key.{same_key}
 use Rattle.rows_model.proofs.FootprintLemmas.{footprints_are_exact_is}
 use Rattle.rows_model.specs.Changes.{footprint, is_key_before}
+use Rattle.lease_table.specs.declared.records.Mode.{Mode}
+use Rattle.lease_table.specs.declared.records.Mode.TheVariants as mode
 use Rattle.key_shard.specs.Permit.{Permit}
+use Rattle.key_shard.specs.declared.replies.Got.{Got}
 use Rattle.key_shard.specs.declared.replies.Got.TheVariants as got
 use Rattle.key_shard.specs.declared.replies.QAnswer.TheVariants as quarantine
 use Rattle.sql_keeper.specs.declared.stores.Answer.{Answer}
+use Rattle.session_client.specs.declared.plans.Plan.{Plan}
+use Rattle.session_client.specs.declared.plans.Plan.TheVariants.{Read, Write, Look, Quit, Skip}
+use Rattle.session_client.specs.declared.replies.Fault.{Fault}
 use Rattle.session_client.specs.declared.replies.Reply.{Reply}
 use Rattle.session_client.specs.declared.replies.Reply.TheVariants as reply
 use Rattle.session_client.specs.declared.replies.Wanted.{Wanted}
 use Rattle.session_client.specs.declared.replies.Wanted.TheVariants as wanted
-use Rattle.session_client.specs.Wants.{granted, grants_in, is_had, released, was_committed, write_wants, quarantine_next, quarantine_or_commit, release_next, release_of, read_wants, set_after, agains, without_key}
+use Rattle.session_client.specs.Plans.{keys_of, mode_on, without_key}
+use Rattle.session_client.specs.Wants.{Given, given, given_in, granted, grants_in, is_had, released, was_committed, number_of, Then, Commits, Looks, Quits, Writing, quarantine_as, commit_with, then_wants, quarantine_or_then, quarantine_next, has_all, look_after, after_fault, Release, Keeps, Drops, Finishes, release_after, release_by, new_value, finish, release_of, release_next, write_wants, read_wants, set_after, agains}
 
 -- the grants of what was heard later follow those of what was heard before
 pub grants-append : (new heard : List Reply) → granted (new ++ heard) ≡ granted heard ++ granted new
 grants-append [] heard = sym (append-nil (granted heard))
 grants-append (told ∷ new) heard = ap (λ l. l ++ grants_in told) (grants-append new heard) ∙ append_assoc (granted heard) (granted new) (grants_in told)
 
--- the session was told that it is committed or ended, or that a grant of its is released
+-- what was given later follows what was given before
+pub given-append : (new heard : List Reply) → given (new ++ heard) ≡ given heard ++ given new
+given-append [] heard = sym (append-nil (given heard))
+given-append (told ∷ new) heard = ap (λ l. l ++ given_in told) (given-append new heard) ∙ append_assoc (given heard) (given new) (given_in told)
+
+-- the grants of what was given
+abbrev pub permits : List Given → List Permit
+permits ones = map (λ (one : Given). one.permit) ones
+
+permits-append : (ones more : List Given) → permits (ones ++ more) ≡ permits ones ++ permits more
+permits-append [] more = refl
+permits-append (one ∷ ones) more = ap (λ (l : List Permit). one.permit ∷ l) (permits-append ones more)
+
+permits-in : (told : Reply) → grants_in told ≡ permits (given_in told)
+permits-in (reply.Quar (quarantine.Granted grant old)) = refl
+permits-in other = refl
+
+-- the grants that a session was given are those of what it was given
+pub granted-given : (heard : List Reply) → granted heard ≡ permits (given heard)
+granted-given [] = refl
+granted-given (told ∷ heard) =
+    ap (λ l. l ++ grants_in told) (granted-given heard) ∙ ap (λ l. permits (given heard) ++ l) (permits-in told)
+    ∙ sym (permits-append (given heard) (given_in told))
+
+some_same : {X : Type 0} {a b : X} → Some a ≡ Some b → a ≡ b
+some_same e = cc
+
+permit-at : (ones : List Given) (i : ℕ) (one : Given) → slice_get ones i ≡ Some one → slice_get (permits ones) i ≡ Some one.permit
+permit-at [] i one e = cc
+permit-at (first ∷ ones) zero one e = ap (λ (o : Given). Some o.permit) (some_same e)
+permit-at (first ∷ ones) (suc i) one e = permit-at ones i one e
+
+-- what was given at a place has the grant that was granted there
+pub given-granted : (heard : List Reply) (i : ℕ) (one : Given) → slice_get (given heard) i ≡ Some one → slice_get (granted heard) i ≡ Some one.permit
+given-granted heard i one e = ap (λ l. slice_get l i) (granted-given heard) ∙ permit-at (given heard) i one e
+
+-- a session has no number of a commit exactly where it was told of none
+record IsNumbered (b : Bool) (n : Option ℕ) : Type 0 where
+  to : b ≡ false → n ≡ None
+  from : n ≡ None → b ≡ false
+
+committed_told : (heard : List Reply) → IsNumbered (was_committed heard) (number_of heard)
+committed_told [] = record { to = λ _. refl; from = λ _. refl }
+committed_told (reply.Committed number txn grants ∷ heard) = record { to = λ e. cc; from = λ e. cc }
+committed_told (reply.Got found ∷ heard) = committed_told heard
+committed_told (reply.Answer answer ∷ heard) = committed_told heard
+committed_told (reply.Set told ∷ heard) = committed_told heard
+committed_told (reply.Quar told ∷ heard) = committed_told heard
+committed_told (reply.Staged value txn ∷ heard) = committed_told heard
+committed_told (reply.NotStaged fault txn ∷ heard) = committed_told heard
+committed_told (reply.NotCommitted fault txn grants ∷ heard) = committed_told heard
+committed_told (reply.End was ∷ heard) = committed_told heard
+committed_told (reply.Rel told ∷ heard) = committed_told heard
+committed_told (reply.SarBack grant ∷ heard) = committed_told heard
+committed_told (reply.Fault fault ∷ heard) = committed_told heard
+committed_told (reply.Nothing ∷ heard) = committed_told heard
+
+pub uncommitted-none : (heard : List Reply) → was_committed heard ≡ false → number_of heard ≡ None
+uncommitted-none heard = (committed_told heard).to
+
+pub none-uncommitted : (heard : List Reply) → number_of heard ≡ None → was_committed heard ≡ false
+none-uncommitted heard = (committed_told heard).from
+
+-- a session that has the number of a commit was told of it
+pub numbered-committed : (heard : List Reply) (number : ℕ) → number_of heard ≡ Some number → was_committed heard ≡ true
+numbered-committed heard number e = by (was_committed heard) refl
+  where
+    by : (b : Bool) → was_committed heard ≡ b → b ≡ true
+    by true was = refl
+    by false was = let none = uncommitted-none heard was in cc
+
+-- the session was told that it is committed or ended, that a grant of its is released, or that one came back
 abbrev pub is_ending : List Reply → Bool
 is_ending [] = false
 is_ending (reply.Committed number txn grants ∷ heard) = true
 is_ending (reply.End was ∷ heard) = true
 is_ending (reply.Rel told ∷ heard) = true
+is_ending (reply.SarBack grant ∷ heard) = true
 is_ending (other ∷ heard) = false
+
+-- the session was told nothing yet, or that a quarantine stands
+abbrev pub is_asking : List Reply → Bool
+is_asking [] = true
+is_asking (told ∷ heard) = is_had told
+
+-- a session that is asking has not begun to end
+pub asking-goes : (heard : List Reply) → is_asking heard ≡ true → is_ending heard ≡ false
+asking-goes [] e = refl
+asking-goes (reply.Quar told ∷ heard) e = refl
+asking-goes (reply.Got found ∷ heard) e = refl
+asking-goes (reply.Answer answer ∷ heard) e = refl
+asking-goes (reply.Set told ∷ heard) e = refl
+asking-goes (reply.Staged value txn ∷ heard) e = refl
+asking-goes (reply.NotStaged fault txn ∷ heard) e = refl
+asking-goes (reply.NotCommitted fault txn grants ∷ heard) e = refl
+asking-goes (reply.Fault fault ∷ heard) e = refl
+asking-goes (reply.Nothing ∷ heard) e = refl
+asking-goes (other ∷ heard) e = cc
 
 -- each key stands once among these
 abbrev pub AreOnce : List QKey → Type 0
 AreOnce keys = (i j : ℕ) (key : QKey) → slice_get keys i ≡ Some key → slice_get keys j ≡ Some key → i ≡ j
 
--- what a writer wants
-next_cases : (P : Wanted → Type 0) (keys : List QKey) (txn : List Change) (heard : List Reply)
-    → ((key : QKey) → slice_get keys (count_by is_had heard) ≡ Some key → P (wanted.QaReg key)) → P (wanted.Commit txn (record { items = granted heard; room = length keys }))
-    → P (quarantine_next keys txn heard)
-next_cases P keys txn heard ask commit = by (slice_get keys (count_by is_had heard)) refl
+-- what a writer wants that quarantines its keys
+next_cases : (P : Wanted → Type 0) (writing : Writing) (heard : List Reply)
+    → ((key : QKey) → slice_get writing.keys (count_by is_had heard) ≡ Some key → P (quarantine_as (mode_on writing.mode key) key writing.txn))
+    → P (commit_with writing heard)
+    → ((key : QKey) → writing.next ≡ Looks key → slice_get writing.keys (count_by is_had heard) ≡ None → P (wanted.Get key 0))
+    → P wanted.End → P (quarantine_next writing heard)
+next_cases P writing heard ask commit get end = by (slice_get writing.keys (count_by is_had heard)) refl
   where
-    by : (o : Option QKey) → slice_get keys (count_by is_had heard) ≡ o → P (quarantine_or_commit keys txn (granted heard) o)
+    after : slice_get writing.keys (count_by is_had heard) ≡ None → (next : Then) → writing.next ≡ next → P (then_wants next writing heard)
+    after none Commits e = commit
+    after none (Looks key) e = get key e none
+    after none Quits e = end
+
+    by : (o : Option QKey) → slice_get writing.keys (count_by is_had heard) ≡ o → P (quarantine_or_then writing heard o)
     by (Some key) e = ask key e
-    by None e = commit
+    by None e = after e writing.next refl
 
-release_cases : (P : Wanted → Type 0) (heard : List Reply)
-    → ((grant : Permit) → slice_get (granted heard) (released heard) ≡ Some grant → was_committed heard ≡ true → P (wanted.Dar grant))
-    → ((grant : Permit) → slice_get (granted heard) (released heard) ≡ Some grant → was_committed heard ≡ false → P (wanted.Abort grant)) → P wanted.Nothing
-    → P (release_next heard)
-release_cases P heard dar abort nothing = by (was_committed heard) refl (slice_get (granted heard) (released heard)) refl
+-- what a writer wants that releases its grants
+release_cases : (P : Wanted → Type 0) (writing : Writing) (short : Bool) (heard : List Reply)
+    → ((one : Given) → slice_get (given heard) (released heard) ≡ Some one → number_of heard ≡ None → P (wanted.Abort one.permit))
+    → ((one : Given) → slice_get (given heard) (released heard) ≡ Some one → P (wanted.Dar one.permit))
+    → ((one : Given) (number : ℕ) → slice_get (given heard) (released heard) ≡ Some one → number_of heard ≡ Some number → one.permit.mode ≡ mode.Refresh
+        → P (wanted.Sar one.permit (new_value one.permit.key writing.txn one.old) number))
+    → ((one : Given) (number : ℕ) → slice_get (given heard) (released heard) ≡ Some one → number_of heard ≡ Some number → one.permit.mode ≡ mode.Delta → P (wanted.Apply one.permit number))
+    → P wanted.Nothing → P (release_next writing short heard)
+release_cases P writing short heard abort dar sar apply nothing = by heard refl
   where
-    by : (b : Bool) → was_committed heard ≡ b → (o : Option Permit) → slice_get (granted heard) (released heard) ≡ o → P (release_of b o)
-    by true e (Some grant) at = dar grant at e
-    by false e (Some grant) at = abort grant at e
-    by true e None at = nothing
-    by false e None at = nothing
+    Result : Release → Type 0
+    Result how = P (release_of writing.txn how (slice_get (given heard) (released heard)))
 
-pub write_cases : (P : Wanted → Type 0) (keys : List QKey) (txn : List Change) (heard : List Reply)
-    → ((key : QKey) → slice_get keys (count_by is_had heard) ≡ Some key → P (wanted.QaReg key)) → P (wanted.Commit txn (record { items = granted heard; room = length keys }))
-    → P wanted.End → ((grant : Permit) → slice_get (granted heard) (released heard) ≡ Some grant → is_ending heard ≡ true → was_committed heard ≡ true → P (wanted.Dar grant))
-    → ((grant : Permit) → slice_get (granted heard) (released heard) ≡ Some grant → is_ending heard ≡ true → was_committed heard ≡ false → P (wanted.Abort grant))
-    → P wanted.Nothing → P (write_wants keys txn heard)
-write_cases P keys txn [] ask commit end dar abort nothing = next_cases P keys txn [] ask commit
-write_cases P keys txn (reply.Quar (quarantine.Granted grant old) ∷ heard) ask commit end dar abort nothing = next_cases P keys txn (reply.Quar (quarantine.Granted grant old) ∷ heard) ask commit
-write_cases P keys txn (reply.Quar quarantine.Held ∷ heard) ask commit end dar abort nothing = next_cases P keys txn (reply.Quar quarantine.Held ∷ heard) ask commit
-write_cases P keys txn (reply.Quar (quarantine.Refused holder mode) ∷ heard) ask commit end dar abort nothing = end
-write_cases P keys txn (reply.Fault fault ∷ heard) ask commit end dar abort nothing = end
-write_cases P keys txn (reply.NotCommitted fault changes grants ∷ heard) ask commit end dar abort nothing = end
-write_cases P keys txn (reply.Committed number changes grants ∷ heard) ask commit end dar abort nothing =
-    release_cases P (reply.Committed number changes grants ∷ heard) (λ grant at e. dar grant at refl e) (λ grant at e. abort grant at refl e) nothing
-write_cases P keys txn (reply.End was ∷ heard) ask commit end dar abort nothing =
-    release_cases P (reply.End was ∷ heard) (λ grant at e. dar grant at refl e) (λ grant at e. abort grant at refl e) nothing
-write_cases P keys txn (reply.Rel told ∷ heard) ask commit end dar abort nothing =
-    release_cases P (reply.Rel told ∷ heard) (λ grant at e. dar grant at refl e) (λ grant at e. abort grant at refl e) nothing
-write_cases P keys txn (reply.Got got ∷ heard) ask commit end dar abort nothing = nothing
-write_cases P keys txn (reply.Answer answer ∷ heard) ask commit end dar abort nothing = nothing
-write_cases P keys txn (reply.Set told ∷ heard) ask commit end dar abort nothing = nothing
-write_cases P keys txn (reply.Nothing ∷ heard) ask commit end dar abort nothing = nothing
+    finished : (one : Given) (number : ℕ) → slice_get (given heard) (released heard) ≡ Some one → number_of heard ≡ Some number → (m : Mode) → one.permit.mode ≡ m → P (finish m writing.txn number one)
+    finished one number at told mode.Invalidate e = dar one at
+    finished one number at told mode.Refresh e = sar one number at told e
+    finished one number at told mode.Delta e = apply one number at told e
+
+    keeps : number_of heard ≡ None → (o : Option Given) → slice_get (given heard) (released heard) ≡ o → P (release_of writing.txn Keeps o)
+    keeps none (Some one) at = abort one at none
+    keeps none None at = nothing
+
+    drops : (o : Option Given) → slice_get (given heard) (released heard) ≡ o → P (release_of writing.txn Drops o)
+    drops (Some one) at = dar one at
+    drops None at = nothing
+
+    finishes : (number : ℕ) → number_of heard ≡ Some number → (o : Option Given) → slice_get (given heard) (released heard) ≡ o → P (release_of writing.txn (Finishes number) o)
+    finishes number told (Some one) at = finished one number at told one.permit.mode refl
+    finishes number told None at = nothing
+
+    after : (b : Bool) (n : Option ℕ) → number_of heard ≡ n → Result (release_after b n)
+    after b None e = keeps e (slice_get (given heard) (released heard)) refl
+    after true (Some number) e = drops (slice_get (given heard) (released heard)) refl
+    after false (Some number) e = finishes number e (slice_get (given heard) (released heard)) refl
+
+    kept : (l : List Reply) → release_by short l ≡ release_after short (number_of l) → heard ≡ l → Result (release_by short l)
+    kept l plain e = subst Result (sym plain) (after short (number_of l) (ap number_of e))
+
+    by : (l : List Reply) → heard ≡ l → Result (release_by short l)
+    by [] e = kept [] refl e
+    by (reply.SarBack grant ∷ rest) e = drops (slice_get (given heard) (released heard)) refl
+    by (reply.Got found ∷ rest) e = kept (reply.Got found ∷ rest) refl e
+    by (reply.Answer answer ∷ rest) e = kept (reply.Answer answer ∷ rest) refl e
+    by (reply.Set told ∷ rest) e = kept (reply.Set told ∷ rest) refl e
+    by (reply.Quar told ∷ rest) e = kept (reply.Quar told ∷ rest) refl e
+    by (reply.Staged value txn ∷ rest) e = kept (reply.Staged value txn ∷ rest) refl e
+    by (reply.NotStaged fault txn ∷ rest) e = kept (reply.NotStaged fault txn ∷ rest) refl e
+    by (reply.Committed number txn grants ∷ rest) e = kept (reply.Committed number txn grants ∷ rest) refl e
+    by (reply.NotCommitted fault txn grants ∷ rest) e = kept (reply.NotCommitted fault txn grants ∷ rest) refl e
+    by (reply.End was ∷ rest) e = kept (reply.End was ∷ rest) refl e
+    by (reply.Rel told ∷ rest) e = kept (reply.Rel told ∷ rest) refl e
+    by (reply.Fault fault ∷ rest) e = kept (reply.Fault fault ∷ rest) refl e
+    by (reply.Nothing ∷ rest) e = kept (reply.Nothing ∷ rest) refl e
+
+-- what a writer wants: a quarantine, a commit, its own key, the store's answer after its transaction, to be ended, one of four releases of the next grant, or nothing
+pub write_cases : (P : Wanted → Type 0) (writing : Writing) (short : Bool) (heard : List Reply)
+    → ((key : QKey) → slice_get writing.keys (count_by is_had heard) ≡ Some key → is_asking heard ≡ true → P (quarantine_as (mode_on writing.mode key) key writing.txn))
+    → (is_ending heard ≡ false → P (commit_with writing heard))
+    → ((key : QKey) → writing.next ≡ Looks key → is_asking heard ≡ true → slice_get writing.keys (count_by is_had heard) ≡ None → P (wanted.Get key 0))
+    → ((key : QKey) → writing.next ≡ Looks key → is_ending heard ≡ false → P (wanted.Staged key writing.txn))
+    → (is_ending heard ≡ false → P wanted.End)
+    → ((one : Given) → slice_get (given heard) (released heard) ≡ Some one → is_ending heard ≡ true → number_of heard ≡ None → P (wanted.Abort one.permit))
+    → ((one : Given) → slice_get (given heard) (released heard) ≡ Some one → is_ending heard ≡ true → P (wanted.Dar one.permit))
+    → ((one : Given) (number : ℕ) → slice_get (given heard) (released heard) ≡ Some one → is_ending heard ≡ true → number_of heard ≡ Some number → one.permit.mode ≡ mode.Refresh
+        → P (wanted.Sar one.permit (new_value one.permit.key writing.txn one.old) number))
+    → ((one : Given) (number : ℕ) → slice_get (given heard) (released heard) ≡ Some one → is_ending heard ≡ true → number_of heard ≡ Some number → one.permit.mode ≡ mode.Delta
+        → P (wanted.Apply one.permit number))
+    → P wanted.Nothing → P (write_wants writing short heard)
+write_cases P writing short heard ask commit get staged end abort dar sar apply nothing = by heard refl
+  where
+    due : (told : Reply) (rest : List Reply) → heard ≡ told ∷ rest → is_ending (told ∷ rest) ≡ true → P (release_next writing short (told ∷ rest))
+    due told rest e ending =
+      let ends : is_ending heard ≡ true = ap is_ending e ∙ ending in
+      subst (λ l. P (release_next writing short l)) e
+      (release_cases P writing short heard (λ one at none. abort one at ends none) (λ one at. dar one at ends) (λ one number at told fits. sar one number at ends told fits)
+      (λ one number at told fits. apply one number at ends told fits) nothing)
+
+    next : is_asking heard ≡ true → is_ending heard ≡ false → P (quarantine_next writing heard)
+    next asks going = next_cases P writing heard (λ key at. ask key at asks) (commit going) (λ key looks none. get key looks asks none) (end going)
+
+    more : (l : List Reply) → heard ≡ l → is_asking l ≡ true → is_ending l ≡ false → P (quarantine_next writing l)
+    more l e asks going = subst (λ l. P (quarantine_next writing l)) e (next (ap is_asking e ∙ asks) (ap is_ending e ∙ going))
+
+    committing : (told : Reply) (rest : List Reply) → heard ≡ told ∷ rest → is_ending (told ∷ rest) ≡ false → granted (told ∷ rest) ≡ granted rest → P (commit_with writing rest)
+    committing told rest e going same =
+      let all : granted heard ≡ granted rest = ap granted e ∙ same in
+      subst (λ items. P (wanted.Commit writing.txn (record { items = items; room = length writing.keys }))) all (commit (ap is_ending e ∙ going))
+
+    looked : (found : Got) (rest : List Reply) → heard ≡ reply.Got found ∷ rest → (next : Then) → writing.next ≡ next → P (look_after next writing found rest)
+    looked got.Own rest e (Looks key) looks = staged key looks (ap is_ending e)
+    looked (got.Hit value stamp) rest e (Looks key) looks = committing (reply.Got (got.Hit value stamp)) rest e refl (append-nil (granted rest))
+    looked (got.Lease token) rest e (Looks key) looks = committing (reply.Got (got.Lease token)) rest e refl (append-nil (granted rest))
+    looked (got.Again stands) rest e (Looks key) looks = committing (reply.Got (got.Again stands)) rest e refl (append-nil (granted rest))
+    looked found rest e Commits looks = committing (reply.Got found) rest e refl (append-nil (granted rest))
+    looked found rest e Quits looks = committing (reply.Got found) rest e refl (append-nil (granted rest))
+
+    faulty : (fault : Fault) (rest : List Reply) → heard ≡ reply.Fault fault ∷ rest → (b : Bool) → P (after_fault b writing rest)
+    faulty fault rest e true = committing (reply.Fault fault) rest e refl (append-nil (granted rest))
+    faulty fault rest e false = end (ap is_ending e)
+
+    by : (l : List Reply) → heard ≡ l → P (write_wants writing short l)
+    by [] e = more [] e refl refl
+    by (reply.Quar (quarantine.Granted grant old) ∷ rest) e = more (reply.Quar (quarantine.Granted grant old) ∷ rest) e refl refl
+    by (reply.Quar quarantine.Held ∷ rest) e = more (reply.Quar quarantine.Held ∷ rest) e refl refl
+    by (reply.Quar (quarantine.Refused holder held) ∷ rest) e = end (ap is_ending e)
+    by (reply.Fault fault ∷ rest) e = faulty fault rest e (has_all writing rest)
+    by (reply.Got found ∷ rest) e = looked found rest e writing.next refl
+    by (reply.Staged value txn ∷ rest) e = committing (reply.Staged value txn) rest e refl (append-nil (granted rest))
+    by (reply.NotStaged fault txn ∷ rest) e = committing (reply.NotStaged fault txn) rest e refl (append-nil (granted rest))
+    by (reply.NotCommitted fault txn grants ∷ rest) e = end (ap is_ending e)
+    by (reply.Committed number txn grants ∷ rest) e = due (reply.Committed number txn grants) rest e refl
+    by (reply.End was ∷ rest) e = due (reply.End was) rest e refl
+    by (reply.Rel told ∷ rest) e = due (reply.Rel told) rest e refl
+    by (reply.SarBack grant ∷ rest) e = due (reply.SarBack grant) rest e refl
+    by (reply.Answer answer ∷ rest) e = nothing
+    by (reply.Set told ∷ rest) e = nothing
+    by (reply.Nothing ∷ rest) e = nothing
 
 -- what a reader wants: what it sets is an answer that followed a lease
 set_cases : (P : Wanted → Type 0) (key : QKey) (answer : Answer) (heard : List Reply)
@@ -100,9 +289,6 @@ read_cases P key floor (reply.Answer answer ∷ heard) get ask set nothing =
 read_cases P key floor (other ∷ heard) get ask set nothing = nothing
 
 -- keys that ascend stand once each
-some_same : {X : Type 0} {a b : X} → Some a ≡ Some b → a ≡ b
-some_same e = cc
-
 never_before : (key : QKey) → is_key_before key key ≡ true → ⊥
 never_before key h = grind (arith, nat_tests)
 
@@ -126,3 +312,11 @@ footprint-once txn = ascend_once (footprint txn) (footprints_are_exact_is txn).a
 pub skipped-once : (key : QKey) (txn : List Change) → AreOnce (without_key key (footprint txn))
 skipped-once key txn =
     ascend_once (without_key key (footprint txn)) (AllPairs-filter (λ k later. is_key_before later k ≡ true) (λ other. not (same_key key other)) (footprint txn) (footprints_are_exact_is txn).ascends)
+
+-- each key of a plan stands once among those that it quarantines
+pub plan-once : (plan : Plan) → AreOnce (keys_of plan)
+plan-once (Read key floor) = λ i j other at_i at_j. cc
+plan-once (Write mode txn) = footprint-once txn
+plan-once (Look mode key txn) = footprint-once txn
+plan-once (Quit mode txn) = footprint-once txn
+plan-once (Skip key txn) = skipped-once key txn

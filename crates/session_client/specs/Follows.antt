@@ -1,19 +1,22 @@
 -- How a session's stage follows from what it was told. A session keeps no list of that.
-use Rattle.std.specs.Prelude.{ℕ, ◌≡◌, ◌+◌, Bool, true, false, not, ◌||◌, IsTrue, List, length, drop, count_by, Option, Some, None, slice_get}
+use Rattle.std.specs.Prelude.{ℕ, ◌≡◌, ◌+◌, Bool, true, false, not, ◌||◌, IsTrue, List, map, length, drop, count_by, Option, Some, None, slice_get}
+use Rattle.std.specs.List.{Any}
 use Rattle.rows_model.specs.declared.keys.QKey.{QKey}
 use Rattle.rows_model.specs.declared.keys.Sid.{Sid}
 use Rattle.rows_model.specs.declared.changes.Change.{Change}
+use Rattle.lease_table.specs.declared.records.Mode.{Mode}
+use Rattle.lease_table.specs.declared.records.Mode.TheVariants.{Refresh}
 use Rattle.key_shard.specs.Permit.{Permit}
 use Rattle.sql_keeper.specs.declared.stores.Answer.{Answer}
 use Rattle.session_client.specs.Grants.{GrantsView}
-use Rattle.session_client.specs.Plans.{changes_of}
+use Rattle.session_client.specs.Plans.{changes_of, mode_on}
 use Rattle.session_client.specs.Belongs.{IsShardFault, IsStoreFault, IsQuarantineOf, AreBack}
-use Rattle.session_client.specs.Wants.{agains, set_after, read_wants, is_had, granted, released, was_committed, quarantine_next, release_of, write_wants, wants, read_outcome, write_outcome, outcome_of}
-use Rattle.session_client.specs.Outcomes.{is_committed}
-use Rattle.session_client.specs.Writers.{WriterView}
+use Rattle.session_client.specs.Wants.{agains, set_after, read_wants, is_had, given, granted, released, number_of, Writing, Given, Looks, Drops, commit_with, quarantine_next, has_all, release_after, release_of, write_wants, wants, read_outcome, write_outcome, writing_outcome, outcome_of}
+use Rattle.session_client.specs.Writers.{HandView, WriterView, writing_as, release_as, old_value, new_values}
 use Rattle.session_client.specs.declared.plans.Plan.{Plan}
 use Rattle.session_client.specs.declared.plans.Plan.TheVariants.{Read}
 use Rattle.session_client.specs.declared.replies.Fault.TheVariants as faults
+use Rattle.session_client.specs.declared.replies.Outcome.{Outcome}
 use Rattle.session_client.specs.declared.replies.Reply.{Reply}
 use Rattle.session_client.specs.declared.replies.Reply.TheVariants as reply
 use Rattle.session_client.specs.declared.replies.Wanted.{Wanted}
@@ -21,8 +24,10 @@ use Rattle.session_client.specs.declared.replies.Wanted.TheVariants as wanted
 use Rattle.session_client.specs.declared.readers.Reader.{Reader}
 use Rattle.session_client.specs.declared.readers.ReadStage.{ReadStage}
 use Rattle.session_client.specs.declared.readers.ReadStage.TheVariants as reads
-use Rattle.session_client.specs.declared.writers.WriteStage.{WriteStage}
-use Rattle.session_client.specs.declared.writers.WriteStage.TheVariants as writes
+use Rattle.session_client.specs.declared.stages.Release.{Release}
+use Rattle.session_client.specs.declared.stages.Release.TheVariants as releases
+use Rattle.session_client.specs.declared.stages.WriteStage.{WriteStage}
+use Rattle.session_client.specs.declared.stages.WriteStage.TheVariants as writes
 use Rattle.session_client.specs.declared.sessions.Course.{Course}
 use Rattle.session_client.specs.declared.sessions.Course.TheVariants as course
 use Rattle.session_client.specs.declared.sessions.Session.{Session}
@@ -64,40 +69,91 @@ ReadAwaits key reads.Storing (reply.Fault fault) = fault ≡ faults.Memory
 ReadAwaits key (reads.Done ended) reply.Nothing = Unit {0}
 ReadAwaits key stage told = ⊥
 
--- A writer of this transaction and these keys that stands here, with these grants in hand, may have heard this, the latest first.
-abbrev pub PartsFollow : List Change → List QKey → GrantsView → WriteStage → List Reply → Type 0
-PartsFollow changes keys grants (writes.Quarantining count txn) heard =
-    (write_wants keys changes heard ≡ quarantine_next keys changes heard) × (txn ≡ changes) × (count_by is_had heard ≡ count)
-    × (grants.items ≡ granted heard) × (grants.room ≡ length keys) × (released heard ≡ 0) × (was_committed heard ≡ false)
-PartsFollow changes keys grants writes.Committing heard = (released heard ≡ 0) × (was_committed heard ≡ false)
-PartsFollow changes keys grants (writes.Ending ended) heard =
-    (write_wants keys changes heard ≡ wanted.End) × (grants.items ≡ granted heard) × (released heard ≡ 0)
-    × (was_committed heard ≡ is_committed ended) × (write_outcome heard ≡ Some ended)
-PartsFollow changes keys grants (writes.Releasing ended) heard =
-    (write_wants keys changes heard ≡ release_of (is_committed ended) (slice_get grants.items 0)) × (grants.items ≡ drop (released heard) (granted heard))
-    × (was_committed heard ≡ is_committed ended) × (write_outcome heard ≡ Some ended)
-PartsFollow changes keys grants (writes.Returning ended) heard =
-    (grants.items ≡ drop (released heard + 1) (granted heard))
-    × (was_committed heard ≡ is_committed ended) × (write_outcome heard ≡ Some ended)
-PartsFollow changes keys grants (writes.Done ended) heard =
-    (write_wants keys changes heard ≡ wanted.Nothing) × (write_outcome heard ≡ Some ended)
+-- Nothing is decided yet: the writer has each grant that it was given, the old value beside each, and no outcome.
+abbrev pub IsOpen : Writing → HandView → Bool → List Reply → Type 0
+IsOpen writing hand short heard =
+    (hand.grants.items ≡ granted heard) × (hand.grants.room ≡ length writing.keys) × (hand.values ≡ map old_value (given heard))
+    × (released heard ≡ 0) × (number_of heard ≡ None) × (write_outcome writing short heard ≡ None) × (short ≡ false)
+
+-- The grants are out to be committed.
+abbrev pub IsOut : HandView → Bool → List Reply → Type 0
+IsOut hand short heard =
+    (hand.values ≡ map old_value (given heard)) × (released heard ≡ 0) × (number_of heard ≡ None) × (short ≡ false)
+
+-- The new values lie beside the grants that are to be finished; beside others anything may.
+abbrev pub HasNew : Release → List Change → List Given → List (Option (List ℕ)) → Type 0
+HasNew releases.Keep txn ones values = Unit {0}
+HasNew releases.Drop txn ones values = Unit {0}
+HasNew (releases.Finish number) txn ones values = values ≡ new_values txn ones
+
+-- The writer has ended so, has released all but these many of its last grants, and goes on releasing in this way.
+abbrev pub IsEnding : Writing → HandView → Outcome → Release → ℕ → ℕ → Bool → List Reply → Type 0
+IsEnding writing hand ended how gone used short heard =
+    (hand.grants.items ≡ drop gone (granted heard)) × HasNew how writing.txn (drop used (given heard)) hand.values
+    × (release_as how ≡ release_after short (number_of heard)) × (writing_outcome writing short heard ≡ Some ended)
+
+-- A grant that may come back is the next to be released.
+abbrev pub IsNext : Option Permit → List Reply → Type 0
+IsNext None heard = Unit {0}
+IsNext (Some grant) heard = slice_get (granted heard) (released heard) ≡ Some grant
+
+-- A writer that stands here, with this in its hands, may have heard this, the latest first. The flag says that memory ran out when it was told of its commit.
+abbrev pub PartsFollow : Writing → HandView → WriteStage → Bool → List Reply → Type 0
+PartsFollow writing hand (writes.Quarantining count txn) short heard =
+    (write_wants writing short heard ≡ quarantine_next writing heard) × (count_by is_had heard ≡ count)
+    × (txn ≡ writing.txn) × IsOpen writing hand short heard
+PartsFollow writing hand (writes.Getting key txn) short heard =
+    (write_wants writing short heard ≡ wanted.Get key 0) × (writing.next ≡ Looks key) × (has_all writing heard ≡ true)
+    × (txn ≡ writing.txn) × IsOpen writing hand short heard
+PartsFollow writing hand (writes.Staging key txn) short heard =
+    (write_wants writing short heard ≡ wanted.Staged key writing.txn) × (txn ≡ writing.txn) × IsOpen writing hand short heard
+PartsFollow writing hand writes.Asking short heard = IsOpen writing hand short heard
+PartsFollow writing hand (writes.Ready txn) short heard =
+    (write_wants writing short heard ≡ commit_with writing heard) × (txn ≡ writing.txn) × IsOpen writing hand short heard
+PartsFollow writing hand writes.Committing short heard = IsOut hand short heard
+PartsFollow writing hand (writes.Ending ended) short heard =
+    (write_wants writing short heard ≡ wanted.End) × (hand.grants.items ≡ granted heard) × (released heard ≡ 0)
+    × (number_of heard ≡ None) × (short ≡ false) × (writing_outcome writing short heard ≡ Some ended)
+PartsFollow writing hand (writes.Releasing ended how) short heard =
+    (write_wants writing short heard ≡ release_of writing.txn (release_as how) (slice_get (given heard) (released heard)))
+    × IsEnding writing hand ended how (released heard) (released heard) short heard
+PartsFollow writing hand (writes.Returning ended how back) short heard =
+    IsNext back heard × IsEnding writing hand ended how (released heard + 1) (released heard + 1) short heard
+PartsFollow writing hand (writes.Dropping ended how) short heard =
+    (write_wants writing short heard ≡ release_of writing.txn Drops (slice_get (given heard) (released heard)))
+    × IsEnding writing hand ended how (released heard) (released heard + 1) short heard
+PartsFollow writing hand (writes.Done ended) short heard =
+    (write_wants writing short heard ≡ wanted.Nothing) × (writing_outcome writing short heard ≡ Some ended)
 
 -- The writer was given the grants of which it was told.
-abbrev pub WriteFollows : List Change → WriterView → List Reply → Type 0
-WriteFollows changes writer heard =
-    (writer.given ≡ granted heard) × PartsFollow changes writer.keys writer.grants writer.stage heard
+abbrev pub WriteFollows : List Change → WriterView → Bool → List Reply → Type 0
+WriteFollows changes writer short heard =
+    (writer.hand.given ≡ granted heard) × PartsFollow (writing_as writer changes) writer.hand writer.stage short heard
 
--- No grant is out.
+-- Neither the transaction nor a grant is out.
 abbrev pub WriteIsReady : WriteStage → Type 0
+WriteIsReady writes.Asking = ⊥
 WriteIsReady writes.Committing = ⊥
-WriteIsReady (writes.Returning ended) = ⊥
+WriteIsReady (writes.Returning ended how back) = ⊥
 WriteIsReady stage = Unit {0}
 
--- The answers to the quarantine of a key that is wanted, if one is.
-abbrev pub QuarantineAwaits : Sid → Option QKey → Reply → Type 0
-QuarantineAwaits who (Some key) (reply.Quar told) = IsQuarantineOf who key told
-QuarantineAwaits who (Some key) (reply.Fault fault) = IsShardFault fault
-QuarantineAwaits who key told = ⊥
+-- The answers to the quarantine of a key that is wanted, if one is, by a writer in this mode.
+abbrev pub QuarantineAwaits : Sid → Mode → Option QKey → Reply → Type 0
+QuarantineAwaits who mode (Some key) (reply.Quar told) = IsQuarantineOf who key (mode_on mode key) told
+QuarantineAwaits who mode (Some key) (reply.Fault fault) = IsShardFault fault
+QuarantineAwaits who mode key told = ⊥
+
+-- The answers to the get of a key.
+abbrev pub GetAwaits : Reply → Type 0
+GetAwaits (reply.Got found) = Unit {0}
+GetAwaits (reply.Fault fault) = IsShardFault fault
+GetAwaits told = ⊥
+
+-- The replies to the question what the store would answer after this transaction.
+abbrev pub StagedAwaits : List Change → Reply → Type 0
+StagedAwaits changes (reply.Staged value txn) = txn ≡ changes
+StagedAwaits changes (reply.NotStaged fault txn) = txn ≡ changes
+StagedAwaits changes told = ⊥
 
 -- The answers to a commit of this transaction with these grants.
 abbrev pub CommitAwaits : List Change → GrantsView → Reply → Type 0
@@ -105,27 +161,35 @@ CommitAwaits changes lent (reply.Committed number txn grants) = (txn ≡ changes
 CommitAwaits changes lent (reply.NotCommitted fault txn grants) = (txn ≡ changes) × AreBack lent grants
 CommitAwaits changes lent told = ⊥
 
+-- The answers to a release of a grant, which may come back where it is named.
+abbrev pub ReleaseAwaits : Option Permit → Reply → Type 0
+ReleaseAwaits back (reply.Rel told) = Unit {0}
+ReleaseAwaits back (reply.SarBack grant) = back ≡ Some grant
+ReleaseAwaits back told = ⊥
+
 -- The replies to the request that a writer of this transaction has out.
-abbrev pub StageAwaits : Sid → List Change → List QKey → List Permit → WriteStage → Reply → Type 0
-StageAwaits who changes keys given (writes.Quarantining count txn) told =
-    QuarantineAwaits who (slice_get keys count) told
-StageAwaits who changes keys given writes.Committing told =
-    CommitAwaits changes (record { items = given; room = length keys }) told
-StageAwaits who changes keys given (writes.Ending ended) (reply.End was) = Unit {0}
-StageAwaits who changes keys given (writes.Returning ended) (reply.Rel told) = Unit {0}
-StageAwaits who changes keys given (writes.Done ended) reply.Nothing = Unit {0}
-StageAwaits who changes keys given stage told = ⊥
+abbrev pub StageAwaits : Sid → Writing → List Permit → WriteStage → Reply → Type 0
+StageAwaits who writing given (writes.Quarantining count txn) told =
+    QuarantineAwaits who writing.mode (slice_get writing.keys count) told
+StageAwaits who writing given (writes.Getting key txn) told = GetAwaits told
+StageAwaits who writing given writes.Asking told = StagedAwaits writing.txn told
+StageAwaits who writing given writes.Committing told =
+    CommitAwaits writing.txn (record { items = given; room = length writing.keys }) told
+StageAwaits who writing given (writes.Ending ended) (reply.End was) = Unit {0}
+StageAwaits who writing given (writes.Returning ended how back) told = ReleaseAwaits back told
+StageAwaits who writing given (writes.Done ended) reply.Nothing = Unit {0}
+StageAwaits who writing given stage told = ⊥
 
 abbrev pub WriteAwaits : Sid → List Change → WriterView → Reply → Type 0
-WriteAwaits who changes writer told = StageAwaits who changes writer.keys writer.given writer.stage told
+WriteAwaits who changes writer told = StageAwaits who (writing_as writer changes) writer.hand.given writer.stage told
 
 -- A session of this plan goes its course: a reader has the plan's key and floor, and a writer's wants are those of the plan.
-abbrev pub Goes : Plan → Course → List Reply → Type 0
-Goes plan (course.Read reader) heard = (plan ≡ Read reader.key reader.floor) × ReadFollows reader heard
-Goes plan (course.Write writer) heard =
-    ((told : List Reply) → wants plan told ≡ write_wants writer.keys (changes_of plan) told)
-    × ((told : List Reply) → outcome_of plan told ≡ write_outcome told)
-    × WriteFollows (changes_of plan) writer heard
+abbrev pub Goes : Plan → Course → Bool → List Reply → Type 0
+Goes plan (course.Read reader) short heard = (plan ≡ Read reader.key reader.floor) × ReadFollows reader heard
+Goes plan (course.Write writer) short heard =
+    ((short : Bool) (told : List Reply) → wants plan short told ≡ write_wants (writing_as writer (changes_of plan)) short told)
+    × ((short : Bool) (told : List Reply) → outcome_of plan short told ≡ writing_outcome (writing_as writer (changes_of plan)) short told)
+    × WriteFollows (changes_of plan) writer short heard
 
 -- Nothing is out that a course handed over.
 abbrev pub CourseIsReady : Course → Type 0
@@ -164,9 +228,14 @@ sid_of session = session.sid
 abbrev pub IsReady : Session → Type 0
 IsReady session = IsTrue (not session.out || is_over session.course) × CourseIsReady session.course
 
--- The session may have heard this, the latest first.
-abbrev pub Follows : Session → List Reply → Type 0
-Follows session heard = Goes session.plan session.course heard
+-- The session may have heard this, the latest first. The flag says that memory ran out when it was told of its commit.
+abbrev pub Follows : Session → Bool → List Reply → Type 0
+Follows session short heard = Goes session.plan session.course short heard
+
+-- The reply tells of a commit and brings a grant to refresh.
+abbrev pub IsRefreshing : Reply → Type 0
+IsRefreshing (reply.Committed number txn grants) = Any (λ (grant : Permit). grant.mode ≡ Refresh) grants.items
+IsRefreshing told = ⊥
 
 -- The reply belongs to the request of the session that is out.
 abbrev pub IsAwaited : Session → Reply → Type 0

@@ -92,6 +92,17 @@ impl Grants {
         self.items.remove(place)
     }
 
+    /// Puts a grant first. It takes no memory.
+    pub(crate) fn put_back(&mut self, grant: Grant)
+        requires { length self.old.items < self.old.room }
+        ensures items { self.new.items ≡ grant ∷ self.old.items }
+        ensures room { self.new.room ≡ self.old.room }
+    {
+        if let Err(failed) = self.items.insert(0, grant) {
+            failed.value.let_go();
+        }
+    }
+
     /// Lets go of all the grants. Their quarantines are not ended by that, and stand until others end
     /// them. It takes no memory.
     pub fn let_go(self) {

@@ -10,13 +10,20 @@ pub use sessions::Session;
 mod changes;
 pub mod desks;
 pub mod grant_lists;
+mod hands;
+mod looks;
 #[cfg(test)]
 mod memory_desk;
+#[cfg(test)]
+mod mode_tests;
 mod notes;
 pub mod plans;
+mod quarantines;
 mod readers;
+mod releases;
 pub mod replies;
 pub mod sessions;
+mod stages;
 #[cfg(test)]
 mod tests;
 mod writers;

@@ -1,17 +1,18 @@
 // A desk over a store and shards in memory, and sessions that are driven over it.
-ghost use Rattle.std.specs.Prelude.{◌≡◌, ℕ, ◌≤◌, ◌<◌, List, Some, length, IfOk, Contains};
-ghost use Rattle.key_shard.specs.Answers.{FitsMode};
+ghost use Rattle.std.specs.Prelude.{◌≡◌, ℕ, ℤ, ◌≤◌, ◌<◌, Bool, List, Some, None, length, IfOk, Contains};
+ghost use Rattle.lease_table.specs.declared.records.Mode.TheVariants as Mode;
+ghost use Rattle.key_shard.specs.Answers.{FitsMode, FitsShift};
 ghost use Rattle.session_client.specs.Belongs.{Belongs};
-ghost use Rattle.session_client.specs.Desks.{sids_to};
+ghost use Rattle.session_client.specs.Desks.{IsProper, sids_to};
 ghost use Rattle.session_client.specs.Follows.{Follows, IsReady, sid_of};
 ghost use Rattle.session_client.specs.Plans.{IsPlan};
 ghost use Rattle.session_client.specs.declared.replies.Reply.{Reply};
 ghost use Rattle.session_client.specs.declared.replies.Wanted.TheVariants as wanted;
 
 use crate::{Desk, Fault, Grants, Outcome, Plan, Reply, Session, Wanted};
-use key_shard::{Got, Grant, How, Shard, ShardFault};
+use key_shard::{Back, Got, Grant, How, Shard, ShardFault};
 use lease_table::Mode;
-use rows_model::{Change, Kind, Memory, QKey, Sid, Txn, Value, shard_number};
+use rows_model::{Change, Kind, Memory, QKey, Sid, Txn, Value, shard_number, touches};
 use sql_keeper::{CommitFault, KeepFault, MapKeeper, Place, Store};
 use std::alloc::Global;
 use std::marker::Model;
@@ -68,10 +69,21 @@ impl Desk for MemoryDesk {
                 value,
                 stamp,
             } => set(&mut self.shards, key, token, value, stamp),
-            Wanted::QaReg { key } => quarantine(&mut self.shards, sid, key),
+            Wanted::Staged { key, txn } => staged(&mut self.store, key, txn),
+            Wanted::QaReg { key } => quarantine(&mut self.shards, sid, key, Mode::Invalidate, 0),
+            Wanted::QaRead { key } => quarantine(&mut self.shards, sid, key, Mode::Refresh, 0),
+            Wanted::Delta { key, by } => quarantine(&mut self.shards, sid, key, Mode::Delta, by),
             Wanted::Commit { txn, grants } => commit(&mut self.store, sid, txn, grants),
             Wanted::End => end(&mut self.store, sid),
             Wanted::Dar { grant } => release(&mut self.shards, grant, How::Drop),
+            Wanted::Sar {
+                grant,
+                value,
+                stamp,
+            } => replace(&mut self.shards, grant, value, stamp),
+            Wanted::Apply { grant, stamp } => {
+                release(&mut self.shards, grant, How::Shift { stamp })
+            }
             Wanted::Abort { grant } => release(&mut self.shards, grant, How::Keep),
             Wanted::Nothing => Reply::Nothing,
         }
@@ -93,7 +105,9 @@ fn home_of(shards: &Vec<Shard>, key: &QKey) -> usize
 /// shard, which is never a stranger to it.
 fn fault_of(fault: ShardFault) -> Reply
     ensures get { (who : Sid) (key : QKey) (floor : ℕ) → Belongs who (wanted.Get key floor) result }
-    ensures quarantine { (who : Sid) (key : QKey) → Belongs who (wanted.QaReg key) result }
+    ensures invalidate { (who : Sid) (key : QKey) → Belongs who (wanted.QaReg key) result }
+    ensures refresh { (who : Sid) (key : QKey) → Belongs who (wanted.QaRead key) result }
+    ensures delta { (who : Sid) (key : QKey) (by : ℤ) → Belongs who (wanted.Delta key by) result }
 {
     let fault = match fault {
         ShardFault::Stranger { shard: _ } | ShardFault::Spent { next: _ } => Fault::Spent,
@@ -132,14 +146,17 @@ fn set(shards: &mut Vec<Shard>, key: QKey, token: u64, value: Value, stamp: u64)
     }
 }
 
-fn quarantine(shards: &mut Vec<Shard>, who: Sid, key: QKey) -> Reply
+fn quarantine(shards: &mut Vec<Shard>, who: Sid, key: QKey, mode: Mode, by: i32) -> Reply
     requires some { 1 ≤ length shards.old.items }
     requires few { length shards.old.items ≤ 64 }
+    requires fits { FitsShift mode by }
     ensures as_many { length shards.new.items ≡ length shards.old.items }
-    ensures belongs { Belongs who (wanted.QaReg key) result }
+    ensures invalidate { mode ≡ Mode.Invalidate → Belongs who (wanted.QaReg key) result }
+    ensures refresh { mode ≡ Mode.Refresh → Belongs who (wanted.QaRead key) result }
+    ensures delta { mode ≡ Mode.Delta → Belongs who (wanted.Delta key by) result }
 {
     let place = home_of(shards, &key);
-    match shards[place].quarantine(key, who, Mode::Invalidate, 0, 0) {
+    match shards[place].quarantine(key, who, mode, by, 0) {
         Ok(told) => Reply::Quar { told },
         Err(fault) => fault_of(fault),
     }
@@ -152,10 +169,29 @@ fn release(shards: &mut Vec<Shard>, grant: Grant, how: How) -> Reply
     ensures as_many { length shards.new.items ≡ length shards.old.items }
     ensures drop { (who : Sid) → Belongs who (wanted.Dar grant) result }
     ensures keep { (who : Sid) → Belongs who (wanted.Abort grant) result }
+    ensures shift { (who : Sid) (stamp : ℕ) → Belongs who (wanted.Apply grant stamp) result }
+    ensures put { (who : Sid) (stamp : ℕ) → Belongs who (wanted.Sar grant None stamp) result }
 {
     let place = home_of(shards, &grant.key());
     Reply::Rel {
         told: shards[place].release(grant, how),
+    }
+}
+
+fn replace(shards: &mut Vec<Shard>, grant: Grant, value: Option<Value>, stamp: u64) -> Reply
+    requires some { 1 ≤ length shards.old.items }
+    requires few { length shards.old.items ≤ 64 }
+    requires proper { IsProper (wanted.Sar grant value stamp) }
+    ensures as_many { length shards.new.items ≡ length shards.old.items }
+    ensures belongs { (who : Sid) → Belongs who (wanted.Sar grant value stamp) result }
+{
+    let Some(value) = value else {
+        return release(shards, grant, How::Drop);
+    };
+    let place = home_of(shards, &grant.key());
+    match shards[place].replace(grant, value, stamp) {
+        Ok(told) => Reply::Rel { told },
+        Err(Back { grant, value: _ }) => Reply::SarBack { grant },
     }
 }
 
@@ -170,6 +206,17 @@ fn ask(store: &mut Store<MapKeeper>, key: QKey) -> Reply
         Err(KeepFault::Memory) => Reply::Fault {
             fault: Fault::Memory,
         },
+    }
+}
+
+#[tactic(auto, using(crate::proofs::DeskLemmas::as_many_called))]
+fn staged(store: &mut Store<MapKeeper>, key: QKey, txn: Txn) -> Reply
+    ensures as_many { length store.new.ledger.sessions ≡ length store.old.ledger.sessions }
+    ensures belongs { (who : Sid) → Belongs who (wanted.Staged key txn) result }
+{
+    match store.ask_staged(&txn, &key) {
+        Ok(value) => Reply::Staged { value, txn },
+        Err(fault) => Reply::NotStaged { fault, txn },
     }
 }
 
@@ -204,44 +251,55 @@ fn end(store: &mut Store<MapKeeper>, who: Sid) -> Reply
 }
 
 /// The session makes its next request at the desk, and takes the reply as it comes.
-fn step<D: Desk>(desk: &mut D, session: &mut Session)
+fn step<D: Desk>(desk: &mut D, session: &mut Session) -> Result<(), Memory>
     requires ready { IsReady session.old }
-    requires follows { (heard : List Reply) × Follows session.old heard }
+    requires follows { (short : Bool) × (heard : List Reply) × Follows session.old short heard }
     ensures ready { IsReady session.new }
-    ensures follows { (heard : List Reply) × Follows session.new heard }
+    ensures follows { (short : Bool) × (heard : List Reply) × Follows session.new short heard }
     ensures begun { D.begun desk.new ≡ D.begun desk.old }
 {
     let sid = session.sid();
     let wanted = session.wants();
     let reply = desk.call(sid, wanted);
-    session.told(reply);
+    let told = session.told(reply);
     desk.tend();
+    told
 }
 
-/// The session makes four requests.
-fn four_steps<D: Desk>(desk: &mut D, session: &mut Session)
+/// The session makes five requests.
+fn five_steps<D: Desk>(desk: &mut D, session: &mut Session) -> Result<(), Memory>
     requires ready { IsReady session.old }
-    requires follows { (heard : List Reply) × Follows session.old heard }
+    requires follows { (short : Bool) × (heard : List Reply) × Follows session.old short heard }
     ensures ready { IsReady session.new }
-    ensures follows { (heard : List Reply) × Follows session.new heard }
+    ensures follows { (short : Bool) × (heard : List Reply) × Follows session.new short heard }
     ensures begun { D.begun desk.new ≡ D.begun desk.old }
 {
-    step(desk, session);
-    step(desk, session);
-    step(desk, session);
-    step(desk, session);
+    step(desk, session)?;
+    step(desk, session)?;
+    step(desk, session)?;
+    step(desk, session)?;
+    step(desk, session)
 }
 
-/// A session of this plan begins and makes eight requests, Nothing among them once it is done.
+/// The session makes ten requests, Nothing among them once it is done.
+fn ten_steps<D: Desk>(desk: &mut D, session: &mut Session) -> Result<(), Memory>
+    requires ready { IsReady session.old }
+    requires follows { (short : Bool) × (heard : List Reply) × Follows session.old short heard }
+{
+    five_steps(desk, session)?;
+    five_steps(desk, session)
+}
+
+/// A session of this plan begins and makes ten requests.
 fn drive<D: Desk>(alloc: Global, desk: &mut D, plan: Plan) -> Result<(Sid, Option<Outcome>), Memory>
     requires { IsPlan plan }
 {
     let sid = desk.begin(!plan.changes().is_empty())?;
     let mut session = Session::new(alloc, sid, plan)?;
-    four_steps(desk, &mut session);
-    four_steps(desk, &mut session);
+    let told = ten_steps(desk, &mut session);
     let outcome = session.done();
     session.let_go();
+    told?;
     Ok((sid, outcome))
 }
 
@@ -312,5 +370,72 @@ fn reads_and_writes_to_their_ends(rt: HostRuntime) -> Result<(), Fail> {
             panic!(rt; "no hit")
         }
     }
+    Ok(())
+}
+
+/// A session of this number ended so, and the number of pending invitations of 2 has this text and
+/// stamp then.
+fn check_count(
+    rt: &impl Abort,
+    alloc: Global,
+    desk: &mut MemoryDesk,
+    plan: Plan,
+    number: u64,
+    outcome: Outcome,
+    count: (&str, u64),
+) -> Result<(), Fail>
+    requires { IsPlan plan }
+{
+    check(rt, alloc, desk, plan, number, outcome)?;
+    let key = QKey {
+        kind: Kind::NPending,
+        id: 2,
+    };
+    match desk.call(Sid { number: 99 }, Wanted::Get { key, floor: 0 }) {
+        Reply::Got {
+            got: Got::Hit { value, stamp },
+        } => {
+            assert_eq!(rt; value.bytes(), count.0.as_bytes());
+            assert_eq!(rt; stamp, count.1);
+        }
+        other => {
+            other.let_go();
+            panic!(rt; "no hit")
+        }
+    }
+    Ok(())
+}
+
+#[test]
+fn keeps_a_count_in_every_mode(rt: HostRuntime) -> Result<(), Fail> {
+    let alloc = rt.alloc();
+    let mut desk = MemoryDesk::new(&rt, alloc)?;
+    let key = QKey {
+        kind: Kind::NPending,
+        id: 2,
+    };
+    let read = Plan::Read { key, floor: 0 };
+    check_count(&rt, alloc, &mut desk, read, 1, Outcome::Stored, ("0", 0))?;
+    let mode = Mode::Refresh;
+    let txn = Txn::of(alloc, &[Change::Invite { a: 1, b: 2 }])?;
+    let first = Outcome::Committed { number: 1 };
+    check_count(&rt, alloc, &mut desk, Plan::Write { mode, txn }, 2, first, ("1", 1))?;
+    let mode = Mode::Delta;
+    let txn = Txn::of(alloc, &[Change::Invite { a: 3, b: 2 }])?;
+    let second = Outcome::Committed { number: 2 };
+    check_count(&rt, alloc, &mut desk, Plan::Write { mode, txn }, 3, second, ("2", 2))?;
+    let txn = Txn::of(alloc, &[Change::Reject { a: 1, b: 2 }])?;
+    let quit = Plan::Quit { mode, txn };
+    check_count(&rt, alloc, &mut desk, quit, 4, Outcome::Quit, ("2", 2))?;
+    let txn = Txn::of(alloc, &[Change::Reject { a: 1, b: 2 }])?;
+    assert!(rt; touches(&txn, &key));
+    let third = Outcome::Committed { number: 3 };
+    check_count(&rt, alloc, &mut desk, Plan::Look { mode, key, txn }, 5, third, ("1", 3))?;
+    let mode = Mode::Refresh;
+    let txn = Txn::of(alloc, &[Change::Invite { a: 3, b: 2 }])?;
+    assert!(rt; touches(&txn, &key));
+    let fault = CommitFault::Rejected { index: 0 };
+    let none = Outcome::NotCommitted { fault };
+    check_count(&rt, alloc, &mut desk, Plan::Look { mode, key, txn }, 6, none, ("1", 3))?;
     Ok(())
 }

@@ -39,8 +39,22 @@ impl Note {
         }
     }
 
+    /// The key of the grant.
+    pub fn key(&self) -> QKey
+        ensures { result ≡ self.now.key }
+    {
+        self.key
+    }
+
+    /// The mode of the grant.
+    pub fn mode(&self) -> Mode
+        ensures { result ≡ self.now.mode }
+    {
+        self.mode
+    }
+
     /// Whether the grant says this.
-    fn is_of(&self, grant: &Grant) -> bool
+    pub fn is_of(&self, grant: &Grant) -> bool
         ensures { IsTrue result ↔ (grant.now ≡ self.now) }
     {
         self.shard == grant.shard()

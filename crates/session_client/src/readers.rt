@@ -108,10 +108,13 @@ impl Reader {
             },
             Reply::Nothing => matches!(self.stage, ReadStage::Done { .. }),
             Reply::Quar { .. }
+            | Reply::Staged { .. }
+            | Reply::NotStaged { .. }
             | Reply::Committed { .. }
             | Reply::NotCommitted { .. }
             | Reply::End { .. }
-            | Reply::Rel { .. } => false,
+            | Reply::Rel { .. }
+            | Reply::SarBack { .. } => false,
         }
     }
 
@@ -174,10 +177,13 @@ fn next_stage(key: QKey, stage: ReadStage, reply: Reply) -> ReadStage
             outcome: Outcome::Failed { fault },
         },
         other @ (Reply::Quar { .. }
+        | Reply::Staged { .. }
+        | Reply::NotStaged { .. }
         | Reply::Committed { .. }
         | Reply::NotCommitted { .. }
         | Reply::End { .. }
         | Reply::Rel { .. }
+        | Reply::SarBack { .. }
         | Reply::Nothing) => {
             other.let_go();
             stage

@@ -1,14 +1,16 @@
 ghost use Rattle.std.specs.Prelude.{◌≡◌, ◌↔◌, ℕ, Bool, true, false, List, [], ◌∷◌, IsTrue, IfOk, OnErr, MatchResult, None};
 ghost use Rattle.rows_model.specs.Changes.{footprint};
 ghost use Rattle.session_client.specs.Desks.{IsProper};
-ghost use Rattle.session_client.specs.Plans.{IsPlan, changes_of, keys_of, without_key};
+ghost use Rattle.session_client.specs.Plans.{IsPlan, changes_of, without_key, writes};
 ghost use Rattle.session_client.specs.Wants.{wants, done_by};
 
 use crate::plans::Plan;
 use crate::readers::Reader;
 use crate::replies::{Outcome, Reply, Wanted};
+use crate::stages::Next;
 use crate::writers::Writer;
-use rows_model::{Memory, QKey, Sid, footprint};
+use lease_table::Mode;
+use rows_model::{Memory, QKey, Sid, Txn, footprint};
 use std::alloc::Global;
 
 /// What a session does: it reads a key, or it writes.
@@ -127,7 +129,10 @@ impl Session {
     {
         self.out = false;
         match &mut self.course {
-            Course::Read(reader) => reader.told(reply),
+            Course::Read(reader) => {
+                reader.told(reply);
+                Ok(())
+            }
             Course::Write(writer) => writer.told(reply),
         }
     }
@@ -160,7 +165,11 @@ impl Session {
     }
 }
 
+ghost use Rattle.std.specs.Prelude.{◌<◌, ◌^◌, length};
 ghost use Rattle.session_client.specs.Follows.{Goes, CourseIsReady, is_over};
+ghost use Rattle.session_client.specs.Wants.{writing_of};
+ghost use Rattle.session_client.specs.Writers.{then_as};
+ghost use Rattle.session_client.specs.declared.plans.Plan.{Plan};
 
 /// The keys without one of them.
 fn without_key(alloc: Global, key: &QKey, keys: &[QKey]) -> Result<Vec<QKey>, Memory>
@@ -174,23 +183,44 @@ fn without_key(alloc: Global, key: &QKey, keys: &[QKey]) -> Result<Vec<QKey>, Me
     )
 }
 
+/// The course of a session that writes in this mode, quarantines these keys, and then does this.
+fn writing(
+    alloc: Global,
+    mode: Mode,
+    keys: Vec<QKey>,
+    next: Next,
+    txn: &Txn,
+) -> Result<Course, Memory>
+    requires { length keys.items < 2 ^ 32 }
+    ensures ready { IfOk result CourseIsReady }
+    ensures goes { IfOk result (λ course. (plan : Plan) → changes_of plan ≡ txn.now → writing_of plan ≡ record { mode = mode; keys = keys.items; txn = txn.now; next = then_as next } → writes plan ≡ true → Goes plan course false []) }
+{
+    Ok(Course::Write(Writer::new(alloc, mode, keys, next, txn.copy()?)?))
+}
+
 /// The course of a plan.
 #[tactic(auto, using(crate::proofs::RoomLemmas::footprint_few, crate::proofs::RoomLemmas::without_few))]
 fn course_of(alloc: Global, plan: &Plan) -> Result<Course, Memory>
     requires { IsPlan plan.now }
     ensures ready { IfOk result CourseIsReady }
-    ensures goes { IfOk result (λ course. Goes plan.now course []) }
+    ensures goes { IfOk result (λ course. Goes plan.now course false []) }
 {
     match plan {
         Plan::Read { key, floor } => Ok(Course::Read(Reader::new(*key, *floor))),
-        Plan::Write { mode: _, txn } => {
-            let keys = footprint(alloc, txn)?;
-            Ok(Course::Write(Writer::new(alloc, keys, txn.copy()?)?))
+        Plan::Write { mode, txn } => {
+            writing(alloc, *mode, footprint(alloc, txn)?, Next::Commit, txn)
+        }
+        Plan::Look { mode, key, txn } => {
+            let next = Next::Look { key: *key };
+            writing(alloc, *mode, footprint(alloc, txn)?, next, txn)
+        }
+        Plan::Quit { mode, txn } => {
+            writing(alloc, *mode, footprint(alloc, txn)?, Next::Quit, txn)
         }
         Plan::Skip { key, txn } => {
             let keys = footprint(alloc, txn)?;
             let keys = without_key(alloc, key, keys.as_slice())?;
-            Ok(Course::Write(Writer::new(alloc, keys, txn.copy()?)?))
+            writing(alloc, Mode::Invalidate, keys, Next::Commit, txn)
         }
     }
 }

@@ -1,8 +1,10 @@
-ghost use Rattle.std.specs.Prelude.{IfOk};
+ghost use Rattle.std.specs.Prelude.{◌≡◌, true, IfOk};
+ghost use Rattle.rows_model.specs.Changes.{touches};
+ghost use Rattle.key_shard.specs.Answers.{FitsShift};
 ghost use Rattle.session_client.specs.Follows.{IsReady};
 
 use super::*;
-use key_shard::{Got, QAnswer, Rel, SetAnswer, Shard, Stands};
+use key_shard::{Got, How, QAnswer, Rel, SetAnswer, Shard};
 use lease_table::Mode;
 use rows_model::{Change, Kind, Name, QKey, Sid, Txn, Value, touches};
 use sql_keeper::{Answer, CommitFault};
@@ -10,26 +12,26 @@ use std::alloc::Global;
 use std::process::Abort;
 use std::test::Fail;
 
-const WHO: Sid = Sid { number: 5 };
+pub const WHO: Sid = Sid { number: 5 };
 
-const OTHER: Sid = Sid { number: 9 };
+pub const OTHER: Sid = Sid { number: 9 };
 
-const PROFILE: QKey = QKey {
+pub const PROFILE: QKey = QKey {
     kind: Kind::Profile,
     id: 2,
 };
 
-const PENDING: QKey = QKey {
+pub const PENDING: QKey = QKey {
     kind: Kind::Pending,
     id: 2,
 };
 
-const N_PENDING: QKey = QKey {
+pub const N_PENDING: QKey = QKey {
     kind: Kind::NPending,
     id: 2,
 };
 
-fn new_shard(alloc: Global) -> Result<Shard, Fail> {
+pub fn new_shard(alloc: Global) -> Result<Shard, Fail> {
     Ok(Shard::new(alloc, 0, 1, 8, 100, 1)?)
 }
 
@@ -47,28 +49,28 @@ fn reader(alloc: Global) -> Result<Session, Fail>
     )?)
 }
 
-/// A session that is to commit an invitation of 2 by 1, which touches the profile, the list of pending
-/// invitations and their number of 2.
-fn writer(alloc: Global) -> Result<Session, Fail>
+/// An invitation of 2 by 1, which touches the profile, the list of pending invitations and their number
+/// of 2.
+pub fn invitation(alloc: Global) -> Result<Txn, Fail>
+    ensures { IfOk result (λ txn. touches txn PENDING ≡ true) }
+{
+    Ok(Txn::of(alloc, &[Change::Invite { a: 1, b: 2 }])?)
+}
+
+/// A session that is to commit the invitation in this mode.
+pub fn writer(alloc: Global, mode: Mode) -> Result<Session, Fail>
     ensures { IfOk result (λ session. IsReady session) }
 {
-    let txn = Txn::of(alloc, &[Change::Invite { a: 1, b: 2 }])?;
-    Ok(Session::new(
-        alloc,
-        WHO,
-        Plan::Write {
-            mode: Mode::Invalidate,
-            txn,
-        },
-    )?)
+    let txn = invitation(alloc)?;
+    Ok(Session::new(alloc, WHO, Plan::Write { mode, txn })?)
 }
 
 /// Tells the session a reply that belongs to its request.
-fn tell(rt: &impl Abort, session: &mut Session, reply: Reply)
+pub fn tell(rt: &impl Abort, session: &mut Session, reply: Reply)
     ensures { IsReady session.new }
 {
     if session.takes(&reply) {
-        session.told(reply);
+        assert_eq!(rt; session.told(reply), Ok(()));
     } else {
         reply.let_go();
         panic!(rt; "no reply to that");
@@ -76,14 +78,14 @@ fn tell(rt: &impl Abort, session: &mut Session, reply: Reply)
 }
 
 /// Whether the session takes a reply, which is let go.
-fn takes(session: &Session, reply: Reply) -> bool {
+pub fn takes(session: &Session, reply: Reply) -> bool {
     let taken = session.takes(&reply);
     reply.let_go();
     taken
 }
 
 /// The session asks the shard for its key.
-fn get(rt: &impl Abort, session: &mut Session, shard: &mut Shard)
+pub fn get(rt: &impl Abort, session: &mut Session, shard: &mut Shard)
     requires { IsReady session.old }
     ensures { IsReady session.new }
 {
@@ -127,19 +129,14 @@ fn ask(rt: &impl Abort, session: &mut Session, answer: Answer)
     }
 }
 
-/// The session quarantines this key.
-fn quarantine(rt: &impl Abort, session: &mut Session, shard: &mut Shard, want: QKey)
-    requires { IsReady session.old }
-    ensures { IsReady session.new }
+/// The key, the mode and the shift of the quarantine that is wanted.
+fn quarantine_of(rt: &impl Abort, wanted: Wanted) -> (QKey, Mode, i32)
+    ensures { FitsShift result.1 result.2 }
 {
-    match session.wants() {
-        Wanted::QaReg { key } => {
-            assert_eq!(rt; key, want);
-            match shard.quarantine(key, WHO, Mode::Invalidate, 0, 0) {
-                Ok(told) => tell(rt, session, Reply::Quar { told }),
-                Err(fault) => panic!(rt; "{fault:?}"),
-            }
-        }
+    match wanted {
+        Wanted::QaReg { key } => (key, Mode::Invalidate, 0),
+        Wanted::QaRead { key } => (key, Mode::Refresh, 0),
+        Wanted::Delta { key, by } => (key, Mode::Delta, by),
         other => {
             other.let_go();
             panic!(rt; "no quarantine")
@@ -147,8 +144,36 @@ fn quarantine(rt: &impl Abort, session: &mut Session, shard: &mut Shard, want: Q
     }
 }
 
+/// The session quarantines this key in this mode, with this shift.
+pub fn quarantine(
+    rt: &impl Abort,
+    session: &mut Session,
+    shard: &mut Shard,
+    want: (QKey, Mode, i32),
+)
+    requires { IsReady session.old }
+    ensures { IsReady session.new }
+{
+    let (key, mode, by) = quarantine_of(rt, session.wants());
+    assert_eq!(rt; (key, mode, by), want);
+    match shard.quarantine(key, WHO, mode, by, 0) {
+        Ok(told) => tell(rt, session, Reply::Quar { told }),
+        Err(fault) => panic!(rt; "{fault:?}"),
+    }
+}
+
+/// The session quarantines the three keys of the invitation, each in this mode.
+pub fn quarantine_all(rt: &impl Abort, session: &mut Session, shard: &mut Shard, mode: Mode)
+    requires { IsReady session.old }
+    ensures { IsReady session.new }
+{
+    quarantine(rt, session, shard, (PROFILE, mode, 0));
+    quarantine(rt, session, shard, (PENDING, mode, 0));
+    quarantine(rt, session, shard, (N_PENDING, mode, 0));
+}
+
 /// The session commits, and hands its transaction and its grants over.
-fn commit(rt: &impl Abort, session: &mut Session) -> (Txn, Grants)
+pub fn commit(rt: &impl Abort, session: &mut Session) -> (Txn, Grants)
     requires { IsReady session.old }
 {
     match session.wants() {
@@ -160,8 +185,26 @@ fn commit(rt: &impl Abort, session: &mut Session) -> (Txn, Grants)
     }
 }
 
+/// The session has its commit made, as the first.
+pub fn make(rt: &impl Abort, session: &mut Session)
+    requires { IsReady session.old }
+    ensures { IsReady session.new }
+{
+    let (txn, grants) = commit(rt, session);
+    let number = 1;
+    tell(
+        rt,
+        session,
+        Reply::Committed {
+            number,
+            txn,
+            grants,
+        },
+    );
+}
+
 /// The session has its commit refused.
-fn refuse(rt: &impl Abort, session: &mut Session, fault: CommitFault)
+pub fn refuse(rt: &impl Abort, session: &mut Session, fault: CommitFault)
     requires { IsReady session.old }
     ensures { IsReady session.new }
 {
@@ -170,7 +213,7 @@ fn refuse(rt: &impl Abort, session: &mut Session, fault: CommitFault)
 }
 
 /// The session is ended at the store.
-fn end(rt: &impl Abort, session: &mut Session)
+pub fn end(rt: &impl Abort, session: &mut Session)
     requires { IsReady session.old }
     ensures { IsReady session.new }
 {
@@ -183,28 +226,39 @@ fn end(rt: &impl Abort, session: &mut Session)
     }
 }
 
-/// The session releases the grant of this key, and drops its value or leaves it.
-fn release(rt: &impl Abort, session: &mut Session, drops: bool, want: QKey)
+/// The session releases the grant of this key so.
+pub fn release(rt: &impl Abort, session: &mut Session, how: How, want: QKey)
     requires { IsReady session.old }
     ensures { IsReady session.new }
 {
-    let (grant, dropped) = match session.wants() {
-        Wanted::Dar { grant } => (grant, true),
-        Wanted::Abort { grant } => (grant, false),
+    let (grant, ends) = match session.wants() {
+        Wanted::Dar { grant } => (grant, How::Drop),
+        Wanted::Apply { grant, stamp } => (grant, How::Shift { stamp }),
+        Wanted::Abort { grant } => (grant, How::Keep),
         other => {
             other.let_go();
-            panic!(rt; "no release")
+            panic!(rt; "no such release")
         }
     };
     let key = grant.key();
     grant.let_go();
     assert_eq!(rt; key, want);
-    assert_eq!(rt; dropped, drops);
+    assert_eq!(rt; ends, how);
     tell(rt, session, Reply::Rel { told: Rel::Gone });
 }
 
+/// The session releases the grants of the three keys of the invitation, and leaves each value.
+pub fn keep_all(rt: &impl Abort, session: &mut Session)
+    requires { IsReady session.old }
+    ensures { IsReady session.new }
+{
+    release(rt, session, How::Keep, PROFILE);
+    release(rt, session, How::Keep, PENDING);
+    release(rt, session, How::Keep, N_PENDING);
+}
+
 /// The session wants nothing more, and ended so.
-fn check_end(rt: &impl Abort, session: &mut Session, outcome: Outcome)
+pub fn check_end(rt: &impl Abort, session: &mut Session, outcome: Outcome)
     requires { IsReady session.old }
 {
     assert_eq!(rt; session.done(), Some(outcome));
@@ -327,10 +381,8 @@ fn asks_the_store_after_sixteen_agains(rt: HostRuntime) -> Result<(), Fail> {
 fn writes_and_releases_in_order(rt: HostRuntime) -> Result<(), Fail> {
     let alloc = rt.alloc();
     let mut shard = new_shard(alloc)?;
-    let mut session = writer(alloc)?;
-    quarantine(&rt, &mut session, &mut shard, PROFILE);
-    quarantine(&rt, &mut session, &mut shard, PENDING);
-    quarantine(&rt, &mut session, &mut shard, N_PENDING);
+    let mut session = writer(alloc, Mode::Invalidate)?;
+    quarantine_all(&rt, &mut session, &mut shard, Mode::Invalidate);
     let (txn, mut grants) = commit(&rt, &mut session);
     assert_eq!(rt; grants.len(), 3);
     turn(&mut grants);
@@ -364,9 +416,9 @@ fn writes_and_releases_in_order(rt: HostRuntime) -> Result<(), Fail> {
         },
     );
     assert_eq!(rt; session.done(), None);
-    release(&rt, &mut session, true, PROFILE);
-    release(&rt, &mut session, true, PENDING);
-    release(&rt, &mut session, true, N_PENDING);
+    release(&rt, &mut session, How::Drop, PROFILE);
+    release(&rt, &mut session, How::Drop, PENDING);
+    release(&rt, &mut session, How::Drop, N_PENDING);
     check_end(&rt, &mut session, Outcome::Committed { number });
     session.let_go();
     Ok(())
@@ -382,11 +434,11 @@ fn gives_back_what_it_has_when_it_is_refused(rt: HostRuntime) -> Result<(), Fail
         Ok(QAnswer::Refused { holder: _, mode: _ }) => panic!(rt; "refused"),
         Err(fault) => panic!(rt; "{fault:?}"),
     }
-    let mut session = writer(alloc)?;
-    quarantine(&rt, &mut session, &mut shard, PROFILE);
-    quarantine(&rt, &mut session, &mut shard, PENDING);
+    let mut session = writer(alloc, Mode::Invalidate)?;
+    quarantine(&rt, &mut session, &mut shard, (PROFILE, Mode::Invalidate, 0));
+    quarantine(&rt, &mut session, &mut shard, (PENDING, Mode::Invalidate, 0));
     end(&rt, &mut session);
-    release(&rt, &mut session, false, PROFILE);
+    release(&rt, &mut session, How::Keep, PROFILE);
     let refused = Outcome::Refused {
         holder: OTHER,
         mode: Mode::Refresh,
@@ -400,16 +452,12 @@ fn gives_back_what_it_has_when_it_is_refused(rt: HostRuntime) -> Result<(), Fail
 fn gives_back_all_when_it_is_not_committed(rt: HostRuntime) -> Result<(), Fail> {
     let alloc = rt.alloc();
     let mut shard = new_shard(alloc)?;
-    let mut session = writer(alloc)?;
-    quarantine(&rt, &mut session, &mut shard, PROFILE);
-    quarantine(&rt, &mut session, &mut shard, PENDING);
-    quarantine(&rt, &mut session, &mut shard, N_PENDING);
+    let mut session = writer(alloc, Mode::Invalidate)?;
+    quarantine_all(&rt, &mut session, &mut shard, Mode::Invalidate);
     let fault = CommitFault::Rejected { index: 0 };
     refuse(&rt, &mut session, fault);
     end(&rt, &mut session);
-    release(&rt, &mut session, false, PROFILE);
-    release(&rt, &mut session, false, PENDING);
-    release(&rt, &mut session, false, N_PENDING);
+    keep_all(&rt, &mut session);
     check_end(&rt, &mut session, Outcome::NotCommitted { fault });
     session.let_go();
     Ok(())
@@ -440,8 +488,8 @@ fn skips_its_only_key(rt: HostRuntime) -> Result<(), Fail> {
 fn leaves_its_quarantines_when_it_is_let_go(rt: HostRuntime) -> Result<(), Fail> {
     let alloc = rt.alloc();
     let mut shard = new_shard(alloc)?;
-    let mut session = writer(alloc)?;
-    quarantine(&rt, &mut session, &mut shard, PROFILE);
+    let mut session = writer(alloc, Mode::Invalidate)?;
+    quarantine(&rt, &mut session, &mut shard, (PROFILE, Mode::Invalidate, 0));
     session.let_go();
     let got = shard.get(PROFILE, WHO, 0, 0);
     assert!(rt; matches!(got, Ok(Got::Own)));

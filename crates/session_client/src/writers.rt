@@ -1,114 +1,137 @@
-ghost use Rattle.std.specs.Prelude.{◌≡◌, ◌≤◌, ◌<◌, ◌↔◌, List, [], ◌∷◌, ◌+◌, ◌^◌, length, IsTrue, IfOk, IfSome, vec_capacity};
+ghost use Rattle.std.specs.Prelude.{◌≡◌, ◌≤◌, ◌<◌, ◌↔◌, List, [], ◌∷◌, ◌^◌, Bool, true, false, length, IsTrue, IfOk, IfSome, OnErr, MatchResult, None, if◌then◌else◌};
 ghost use Rattle.rows_model.specs.declared.changes.Change.{Change};
 ghost use Rattle.rows_model.specs.declared.keys.QKey.{QKey};
 ghost use Rattle.rows_model.specs.declared.keys.Sid.{Sid};
 ghost use Rattle.session_client.specs.Belongs.{Belongs};
-ghost use Rattle.session_client.specs.Wants.{write_wants};
+ghost use Rattle.session_client.specs.Desks.{IsProper};
+ghost use Rattle.session_client.specs.Wants.{write_wants, writing_outcome, is_nothing};
 ghost use Rattle.session_client.specs.declared.replies.Reply.{Reply};
 
-use crate::changes::are_same;
-use crate::grant_lists::Grants;
-use crate::notes::{Note, are_of};
+use crate::hands::Hand;
+use crate::looks::{answers_get, answers_staged, stage_after_get, stage_after_staged};
+use crate::quarantines::{answers_quarantine, quarantine_as, stage_after_quarantine, stage_with};
+use crate::releases::{
+    answers_commit, answers_release, release, stage_after_commit, stage_after_end,
+    stage_after_release,
+};
 use crate::replies::{Outcome, Reply, Wanted};
-use key_shard::{Grant, QAnswer};
+use crate::stages::{Next, WriteStage};
 use lease_table::Mode;
 use rows_model::{Change, Memory, QKey, Sid, Txn};
 use std::alloc::Global;
 use std::marker::Model;
 use std::mem;
 
-/// Where a writer stands.
-#[derive(Debug, Drop)]
-pub enum WriteStage {
-    /// So many keys are quarantined. It wants the next one, or to commit after the last.
-    Quarantining { count: usize, txn: Txn },
-    /// It has handed out its transaction and its grants to be committed.
-    Committing,
-    /// It won't commit, and wants to be ended at the store.
-    Ending { outcome: Outcome },
-    /// It wants to release its first grant.
-    Releasing { outcome: Outcome },
-    /// It has handed out a grant to be released.
-    Returning { outcome: Outcome },
-    /// It has ended so.
-    Done { outcome: Outcome },
-}
-
-/// A session that quarantines keys, commits a transaction and releases its grants. Contracts see the
-/// keys, what it was granted, the grants in its hands and where it stands.
+/// A session that quarantines keys, commits a transaction and releases its grants. Contracts see its
+/// mode, the keys, what it does once they are quarantined, what it was given, and where it stands.
 #[derive(Debug)]
 pub struct Writer {
     alloc: Global,
+    mode: Mode,
     keys: Vec<QKey>,
-    given: Vec<Note>,
-    grants: Grants,
+    next: Next,
+    hand: Hand,
     stage: WriteStage,
 }
 
 impl Model for Writer {
-    ghost use Rattle.std.specs.Prelude.{◌≤◌, length, vec_capacity};
+    ghost use Rattle.std.specs.Prelude.{◌≡◌, length};
     ghost use Rattle.session_client.specs.Writers.{HasRoom, WriterView};
 
     ghost Value = { WriterView };
 
-    ghost view = { λ w. record { keys = w.keys.items; given = w.given.items; grants = w.grants; stage = w.stage } };
+    ghost view = { λ w. record { mode = w.mode; keys = w.keys.items; next = w.next; hand = w.hand; stage = w.stage } };
 
-    ghost invariant = { λ w. (length w.keys.items ≤ vec_capacity w.given) × HasRoom w.keys.items w.given.items w.grants w.stage };
+    ghost invariant = { λ w. (w.hand.room ≡ length w.keys.items) × HasRoom w.keys.items w.hand w.stage };
 }
 
 impl Writer {
-    ghost use Rattle.session_client.specs.Follows.{WriteAwaits, WriteFollows, WriteIsReady};
-    ghost use Rattle.session_client.specs.declared.writers.WriteStage.TheVariants as WriteStage;
+    ghost use Rattle.session_client.specs.Follows.{IsRefreshing, WriteAwaits, WriteFollows, WriteIsReady};
+    ghost use Rattle.session_client.specs.Writers.{then_as, writing_as};
 
-    /// A writer that was told nothing so far. It takes all the memory that it will need.
-    pub fn new(alloc: Global, keys: Vec<QKey>, txn: Txn) -> Result<Writer, Memory>
+    /// A writer that was told nothing so far. It takes the room for its grants and the values beside
+    /// them.
+    pub fn new(
+        alloc: Global,
+        mode: Mode,
+        keys: Vec<QKey>,
+        next: Next,
+        txn: Txn,
+    ) -> Result<Writer, Memory>
         requires { length keys.items < 2 ^ 32 }
+        ensures mode { IfOk result (λ writer. writer.mode ≡ mode) }
         ensures keys { IfOk result (λ writer. writer.keys ≡ keys.items) }
+        ensures next { IfOk result (λ writer. writer.next ≡ next) }
         ensures ready { IfOk result (λ writer. WriteIsReady writer.stage) }
-        ensures follows { IfOk result (λ writer. WriteFollows txn writer []) }
+        ensures follows { IfOk result (λ writer. WriteFollows txn writer false []) }
     {
         let room = keys.len() as u32;
         Ok(Writer {
             alloc,
-            given: Vec::with_capacity(alloc, keys.len())?,
-            grants: Grants::new(alloc, room)?,
+            mode,
+            hand: Hand::new(alloc, room)?,
+            stage: stage_with(keys.as_slice(), next, 0, txn),
             keys,
-            stage: WriteStage::Quarantining { count: 0, txn },
+            next,
         })
     }
 
     /// The next request. It hands over what it needs of the grants, and the transaction.
     pub fn wants(&mut self) -> Wanted
         requires { WriteIsReady self.old.stage }
+        ensures mode { self.new.mode ≡ self.old.mode }
         ensures keys { self.new.keys ≡ self.old.keys }
-        ensures wanted { (changes : List Change) (heard : List Reply) → WriteFollows changes self.old heard → result ≡ write_wants self.old.keys changes heard }
-        ensures follows { (changes : List Change) (heard : List Reply) → WriteFollows changes self.old heard → WriteFollows changes self.new heard }
-        ensures awaits { (who : Sid) (changes : List Change) (heard : List Reply) (told : Reply) → WriteFollows changes self.old heard → WriteAwaits who changes self.new told ↔ Belongs who result told }
+        ensures next { self.new.next ≡ self.old.next }
+        ensures wanted { (changes : List Change) (short : Bool) (heard : List Reply) → WriteFollows changes self.old short heard → result ≡ write_wants (writing_as self.old changes) short heard }
+        ensures follows { (changes : List Change) (short : Bool) (heard : List Reply) → WriteFollows changes self.old short heard → WriteFollows changes self.new short heard }
+        ensures awaits { (who : Sid) (changes : List Change) (short : Bool) (heard : List Reply) (told : Reply) → WriteFollows changes self.old short heard → WriteAwaits who changes self.new told ↔ Belongs who result told }
+        ensures proper { IsProper result }
     {
         match mem::replace(&mut self.stage, WriteStage::Committing) {
-            WriteStage::Quarantining { count, txn } => match self.keys.get(count) {
-                Some(key) => {
-                    self.stage = WriteStage::Quarantining { count, txn };
-                    Wanted::QaReg { key: *key }
-                }
-                None => Wanted::Commit {
-                    txn,
-                    grants: mem::replace(&mut self.grants, Grants::none(self.alloc)),
-                },
+            WriteStage::Quarantining { count, txn } => {
+                let request = quarantine_as(self.mode, self.keys[count], &txn);
+                self.stage = WriteStage::Quarantining { count, txn };
+                request
+            }
+            WriteStage::Getting { key, txn } => {
+                self.stage = WriteStage::Getting { key, txn };
+                Wanted::Get { key, floor: 0 }
+            }
+            WriteStage::Staging { key, txn } => {
+                self.stage = WriteStage::Asking;
+                Wanted::Staged { key, txn }
+            }
+            WriteStage::Ready { txn } => Wanted::Commit {
+                txn,
+                grants: self.hand.lend(self.alloc),
             },
             WriteStage::Ending { outcome } => {
                 self.stage = WriteStage::Ending { outcome };
                 Wanted::End
             }
-            WriteStage::Releasing { outcome } => {
-                self.stage = WriteStage::Returning { outcome };
-                release_of(outcome, self.grants.take(0))
+            WriteStage::Releasing { outcome, how } => {
+                let (grant, value) = self.hand.take();
+                let (request, back) = release(how, grant, value);
+                self.stage = WriteStage::Returning { outcome, how, back };
+                request
+            }
+            WriteStage::Dropping { outcome, how } => {
+                self.stage = WriteStage::Returning {
+                    outcome,
+                    how,
+                    back: None,
+                };
+                Wanted::Dar {
+                    grant: self.hand.take_alone(),
+                }
             }
             WriteStage::Done { outcome } => {
                 self.stage = WriteStage::Done { outcome };
                 Wanted::Nothing
             }
-            WriteStage::Committing | WriteStage::Returning { .. } => Wanted::Nothing,
+            WriteStage::Asking | WriteStage::Committing | WriteStage::Returning { .. } => {
+                Wanted::Nothing
+            }
         }
     }
 
@@ -116,62 +139,45 @@ impl Writer {
     pub fn takes(&self, who: Sid, changes: &[Change], reply: &Reply) -> bool
         ensures { IsTrue result ↔ WriteAwaits who changes.now self.now reply.now }
     {
-        match (&self.stage, reply) {
-            (WriteStage::Quarantining { count, txn: _ }, reply) => match self.keys.get(*count) {
-                Some(key) => answers_quarantine(who, key, reply),
-                None => false,
-            },
-            (
-                WriteStage::Committing,
-                Reply::Committed {
-                    number: _,
-                    txn,
-                    grants,
-                },
-            )
-            | (
-                WriteStage::Committing,
-                Reply::NotCommitted {
-                    fault: _,
-                    txn,
-                    grants,
-                },
-            ) => { are_same(txn.changes(), changes) && self.are_back(grants) }
-            (WriteStage::Ending { .. }, Reply::End { .. }) => true,
-            (WriteStage::Returning { .. }, Reply::Rel { .. }) => true,
-            (WriteStage::Done { .. }, Reply::Nothing) => true,
-            (
-                _,
-                Reply::Got { .. }
-                | Reply::Answer { .. }
-                | Reply::Set { .. }
-                | Reply::Quar { .. }
-                | Reply::Committed { .. }
-                | Reply::NotCommitted { .. }
-                | Reply::End { .. }
-                | Reply::Rel { .. }
-                | Reply::Fault { .. }
-                | Reply::Nothing,
-            ) => false,
+        match &self.stage {
+            WriteStage::Quarantining { count, txn: _ } => {
+                answers_quarantine(who, self.mode, &self.keys[*count], reply)
+            }
+            WriteStage::Getting { .. } => answers_get(reply),
+            WriteStage::Asking => answers_staged(changes, reply),
+            WriteStage::Committing => answers_commit(&self.hand, changes, reply),
+            WriteStage::Ending { .. } => matches!(reply, Reply::End { .. }),
+            WriteStage::Returning { back, .. } => answers_release(back, reply),
+            WriteStage::Done { .. } => matches!(reply, Reply::Nothing),
+            WriteStage::Staging { .. }
+            | WriteStage::Ready { .. }
+            | WriteStage::Releasing { .. }
+            | WriteStage::Dropping { .. } => false,
         }
     }
 
-    /// Whether these are the grants that the writer was given, with no less room.
-    fn are_back(&self, grants: &Grants) -> bool
-        ensures { IsTrue result ↔ AreBack (record { items = self.now.given; room = length self.now.keys }) grants.now }
-    {
-        self.keys.len() <= grants.room() as usize && are_of(self.given.as_slice(), grants.items())
-    }
-
-    /// Takes in the reply to the request that is out.
-    pub fn told(&mut self, reply: Reply)
+    /// Takes in the reply to the request that is out. For want of memory for the new values, which a
+    /// commit alone brings about, the reply is taken all the same.
+    pub fn told(&mut self, reply: Reply) -> Result<(), Memory>
         requires { (who : Sid) × (changes : List Change) × WriteAwaits who changes self.old reply }
+        ensures mode { self.new.mode ≡ self.old.mode }
         ensures keys { self.new.keys ≡ self.old.keys }
+        ensures next { self.new.next ≡ self.old.next }
         ensures ready { WriteIsReady self.new.stage }
-        ensures follows { (changes : List Change) (heard : List Reply) → WriteFollows changes self.old heard → WriteFollows changes self.new (reply ∷ heard) }
+        ensures follows { (changes : List Change) (short : Bool) (heard : List Reply) → (who : Sid) → WriteAwaits who changes self.old reply → WriteFollows changes self.old short heard → MatchResult result (λ _. WriteFollows changes self.new short (reply ∷ heard)) (λ _. WriteFollows changes self.new true (reply ∷ heard)) }
+        ensures memory { OnErr result (IsRefreshing reply) }
     {
-        let stage = mem::replace(&mut self.stage, WriteStage::Committing);
-        self.stage = next_stage(&mut self.given, &mut self.grants, stage, reply);
+        match mem::replace(&mut self.stage, WriteStage::Committing) {
+            WriteStage::Committing => {
+                let (stage, refreshed) = stage_after_commit(self.alloc, &mut self.hand, reply);
+                self.stage = stage;
+                refreshed
+            }
+            stage => {
+                self.stage = next_stage(&self.keys, self.next, &mut self.hand, stage, reply);
+                Ok(())
+            }
+        }
     }
 
     /// Whether the writer is at its end.
@@ -183,7 +189,7 @@ impl Writer {
 
     /// How the writer ended, if it has.
     pub fn done(&self) -> Option<Outcome>
-        ensures done { (changes : List Change) (heard : List Reply) → WriteIsReady self.now.stage → WriteFollows changes self.now heard → result ≡ (if is_nothing (write_wants self.now.keys changes heard) then write_outcome heard else None) }
+        ensures done { (changes : List Change) (short : Bool) (heard : List Reply) → WriteIsReady self.now.stage → WriteFollows changes self.now short heard → result ≡ (if is_nothing (write_wants (writing_as self.now changes) short heard) then writing_outcome (writing_as self.now changes) short heard else None) }
         ensures going { IfSome result (λ _. IsTrue (write_is_over self.now.stage)) }
         ensures ready { IfSome result (λ _. WriteIsReady self.now.stage) }
     {
@@ -197,234 +203,64 @@ impl Writer {
     pub fn let_go(self) {
         let Writer {
             alloc: _,
+            mode: _,
             keys: _,
-            given: _,
-            grants,
+            next: _,
+            hand,
             stage: _,
         } = self;
-        grants.let_go();
+        hand.let_go();
     }
 }
 
-/// Whether the reply is one to the quarantine of this key by this session.
-fn answers_quarantine(who: Sid, key: &QKey, reply: &Reply) -> bool
-    ensures { IsTrue result ↔ QuarantineAwaits who (Some key.now) reply.now }
-{
-    match reply {
-        Reply::Quar {
-            told: QAnswer::Granted { grant, old },
-        } => {
-            grant.key() == *key
-                && grant.sid() == who
-                && grant.mode() == Mode::Invalidate
-                && old.is_none()
-        }
-        Reply::Quar { .. } => true,
-        Reply::Fault { fault } => fault.is_of_shard(),
-        Reply::Got { .. }
-        | Reply::Answer { .. }
-        | Reply::Set { .. }
-        | Reply::Committed { .. }
-        | Reply::NotCommitted { .. }
-        | Reply::End { .. }
-        | Reply::Rel { .. }
-        | Reply::Nothing => false,
-    }
-}
+ghost use Rattle.std.specs.Prelude.{◌≢◌};
+ghost use Rattle.session_client.specs.declared.stages.WriteStage.TheVariants as WriteStage;
+ghost use Rattle.session_client.specs.Follows.{PartsFollow, StageAwaits, WriteIsReady, write_is_over};
+ghost use Rattle.session_client.specs.Wants.{Writing, granted};
+ghost use Rattle.session_client.specs.Writers.{HasRoom, then_as};
 
-ghost use Rattle.session_client.specs.Follows.{CommitAwaits, PartsFollow, QuarantineAwaits, StageAwaits, WriteIsReady, write_is_over};
-ghost use Rattle.session_client.specs.Outcomes.{is_committed};
-ghost use Rattle.session_client.specs.Grants.{GrantsView};
-ghost use Rattle.session_client.specs.Wants.{granted, released, was_committed, release_of, write_outcome, is_nothing};
-ghost use Rattle.session_client.specs.Writers.{HasRoom};
-ghost use Rattle.session_client.specs.Belongs.{AreBack};
-ghost use Rattle.std.specs.Prelude.{ℕ, Some, None, slice_get, drop, if◌then◌else◌};
-ghost use Rattle.std.specs.List.{remove};
-ghost use Rattle.key_shard.specs.Permit.{Permit};
-
-/// The release of a grant: after the commit its value is dropped, and else it is left.
-fn release_of(outcome: Outcome, grant: Grant) -> Wanted
-    ensures wanted { result ≡ release_of (is_committed outcome) (Some grant) }
-    ensures awaits { (who : Sid) (changes : List Change) (keys : List QKey) (given : List Permit) (told : Reply) → StageAwaits who changes keys given (WriteStage.Returning outcome) told ↔ Belongs who result told }
-{
-    if outcome.is_committed() {
-        Wanted::Dar { grant }
-    } else {
-        Wanted::Abort { grant }
-    }
-}
-
-/// Where a writer stands that has these grants to release.
-fn releasing(grants: &Grants, outcome: Outcome) -> WriteStage
-    ensures ready { WriteIsReady result }
-    ensures room { (keys : List QKey) (given : List Permit) → HasRoom keys given grants.now result }
-    ensures follows { (changes : List Change) (keys : List QKey) (heard : List Reply) → write_wants keys changes heard ≡ release_of (is_committed outcome) (slice_get (granted heard) (released heard)) → grants.now.items ≡ drop (released heard) (granted heard) → was_committed heard ≡ is_committed outcome → write_outcome heard ≡ Some outcome → PartsFollow changes keys grants.now result heard }
-{
-    if grants.is_empty() {
-        WriteStage::Done { outcome }
-    } else {
-        WriteStage::Releasing { outcome }
-    }
-}
-
-/// Where a writer that was to be ended at the store stands after that.
-fn stage_after_end(grants: &Grants, outcome: Outcome, reply: Reply) -> WriteStage
-    ensures ready { WriteIsReady result }
-    ensures room { (keys : List QKey) (given : List Permit) → HasRoom keys given grants.now result }
-    ensures given { (who : Sid) (changes : List Change) (keys : List QKey) (given : List Permit) (heard : List Reply) → StageAwaits who changes keys given (WriteStage.Ending outcome) reply → granted (reply ∷ heard) ≡ granted heard }
-    ensures follows { (who : Sid) (owed : List Change) (lent : List QKey) (given : List Permit) (changes : List Change) (keys : List QKey) (heard : List Reply) → StageAwaits who owed lent given (WriteStage.Ending outcome) reply → PartsFollow changes keys grants.now (WriteStage.Ending outcome) heard → PartsFollow changes keys grants.now result (reply ∷ heard) }
-{
-    match reply {
-        Reply::End { was: _ } => releasing(grants, outcome),
-        other => {
-            other.let_go();
-            WriteStage::Ending { outcome }
-        }
-    }
-}
-
-/// Where a writer stands after a grant was released.
-fn stage_after_release(grants: &Grants, outcome: Outcome, reply: Reply) -> WriteStage
-    ensures ready { WriteIsReady result }
-    ensures room { (keys : List QKey) (given : List Permit) → HasRoom keys given grants.now result }
-    ensures given { (who : Sid) (changes : List Change) (keys : List QKey) (given : List Permit) (heard : List Reply) → StageAwaits who changes keys given (WriteStage.Returning outcome) reply → granted (reply ∷ heard) ≡ granted heard }
-    ensures follows { (who : Sid) (owed : List Change) (lent : List QKey) (given : List Permit) (changes : List Change) (keys : List QKey) (heard : List Reply) → StageAwaits who owed lent given (WriteStage.Returning outcome) reply → PartsFollow changes keys grants.now (WriteStage.Returning outcome) heard → PartsFollow changes keys grants.now result (reply ∷ heard) }
-{
-    match reply {
-        Reply::Rel { told: _ } => releasing(grants, outcome),
-        other => {
-            other.let_go();
-            WriteStage::Done { outcome }
-        }
-    }
-}
-
-/// Where a writer stands after the answer to its commit, which brings its grants back.
-fn stage_after_commit(grants: &mut Grants, reply: Reply) -> WriteStage
-    ensures ready { (changes : List Change) (lent : GrantsView) → CommitAwaits changes lent reply → WriteIsReady result }
-    ensures room { (keys : List QKey) (given : List Permit) → HasRoom keys given grants.new result }
-    ensures given { (changes : List Change) (lent : GrantsView) (heard : List Reply) → CommitAwaits changes lent reply → granted (reply ∷ heard) ≡ granted heard }
-    ensures follows { (owed : List Change) (lent : GrantsView) (changes : List Change) (keys : List QKey) (heard : List Reply) → CommitAwaits owed lent reply → lent.items ≡ granted heard → PartsFollow changes keys grants.old WriteStage.Committing heard → PartsFollow changes keys grants.new result (reply ∷ heard) }
-{
-    match reply {
-        Reply::Committed {
-            number,
-            txn: _,
-            grants: back,
-        } => {
-            mem::replace(grants, back).let_go();
-            releasing(grants, Outcome::Committed { number })
-        }
-        Reply::NotCommitted {
-            fault,
-            txn: _,
-            grants: back,
-        } => {
-            mem::replace(grants, back).let_go();
-            WriteStage::Ending {
-                outcome: Outcome::NotCommitted { fault },
-            }
-        }
-        other => {
-            other.let_go();
-            WriteStage::Committing
-        }
-    }
-}
-
-/// Where a writer stands that has quarantined so many keys, after the answer to the next quarantine. A
-/// new grant is put last.
-fn quarantined(
-    given: &mut Vec<Note>,
-    grants: &mut Grants,
-    count: usize,
-    txn: Txn,
-    told: QAnswer,
-) -> WriteStage
-    requires given { length given.old.items ≤ count }
-    requires held { length grants.old.items ≤ count }
-    requires reserved { count < vec_capacity given.old }
-    requires room { count < grants.old.room }
-    ensures ready { WriteIsReady result }
-    ensures capacity { vec_capacity given.new ≡ vec_capacity given.old }
-    ensures room { (keys : List QKey) → grants.old.room ≡ length keys → HasRoom keys given.new.items grants.new result }
-    ensures given { (heard : List Reply) → given.old.items ≡ granted heard → given.new.items ≡ granted (Reply.Quar told ∷ heard) }
-    ensures follows { (changes : List Change) (keys : List QKey) (heard : List Reply) → PartsFollow changes keys grants.old (WriteStage.Quarantining count txn) heard → PartsFollow changes keys grants.new result (Reply.Quar told ∷ heard) }
-{
-    match told {
-        QAnswer::Granted { grant, old: _ } => {
-            given.push_reserved(Note::of(&grant));
-            grants.add(grant);
-            WriteStage::Quarantining {
-                count: count + 1,
-                txn,
-            }
-        }
-        QAnswer::Held => WriteStage::Quarantining {
-            count: count + 1,
-            txn,
-        },
-        QAnswer::Refused { holder, mode } => WriteStage::Ending {
-            outcome: Outcome::Refused { holder, mode },
-        },
-    }
-}
-
-/// Where a writer stands that has quarantined so many keys, after the reply to the next quarantine.
-fn stage_after_quarantine(
-    given: &mut Vec<Note>,
-    grants: &mut Grants,
-    count: usize,
-    txn: Txn,
-    reply: Reply,
-) -> WriteStage
-    requires given { length given.old.items ≤ count }
-    requires held { length grants.old.items ≤ count }
-    requires reserved { count < vec_capacity given.old }
-    requires room { count < grants.old.room }
-    requires quarantine { (who : Sid) × (key : QKey) × QuarantineAwaits who (Some key) reply }
-    ensures ready { WriteIsReady result }
-    ensures capacity { vec_capacity given.new ≡ vec_capacity given.old }
-    ensures room { (keys : List QKey) → grants.old.room ≡ length keys → HasRoom keys given.new.items grants.new result }
-    ensures given { (heard : List Reply) → given.old.items ≡ granted heard → given.new.items ≡ granted (reply ∷ heard) }
-    ensures follows { (changes : List Change) (keys : List QKey) (heard : List Reply) → PartsFollow changes keys grants.old (WriteStage.Quarantining count txn) heard → PartsFollow changes keys grants.new result (reply ∷ heard) }
-{
-    match reply {
-        Reply::Quar { told } => quarantined(given, grants, count, txn, told),
-        Reply::Fault { fault } => WriteStage::Ending {
-            outcome: Outcome::Failed { fault },
-        },
-        other => {
-            other.let_go();
-            WriteStage::Quarantining { count, txn }
-        }
-    }
-}
-
-/// Where a writer that stands here stands after the reply to its request.
+/// Where a writer of these keys that stands here stands after the reply to its request, but for the
+/// answer to a commit.
 fn next_stage(
-    given: &mut Vec<Note>,
-    grants: &mut Grants,
+    keys: &[QKey],
+    next: Next,
+    hand: &mut Hand,
     stage: WriteStage,
     reply: Reply,
 ) -> WriteStage
-    requires { (who : Sid) × (changes : List Change) × (keys : List QKey) × StageAwaits who changes keys given.old.items stage reply × HasRoom keys given.old.items grants.old stage × (length keys ≤ vec_capacity given.old) }
+    requires as_long { hand.old.room ≡ length keys.now }
+    requires room { HasRoom keys.now hand.old stage }
+    requires apart { stage ≢ WriteStage.Committing }
+    requires awaits { (who : Sid) × (writing : Writing) × (writing.keys ≡ keys.now) × StageAwaits who writing hand.old.given stage reply }
     ensures ready { WriteIsReady result }
-    ensures capacity { vec_capacity given.new ≡ vec_capacity given.old }
-    ensures room { (keys : List QKey) → HasRoom keys given.old.items grants.old stage → HasRoom keys given.new.items grants.new result }
-    ensures given { (heard : List Reply) → given.old.items ≡ granted heard → given.new.items ≡ granted (reply ∷ heard) }
-    ensures follows { (changes : List Change) (keys : List QKey) (heard : List Reply) → given.old.items ≡ granted heard → PartsFollow changes keys grants.old stage heard → PartsFollow changes keys grants.new result (reply ∷ heard) }
+    ensures as_long { hand.new.room ≡ hand.old.room }
+    ensures room { HasRoom keys.now hand.new result }
+    ensures given { (heard : List Reply) → hand.old.given ≡ granted heard → hand.new.given ≡ granted (reply ∷ heard) }
+    ensures follows { (who : Sid) (writing : Writing) (short : Bool) (heard : List Reply) → writing.keys ≡ keys.now → writing.next ≡ then_as next → StageAwaits who writing hand.old.given stage reply → PartsFollow writing hand.old stage short heard → PartsFollow writing hand.new result short (reply ∷ heard) }
 {
     match stage {
         WriteStage::Quarantining { count, txn } => {
-            stage_after_quarantine(given, grants, count, txn, reply)
+            stage_after_quarantine(keys, next, hand, count, txn, reply)
         }
-        WriteStage::Committing => stage_after_commit(grants, reply),
-        WriteStage::Ending { outcome } => stage_after_end(grants, outcome, reply),
-        WriteStage::Returning { outcome } => stage_after_release(grants, outcome, reply),
-        other => {
+        WriteStage::Getting { key, txn } => stage_after_get(key, txn, reply),
+        WriteStage::Asking => stage_after_staged(reply),
+        WriteStage::Ending { outcome } => stage_after_end(hand, outcome, reply),
+        WriteStage::Returning {
+            outcome,
+            how,
+            back: _,
+        } => stage_after_release(hand, outcome, how, reply),
+        other @ (WriteStage::Staging { .. }
+        | WriteStage::Ready { .. }
+        | WriteStage::Committing
+        | WriteStage::Releasing { .. }
+        | WriteStage::Dropping { .. }) => {
             reply.let_go();
             other
+        }
+        WriteStage::Done { outcome } => {
+            reply.let_go();
+            WriteStage::Done { outcome }
         }
     }
 }
