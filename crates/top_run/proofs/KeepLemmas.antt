@@ -1,5 +1,6 @@
 use Rattle.std.proofs.Common.{ℕ, ◌≡◌, ◌^◌, ◌-◌, ◌<◌, ◌≤◌, List, [], ◌∷◌, ◌++◌, length, map, reverse, arith, refl, sym, ap, ◌∙◌, subst, inl, inr}
 use Rattle.std.specs.Prelude.{Option, Some, None, IsSome, slice_get, option_map, count_by}
+use Rattle.std.specs.List.{AllByRecursion}
 use Rattle.std.specs.Option.{ForSome}
 use Rattle.std.proofs.lemmas.List.{ext_get_or, length-map, map-append, nil_from_length, reverse-append, reverse-reverse}
 use Rattle.std.proofs.lemmas.List.FromFn.{length-map-range_with_len, get_or-map-range_with_len}
@@ -17,7 +18,7 @@ use Rattle.run_inputs.specs.declared.scripts.Act.{Act}
 use Rattle.core_history.specs.Events.{Event, steps_of, log_of}
 use Rattle.core_history.specs.Lines.{lines_of, end_line, is_fault, fault_turns}
 use Rattle.core_history.specs.Cores.{CoreView, Origin, HasShards, HasKept, IsSound, RoseBy, histories_in}
-use Rattle.core_history.specs.Freshness.{histories_of}
+use Rattle.core_history.specs.Freshness.{IsNumbered, histories_of}
 use Rattle.core_history.specs.Machine.{Move, terms_of}
 use Rattle.core_history.specs.Determined.{Call, call_of}
 use Rattle.core_history.specs.Truth.{IsTruePast}
@@ -76,6 +77,11 @@ keeps core origin moves rows kept sound told =
           subst (λ (log : List Commit). Covered log (histories_in core)) (sym sound.log)
           (subst (Covered (log_of past)) (sym sound.histories) sound.lawful.covered);
       quarantined = sound.lawful.quarantined;
+      numbered = λ place history is.
+          let same = history_is origin.shape past place history (subst (λ (hs : List (List Step)). slice_get hs place ≡ Some history) sound.histories is) in
+          let back = sym (ap reverse same ∙ reverse-reverse (steps_of place past)) in
+          subst (λ (log : List Commit). AllByRecursion (IsNumbered log) (reverse history)) (sym sound.log)
+          (subst (AllByRecursion (IsNumbered (log_of past))) back (sound.lawful.numbered place));
       rows_are = λ tables is. sound.rows tables (sym told ∙ is) ∙ ap (rows_after origin.opening) (sym sound.log);
       truth = for_some rows (λ some. kept.store.truth (subst (λ (r : Option Tables). IsSome r) told some));
       fresh = for_some rows (λ some.

@@ -5,7 +5,7 @@ use Rattle.std.proofs.lemmas.List.Concat.{flat_map-append}
 use Rattle.std.proofs.lemmas.List.Sums.{sum_by-cons, sum_by-append}
 use Rattle.session_client.specs.declared.plans.Shape.{Shape}
 use Rattle.session_client.specs.declared.plans.Turn.{Turn}
-use Rattle.session_client.specs.declared.plans.Turn.TheVariants.{Session}
+use Rattle.session_client.specs.declared.plans.Turn.TheVariants.{Session, Tick, Sweep}
 use Rattle.session_client.specs.declared.plans.Plan.{Plan}
 use Rattle.run_inputs.specs.declared.scripts.Act.{Act}
 use Rattle.run_inputs.specs.declared.scripts.Act.TheVariants as act
@@ -210,7 +210,7 @@ stops_here core origin calls others taken_old taken_new tally h = record {
 sessions_at : (core : CoreView) (origin : Origin) (moves : List Move) → IsAt core origin moves → length core.sessions ≡ length (world_of origin.shape moves).plans
 sessions_at core origin moves h = sym (length-map core.sessions _) ∙ ap length h.sessions.plans
 
--- the turn of a session that began there
+-- a turn of a session that began there, or another turn
 has_begun : (core : CoreView) (origin : Origin) (moves : List Move) (turn : Turn) → IsAt core origin moves → IsTurnOf (begun_in (map call_of (reverse moves))) turn → HasBegun core turn
 has_begun core origin moves (Session who) at of =
     let same = sessions_at core origin moves at in
@@ -218,6 +218,8 @@ has_begun core origin moves (Session who) at of =
     let low = of.0 in
     let high = of.1 in
     (omega arith, omega arith)
+has_begun core origin moves (Tick by) at of = tt
+has_begun core origin moves Sweep at of = tt
 
 -- a core that can play a turn can take it
 pub can_take : (core : CoreView) (turn : Turn) (count : ℕ) (taken_new : Option (List ℕ)) (tally : Tally) → CanPlay core (act.Run turn count ∷ []) taken_new tally → IsRunning core × HasBegun core turn

@@ -1,5 +1,6 @@
 -- What a run reads, prints and keeps.
 use Rattle.std.specs.Prelude.{ℕ, ◌≡◌, ◌≢◌, ◌+◌, ◌-◌, ◌^◌, ◌≤◌, ◌⊎◌, Bool, true, false, min, List, [], ◌∷◌, ◌++◌, length, map, reverse, replicate, flat_map, count_by, Option, Some, None, slice_get, codes}
+use Rattle.std.specs.List.{AllByRecursion}
 use Rattle.std.specs.Option.{ForSome}
 use Rattle.iq_outside.specs.Outside.{Rose, Takes, TakesAtMost, AtEnd, Gains}
 use Rattle.rows_model.specs.Rows.{Tables, start_tables}
@@ -17,7 +18,7 @@ use Rattle.core_history.specs.Determined.{Call, Adds, Turns, call_of}
 use Rattle.core_history.specs.Events.{Event, log_of}
 use Rattle.core_history.specs.Lines.{lines_of, end_line, is_fault, fault_turns}
 use Rattle.core_history.specs.Machine.{Move, world_of, terms_of}
-use Rattle.core_history.specs.Freshness.{histories_of, AreQuarantined}
+use Rattle.core_history.specs.Freshness.{histories_of, AreQuarantined, IsNumbered}
 use Rattle.core_history.specs.Truth.{IsTruePast}
 use Rattle.top_run.specs.declared.runs.Status.{Status}
 use Rattle.top_run.specs.declared.runs.Status.TheVariants as status
@@ -136,13 +137,14 @@ pub record IsOpened (held : Held) (shape : Shape) (opening : Tables) (rows : Opt
   pub fresh : held shape.members ≡ Some (start_tables shape.members)
   pub opened : ForSome rows (λ _. ForSome (held shape.members) (λ there. opening ≡ there))
 
--- The log and the histories are those after these moves over these opening rows. Each history is legal, each commit was quarantined when it was made and is covered. Where the keeper tells its rows, they are the opening rows after the log, its word was true, and each hit is fresh.
+-- The log and the histories are those after these moves over these opening rows. Each history is legal, each commit was quarantined when it was made and is covered, and each value that was put or shifted has the number of its session's commit. Where the keeper tells its rows, they are the opening rows after the log, its word was true, and each hit is fresh.
 pub record Keeps (shape : Shape) (opening : Tables) (moves : List Move) (rows : Option Tables) (log : List Commit) (histories : List (List Step)) : Type 0 where
   pub log_is : log ≡ log_of (past_of shape moves)
   pub histories_are : histories ≡ histories_of shape (past_of shape moves)
   pub legal : (place : ℕ) (history : List Step) → slice_get histories place ≡ Some history → Legal (terms_of shape place) history
   pub covered : Covered log histories
   pub quarantined : AreQuarantined shape (past_of shape moves)
+  pub numbered : (place : ℕ) (history : List Step) → slice_get histories place ≡ Some history → AllByRecursion (IsNumbered log) (reverse history)
   pub rows_are : ForSome rows (λ told. told ≡ rows_after opening log)
   pub truth : ForSome rows (λ _. IsTruePast opening (past_of shape moves))
   pub fresh : ForSome rows (λ _. Fresh opening log histories)
