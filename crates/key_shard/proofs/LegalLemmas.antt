@@ -26,15 +26,15 @@ use Rattle.key_shard.proofs.CaseLemmas.{MayJoin, got_cases, set_cases, verdict_c
 use Rattle.key_shard.proofs.OneStepLemmas.{next_drawn}
 
 -- what holds of each of two lists holds of each of both, of some, and what is weaker holds too
-every-append : {X : Type 0} (P : X → Type 0) (xs ys : List X) → AllByRecursion P xs → AllByRecursion P ys → AllByRecursion P (xs ++ ys)
+pub every-append : {X : Type 0} (P : X → Type 0) (xs ys : List X) → AllByRecursion P xs → AllByRecursion P ys → AllByRecursion P (xs ++ ys)
 every-append P xs ys h k =
     recursion_from_All P (xs ++ ys) (All-append P xs ys (All-from_recursion P xs h) (All-from_recursion P ys k))
 
-every-filter : {X : Type 0} (P : X → Type 0) (p : X → Bool) (xs : List X) → AllByRecursion P xs → AllByRecursion P (filter p xs)
+pub every-filter : {X : Type 0} (P : X → Type 0) (p : X → Bool) (xs : List X) → AllByRecursion P xs → AllByRecursion P (filter p xs)
 every-filter P p xs h =
     recursion_from_All P (filter p xs) (All-filter p P xs (All-from_recursion P xs h))
 
-every-weaker : {X : Type 0} (P Q : X → Type 0) (xs : List X) → ((x : X) → P x → Q x) → AllByRecursion P xs → AllByRecursion Q xs
+pub every-weaker : {X : Type 0} (P Q : X → Type 0) (xs : List X) → ((x : X) → P x → Q x) → AllByRecursion P xs → AllByRecursion Q xs
 every-weaker P Q xs f h = recursion_from_All Q xs (All-weaker P Q f xs (All-from_recursion P xs h))
 
 -- what stands well, told of the quarantines and the lease to read themselves

@@ -1,4 +1,5 @@
 pub mod CaseLemmas
+pub mod DueLemmas
 pub mod EndLemmas
 pub mod KeptLemmas
 pub mod LegalLemmas

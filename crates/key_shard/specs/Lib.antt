@@ -5,6 +5,7 @@ pub use Rattle.case_tables.specs.Compatibility
 pub use Rattle.lease_table.specs.Leases
 pub mod Permit
 pub mod Past
+pub mod Dues
 pub mod Answers
 pub mod LegalStands
 pub mod OneStep

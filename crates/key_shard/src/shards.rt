@@ -1,6 +1,7 @@
 ghost use Rattle.std.specs.Prelude.{◌≡◌, ◌≢◌, ◌↔◌, ◌≤◌, ◌<◌, ◌∷◌, ◌++◌, [], reverse, IfOk, OnOk, OnErr, IfErr, IfSome, IfNone, IsTrue, None};
 ghost use Rattle.std.specs.Bool.{IsFalse};
 ghost use Rattle.lease_table.specs.Expiry.{NoneDue, NoneDueBefore, StandsDue};
+ghost use Rattle.key_shard.specs.Dues.{first_due};
 ghost use Rattle.key_shard.specs.Answers.{get_step, set_step, quarantine_step, release_step, replace_step, sweep_step, FitsMode, FitsShift, IsAtHome, Legal};
 ghost use Rattle.key_shard.specs.Past.{entry, quar_of, standing};
 ghost use Rattle.key_shard.specs.Replies.{ShowsGot, ShowsSet, ShowsQuarantine, ShowsRelease, sweep_told};
@@ -168,6 +169,7 @@ impl Shard {
         ensures due { IfSome result (StandsDue now (λ key. standing key (past_of self.now))) }
         ensures least { IfSome result (NoneDueBefore now (λ key. standing key (past_of self.now))) }
         ensures none { IfNone result (NoneDue now (λ key. standing key (past_of self.now))) }
+        ensures first { result ≡ first_due now (past_of self.now) }
     {
         self.body.expired(now)
     }

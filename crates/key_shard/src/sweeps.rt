@@ -1,6 +1,7 @@
 ghost use Rattle.std.specs.Prelude.{◌≡◌, ◌↔◌, IfSome, IfNone, IsTrue};
 ghost use Rattle.lease_table.specs.Expiry.{NoneDue, NoneDueBefore, StandsDue};
 ghost use Rattle.key_shard.specs.Answers.{IsAtHome, sweep_step};
+ghost use Rattle.key_shard.specs.Dues.{first_due};
 ghost use Rattle.key_shard.specs.Kept.{IsKept, shown, steps_of, terms_of};
 ghost use Rattle.key_shard.specs.Past.{standing};
 ghost use Rattle.key_shard.specs.Replies.{sweep_told};
@@ -27,6 +28,7 @@ impl Body {
         ensures due { IfSome result (StandsDue now (λ key. standing key (steps_of self.now))) }
         ensures least { IfSome result (NoneDueBefore now (λ key. standing key (steps_of self.now))) }
         ensures none { IfNone result (NoneDue now (λ key. standing key (steps_of self.now))) }
+        ensures first { result ≡ first_due now (steps_of self.now) }
     {
         self.leases.expired(now)
     }
