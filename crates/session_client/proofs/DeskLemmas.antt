@@ -82,7 +82,7 @@ fits Refresh found = tt
 fits Delta found = refl
 
 -- a quarantine in a mode brings a grant of the key to the session in that mode, and an old value to refresh alone
-pub quarantine_belongs : (terms : Terms) (past : List Step) (key : QKey) (who : Sid) (mode : Mode) (shift : ℤ) (answer : QAnswer)
+quarantine_belongs : (terms : Terms) (past : List Step) (key : QKey) (who : Sid) (mode : Mode) (shift : ℤ) (answer : QAnswer)
     → ShowsQuarantine terms past (quarantine_step terms past key who mode shift 0) answer → IsQuarantineOf who key mode answer
 quarantine_belongs terms past key who mode shift answer = by (verdict (seen_by key who 0 past) (quarantine (way_of mode)))
   where
@@ -104,3 +104,9 @@ quarantine_belongs terms past key who mode shift answer = by (verdict (seen_by k
     by verdicts.Void h = granted _ h
     by verdicts.Join h = granted _ h
     by verdicts.Own h = subst P (sym h) tt
+
+-- and so in a mode that is known
+pub quarantine_belongs_in : (terms : Terms) (past : List Step) (key : QKey) (who : Sid) (mode known : Mode) (shift : ℤ) (answer : QAnswer)
+    → ShowsQuarantine terms past (quarantine_step terms past key who mode shift 0) answer → mode ≡ known → IsQuarantineOf who key known answer
+quarantine_belongs_in terms past key who mode known shift answer shows is =
+    subst (λ m. IsQuarantineOf who key m answer) is (quarantine_belongs terms past key who mode shift answer shows)

@@ -178,6 +178,20 @@ fn release(shards: &mut Vec<Shard>, grant: Grant, how: How) -> Reply
     }
 }
 
+fn put(shards: &mut Vec<Shard>, grant: Grant, value: Value, stamp: u64) -> Reply
+    requires some { 1 ≤ length shards.old.items }
+    requires few { length shards.old.items ≤ 64 }
+    requires fits { grant.mode ≡ Mode.Refresh }
+    ensures as_many { length shards.new.items ≡ length shards.old.items }
+    ensures belongs { (who : Sid) → Belongs who (wanted.Sar grant (Some value) stamp) result }
+{
+    let place = home_of(shards, &grant.key());
+    match shards[place].replace(grant, value, stamp) {
+        Ok(told) => Reply::Rel { told },
+        Err(Back { grant, value: _ }) => Reply::SarBack { grant },
+    }
+}
+
 fn replace(shards: &mut Vec<Shard>, grant: Grant, value: Option<Value>, stamp: u64) -> Reply
     requires some { 1 ≤ length shards.old.items }
     requires few { length shards.old.items ≤ 64 }
@@ -185,13 +199,9 @@ fn replace(shards: &mut Vec<Shard>, grant: Grant, value: Option<Value>, stamp: u
     ensures as_many { length shards.new.items ≡ length shards.old.items }
     ensures belongs { (who : Sid) → Belongs who (wanted.Sar grant value stamp) result }
 {
-    let Some(value) = value else {
-        return release(shards, grant, How::Drop);
-    };
-    let place = home_of(shards, &grant.key());
-    match shards[place].replace(grant, value, stamp) {
-        Ok(told) => Reply::Rel { told },
-        Err(Back { grant, value: _ }) => Reply::SarBack { grant },
+    match value {
+        Some(value) => put(shards, grant, value, stamp),
+        None => release(shards, grant, How::Drop),
     }
 }
 

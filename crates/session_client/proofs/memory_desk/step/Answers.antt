@@ -3,8 +3,8 @@ use Rattle.rows_model.specs.declared.keys.Sid.{Sid}
 use Rattle.session_client.specs.Belongs.{Belongs}
 use Rattle.session_client.proofs.memory_desk.step.Goals as goal
 
-pub told-requires : goal.told-requires
-told-requires g c =
-    let (heard, follows) = c.requires.follows in
+pub told-told-requires : goal.told-told-requires
+told-told-requires g c =
+    let (short, heard, follows) = c.requires.follows in
     let P : Sid → Type 0 = λ who. Belongs who c.wants-wanted.result c.call-reply.result in
-    (c.wants-wanted.ensures.awaits heard c.call-reply.result follows).1 (subst P c.sid-sid.ensures c.call-reply.ensures.belongs)
+    (c.wants-wanted.ensures.awaits short heard c.call-reply.result follows).1 (subst P c.sid-sid.ensures c.call-reply.ensures.belongs)
