@@ -1,7 +1,7 @@
 -- How a core follows a session that begins.
 use Rattle.std.proofs.Common.{ℕ, zero, suc, ◌+◌, ◌-◌, ◌≡◌, ◌<◌, ◌≤◌, ◌==◌, ◌&&◌, ◌||◌, Bool, true, false, not, cond, List, [], ◌∷◌, ◌++◌, length, map, count_by, Option, Some, None, IsSome, slice_get, refl, sym, ap, subst, ◌∙◌, ⊎_elim, length-append, arith}
 use Rattle.std.specs.List.{list_any}
-use Rattle.std.proofs.lemmas.Bool.{cases_lt}
+use Rattle.std.proofs.lemmas.Bool.{cases_lt, eqb-true, false_from_ne_true}
 use Rattle.std.proofs.lemmas.List.Folds.{list_any-append}
 use Rattle.std.proofs.lemmas.List.{length-map}
 use Rattle.rows_model.specs.declared.keys.Sid.{Sid}
@@ -13,46 +13,97 @@ use Rattle.session_client.specs.Follows.{plan_of, sid_of, IsReady, Follows}
 use Rattle.session_client.specs.Plans.{IsPlan, writes}
 use Rattle.session_client.specs.declared.replies.Reply.{Reply}
 use Rattle.session_client.specs.declared.replies.Reply.TheVariants as reply
+use Rattle.session_client.specs.Wants.{was_committed}
 use Rattle.session_client.specs.declared.plans.Plan.{Plan}
+use Rattle.session_client.specs.declared.plans.Shape.{Shape}
+use Rattle.session_client.specs.declared.plans.Turn.{Turn}
+use Rattle.session_client.specs.declared.plans.Turn.TheVariants as turn
+use Rattle.expiry_sweeper.specs.declared.replies.SweepReply.TheVariants as sweeps
+use Rattle.expiry_sweeper.specs.declared.replies.SweepWanted.{SweepWanted}
+use Rattle.expiry_sweeper.specs.declared.replies.SweepWanted.TheVariants as sweep
+use Rattle.expiry_sweeper.specs.declared.sweepers.Sweeper.{Sweeper}
 use Rattle.session_client.specs.declared.sessions.Session.{Session}
 use Rattle.key_shard.specs.Shards.{ShardView}
-use Rattle.core_history.specs.Cores.{Origin, CoreView, HasShards, HasPhases, RoseBy, IsAt, AreFollowing}
-use Rattle.core_history.specs.Events.{Event, who_in, reply_in, commits_told, ends_told, told_to, log_of, ended_of, was_ended, has_committed}
+use Rattle.core_history.specs.Cores.{Origin, CoreView, HasShards, HasPhases, HasSweeper, RoseBy, IsAt, AreFollowing}
+use Rattle.core_history.specs.Events.{Event, Stepped, Called, Ticked, Swept, told_by, told_in, told_to, swept_in, ends_told, ends_swept, ends_in, ended_of, was_ended, has_committed}
 use Rattle.core_history.specs.Lines.{is_fault}
-use Rattle.core_history.specs.Machine.{World, Move, Begin, is_writer, is_open, begun, world_of}
+use Rattle.core_history.specs.Machine.{World, Move, Begin, Take, Said, is_writer, is_open, begun, event_of, wanted_of, sweep_of, swept_next, turn_event, world_of}
 use Rattle.core_history.proofs.CoresLemmas.{NoneUnbegun, follow_begun, none_begun, plans_begun}
+use Rattle.core_history.proofs.EventLemmas.{committed-told}
+use Rattle.core_history.proofs.FoundLemmas.{EndsHeard, ends_heard, none-behind}
 use Rattle.core_history.proofs.OpenLemmas.{phase_there}
 use Rattle.core_history.proofs.ShardsLemmas.{slice_get_push, slice_get_pushed}
+use Rattle.core_history.proofs.TellLemmas.{event_turn}
 
--- what another session was told is no commit of this one, and no end
-not_committed : (n : ℕ) (who : Sid) (told : Reply) → (who.number == n) ≡ false → list_any (λ commit. commit.sid.number == n) (commits_told who told) ≡ false
-not_committed n who (reply.Committed number txn grants) apart = ap (λ (b : Bool). b || false) apart
-not_committed n who other apart = refl
+-- a session that was told nothing has not committed
+never_committed : (n : ℕ) (past : List Event) → told_to n past ≡ [] → has_committed n past ≡ false
+never_committed n past none = committed-told n past ∙ ap was_committed none
 
+-- what another session was told is no end of this one
 not_ended : (n : ℕ) (who : Sid) (told : Reply) → (who.number == n) ≡ false → list_any (λ other. other == n) (ends_told who told) ≡ false
 not_ended n who (reply.End true) apart = ap (λ (b : Bool). b || false) apart
 not_ended n who other apart = refl
 
--- a session that was told nothing has not committed, and was not ended
-never_committed : (n : ℕ) (past : List Event) → told_to n past ≡ [] → has_committed n past ≡ false
-never_committed n [] none = refl
-never_committed n (event ∷ past) none = by ((who_in event).number == n) refl (never_committed n past) none
+not_ended_by : (n : ℕ) (who : Sid) (told : Reply) → told_by n who told ≡ [] → list_any (λ other. other == n) (ends_told who told) ≡ false
+not_ended_by n who told none = by (who.number == n) refl none
   where
-    by : (b : Bool) → ((who_in event).number == n) ≡ b → (told_to n past ≡ [] → has_committed n past ≡ false) → cond b (reply_in event ∷ []) [] ++ told_to n past ≡ [] → has_committed n (event ∷ past) ≡ false
-    by true same before more = absurd cc
-    by false apart before more =
-        list_any-append (λ commit. commit.sid.number == n) (log_of past) (commits_told (who_in event) (reply_in event))
-        ∙ ap (λ (b : Bool). b || list_any (λ commit. commit.sid.number == n) (commits_told (who_in event) (reply_in event))) (before more) ∙ not_committed n (who_in event) (reply_in event) apart
+    by : (b : Bool) → (who.number == n) ≡ b → cond b (told ∷ []) [] ≡ [] → list_any (λ other. other == n) (ends_told who told) ≡ false
+    by true same none = absurd cc
+    by false apart none = not_ended n who told apart
 
-never_ended : (n : ℕ) (past : List Event) → told_to n past ≡ [] → was_ended n past ≡ false
-never_ended n [] none = refl
-never_ended n (event ∷ past) none = by ((who_in event).number == n) refl (never_ended n past) none
+-- where an event is a step of the sweeper's it doesn't end this session
+abbrev SparesOne : ℕ → Event → Type 0
+SparesOne n (Swept shard request made told) = list_any (λ other. other == n) (ends_swept request told) ≡ false
+SparesOne n other = Unit {0}
+
+-- an event that tells a session nothing, and in which the sweeper spares it, doesn't end it
+not_ended_in : (n : ℕ) (event : Event) → told_in n event ≡ [] → SparesOne n event → list_any (λ other. other == n) (ends_in event) ≡ false
+not_ended_in n (Stepped shard who request step told) none spares = not_ended_by n who told none
+not_ended_in n (Called who request told) none spares = not_ended_by n who told none
+not_ended_in n (Ticked now) none spares = refl
+not_ended_in n (Swept shard request made told) none spares = spares
+
+spares_turn : (n : ℕ) (event : Event) → swept_in event ≡ [] → SparesOne n event
+spares_turn n (Stepped shard who request step told) none = tt
+spares_turn n (Called who request told) none = tt
+spares_turn n (Ticked now) none = tt
+spares_turn n (Swept shard request made told) none = absurd cc
+
+-- the sweeper ends none that was told nothing
+spares_sweep : (shape : Shape) (world : World) (n : ℕ) (request : SweepWanted) → told_to n world.past ≡ [] → EndsHeard world.past request → SparesOne n (sweep_of shape world request)
+spares_sweep shape world n (sweep.Scan place) none heard = refl
+spares_sweep shape world n (sweep.Drop key token) none heard = refl
+spares_sweep shape world n (sweep.End who) none heard = by (is_open world who)
   where
-    by : (b : Bool) → ((who_in event).number == n) ≡ b → (told_to n past ≡ [] → was_ended n past ≡ false) → cond b (reply_in event ∷ []) [] ++ told_to n past ≡ [] → was_ended n (event ∷ past) ≡ false
-    by true same before more = absurd cc
-    by false apart before more =
-        list_any-append (λ other. other == n) (ends_told (who_in event) (reply_in event)) (ended_of past)
-        ∙ ap (λ (b : Bool). b || was_ended n past) (not_ended n (who_in event) (reply_in event) apart) ∙ before more
+    apart : (who.number == n) ≡ false
+    apart = false_from_ne_true (who.number == n) (λ same. heard (ap (λ m. told_to m world.past) (eqb-true who.number n same) ∙ none))
+
+    by : (was : Bool) → list_any (λ other. other == n) (ends_swept (sweep.End who) (sweeps.Ended was)) ≡ false
+    by true = ap (λ (b : Bool). b || false) apart
+    by false = refl
+
+spares : (shape : Shape) (moves : List Move) (n : ℕ) (turn : Turn) (said : Said) → told_to n (world_of shape moves).past ≡ [] → SparesOne n (turn_event shape (world_of shape moves) turn said)
+spares shape moves n (turn.Session who) said none =
+    let world = world_of shape moves in
+    spares_turn n (event_of shape world who (wanted_of world who) said) (event_turn shape world who (wanted_of world who) said).swept
+spares shape moves n (turn.Tick by) said none = tt
+spares shape moves n turn.Sweep said none = spares_sweep shape (world_of shape moves) n (swept_next shape (world_of shape moves)) none (ends_heard shape moves)
+
+none-front : {X : Type 0} (xs ys : List X) → xs ++ ys ≡ [] → xs ≡ []
+none-front [] ys e = refl
+none-front (x ∷ xs) ys e = absurd cc
+
+-- a session that was told nothing was not ended
+never_ended : (shape : Shape) (moves : List Move) (n : ℕ) → told_to n (world_of shape moves).past ≡ [] → was_ended n (world_of shape moves).past ≡ false
+never_ended shape [] n none = refl
+never_ended shape (Begin plan ∷ moves) n none = never_ended shape moves n none
+never_ended shape (Take turn said ∷ moves) n none =
+    let past = (world_of shape moves).past in
+    let event = turn_event shape (world_of shape moves) turn said in
+    let before : told_to n past ≡ [] = none-behind (told_in n event) (told_to n past) none in
+    list_any-append (λ other. other == n) (ends_in event) (ended_of past)
+    ∙ ap (λ (b : Bool). b || was_ended n past) (not_ended_in n event (none-front (told_in n event) (told_to n past) none) (spares shape moves n turn said before))
+    ∙ never_ended shape moves n before
 
 beyond : {X : Type 0} (xs : List X) (place : ℕ) → length xs ≤ place → slice_get xs place ≡ None
 beyond [] place h = refl
@@ -68,8 +119,8 @@ alone true = refl
 alone false = refl
 
 -- the sessions at the store with one more
-pub phases_begun : (phases : List Phase) (world : World) (plan : Plan) → HasPhases phases world → told_to (length world.plans + 1) world.past ≡ [] → HasPhases (begun_phases (writes plan) phases) (begun world plan)
-phases_begun phases world plan has none =
+pub phases_begun : (phases : List Phase) (world : World) (plan : Plan) → HasPhases phases world → told_to (length world.plans + 1) world.past ≡ [] → was_ended (length world.plans + 1) world.past ≡ false → HasPhases (begun_phases (writes plan) phases) (begun world plan)
+phases_begun phases world plan has none unended =
     record {
       count = omega (arith, length-append phases (first_phase (writes plan) ∷ []), length-append world.plans (plan ∷ []), has.count);
       opens = λ who some. ⊎_elim (before who some) (from who some) (cases_lt (who.number - 1) (length phases));
@@ -93,9 +144,10 @@ phases_begun phases world plan has none =
         let there : slice_get (world.plans ++ plan ∷ []) (who.number - 1) ≡ Some plan = ap (slice_get (world.plans ++ plan ∷ [])) (last ∙ has.count) ∙ slice_get_pushed world.plans plan in
         let number : length world.plans + 1 ≡ who.number = omega (arith, last, has.count, some) in
         let unheard : told_to who.number world.past ≡ [] = subst (λ (n : ℕ). told_to n world.past ≡ []) number none in
+        let still : was_ended who.number world.past ≡ false = subst (λ (n : ℕ). was_ended n world.past ≡ false) number unended in
         ap may (phase_there who.number (phases ++ first ∷ []) some ∙ here) ∙ may_first (writes plan)
         ∙ sym (ap (state who) there ∙ ap (λ (b : Bool). writes plan && not b && not (was_ended who.number world.past)) (never_committed who.number world.past unheard)
-        ∙ ap (λ (b : Bool). writes plan && true && not b) (never_ended who.number world.past unheard) ∙ alone (writes plan))
+        ∙ ap (λ (b : Bool). writes plan && true && not b) still ∙ alone (writes plan))
 
     later : (who : Sid) → 1 ≤ who.number → length phases + 1 ≤ who.number - 1 → may_commit who (phases ++ first ∷ []) ≡ is_open (begun world plan) who
     later who some far =
@@ -106,9 +158,9 @@ phases_begun phases world plan has none =
     from who some far = ⊎_elim (λ h. new who some (omega (arith, h, far))) (λ h. later who some h) (cases_lt (who.number - 1) (length phases + 1))
 
 -- a session began
-pub core_begun : (old new : CoreView) (origin : Origin) (moves : List Move) (plan : Plan) (session : Session) → IsAt old origin moves → IsPlan plan → plan_of session ≡ plan → (sid_of session).number ≡ length old.sessions + 1 → IsReady session → Follows session [] →
-    new.sessions ≡ old.sessions ++ session ∷ [] → new.shards ≡ old.shards → new.store.ledger ≡ with_session (writes plan) old.store.ledger → new.store.told ≡ old.store.told → new.store.faults ≡ old.store.faults → IsAt new origin (Begin plan ∷ moves)
-core_begun old new origin moves plan session at is_plan plan_is number ready follows sessions shards ledger told faults =
+pub core_begun : (old new : CoreView) (origin : Origin) (moves : List Move) (plan : Plan) (session : Session) → IsAt old origin moves → IsPlan plan → plan_of session ≡ plan → (sid_of session).number ≡ length old.sessions + 1 → IsReady session → Follows session false [] →
+    new.sessions ≡ old.sessions ++ session ∷ [] → new.shards ≡ old.shards → new.sweeper ≡ old.sweeper → new.clock ≡ old.clock → new.store.ledger ≡ with_session (writes plan) old.store.ledger → new.store.told ≡ old.store.told → new.store.faults ≡ old.store.faults → IsAt new origin (Begin plan ∷ moves)
+core_begun old new origin moves plan session at is_plan plan_is number ready follows sessions shards sweeper now ledger told faults =
     let world = world_of origin.shape moves in
     let count : length old.sessions ≡ length world.plans = sym (length-map old.sessions plan_of) ∙ ap (λ (l : List Plan). length l) at.sessions.plans in
     let none : told_to (length world.plans + 1) world.past ≡ [] = at.sessions.unbegun (length world.plans + 1) (omega (arith, count)) in
@@ -133,10 +185,13 @@ core_begun old new origin moves plan session at is_plan plan_is number ready fol
           truth = λ is_told. store.truth (subst (λ (o : Option Tables). IsSome o) told is_told);
         };
       };
-      phases = subst P (sym (ap (λ (l : Ledger). l.sessions) ledger)) (phases_begun old.store.ledger.sessions world plan at.phases none);
+      clock = now ∙ at.clock;
+      sweeper = subst (λ (s : Sweeper). HasSweeper s origin.shape world.past) (sym sweeper) at.sweeper;
+      phases = subst P (sym (ap (λ (l : Ledger). l.sessions) ledger)) (phases_begun old.store.ledger.sessions world plan at.phases none (never_ended origin.shape moves (length world.plans + 1) none));
       sessions = record {
         plans = ap (map plan_of) sessions ∙ plans_begun old.sessions session world.plans plan at.sessions.plans plan_is;
         following = subst S (sym sessions) (follow_begun old.sessions session world.past at.sessions.following at.sessions.unbegun ready number follows);
         unbegun = subst N (sym sessions) (none_begun old.sessions session world.past at.sessions.unbegun);
+        nobody = at.sessions.nobody;
       };
     }

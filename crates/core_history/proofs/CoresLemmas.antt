@@ -1,5 +1,5 @@
--- How a core follows a session that begins, and a turn.
-use Rattle.std.proofs.Common.{ℕ, ◌+◌, ◌-◌, ◌≡◌, ◌≢◌, ◌<◌, ◌≤◌, ◌==◌, Bool, true, false, cond, List, [], ◌∷◌, ◌++◌, length, map, Option, Some, option_map, IsTrue, Result, Ok, Err, MatchResult, IfOk, OnOk, OnErr, ◌⊎◌, inl, inr, zero, suc, eq-eqb, rules, slice_get, set, refl, sym, ap, subst, ⊎_elim, ◌∙◌, length-append, arith}
+-- How a core follows a session that begins, and each turn.
+use Rattle.std.proofs.Common.{ℕ, min, ◌+◌, ◌-◌, ◌^◌, ◌≡◌, ◌≢◌, ◌<◌, ◌≤◌, ◌==◌, Bool, true, false, cond, List, [], ◌∷◌, ◌++◌, length, map, Option, Some, option_map, IsTrue, Result, Ok, Err, MatchResult, IfOk, OnOk, OnErr, ◌⊎◌, inl, inr, zero, suc, eq-eqb, rules, slice_get, set, refl, sym, ap, subst, ⊎_elim, ◌∙◌, length-append, arith}
 use Rattle.std.specs.List.{list_any}
 use Rattle.std.proofs.lemmas.Bool.{eqb-true, cases_Bool, cases_lt, false≢true}
 use Rattle.std.proofs.lemmas.List.{map-append}
@@ -18,17 +18,29 @@ use Rattle.session_client.specs.declared.sessions.Session.{Session}
 use Rattle.session_client.specs.Follows.{plan_of, sid_of, IsReady, Follows}
 use Rattle.session_client.specs.Wants.{wants}
 use Rattle.rows_model.specs.declared.refusals.Memory.{Memory}
+use Rattle.session_client.specs.declared.plans.Turn.{Turn}
 use Rattle.session_client.specs.declared.plans.Turn.TheVariants as turn
+use Rattle.expiry_sweeper.specs.Follows.{wanted_of as wanted_by_stage, Follows as IsTold}
+use Rattle.expiry_sweeper.specs.Sweeps.{sweep_wants}
+use Rattle.expiry_sweeper.specs.declared.replies.SweepReply.{SweepReply}
+use Rattle.expiry_sweeper.specs.declared.replies.SweepWanted.{SweepWanted}
+use Rattle.expiry_sweeper.specs.declared.replies.SweepWanted.TheVariants as sweep
+use Rattle.expiry_sweeper.specs.declared.sweepers.Sweeper.{Sweeper}
+use Rattle.sql_keeper.specs.Stores.{StoreView}
 use Rattle.core_history.specs.declared.told.Told.{Told}
-use Rattle.core_history.specs.Cores.{Origin, CoreView, HasShards, AreFollowing, HasKept, IsAt}
-use Rattle.core_history.specs.Events.{Event, told_to, reply_in}
-use Rattle.core_history.specs.Machine.{World, wanted_by, wanted_of, event_of, turn_event, out_of, Said, Move, Take, world_of}
+use Rattle.core_history.specs.Cores.{Origin, CoreView, HasShards, HasStore, AreFollowing, HasKept, HasPhases, HasSessions, HasSweeper, IsAt}
+use Rattle.core_history.specs.Events.{Event, Ticked, told_in, told_to, swept_in, sweeps_of, now_of, reply_in}
+use Rattle.core_history.specs.Machine.{World, wanted_by, wanted_of, event_of, sweep_of, swept_next, later, turn_event, out_of, Said, Failed, Move, Take, world_of}
 use Rattle.core_history.specs.Requests.{IsGrantOut, IsOutWhereReleased, IsWaiting, Stands, TakesTurn, TakesOne, after}
+use Rattle.core_history.specs.Sweeping.{IsNumbered, TakesSweep}
 use Rattle.core_history.specs.Told.{IsToldOf}
+use Rattle.core_history.proofs.FoundLemmas.{ends_numbered}
 use Rattle.core_history.proofs.GrantLemmas.{grant_facts}
 use Rattle.core_history.proofs.GrantFacts.{GrantFacts, IsReleaseOf}
-use Rattle.core_history.proofs.ShardsLemmas.{slice_get_push, slice_get_pushed, slice_get-set_same, slice_get-set_other, shard_found}
-use Rattle.core_history.proofs.TellLemmas.{event_who}
+use Rattle.core_history.proofs.OpenLemmas.{phases_same}
+use Rattle.core_history.proofs.ShardsLemmas.{slice_get_push, slice_get_pushed, slice_get-set_same, slice_get-set_other, shard_found, shards_ticked}
+use Rattle.core_history.proofs.StoreEvents.{store_quiet, quiet_tick}
+use Rattle.core_history.proofs.TellLemmas.{event_turn}
 
 some_same : {X : Type 0} (a b : X) → Some a ≡ Some b → a ≡ b
 some_same a b e = cc
@@ -40,15 +52,15 @@ sid_is a b e = ap (λ (n : ℕ). record { number = n }) e
 abbrev pub NoneUnbegun : List Session → List Event → Type 0
 NoneUnbegun sessions past = (number : ℕ) → length sessions < number → told_to number past ≡ []
 
-pub follow_begun : (sessions : List Session) (new : Session) (past : List Event) → AreFollowing sessions past → NoneUnbegun sessions past → IsReady new → (sid_of new).number ≡ length sessions + 1 → Follows new [] → AreFollowing (sessions ++ new ∷ []) past
+pub follow_begun : (sessions : List Session) (new : Session) (past : List Event) → AreFollowing sessions past → NoneUnbegun sessions past → IsReady new → (sid_of new).number ≡ length sessions + 1 → Follows new false [] → AreFollowing (sessions ++ new ∷ []) past
 follow_begun sessions new past all none ready number follows place session found =
     ⊎_elim (λ h. all place session (sym (slice_get_push sessions new place h) ∙ found))
     (λ h.
     let inside : place < length (sessions ++ new ∷ []) = slice_get_within (sessions ++ new ∷ []) place session found in
     let last : place ≡ length sessions = omega (arith, length-append sessions (new ∷ [])) in
     let is : new ≡ session = some_same new session (sym (slice_get_pushed sessions new) ∙ ap (slice_get (sessions ++ new ∷ [])) (sym last) ∙ found) in
-    let P : Session → Type 0 = λ s. IsReady s × ((sid_of s).number ≡ place + 1) × Follows s (told_to (place + 1) past) in
-    let Q : List Reply → Type 0 = λ heard. Follows new heard in
+    let P : Session → Type 0 = λ s. IsReady s × ((sid_of s).number ≡ place + 1) × Follows s false (told_to (place + 1) past) in
+    let Q : List Reply → Type 0 = λ heard. Follows new false heard in
     subst P is (ready, omega (arith, number, last), subst Q (sym (none (place + 1) (omega arith))) follows))
     (cases_lt place (length sessions))
 
@@ -58,39 +70,47 @@ none_begun sessions new past none number above = none number (omega (arith, leng
 pub plans_begun : (sessions : List Session) (new : Session) (plans : List Plan) (plan : Plan) → map plan_of sessions ≡ plans → plan_of new ≡ plan → map plan_of (sessions ++ new ∷ []) ≡ plans ++ plan ∷ []
 plans_begun sessions new plans plan all is = map-append plan_of sessions (new ∷ []) ∙ ap (λ (ps : List Plan). ps ++ plan_of new ∷ []) all ∙ ap (λ (p : Plan). plans ++ p ∷ []) is
 
+-- what each session was told with one reply more, to the session of this number
+abbrev pub TellsOne : ℕ → Reply → List Event → Event → Type 0
+TellsOne who told past event =
+    (number : ℕ) → told_to number (event ∷ past) ≡ cond (who == number) (told ∷ []) [] ++ told_to number past
+
 -- the sessions after a turn of one
-pub follow_turn : (sessions : List Session) (who : ℕ) (after : Session) (past : List Event) (event : Event) → AreFollowing sessions past → 1 ≤ who → who ≤ length sessions →
-    ((number : ℕ) → told_to number (event ∷ past) ≡ cond (who == number) (reply_in event ∷ []) [] ++ told_to number past) →
-    IsReady after → (sid_of after).number ≡ who → Follows after (reply_in event ∷ told_to who past) → AreFollowing (set sessions (who - 1) after) (event ∷ past)
-follow_turn sessions who after past event all some begun told ready number follows place session found =
+pub follow_turn : (sessions : List Session) (who : ℕ) (after : Session) (told : Reply) (past : List Event) (event : Event) → AreFollowing sessions past → 1 ≤ who → who ≤ length sessions → TellsOne who told past event →
+    IsReady after → (sid_of after).number ≡ who → Follows after false (told ∷ told_to who past) → AreFollowing (set sessions (who - 1) after) (event ∷ past)
+follow_turn sessions who after told past event all some begun tells ready number follows place session found =
     ⊎_elim mine others (cases_Bool (who == place + 1))
   where
-    mine : (who == place + 1) ≡ true → IsReady session × ((sid_of session).number ≡ place + 1) × Follows session (told_to (place + 1) (event ∷ past))
+    mine : (who == place + 1) ≡ true → IsReady session × ((sid_of session).number ≡ place + 1) × Follows session false (told_to (place + 1) (event ∷ past))
     mine here =
         let is : who ≡ place + 1 = eqb-true who (place + 1) here in
         let at : who - 1 ≡ place = omega arith in
         let same : after ≡ session = some_same after session (sym (slice_get-set_same sessions (who - 1) after (omega arith)) ∙ ap (slice_get (set sessions (who - 1) after)) at ∙ found) in
-        let heard : reply_in event ∷ told_to who past ≡ told_to (place + 1) (event ∷ past) =
-        ap (λ (n : ℕ). reply_in event ∷ told_to n past) is ∙ ap (λ (b : Bool). cond b (reply_in event ∷ []) [] ++ told_to (place + 1) past) (sym here) ∙ sym (told (place + 1)) in
-        let P : Session → Type 0 = λ s. IsReady s × ((sid_of s).number ≡ place + 1) × Follows s (told_to (place + 1) (event ∷ past)) in
-        let Q : List Reply → Type 0 = λ heard. Follows after heard in
+        let heard : told ∷ told_to who past ≡ told_to (place + 1) (event ∷ past) =
+        ap (λ (n : ℕ). told ∷ told_to n past) is ∙ ap (λ (b : Bool). cond b (told ∷ []) [] ++ told_to (place + 1) past) (sym here) ∙ sym (tells (place + 1)) in
+        let P : Session → Type 0 = λ s. IsReady s × ((sid_of s).number ≡ place + 1) × Follows s false (told_to (place + 1) (event ∷ past)) in
+        let Q : List Reply → Type 0 = λ heard. Follows after false heard in
         subst P same (ready, number ∙ is, subst Q heard follows)
 
-    others : (who == place + 1) ≡ false → IsReady session × ((sid_of session).number ≡ place + 1) × Follows session (told_to (place + 1) (event ∷ past))
+    others : (who == place + 1) ≡ false → IsReady session × ((sid_of session).number ≡ place + 1) × Follows session false (told_to (place + 1) (event ∷ past))
     others there =
         let differ : who - 1 ≢ place = λ e. false≢true (sym there ∙ eq-eqb who (place + 1) (omega arith)) in
         let old = all place session (sym (slice_get-set_other sessions (who - 1) place after differ) ∙ found) in
         let heard : told_to (place + 1) past ≡ told_to (place + 1) (event ∷ past) =
-        ap (λ (b : Bool). cond b (reply_in event ∷ []) [] ++ told_to (place + 1) past) (sym there) ∙ sym (told (place + 1)) in
-        let Q : List Reply → Type 0 = λ heard. Follows session heard in
+        ap (λ (b : Bool). cond b (told ∷ []) [] ++ told_to (place + 1) past) (sym there) ∙ sym (tells (place + 1)) in
+        let Q : List Reply → Type 0 = λ heard. Follows session false heard in
         (old.0, old.1, subst Q heard old.2)
 
-pub none_turn : (sessions : List Session) (who : ℕ) (after : Session) (past : List Event) (event : Event) → NoneUnbegun sessions past → who ≤ length sessions →
-    ((number : ℕ) → told_to number (event ∷ past) ≡ cond (who == number) (reply_in event ∷ []) [] ++ told_to number past) → NoneUnbegun (set sessions (who - 1) after) (event ∷ past)
-none_turn sessions who after past event none begun told number above =
-    let far : length sessions < number = omega (arith, length-set sessions (who - 1) after) in
+-- who isn't told is told as much as before
+pub still_told : (who number : ℕ) (told : Reply) (past : List Event) (event : Event) → TellsOne who told past event → who ≢ number → told_to number (event ∷ past) ≡ told_to number past
+still_told who number told past event tells other =
     let apart : (who == number) ≡ false = grind (arith, rules) in
-    told number ∙ ap (λ (b : Bool). cond b (reply_in event ∷ []) [] ++ told_to number past) apart ∙ none number far
+    tells number ∙ ap (λ (b : Bool). cond b (told ∷ []) [] ++ told_to number past) apart
+
+pub none_turn : (sessions : List Session) (who : ℕ) (after : Session) (told : Reply) (past : List Event) (event : Event) → NoneUnbegun sessions past → who ≤ length sessions → TellsOne who told past event → NoneUnbegun (set sessions (who - 1) after) (event ∷ past)
+none_turn sessions who after told past event none begun tells number above =
+    let far : length sessions < number = omega (arith, length-set sessions (who - 1) after) in
+    still_told who number told past event tells (omega (arith, far, begun)) ∙ none number far
 
 -- writing a session with the same plan leaves the plans
 pub plans_turn : (sessions : List Session) (place : ℕ) (after session : Session) → slice_get sessions place ≡ Some session → plan_of after ≡ plan_of session → map plan_of (set sessions place after) ≡ map plan_of sessions
@@ -113,15 +133,15 @@ there (y ∷ xs) (suc place) h = there xs place (omega arith)
 
 -- what a session wants is what its own plan wants
 pub wants_is : (world : World) (who : Sid) (sessions : List Session) (session : Session) → map plan_of sessions ≡ world.plans → slice_get sessions (who.number - 1) ≡ Some session →
-    wants (plan_of session) (told_to who.number world.past) ≡ wanted_of world who
+    wants (plan_of session) false (told_to who.number world.past) ≡ wanted_of world who
 wants_is world who sessions session plans found =
     ap (λ (o : Option Plan). wanted_by o (told_to who.number world.past)) (sym (plan_there sessions world.plans (who.number - 1) session plans found))
 
--- what an event tells, by session
-pub told_after : (shape : Shape) (world : World) (who : Sid) (request : Wanted) (said : Said) (number : ℕ) →
-    told_to number (event_of shape world who request said ∷ world.past) ≡ cond (who.number == number) (reply_in (event_of shape world who request said) ∷ []) [] ++ told_to number world.past
+-- what a turn tells, by session
+pub told_after : (shape : Shape) (world : World) (who : Sid) (request : Wanted) (said : Said) →
+    TellsOne who.number (reply_in (event_of shape world who request said)) world.past (event_of shape world who request said)
 told_after shape world who request said number =
-    ap (λ (s : Sid). cond (s.number == number) (reply_in (event_of shape world who request said) ∷ []) [] ++ told_to number world.past) (event_who shape world who request said)
+    ap (λ (l : List Reply). l ++ told_to number world.past) ((event_turn shape world who request said).told number)
 
 is_true : (b : Bool) → b ≡ true → IsTrue b
 is_true true e = refl
@@ -142,11 +162,16 @@ out_there shards shape world who request has facts is = by request (λ grant h. 
 
     by : (w : Wanted) → ((grant : Permit) → IsReleaseOf grant w → IsGrantOut shards grant) → IsOutWhereReleased shards w
     by (wanted.Dar grant) f = f grant refl
+    by (wanted.Sar grant value stamp) f = f grant refl
+    by (wanted.Apply grant stamp) f = f grant refl
     by (wanted.Abort grant) f = f grant refl
     by (wanted.Get key floor) f = tt
     by (wanted.Ask key) f = tt
+    by (wanted.Staged key txn) f = tt
     by (wanted.Set key token value stamp) f = tt
     by (wanted.QaReg key) f = tt
+    by (wanted.QaRead key) f = tt
+    by (wanted.Delta key shift) f = tt
     by (wanted.Commit txn grants) f = tt
     by wanted.End f = tt
     by wanted.Nothing f = tt
@@ -157,7 +182,7 @@ waits_there core origin moves who session at some found =
     let world = world_of origin.shape moves in
     let following = at.sessions.following (who.number - 1) session found in
     let number : who.number - 1 + 1 ≡ who.number = omega arith in
-    let F : ℕ → Type 0 = λ n. Follows session (told_to n world.past) in
+    let F : ℕ → Type 0 = λ n. Follows session false (told_to n world.past) in
     let shards : origin.shape.shards ≢ 0 = λ e. absurd (omega (arith, at.kept.shards.fit.some_shards, e)) in
     record {
       ready = following.0;
@@ -168,14 +193,39 @@ waits_there core origin moves who session at some found =
     }
 
 -- what is so after a turn
-abbrev pub TakesStep : Origin → List Move → Sid → CoreView → Result Told Memory → Type 0
-TakesStep origin moves who new result =
-    MatchResult result (λ told. (said : Said) × IsAt new origin (Take (turn.Session who) said ∷ moves) × IsToldOf (turn_event origin.shape (world_of origin.shape moves) (turn.Session who) said) told)
-    (λ _. HasKept new origin moves ⊎ ((said : Said) × HasKept new origin (Take (turn.Session who) said ∷ moves)))
+abbrev pub TakesStep : Origin → List Move → Turn → CoreView → Result Told Memory → Type 0
+TakesStep origin moves turn new result =
+    MatchResult result (λ told. (said : Said) × IsAt new origin (Take turn said ∷ moves) × IsToldOf (turn_event origin.shape (world_of origin.shape moves) turn said) told)
+    (λ _. HasKept new origin moves ⊎ ((said : Said) × HasKept new origin (Take turn said ∷ moves)))
 
-pub turn_taken : (old new : CoreView) (origin : Origin) (moves : List Move) (who : Sid) (result : Result Told Memory) → IsAt old origin moves → 1 ≤ who.number → who.number ≤ length old.sessions →
-    TakesOne old.shards old.store old.sessions who new.shards new.store new.sessions result → TakesStep origin moves who new result
-turn_taken old new origin moves who result at some begun takes = by result one.4 taken
+-- a turn whose event was made, and its line told unless memory ran out
+pub event_taken : (new : CoreView) (origin : Origin) (moves : List Move) (turn : Turn) (said : Said) (result : Result Told Memory) → IsAt new origin (Take turn said ∷ moves) → IfOk result (IsToldOf (turn_event origin.shape (world_of origin.shape moves) turn said)) → TakesStep origin moves turn new result
+event_taken new origin moves turn said (Ok told) at line = (said, at, line)
+event_taken new origin moves turn said (Err memory) at line = inr (said, at.kept)
+
+-- the sweeper and the clock after an event that is none of theirs
+sweeper_same : (sweeper : Sweeper) (shape : Shape) (past : List Event) (event : Event) → swept_in event ≡ [] → HasSweeper sweeper shape past → HasSweeper sweeper shape (event ∷ past)
+sweeper_same sweeper shape past event none has =
+    record { shards = has.shards; following = subst (IsTold sweeper) (ap (λ (l : List SweepReply). l ++ sweeps_of past) (sym none)) has.following }
+
+-- the sessions after an event that is no session's
+pub sessions_same : (sessions : List Session) (world : World) (event : Event) → ((number : ℕ) → told_in number event ≡ []) → HasSessions sessions world → HasSessions sessions (after world event)
+sessions_same sessions world event none has = record {
+  plans = has.plans;
+  following = λ place session found.
+      let old = has.following place session found in
+      (old.0, old.1, subst (λ (heard : List Reply). Follows session false heard) (sym (same (place + 1))) old.2);
+  unbegun = λ number above. same number ∙ has.unbegun number above;
+  nobody = same 0 ∙ has.nobody;
+}
+  where
+    same : (number : ℕ) → told_to number (event ∷ world.past) ≡ told_to number world.past
+    same number = ap (λ (l : List Reply). l ++ told_to number world.past) (none number)
+
+-- a turn of a session
+pub turn_taken : (old new : CoreView) (origin : Origin) (moves : List Move) (who : Sid) (result : Result Told Memory) → IsAt old origin moves → 1 ≤ who.number → who.number ≤ length old.sessions → new.sweeper ≡ old.sweeper → new.clock ≡ old.clock →
+    TakesOne old.shards old.store old.sessions who old.clock new.shards new.store new.sessions result → TakesStep origin moves (turn.Session who) new result
+turn_taken old new origin moves who result at some begun sweeper now takes = by result one.4 taken
   where
     world : World
     world = world_of origin.shape moves
@@ -184,7 +234,7 @@ turn_taken old new origin moves who result at some begun takes = by result one.4
     found = there old.sessions (who.number - 1) (omega (arith, some, begun))
 
     one : (after : Session) × (new.sessions ≡ set old.sessions (who.number - 1) after) × (plan_of after ≡ plan_of found.0) × (sid_of after ≡ sid_of found.0) × OnOk result (IsReady after)
-        × ((origin : Origin) (world : World) (heard : List Reply) → Stands old.shards old.store origin world → Follows found.0 heard → TakesTurn origin world who (wants (plan_of found.0) heard) heard new.shards new.store after result)
+        × ((origin : Origin) (world : World) (heard : List Reply) → Stands old.shards old.store origin world → old.clock ≡ now_of world.past → Follows found.0 false heard → TakesTurn origin world who (wants (plan_of found.0) false heard) heard new.shards new.store after result)
     one = takes found.0 found.1
 
     number : who.number - 1 + 1 ≡ who.number
@@ -193,12 +243,12 @@ turn_taken old new origin moves who result at some begun takes = by result one.4
     heard : List Reply
     heard = told_to who.number world.past
 
-    follows : Follows found.0 heard
-    follows = subst (λ (n : ℕ). Follows found.0 (told_to n world.past)) number (at.sessions.following (who.number - 1) found.0 found.1).2
+    follows : Follows found.0 false heard
+    follows = subst (λ (n : ℕ). Follows found.0 false (told_to n world.past)) number (at.sessions.following (who.number - 1) found.0 found.1).2
 
     taken : TakesTurn origin world who (wanted_of world who) heard new.shards new.store one.0 result
     taken = subst (λ (w : Wanted). TakesTurn origin world who w heard new.shards new.store one.0 result) (wants_is world who old.sessions found.0 at.sessions.plans found.1)
-        (one.5 origin world heard (at.kept.shards, (at.kept.store, at.phases)) follows)
+        (one.5 origin world heard (at.kept.shards, (at.kept.store, at.phases)) at.clock follows)
 
     kept : (said : Said) → Stands new.shards new.store origin (after world (event_of origin.shape world who (wanted_of world who) said)) → HasKept new origin (Take (turn.Session who) said ∷ moves)
     kept said stands = record { plans = at.kept.plans; fit = at.kept.fit; shards = stands.0; store = stands.1.0 }
@@ -206,26 +256,103 @@ turn_taken old new origin moves who result at some begun takes = by result one.4
     sid : (sid_of one.0).number ≡ who.number
     sid = ap (λ (s : Sid). s.number) one.3 ∙ (at.sessions.following (who.number - 1) found.0 found.1).1 ∙ number
 
-    by : (r : Result Told Memory) → OnOk r (IsReady one.0) → TakesTurn origin world who (wanted_of world who) heard new.shards new.store one.0 r → TakesStep origin moves who new r
+    by : (r : Result Told Memory) → OnOk r (IsReady one.0) → TakesTurn origin world who (wanted_of world who) heard new.shards new.store one.0 r → TakesStep origin moves (turn.Session who) new r
     by (Ok told) ready t =
         let event = event_of origin.shape world who (wanted_of world who) t.0 in
-        let told_is = told_after origin.shape world who (wanted_of world who) t.0 in
+        let answer = reply_in event in
+        let is = event_turn origin.shape world who (wanted_of world who) t.0 in
+        let tells = told_after origin.shape world who (wanted_of world who) t.0 in
         let S : List Session → Type 0 = λ xs. AreFollowing xs (event ∷ world.past) in
         let N : List Session → Type 0 = λ xs. NoneUnbegun xs (event ∷ world.past) in (
           t.0,
           record {
             kept = kept t.0 t.2;
+            clock = now ∙ at.clock ∙ sym (is.clock world.past);
+            sweeper = subst (λ (s : Sweeper). HasSweeper s origin.shape (event ∷ world.past)) (sym sweeper) (sweeper_same old.sweeper origin.shape world.past event is.swept at.sweeper);
             phases = t.2.1.1;
             sessions = record {
               plans = ap (map plan_of) one.1 ∙ plans_turn old.sessions (who.number - 1) one.0 found.0 found.1 one.2 ∙ at.sessions.plans;
-              following = subst S (sym one.1) (follow_turn old.sessions who.number one.0 world.past event at.sessions.following some begun told_is ready sid t.3);
-              unbegun = subst N (sym one.1) (none_turn old.sessions who.number one.0 world.past event at.sessions.unbegun begun told_is);
+              following = subst S (sym one.1) (follow_turn old.sessions who.number one.0 answer world.past event at.sessions.following some begun tells ready sid t.3);
+              unbegun = subst N (sym one.1) (none_turn old.sessions who.number one.0 answer world.past event at.sessions.unbegun begun tells);
+              nobody = still_told who.number 0 answer world.past event tells (omega (arith, some)) ∙ at.sessions.nobody;
             };
           },
           t.1,
         )
     by (Err memory) ready (inl stands) = inl (record { plans = at.kept.plans; fit = at.kept.fit; shards = stands.0; store = stands.1.0 })
     by (Err memory) ready (inr made) = inr (made.0, kept made.0 made.1)
+
+-- a tick of the clock
+pub tick_taken : (old new : CoreView) (origin : Origin) (moves : List Move) (by : ℕ) (result : Result Told Memory) → IsAt old origin moves → new.store ≡ old.store → new.shards ≡ old.shards → new.sessions ≡ old.sessions → new.sweeper ≡ old.sweeper → new.clock ≡ min (old.clock + by) (2 ^ 64 - 1) →
+    IfOk result (IsToldOf (Ticked new.clock)) → TakesStep origin moves (turn.Tick by) new result
+tick_taken old new origin moves by result at store shards sessions sweeper now line =
+    event_taken new origin moves (turn.Tick by) Failed result ticked (subst (λ (n : ℕ). IfOk result (IsToldOf (Ticked n))) clock line)
+  where
+    world : World
+    world = world_of origin.shape moves
+
+    clock : new.clock ≡ later by world.past
+    clock = now ∙ ap (λ (n : ℕ). min (n + by) (2 ^ 64 - 1)) at.clock
+
+    event : Event
+    event = Ticked (later by world.past)
+
+    kept : HasKept new origin (Take (turn.Tick by) Failed ∷ moves)
+    kept = record {
+      plans = at.kept.plans;
+      fit = at.kept.fit;
+      shards = subst (λ (xs : List ShardView). HasShards xs origin.shape (event ∷ world.past)) (sym shards) (shards_ticked old.shards origin.shape world.past (later by world.past) at.kept.shards);
+      store = subst (λ (s : StoreView). HasStore s origin (event ∷ world.past)) (sym store) (store_quiet old.store origin world.past event at.kept.store (quiet_tick (later by world.past)));
+    }
+
+    ticked : IsAt new origin (Take (turn.Tick by) Failed ∷ moves)
+    ticked = record {
+      kept = kept;
+      clock = clock;
+      sweeper = subst (λ (s : Sweeper). HasSweeper s origin.shape (event ∷ world.past)) (sym sweeper) (sweeper_same old.sweeper origin.shape world.past event refl at.sweeper);
+      phases = subst (λ (s : StoreView). HasPhases s.ledger.sessions (after world event)) (sym store) (phases_same old.store.ledger.sessions world event at.phases refl refl);
+      sessions = subst (λ (xs : List Session). HasSessions xs (after world event)) (sym sessions) (sessions_same old.sessions world event (λ number. refl) at.sessions);
+    }
+
+-- no session is told anything of a step of the sweeper's
+untold : (shape : Shape) (world : World) (request : SweepWanted) (number : ℕ) → told_in number (sweep_of shape world request) ≡ []
+untold shape world (sweep.Scan place) number = refl
+untold shape world (sweep.End who) number = refl
+untold shape world (sweep.Drop key token) number = refl
+
+-- and the clock doesn't move
+unmoved : (shape : Shape) (world : World) (request : SweepWanted) → now_of (sweep_of shape world request ∷ world.past) ≡ now_of world.past
+unmoved shape world (sweep.Scan place) = refl
+unmoved shape world (sweep.End who) = refl
+unmoved shape world (sweep.Drop key token) = refl
+
+-- whom the sweeper wants to end has a number
+pub sweeper_numbered : (core : CoreView) (origin : Origin) (moves : List Move) → IsAt core origin moves → IsNumbered (wanted_by_stage core.sweeper)
+sweeper_numbered core origin moves at =
+    let heard = sweeps_of (world_of origin.shape moves).past in
+    let wants : wanted_by_stage core.sweeper ≡ swept_next origin.shape (world_of origin.shape moves) = at.sweeper.following.wants ∙ ap (λ (n : ℕ). sweep_wants n heard) at.sweeper.shards in
+    subst IsNumbered (sym wants) (ends_numbered origin.shape moves at.sessions.nobody)
+
+-- a step of the sweeper's
+pub sweep_taken : (old new : CoreView) (origin : Origin) (moves : List Move) (result : Result Told Memory) → IsAt old origin moves → new.sessions ≡ old.sessions → new.clock ≡ old.clock →
+    TakesSweep origin (world_of origin.shape moves) new.shards new.store new.sweeper result → TakesStep origin moves turn.Sweep new result
+sweep_taken old new origin moves result at sessions now takes =
+    event_taken new origin moves turn.Sweep Failed result swept takes.2
+  where
+    world : World
+    world = world_of origin.shape moves
+
+    request : SweepWanted
+    request = swept_next origin.shape world
+
+    swept : IsAt new origin (Take turn.Sweep Failed ∷ moves)
+    swept = record {
+      kept = record { plans = at.kept.plans; fit = at.kept.fit; shards = takes.0.0; store = takes.0.1.0 };
+      clock = now ∙ at.clock ∙ sym (unmoved origin.shape world request);
+      sweeper = takes.1;
+      phases = takes.0.1.1;
+      sessions = subst (λ (xs : List Session). HasSessions xs (after world (sweep_of origin.shape world request))) (sym sessions) (sessions_same old.sessions world (sweep_of origin.shape world request) (untold origin.shape world request) at.sessions);
+    }
 
 -- a claim by cases gives each of its cases
 pub ok_of : {X E : Type 0} (r : Result X E) (P : X → Type 0) (Q : Type 0) → MatchResult r P (λ _. Q) → IfOk r P

@@ -1,5 +1,5 @@
 -- Two runs of one script take the same turns: move by move, the latest first.
-use Rattle.std.proofs.Common.{◌≡◌, ℕ, suc, ◌+◌, ◌<◌, ◌==◌, ◌||◌, Bool, true, false, cond, List, [], ◌∷◌, ◌++◌, length, map, count_by, Option, Some, None, refl, sym, ap, subst, ◌∙◌, append-nil, length-append, eq-eqb, arith, rules}
+use Rattle.std.proofs.Common.{◌≡◌, ℕ, suc, ◌+◌, ◌<◌, ◌==◌, ◌||◌, Bool, true, false, cond, List, [], ◌∷◌, ◌++◌, length, map, count_by, Option, Some, None, Result, Ok, refl, sym, ap, subst, ◌∙◌, append-nil, length-append, eq-eqb, arith, rules}
 use Rattle.std.specs.List.{list_any}
 use Rattle.std.proofs.lemmas.Bool.{false≢true}
 use Rattle.std.proofs.lemmas.List.{append_cancel_right}
@@ -8,17 +8,19 @@ use Rattle.rows_model.specs.declared.keys.QKey.{QKey}
 use Rattle.rows_model.specs.declared.keys.Sid.{Sid}
 use Rattle.rows_model.specs.declared.changes.Change.{Change}
 use Rattle.rows_model.specs.Rows.{Tables}
+use Rattle.rows_model.specs.Query.{answer}
 use Rattle.sql_keeper.specs.declared.faults.CommitFault.{CommitFault}
 use Rattle.sql_keeper.specs.Commits.{commit_fault}
 use Rattle.sql_keeper.specs.Log.{rows_after}
 use Rattle.session_client.specs.Grants.{GrantsView}
 use Rattle.session_client.specs.declared.plans.Shape.{Shape}
+use Rattle.session_client.specs.declared.plans.Turn.{Turn}
 use Rattle.session_client.specs.declared.plans.Turn.TheVariants as turn
 use Rattle.session_client.specs.declared.replies.Wanted.{Wanted}
 use Rattle.session_client.specs.declared.replies.Wanted.TheVariants as wanted
-use Rattle.core_history.specs.Events.{Event, Called, reply_in, log_of}
-use Rattle.core_history.specs.Machine.{World, Move, Begin, Take, Said, Value, Made, Rejected, is_open, log_cap, begun, taken, turn_event, event_of, wanted_of, ask_told, commit_said, commit_by, world_of}
-use Rattle.core_history.specs.Truth.{IsTrueReply, IsTruePast}
+use Rattle.core_history.specs.Events.{Event, Called, log_of}
+use Rattle.core_history.specs.Machine.{World, Move, Begin, Take, Said, Value, Made, Rejected, is_open, log_cap, begun, taken, turn_event, event_of, wanted_of, ask_told, staged_told, commit_said, commit_by, world_of}
+use Rattle.core_history.specs.Truth.{IsTrueReply, IsTrueEvent, IsTruePast}
 use Rattle.core_history.specs.Lines.{tells_fault, is_fault, fault_turns}
 use Rattle.core_history.specs.Determined.{call_of, Turns, Adds, RunsAreDetermined}
 use Rattle.core_history.proofs.ListLemmas.{count-cons, tick}
@@ -31,55 +33,86 @@ module _ {A : Type 0} where
   tails x y xs ys e = cc
 
 -- two values that are both a key's answer on the same rows
-ask_same : (past : List Event) (rows : Tables) (key : QKey) (one two : Said) → IsTrueReply rows (ask_told past key one) → IsTrueReply rows (ask_told past key two) → tells_fault (ask_told past key one) ≡ tells_fault (ask_told past key two) → ask_told past key one ≡ ask_told past key two
+ask_same : (past : List Event) (rows : Tables) (key : QKey) (one two : Said) → IsTrueReply rows (wanted.Ask key) (ask_told past key one) → IsTrueReply rows (wanted.Ask key) (ask_told past key two) → tells_fault (ask_told past key one) ≡ tells_fault (ask_told past key two)
+    → ask_told past key one ≡ ask_told past key two
 ask_same past rows key (Value value) (Value other) one two same = ap (λ v. ask_told past key (Value v)) (one ∙ sym two)
 ask_same past rows key (Value value) other one two same = absurd cc
 ask_same past rows key other (Value value) one two same = absurd cc
 ask_same past rows key other another one two same = refl
 
--- a transaction applies on rows or fails at one change of it
-said_same : (rows : Tables) (count : ℕ) (txn : List Change) (grants : GrantsView) (one two : Said) → IsTrueReply rows (commit_said count txn grants one) → IsTrueReply rows (commit_said count txn grants two) → tells_fault (commit_said count txn grants one) ≡ tells_fault (commit_said count txn grants two) → commit_said count txn grants one ≡ commit_said count txn grants two
-said_same rows count txn grants Made Made one two same = refl
-said_same rows count txn grants Made (Rejected index) (after, one) two same = absurd cc
-said_same rows count txn grants Made other one two same = absurd cc
-said_same rows count txn grants (Rejected index) Made one (after, two) same = absurd cc
-said_same rows count txn grants (Rejected index) (Rejected other) one two same =
-    let is : index ≡ other = cc in ap (λ n. commit_said count txn grants (Rejected n)) is
-said_same rows count txn grants (Rejected index) other one two same = absurd cc
-said_same rows count txn grants other Made one two same = absurd cc
-said_same rows count txn grants other (Rejected index) one two same = absurd cc
-said_same rows count txn grants other another one two same = refl
+-- the rows after a transaction are one
+ok_same : {a b : Tables} {found : Result Tables ℕ} → found ≡ Ok a → found ≡ Ok b → a ≡ b
+ok_same e f = cc
 
-by_same : (rows : Tables) (count : ℕ) (txn : List Change) (grants : GrantsView) (one two : Said) (fault : Option CommitFault) → IsTrueReply rows (commit_by count txn grants one fault) → IsTrueReply rows (commit_by count txn grants two fault) → tells_fault (commit_by count txn grants one fault) ≡ tells_fault (commit_by count txn grants two fault) → commit_by count txn grants one fault ≡ commit_by count txn grants two fault
-by_same rows count txn grants one two (Some fault) true_one true_two same = refl
-by_same rows count txn grants one two None true_one true_two same =
-    said_same rows count txn grants one two true_one true_two same
+-- two values that are both the answer after the transaction, which applies on rows or fails at one change of it
+staged_same : (rows : Tables) (key : QKey) (txn : List Change) (one two : Said) → IsTrueReply rows (wanted.Staged key txn) (staged_told txn one) → IsTrueReply rows (wanted.Staged key txn) (staged_told txn two) → tells_fault (staged_told txn one) ≡ tells_fault (staged_told txn two)
+    → staged_told txn one ≡ staged_told txn two
+staged_same rows key txn (Value value) (Value other) one two same =
+    ap (λ v. staged_told txn (Value v)) (one.2 ∙ ap (answer key) (ok_same one.1 two.1) ∙ sym two.2)
+staged_same rows key txn (Value value) (Rejected index) (after, one, is) two same = absurd cc
+staged_same rows key txn (Value value) other one two same = absurd cc
+staged_same rows key txn (Rejected index) (Value value) one (after, two, is) same = absurd cc
+staged_same rows key txn (Rejected index) (Rejected other) one two same =
+    let is : index ≡ other = cc in ap (λ n. staged_told txn (Rejected n)) is
+staged_same rows key txn (Rejected index) other one two same = absurd cc
+staged_same rows key txn other (Value value) one two same = absurd cc
+staged_same rows key txn other (Rejected index) one two same = absurd cc
+staged_same rows key txn other another one two same = refl
+
+-- a transaction applies on rows or fails at one change of it
+said_same : (rows : Tables) (request : Wanted) (count : ℕ) (txn : List Change) (grants : GrantsView) (one two : Said) → IsTrueReply rows request (commit_said count txn grants one) → IsTrueReply rows request (commit_said count txn grants two) → tells_fault (commit_said count txn grants one) ≡ tells_fault (commit_said count txn grants two)
+    → commit_said count txn grants one ≡ commit_said count txn grants two
+said_same rows request count txn grants Made Made one two same = refl
+said_same rows request count txn grants Made (Rejected index) (after, one) two same = absurd cc
+said_same rows request count txn grants Made other one two same = absurd cc
+said_same rows request count txn grants (Rejected index) Made one (after, two) same = absurd cc
+said_same rows request count txn grants (Rejected index) (Rejected other) one two same =
+    let is : index ≡ other = cc in ap (λ n. commit_said count txn grants (Rejected n)) is
+said_same rows request count txn grants (Rejected index) other one two same = absurd cc
+said_same rows request count txn grants other Made one two same = absurd cc
+said_same rows request count txn grants other (Rejected index) one two same = absurd cc
+said_same rows request count txn grants other another one two same = refl
+
+by_same : (rows : Tables) (request : Wanted) (count : ℕ) (txn : List Change) (grants : GrantsView) (one two : Said) (fault : Option CommitFault) → IsTrueReply rows request (commit_by count txn grants one fault) → IsTrueReply rows request (commit_by count txn grants two fault)
+    → tells_fault (commit_by count txn grants one fault) ≡ tells_fault (commit_by count txn grants two fault) → commit_by count txn grants one fault ≡ commit_by count txn grants two fault
+by_same rows request count txn grants one two (Some fault) true_one true_two same = refl
+by_same rows request count txn grants one two None true_one true_two same =
+    said_same rows request count txn grants one two true_one true_two same
 
 -- whatever a session wants, only the store's answers tell what the keeper said
-event_same : (shape : Shape) (rows : Tables) (world : World) (who : Sid) (one two : Said) (request : Wanted) → IsTrueReply rows (reply_in (event_of shape world who request one)) → IsTrueReply rows (reply_in (event_of shape world who request two)) → is_fault (event_of shape world who request one) ≡ is_fault (event_of shape world who request two)
+event_same : (shape : Shape) (rows : Tables) (world : World) (who : Sid) (one two : Said) (request : Wanted) → IsTrueEvent rows (event_of shape world who request one) → IsTrueEvent rows (event_of shape world who request two) → is_fault (event_of shape world who request one) ≡ is_fault (event_of shape world who request two)
     → event_of shape world who request one ≡ event_of shape world who request two
 event_same shape rows world who one two (wanted.Ask key) true_one true_two same =
     ap (λ told. Called who (wanted.Ask key) told) (ask_same world.past rows key one two true_one true_two same)
+event_same shape rows world who one two (wanted.Staged key txn) true_one true_two same =
+    ap (λ told. Called who (wanted.Staged key txn) told) (staged_same rows key txn one two true_one true_two same)
 event_same shape rows world who one two (wanted.Commit txn grants) true_one true_two same =
     let count = length (log_of world.past) in
     let fault = commit_fault (is_open world who) who grants.items txn count log_cap in
-    ap (λ told. Called who (wanted.Commit txn grants) told) (by_same rows count txn grants one two fault true_one true_two same)
+    ap (λ told. Called who (wanted.Commit txn grants) told) (by_same rows (wanted.Commit txn grants) count txn grants one two fault true_one true_two same)
 event_same shape rows world who one two other true_one true_two same = refl
+
+-- so it is of each turn: ticks and sweeps are told by the events before
+turn_event_same : (shape : Shape) (rows : Tables) (world : World) (turn : Turn) (one two : Said) → IsTrueEvent rows (turn_event shape world turn one) → IsTrueEvent rows (turn_event shape world turn two) → is_fault (turn_event shape world turn one) ≡ is_fault (turn_event shape world turn two)
+    → turn_event shape world turn one ≡ turn_event shape world turn two
+turn_event_same shape rows world (turn.Session who) one two true_one true_two same = event_same shape rows world who one two (wanted_of world who) true_one true_two same
+turn_event_same shape rows world (turn.Tick by) one two true_one true_two same = refl
+turn_event_same shape rows world turn.Sweep one two true_one true_two same = refl
 
 module _ (shape : Shape) (opening : Tables) where
   -- what is so of a turn that was taken
-  abbrev turned : World → Sid → Said → Event
-  turned world who said = turn_event shape world (turn.Session who) said
+  abbrev turned : World → Turn → Said → Event
+  turned world turn said = turn_event shape world turn said
 
-  abbrev IsTrueTurn : World → Sid → Said → Type 0
-  IsTrueTurn world who said = IsTrueReply (rows_after opening (log_of world.past)) (reply_in (turned world who said))
+  abbrev IsTrueTurn : World → Turn → Said → Type 0
+  IsTrueTurn world turn said = IsTrueEvent (rows_after opening (log_of world.past)) (turned world turn said)
 
-  -- one turn of one session in one world
-  turn_same : (world other : World) (who : Sid) (one two : Said) → world ≡ other → IsTrueTurn world who one → IsTrueTurn other who two → is_fault (turned world who one) ≡ is_fault (turned other who two) → taken shape world (turn.Session who) one ≡ taken shape other (turn.Session who) two
-  turn_same world other who one two is true_one =
-      let P : World → Type 0 = λ w. IsTrueTurn w who two → is_fault (turned world who one) ≡ is_fault (turned w who two) → taken shape world (turn.Session who) one ≡ taken shape w (turn.Session who) two in
+  -- one turn in one world
+  turn_same : (world other : World) (turn : Turn) (one two : Said) → world ≡ other → IsTrueTurn world turn one → IsTrueTurn other turn two → is_fault (turned world turn one) ≡ is_fault (turned other turn two) → taken shape world turn one ≡ taken shape other turn two
+  turn_same world other turn one two is true_one =
+      let P : World → Type 0 = λ w. IsTrueTurn w turn two → is_fault (turned world turn one) ≡ is_fault (turned w turn two) → taken shape world turn one ≡ taken shape w turn two in
       let event : Event → World = λ e. record { plans = world.plans; past = e ∷ world.past } in
-      subst P is (λ true_two same. ap event (event_same shape (rows_after opening (log_of world.past)) world who one two (wanted_of world who) true_one true_two same))
+      subst P is (λ true_two same. ap event (turn_event_same shape (rows_after opening (log_of world.past)) world turn one two true_one true_two same))
 
   worlds_same : (moves others : List Move) → map call_of moves ≡ map call_of others → IsTruePast opening (world_of shape moves).past → IsTruePast opening (world_of shape others).past → map is_fault (world_of shape moves).past ≡ map is_fault (world_of shape others).past → world_of shape moves ≡ world_of shape others
   worlds_same [] [] calls one two faults = refl
@@ -94,14 +127,14 @@ module _ (shape : Shape) (opening : Tables) where
       absurd (let head = heads (Adds plan) (Turns turn) _ _ calls in cc)
   worlds_same (Take turn said ∷ moves) (Begin plan ∷ others) calls one two faults =
       absurd (let head = heads (Turns turn) (Adds plan) _ _ calls in cc)
-  worlds_same (Take (turn.Session who) said ∷ moves) (Take (turn.Session again) word ∷ others) calls one two faults =
+  worlds_same (Take turn said ∷ moves) (Take again word ∷ others) calls one two faults =
       let world = world_of shape moves in
       let other = world_of shape others in
-      let head = heads (Turns (turn.Session who)) (Turns (turn.Session again)) _ _ calls in
-      let same : who ≡ again = cc in
-      let rest = worlds_same moves others (tails (Turns (turn.Session who)) (Turns (turn.Session again)) _ _ calls) one.1 two.1 (tails _ _ _ _ faults) in
-      let P : Sid → Type 0 = λ sid. IsTrueTurn other sid word → is_fault (turned world who said) ≡ is_fault (turned other sid word) → taken shape world (turn.Session who) said ≡ taken shape other (turn.Session sid) word in
-      subst P same (turn_same world other who said word rest one.0) two.0 (heads _ _ _ _ faults)
+      let head = heads (Turns turn) (Turns again) _ _ calls in
+      let same : turn ≡ again = cc in
+      let rest = worlds_same moves others (tails (Turns turn) (Turns again) _ _ calls) one.1 two.1 (tails _ _ _ _ faults) in
+      let P : Turn → Type 0 = λ t. IsTrueTurn other t word → is_fault (turned world turn said) ≡ is_fault (turned other t word) → taken shape world turn said ≡ taken shape other t word in
+      subst P same (turn_same world other turn said word rest one.0) two.0 (heads _ _ _ _ faults)
 
 -- two runs of one script take as many turns
 turns_same : (shape : Shape) (moves others : List Move) → map call_of moves ≡ map call_of others → length (world_of shape moves).past ≡ length (world_of shape others).past
@@ -111,8 +144,8 @@ turns_same shape (move ∷ moves) [] calls = absurd cc
 turns_same shape (Begin plan ∷ moves) (Begin again ∷ others) calls = turns_same shape moves others (tails (Adds plan) (Adds again) _ _ calls)
 turns_same shape (Begin plan ∷ moves) (Take turn said ∷ others) calls = absurd (let head = heads (Adds plan) (Turns turn) _ _ calls in cc)
 turns_same shape (Take turn said ∷ moves) (Begin plan ∷ others) calls = absurd (let head = heads (Turns turn) (Adds plan) _ _ calls in cc)
-turns_same shape (Take (turn.Session who) said ∷ moves) (Take (turn.Session again) word ∷ others) calls =
-    ap suc (turns_same shape moves others (tails (Turns (turn.Session who)) (Turns (turn.Session again)) _ _ calls))
+turns_same shape (Take turn said ∷ moves) (Take again word ∷ others) calls =
+    ap suc (turns_same shape moves others (tails (Turns turn) (Turns again) _ _ calls))
 
 -- the turns that were answered FAULT are among those that were taken
 turns_within : (past : List Event) → list_any (λ k. k == length past + 1) (fault_turns past) ≡ false

@@ -1,5 +1,5 @@
 -- What an event adds to what sessions are told, to the log, and to the steps of each shard.
-use Rattle.std.proofs.Common.{ℕ, ◌≡◌, ◌==◌, Bool, true, false, cond, ◌&&◌, ◌||◌, List, [], ◌∷◌, ◌++◌, count_by, refl, sym, ap, subst, ◌∙◌, inl, inr, arith}
+use Rattle.std.proofs.Common.{ℕ, ◌≡◌, ◌==◌, Bool, true, false, cond, ◌&&◌, ◌||◌, List, [], ◌∷◌, ◌++◌, count_by, Option, Some, None, refl, sym, ap, subst, ◌∙◌, inl, inr, arith}
 use Rattle.std.specs.List.{list_any}
 use Rattle.std.proofs.lemmas.Bool.{eq-eqb, eqb-true, false≢true}
 use Rattle.std.proofs.lemmas.List.Folds.{list_any-append}
@@ -13,27 +13,41 @@ use Rattle.key_shard.specs.declared.steps.Ended.TheVariants as ended
 use Rattle.key_shard.specs.declared.steps.Step.{Step}
 use Rattle.key_shard.specs.declared.steps.Step.TheVariants as step
 use Rattle.key_shard.specs.declared.replies.QAnswer.TheVariants as quarantine
+use Rattle.expiry_sweeper.specs.declared.replies.SweepReply.{SweepReply}
+use Rattle.expiry_sweeper.specs.declared.replies.SweepWanted.{SweepWanted}
 use Rattle.sql_keeper.specs.Commits.{covers, is_covered}
 use Rattle.sql_keeper.specs.Fresh.{quarantines}
 use Rattle.key_freshness.specs.Known.{IsAmong, IsLogged, IsOver}
 use Rattle.session_client.specs.declared.replies.Reply.{Reply}
 use Rattle.session_client.specs.declared.replies.Reply.TheVariants as reply
+use Rattle.session_client.specs.declared.replies.Wanted.{Wanted}
 use Rattle.session_client.specs.Wants.{grants_in, granted, is_commit, was_committed}
 use Rattle.session_client.proofs.WantCases.{grants-append}
-use Rattle.core_history.specs.Events.{Event, Stepped, Called, who_in, reply_in, steps_in, steps_of, told_in, told_to, commits_told, log_of, ends_told, ended_of, known_of, was_ended, has_committed}
+use Rattle.core_history.specs.Events.{Event, Stepped, Called, Ticked, Swept, steps_in, steps_of, told_by, told_in, told_to, commits_told, commits_in, log_of, ends_in, ended_of, known_of, was_ended, has_committed}
 use Rattle.core_history.proofs.ListLemmas.{choose, or_inl, or_inr, or_elim, not_both, any-front, any-back, any-at, place_of, count-append, count-cons, tick, zero_if}
 
-told-mine : (n : ℕ) (event : Event) → (who_in event).number ≡ n → told_in n event ≡ reply_in event ∷ []
-told-mine n event e = ap (λ b. cond b (reply_in event ∷ []) []) (eq-eqb _ _ e)
+-- a sweep that makes no step leaves the steps
+pub unmade-steps : (home place : ℕ) (request : SweepWanted) (told : SweepReply) (past : List Event) → steps_of home (Swept place request None told ∷ past) ≡ steps_of home past
+unmade-steps home place request told past = by (place == home)
+  where
+    by : (b : Bool) → cond b [] [] ++ steps_of home past ≡ steps_of home past
+    by true = refl
+    by false = refl
 
-pub told_to-mine : (event : Event) (past : List Event) → told_to (who_in event).number (event ∷ past) ≡ reply_in event ∷ told_to (who_in event).number past
-told_to-mine event past = ap (λ l. l ++ told_to (who_in event).number past) (told-mine (who_in event).number event refl)
+-- what a session is told in its own turn comes first, and another session's turn tells it nothing
+pub told-mine : (who : Sid) (told : Reply) (heard : List Reply) → told_by who.number who told ++ heard ≡ told ∷ heard
+told-mine who told heard = ap (λ b. cond b (told ∷ []) [] ++ heard) (eq-eqb who.number who.number refl)
 
-pub told_to-other : (n : ℕ) (event : Event) (past : List Event) → ((who_in event).number == n) ≡ false → told_to n (event ∷ past) ≡ told_to n past
-told_to-other n event past e = ap (λ b. cond b (reply_in event ∷ []) [] ++ told_to n past) e
+pub told-other : (n : ℕ) (who : Sid) (told : Reply) (heard : List Reply) → (who.number == n) ≡ false → told_by n who told ++ heard ≡ heard
+told-other n who told heard e = ap (λ b. cond b (told ∷ []) [] ++ heard) e
+
+-- what is told a session in an event, by cases: it is none, or a reply in the session's own turn
+pub told-cases : (P : List Reply → Type 0) (n : ℕ) (who : Sid) (told : Reply) → P [] → ((who.number ≡ n) → P (told ∷ [])) → P (told_by n who told)
+told-cases P n who told none mine =
+    choose P (who.number == n) (told ∷ []) [] (λ e. mine (eqb-true who.number n e)) (λ e. none)
 
 -- a session has committed where it was told so
-commit_is : (n : ℕ) (who : Sid) (told : Reply) → list_any (λ commit. commit.sid.number == n) (commits_told who told) ≡ list_any is_commit (cond (who.number == n) (told ∷ []) [])
+commit_is : (n : ℕ) (who : Sid) (told : Reply) → list_any (λ commit. commit.sid.number == n) (commits_told who told) ≡ list_any is_commit (told_by n who told)
 commit_is n who told = by told (who.number == n) refl
   where
     both : (told : Reply) (b : Bool) → is_commit told ≡ false → false ≡ list_any is_commit (cond b (told ∷ []) [])
@@ -43,22 +57,31 @@ commit_is n who told = by told (who.number == n) refl
     by : (told : Reply) (b : Bool) → (who.number == n) ≡ b → list_any (λ commit. commit.sid.number == n) (commits_told who told) ≡ list_any is_commit (cond b (told ∷ []) [])
     by (reply.Committed number txn grants) true e = ap (λ b. b || false) e
     by (reply.Committed number txn grants) false e = ap (λ b. b || false) e
-    by (reply.Got got) b e = both (reply.Got got) b refl
+    by (reply.Got found) b e = both (reply.Got found) b refl
     by (reply.Answer answer) b e = both (reply.Answer answer) b refl
-    by (reply.Set told) b e = both (reply.Set told) b refl
-    by (reply.Quar told) b e = both (reply.Quar told) b refl
+    by (reply.Set answer) b e = both (reply.Set answer) b refl
+    by (reply.Quar answer) b e = both (reply.Quar answer) b refl
+    by (reply.Staged value txn) b e = both (reply.Staged value txn) b refl
+    by (reply.NotStaged fault txn) b e = both (reply.NotStaged fault txn) b refl
     by (reply.NotCommitted fault txn grants) b e = both (reply.NotCommitted fault txn grants) b refl
     by (reply.End was) b e = both (reply.End was) b refl
-    by (reply.Rel told) b e = both (reply.Rel told) b refl
+    by (reply.Rel answer) b e = both (reply.Rel answer) b refl
+    by (reply.SarBack grant) b e = both (reply.SarBack grant) b refl
     by (reply.Fault fault) b e = both (reply.Fault fault) b refl
     by reply.Nothing b e = both reply.Nothing b refl
+
+commit_in : (n : ℕ) (event : Event) → list_any (λ commit. commit.sid.number == n) (commits_in event) ≡ list_any is_commit (told_in n event)
+commit_in n (Stepped place who request s told) = commit_is n who told
+commit_in n (Called who request told) = commit_is n who told
+commit_in n (Ticked now) = refl
+commit_in n (Swept place request made told) = refl
 
 pub committed-told : (n : ℕ) (past : List Event) → has_committed n past ≡ was_committed (told_to n past)
 committed-told n [] = refl
 committed-told n (event ∷ past) =
-    list_any-append (λ commit. commit.sid.number == n) (log_of past) (commits_told (who_in event) (reply_in event))
-    ∙ ap (λ b. b || list_any (λ commit. commit.sid.number == n) (commits_told (who_in event) (reply_in event))) (committed-told n past)
-    ∙ ap (λ b. was_committed (told_to n past) || b) (commit_is n (who_in event) (reply_in event))
+    list_any-append (λ commit. commit.sid.number == n) (log_of past) (commits_in event)
+    ∙ ap (λ b. b || list_any (λ commit. commit.sid.number == n) (commits_in event)) (committed-told n past)
+    ∙ ap (λ b. was_committed (told_to n past) || b) (commit_in n event)
     ∙ swap (was_committed (told_to n past)) (list_any is_commit (told_in n event))
     ∙ sym (list_any-append is_commit (told_in n event) (told_to n past))
   where
@@ -75,9 +98,17 @@ closed n past = has_committed n past || was_ended n past
 pub closed-more : (n : ℕ) (event : Event) (past : List Event) → closed n past ≡ true → closed n (event ∷ past) ≡ true
 closed-more n event past h =
     elim (or_elim (has_committed n past) (was_ended n past) h) [
-      | inl committed ↦ or_inl (has_committed n (event ∷ past)) (was_ended n (event ∷ past)) (any-front (λ commit. commit.sid.number == n) (log_of past) (commits_told (who_in event) (reply_in event)) committed)
-      | inr ended ↦ or_inr (has_committed n (event ∷ past)) (was_ended n (event ∷ past)) (any-back (λ other. other == n) (ends_told (who_in event) (reply_in event)) (ended_of past) ended)
+      | inl committed ↦ or_inl (has_committed n (event ∷ past)) (was_ended n (event ∷ past)) (any-front (λ commit. commit.sid.number == n) (log_of past) (commits_in event) committed)
+      | inr ended ↦ or_inr (has_committed n (event ∷ past)) (was_ended n (event ∷ past)) (any-back (λ other. other == n) (ends_in event) (ended_of past) ended)
     ]
+
+-- a session that isn't closed wasn't before
+pub still-open : (n : ℕ) (event : Event) (past : List Event) → closed n (event ∷ past) ≡ false → closed n past ≡ false
+still-open n event past still = by (closed n past) refl
+  where
+    by : (b : Bool) → closed n past ≡ b → b ≡ false
+    by true shut = absurd (not_both (closed-more n event past shut) still)
+    by false e = refl
 
 -- a closed session is over, by what is known of the store, and one that is over is closed
 among_of : (n : ℕ) (numbers : List ℕ) → list_any (λ other. other == n) numbers ≡ true → IsAmong n numbers
@@ -120,10 +151,22 @@ over-closed n past (inr among) = or_inr (has_committed n past) (was_ended n past
 abbrev pub IsLate : Event → List Event → Type 0
 IsLate event past = (n : ℕ) → closed n past ≡ true → was_committed (told_in n event) ≡ false
 
-pub late-mild : (event : Event) (past : List Event) → is_commit (reply_in event) ≡ false → IsLate event past
-late-mild event past mild n h = choose (λ l. was_committed l ≡ false) ((who_in event).number == n) (reply_in event ∷ []) [] (λ _. ap (λ b. b || false) mild) (λ _. refl)
+told-mild : (n : ℕ) (who : Sid) (told : Reply) → is_commit told ≡ false → was_committed (told_by n who told) ≡ false
+told-mild n who told mild = told-cases (λ l. was_committed l ≡ false) n who told refl (λ _. ap (λ b. b || false) mild)
 
--- each grant among the steps is one that its session was told of, and each session whose quarantine ended is closed
+pub late-stepped : (place : ℕ) (who : Sid) (request : Wanted) (s : Step) (told : Reply) (past : List Event) → is_commit told ≡ false → IsLate (Stepped place who request s told) past
+late-stepped place who request s told past mild n h = told-mild n who told mild
+
+pub late-called : (who : Sid) (request : Wanted) (told : Reply) (past : List Event) → is_commit told ≡ false → IsLate (Called who request told) past
+late-called who request told past mild n h = told-mild n who told mild
+
+pub late-ticked : (now : ℕ) (past : List Event) → IsLate (Ticked now) past
+late-ticked now past n h = refl
+
+pub late-swept : (place : ℕ) (request : SweepWanted) (made : Option Step) (told : SweepReply) (past : List Event) → IsLate (Swept place request made told) past
+late-swept place request made told past n h = refl
+
+-- each grant among the steps is one that its session was told of, and each session whose quarantine ended is closed, without a commit where the value was kept
 abbrev pub IsKnown : List Event → Step → Type 0
 IsKnown past (step.Granted key sid mode shift now token deadline) = is_covered sid (granted (told_to sid.number past)) key ≡ true
 IsKnown past (step.Released key sid token how) =
@@ -166,21 +209,31 @@ counts-more shards event past counted key who h =
     omega (arith, a, b, c, d, h)
 
 -- none, where nothing is granted
-no_grants : (b : Bool) (told : Reply) → grants_in told ≡ [] → granted (cond b (told ∷ []) []) ≡ []
-no_grants true told e = e
-no_grants false told e = refl
+no_grants : (n : ℕ) (who : Sid) (told : Reply) → grants_in told ≡ [] → granted (told_by n who told) ≡ []
+no_grants n who told e = told-cases (λ l. granted l ≡ []) n who told refl (λ _. e)
 
 no_step : (b : Bool) (p : Step → Bool) (s : Step) → p s ≡ false → count_by p (cond b (s ∷ []) []) ≡ 0
 no_step true p s e = let a = count-cons p s [] in let b = zero_if (p s) e in omega (arith, a, b)
 no_step false p s e = refl
 
-pub counted-mild : (shards place : ℕ) (who : Sid) (request : _) (s : Step) (told : Reply) → ((key : QKey) (by : Sid) → quarantines key by s ≡ false) → grants_in told ≡ []
+pub counted-mild : (shards place : ℕ) (who : Sid) (request : Wanted) (s : Step) (told : Reply) → ((key : QKey) (by : Sid) → quarantines key by s ≡ false) → grants_in told ≡ []
     → IsCounted shards (Stepped place who request s told)
 counted-mild shards place who request s told none mild key by =
-    no_step (place == shard_of key shards) (quarantines key by) s (none key by) ∙ sym (ap (count_by (covers by key)) (no_grants (who.number == by.number) told mild))
+    no_step (place == shard_of key shards) (quarantines key by) s (none key by) ∙ sym (ap (count_by (covers by key)) (no_grants by.number who told mild))
 
-pub counted-called : (shards : ℕ) (who : Sid) (request : _) (told : Reply) → grants_in told ≡ [] → IsCounted shards (Called who request told)
-counted-called shards who request told mild key by = sym (ap (count_by (covers by key)) (no_grants (who.number == by.number) told mild))
+pub counted-called : (shards : ℕ) (who : Sid) (request : Wanted) (told : Reply) → grants_in told ≡ [] → IsCounted shards (Called who request told)
+counted-called shards who request told mild key by = sym (ap (count_by (covers by key)) (no_grants by.number who told mild))
+
+pub counted-ticked : (shards now : ℕ) → IsCounted shards (Ticked now)
+counted-ticked shards now key by = refl
+
+pub counted-unmade : (shards place : ℕ) (request : SweepWanted) (told : SweepReply) → IsCounted shards (Swept place request None told)
+counted-unmade shards place request told key by =
+    choose (λ l. count_by (quarantines key by) l ≡ 0) (place == shard_of key shards) [] [] (λ _. refl) (λ _. refl)
+
+pub counted-swept : (shards place : ℕ) (request : SweepWanted) (s : Step) (told : SweepReply) → ((key : QKey) (by : Sid) → quarantines key by s ≡ false) → IsCounted shards (Swept place request (Some s) told)
+counted-swept shards place request s told none key by =
+    no_step (place == shard_of key shards) (quarantines key by) s (none key by)
 
 -- the grant of a quarantine
 count_one : {X : Type 0} (p : X → Bool) (b : Bool) (x : X) → count_by p (cond b (x ∷ []) []) ≡ tick (b && p x)
@@ -200,7 +253,7 @@ same_ticks false true mine h = absurd (not_both (h refl) refl)
 same_ticks false false true h = refl
 same_ticks false false false h = refl
 
-pub counted-granted : (shards : ℕ) (key : QKey) (who : Sid) (request : _) (mode : _) (shift : _) (now token deadline place : ℕ) (old : _)
+pub counted-granted : (shards : ℕ) (key : QKey) (who : Sid) (request : Wanted) (mode : _) (shift : _) (now token deadline place : ℕ) (old : _)
     → IsCounted shards (Stepped (shard_of key shards) who request (step.Granted key who mode shift now token deadline) (reply.Quar (quarantine.Granted (record { shard = place; key = key; sid = who; mode = mode; token = token }) old)))
 counted-granted shards key who request mode shift now token deadline place old on by =
     let s = step.Granted key who mode shift now token deadline in

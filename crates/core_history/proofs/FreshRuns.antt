@@ -1,12 +1,13 @@
 -- Every run keeps the rule of each key and its entries held, and where its replies were true it is fresh: by its moves, the latest first.
-use Rattle.std.proofs.Common.{ℕ, ◌+◌, ◌≡◌, ◌<◌, true, ◌==◌, ◌&&◌, List, [], ◌∷◌, reverse, length, Option, Some, None, refl, sym, subst, ◌⊎◌, ⊎_elim, arith}
+use Rattle.std.proofs.Common.{ℕ, ◌+◌, ◌-◌, ◌≡◌, ◌<◌, true, ◌==◌, ◌&&◌, List, [], ◌∷◌, reverse, length, All, Option, Some, None, slice_get, refl, sym, subst, ⊎_elim, arith}
 use Rattle.std.specs.List.{range_with_len, list_any, AllByRecursion}
 use Rattle.std.proofs.lemmas.List.{reverse-reverse}
-use Rattle.std.proofs.lemmas.List.Elements.{All-map}
+use Rattle.std.proofs.lemmas.List.Elements.{All-map, All-nil}
 use Rattle.std.proofs.lemmas.List.FromFn.{length-range_with_len, get_or-range_with_len}
 use Rattle.rows_model.specs.declared.keys.QKey.{QKey}
-use Rattle.rows_model.specs.Rows.{Tables}
-use Rattle.rows_model.specs.Changes.{touches}
+use Rattle.rows_model.specs.declared.changes.Change.{Change}
+use Rattle.rows_model.specs.Rows.{Tables, Fit}
+use Rattle.rows_model.specs.Changes.{touches, HasIds}
 use Rattle.lease_table.specs.declared.records.Quar.{Quar}
 use Rattle.lease_table.specs.declared.records.ReadLease.{ReadLease}
 use Rattle.key_shard.specs.declared.steps.Step.{Step}
@@ -17,38 +18,70 @@ use Rattle.key_freshness.specs.Marks.{marks_of}
 use Rattle.key_freshness.specs.Held.{IsEntryHeld, IsEntryRight, stands_as}
 use Rattle.key_freshness.proofs.HitLemmas.{lacking_stands}
 use Rattle.key_freshness.proofs.MomentLemmas.{known_then, stored_is_latest}
+use Rattle.session_client.specs.declared.plans.Plan.{Plan}
+use Rattle.session_client.specs.declared.plans.Plan.TheVariants.{Read, Write, Look, Quit, Skip}
 use Rattle.session_client.specs.declared.plans.Shape.{Shape}
-use Rattle.session_client.specs.declared.plans.Turn.TheVariants as turn
+use Rattle.session_client.specs.Plans.{IsPlan, changes_of}
 use Rattle.core_history.specs.Events.{steps_of, log_of, known_of}
-use Rattle.core_history.specs.Machine.{World, Move, Begin, Take, turn_event, world_of}
+use Rattle.core_history.specs.Machine.{World, Move, Begin, Take, HasPlans, turn_event, world_of}
 use Rattle.core_history.specs.Truth.{IsTruePast}
 use Rattle.core_history.specs.Facts.{Facts, IsAnswer, ArePending, IsCurrent, IsQuiet, steps_on, answers_under}
 use Rattle.core_history.specs.Freshness.{RunsAreFresh, histories_of}
-use Rattle.core_history.proofs.EventLemmas.{closed-over}
+use Rattle.core_history.proofs.ExclusiveFacts.{exclusive_of}
 use Rattle.core_history.proofs.GrantFacts.{GrantFacts}
 use Rattle.core_history.proofs.GrantLemmas.{grant_facts}
 use Rattle.core_history.proofs.HeldEvents.{IsBetween, IsLeased, Holds, good_holds, start_holds}
 use Rattle.core_history.proofs.ListLemmas.{any-weaker, and_elim, not_true}
-use Rattle.core_history.proofs.RightEvents.{answer_after, IsRightAnswer, Rights, good_rights, start_rights}
+use Rattle.core_history.proofs.LogLemmas.{get-pushed}
+use Rattle.core_history.proofs.RightEvents.{IsRightAnswer, Rights, good_rights, start_rights}
+use Rattle.core_history.proofs.TrueLogs.{answer_after, IsTrueLog, true_applied}
 use Rattle.core_history.proofs.WorldLemmas.{inner_of, taken-inner}
 
--- the rule, the tie and held entries, whatever the keeper says
+-- the rule, the tie, held entries and whatever else is kept, whatever the keeper says
 pub run_holds : (shape : Shape) (moves : List Move) → Holds shape (world_of shape moves).past (known_of (world_of shape moves).past)
 run_holds shape [] = start_holds shape
 run_holds shape (Begin plan ∷ moves) = run_holds shape moves
-run_holds shape (Take (turn.Session who) said ∷ moves) =
+run_holds shape (Take turn said ∷ moves) =
     let world = world_of shape moves in
-    good_holds shape world.past (turn_event shape world (turn.Session who) said) (taken-inner shape world who said (inner_of shape moves)).1 (run_holds shape moves)
+    good_holds shape world.past (turn_event shape world turn said) (taken-inner shape world turn said (inner_of shape moves)).1 (run_holds shape moves)
+
+-- each plan that was begun is one that a session takes
+plans_are : (shape : Shape) (moves : List Move) → HasPlans moves → (place : ℕ) (plan : Plan) → slice_get (world_of shape moves).plans place ≡ Some plan → IsPlan plan
+plans_are shape [] plans place plan at = absurd cc
+plans_are shape (Begin new ∷ moves) plans place plan at =
+    ⊎_elim
+    (λ old. plans_are shape moves plans.1 place plan old)
+    (λ last. subst IsPlan last.1 plans.0)
+    (get-pushed (world_of shape moves).plans new plan place at)
+plans_are shape (Take turn said ∷ moves) plans place plan at = plans_are shape moves plans place plan at
+
+plan_ids : (plan : Plan) → IsPlan plan → All HasIds (changes_of plan)
+plan_ids (Read key floor) is = All-nil HasIds
+plan_ids (Write mode txn) is = is.ids
+plan_ids (Look mode key txn) is = is.0.ids
+plan_ids (Quit mode txn) is = is.ids
+plan_ids (Skip key txn) is = is.0.ids
+
+-- the log of a run over fit rows, where the keeper's word was true
+run_log : (opening : Tables) (shape : Shape) (moves : List Move) → HasPlans moves → Fit opening → IsTruePast opening (world_of shape moves).past
+    → IsTrueLog opening (log_of (world_of shape moves).past)
+run_log opening shape moves plans fit word = record {
+  fit = fit;
+  ids = λ place commit at.
+      let planned = (inner_of shape moves).logged place commit at in
+      subst (λ (txn : List Change). All HasIds txn) (sym planned.changes) (plan_ids planned.plan (plans_are shape moves plans (commit.sid.number - 1) planned.plan planned.at));
+  applied = true_applied opening (world_of shape moves).past word;
+}
 
 -- what is right, where the keeper's word was true
-run_rights : (opening : Tables) (shape : Shape) (moves : List Move) → IsTruePast opening (world_of shape moves).past
+pub run_rights : (opening : Tables) (shape : Shape) (moves : List Move) → HasPlans moves → Fit opening → IsTruePast opening (world_of shape moves).past
     → Rights opening shape (world_of shape moves).past (log_of (world_of shape moves).past)
-run_rights opening shape [] word = start_rights opening shape
-run_rights opening shape (Begin plan ∷ moves) word = run_rights opening shape moves word
-run_rights opening shape (Take (turn.Session who) said ∷ moves) word =
+run_rights opening shape [] plans fit word = start_rights opening shape
+run_rights opening shape (Begin plan ∷ moves) plans fit word = run_rights opening shape moves plans.1 fit word
+run_rights opening shape (Take turn said ∷ moves) plans fit word =
     let world = world_of shape moves in
-    let inner = inner_of shape moves in
-    good_rights opening shape world.past (turn_event shape world (turn.Session who) said) (λ n shut. closed-over n world.past shut) inner.known (taken-inner shape world who said inner).1 word.0 (run_holds shape moves) (run_rights opening shape moves word.1)
+    good_rights opening shape world.past (turn_event shape world turn said) (run_log opening shape moves plans fit word.1) (taken-inner shape world turn said (inner_of shape moves)).1 word.0
+    (run_holds shape moves) (run_rights opening shape moves plans fit word.1)
 
 module _ (opening : Tables) (shape : Shape) (world : World) (holds : Holds shape world.past (known_of world.past)) (rights : Rights opening shape world.past (log_of world.past)) where
   answer_of : (key : QKey) (found : Option (List ℕ × ℕ)) → IsEntryHeld key (marks_of key (steps_on shape world key)) (known_of world.past) found
@@ -98,14 +131,16 @@ module _ (opening : Tables) (shape : Shape) (world : World) (holds : Holds shape
         held = λ number. current_of key lease least leased refl (answers_under key lease.token number world.past) (holds.asked key lease.token number least leased.leased).1 (rights.answers key lease.token number);
       }
 
-  pub facts_from : GrantFacts shape world → Facts opening shape world
-  facts_from grants = record {
+  pub facts_from : IsTrueLog opening (log_of world.past) → GrantFacts shape world → Facts opening shape world
+  facts_from true_log grants = record {
     answers = λ key. answer_of key (entry key (steps_on shape world key)) (holds.held key) (rights.entries key);
     pending = λ key. pending_of key (entry key (steps_on shape world key)) refl;
     apart = grants.apart;
     quiet = quiet_of;
+    exclusive = exclusive_of opening shape world holds rights true_log grants;
     once = grants.once;
     order = grants.order;
+    swept = grants.swept;
   }
 
   pub fresh_from : Fresh opening (log_of world.past) (histories_of shape world.past)
@@ -119,8 +154,10 @@ module _ (opening : Tables) (shape : Shape) (world : World) (holds : Holds shape
       subst R (sym at) (subst Q (sym (reverse-reverse (steps_of (0 + k) world.past))) (rights.fresh (0 + k))))
 
 pub runs_fresh : RunsAreFresh
-runs_fresh shape opening moves some plans word =
+runs_fresh shape opening moves some plans fit word =
     let world = world_of shape moves in
     let holds = run_holds shape moves in
-    let rights = run_rights opening shape moves word in
-    (facts_from opening shape world holds rights (grant_facts shape moves some plans), fresh_from opening shape world holds rights)
+    let rights = run_rights opening shape moves plans fit word in (
+      facts_from opening shape world holds rights (run_log opening shape moves plans fit word) (grant_facts shape moves some plans),
+      fresh_from opening shape world holds rights,
+    )

@@ -1,23 +1,34 @@
 -- What an event has to bring, so that the rule of each key stands and what is held stays held.
-use Rattle.std.proofs.Common.{ℕ, ◌≡◌, true, false, List, [], ◌∷◌, length, Some, ◌⊎◌}
+use Rattle.std.proofs.Common.{ℕ, ℤ, ◌≡◌, ◌≢◌, ◌+◌, true, false, List, [], ◌∷◌, length, Option, Some, None, ◌⊎◌}
+use Rattle.std.specs.List.{AllByRecursion}
 use Rattle.rows_model.specs.declared.keys.QKey.{QKey}
 use Rattle.rows_model.specs.declared.keys.Sid.{Sid}
 use Rattle.rows_model.specs.Changes.{touches}
+use Rattle.rows_model.specs.Delta.{is_count, delta_of}
+use Rattle.rows_model.specs.Refresh.{refreshed}
 use Rattle.rows_model.specs.Placement.{shard_of}
+use Rattle.lease_table.specs.declared.records.Mode.{Mode}
+use Rattle.lease_table.specs.declared.records.Mode.TheVariants.{Invalidate, Refresh, Delta}
+use Rattle.lease_table.specs.declared.records.Quar.{Quar}
 use Rattle.lease_table.specs.declared.records.ReadLease.{ReadLease}
 use Rattle.key_shard.specs.declared.steps.Ended.TheVariants as ended
 use Rattle.key_shard.specs.declared.steps.Step.{Step}
 use Rattle.key_shard.specs.declared.steps.Step.TheVariants as step
-use Rattle.key_shard.specs.Past.{standing, recorded, entry}
+use Rattle.key_shard.specs.Past.{standing, recorded, entry, quar_of}
 use Rattle.sql_keeper.specs.declared.stores.Answer.{Answer}
+use Rattle.sql_keeper.specs.declared.stores.Commit.{Commit}
+use Rattle.expiry_sweeper.specs.declared.replies.SweepReply.{SweepReply}
+use Rattle.expiry_sweeper.specs.declared.replies.SweepReply.TheVariants as sweeps
+use Rattle.expiry_sweeper.specs.declared.replies.SweepWanted.{SweepWanted}
+use Rattle.expiry_sweeper.specs.declared.replies.SweepWanted.TheVariants as sweep
 use Rattle.key_freshness.specs.Marks.{key_of, marks_of}
-use Rattle.key_freshness.specs.Known.{IsAmong, IsLogged, IsOver, WasGranted}
+use Rattle.key_freshness.specs.Known.{IsAmong, IsLogged, IsOver, StandsAt, WasGranted}
 use Rattle.key_freshness.specs.Laws.{EndsItsOwn}
 use Rattle.session_client.specs.declared.plans.Shape.{Shape}
 use Rattle.session_client.specs.declared.replies.Reply.{Reply}
 use Rattle.session_client.specs.declared.replies.Reply.TheVariants as reply
-use Rattle.core_history.specs.Events.{Event, Stepped, Called, steps_of, commits_told, log_of, ends_told, ended_of, known_of}
-use Rattle.core_history.specs.Facts.{answers_under}
+use Rattle.core_history.specs.Events.{Event, Stepped, Called, Ticked, Swept, steps_of, commits_told, log_of, ends_told, ended_of, known_of}
+use Rattle.core_history.specs.Facts.{Found, found_at, answers_under}
 
 -- The answer is among these.
 abbrev pub IsTold : Answer → List Answer → Type 0
@@ -34,19 +45,52 @@ pub record SetsTold (past : List Event) (steps : List Step) (who : Sid) (on : QK
   pub value_is : value ≡ answered.value
   pub stamp_is : stamp ≡ answered.stamp
 
--- A step is good: a hit is the entry, what is stored was told, a lease is given where nothing stands, and whose quarantine ends is over, without a commit where the value is kept.
+-- A quarantine that isn't to invalidate is granted where nothing stands, one that is beside others of its kind alone, and each to a session that hasn't committed.
+pub record IsGoodGrant (past : List Event) (steps : List Step) (on : QKey) (sid : Sid) (mode : Mode) : Type 0 where
+  pub alone : mode ≢ Invalidate → standing on steps ≡ []
+  pub joins : AllByRecursion (λ quar. quar.mode ≡ Invalidate) (standing on steps)
+  pub before : IsLogged (log_of past) sid.number → ⊥
+
+-- A session writes once it has committed: under a quarantine of its own in this mode that stands, with the number of its commit as stamp.
+pub record WritesOwn (past : List Event) (steps : List Step) (on : QKey) (sid : Sid) (token : ℕ) (mode : Mode) (stamp : ℕ) : Type 0 where
+  pub quar : Quar
+  pub stands : quar_of on token steps ≡ Some quar
+  pub mine : quar.sid ≡ sid
+  pub in_mode : quar.mode ≡ mode
+  pub place : ℕ
+  pub commit : Commit
+  pub logged : StandsAt (log_of past) place commit
+  pub own : commit.sid.number ≡ sid.number
+  pub stamp_is : stamp ≡ place + 1
+
+-- A value that is put is the one that the quarantine found, refreshed by the session's commit.
+pub record PutsNew (past : List Event) (steps : List Step) (on : QKey) (sid : Sid) (token : ℕ) (value : List ℕ) (stamp : ℕ) : Type 0 where
+  pub writes : WritesOwn past steps on sid token Refresh stamp
+  pub found : Found
+  pub at_grant : found_at on token past ≡ Some found
+  pub old : List ℕ × ℕ
+  pub found_is : found.entry ≡ Some old
+  pub new_is : refreshed on old.0 writes.commit.txn ≡ Some value
+
+-- A value that is shifted is a count, and is shifted by what the session's commit adds to it.
+pub record ShiftsOwn (past : List Event) (steps : List Step) (on : QKey) (sid : Sid) (token : ℕ) (by : ℤ) (stamp : ℕ) : Type 0 where
+  pub writes : WritesOwn past steps on sid token Delta stamp
+  pub counts : is_count on ≡ true
+  pub by_is : by ≡ delta_of on writes.commit.txn
+
+-- A step is good: a hit is the entry, what is stored was told, a lease is given where nothing stands, whose quarantine ends is over, without a commit where the value is kept, and what is put or shifted is the session's own.
 abbrev pub IsGoodStep : List Event → List Step → Sid → Step → Type 0
 IsGoodStep past steps who (step.Stored on token now value stamp evicted) = SetsTold past steps who on token value stamp
 IsGoodStep past steps who (step.Lease on sid floor now token deadline) = standing on steps ≡ []
 IsGoodStep past steps who (step.Released on sid token ended.Keep) = IsAmong sid.number (ended_of past)
 IsGoodStep past steps who (step.Released on sid token ended.Drop) = IsOver (known_of past) sid.number
-IsGoodStep past steps who (step.Released on sid token (ended.Put value stamp evicted)) = ⊥
-IsGoodStep past steps who (step.Released on sid token (ended.Shift by stamp)) = ⊥
+IsGoodStep past steps who (step.Released on sid token (ended.Put value stamp evicted)) = PutsNew past steps on sid token value stamp
+IsGoodStep past steps who (step.Released on sid token (ended.Shift by stamp)) = ShiftsOwn past steps on sid token by stamp
 IsGoodStep past steps who (step.Hit on sid floor value stamp) = entry on steps ≡ Some (value, stamp)
 IsGoodStep past steps who (step.Again on sid floor now stands) = Unit {0}
 IsGoodStep past steps who (step.Own on sid) = Unit {0}
 IsGoodStep past steps who (step.Void on token now) = Unit {0}
-IsGoodStep past steps who (step.Granted on sid mode shift now token deadline) = Unit {0}
+IsGoodStep past steps who (step.Granted on sid mode shift now token deadline) = IsGoodGrant past steps on sid mode
 IsGoodStep past steps who (step.Held on sid mode) = Unit {0}
 IsGoodStep past steps who (step.Refused on sid mode holder held) = Unit {0}
 IsGoodStep past steps who (step.Gone on sid token) = Unit {0}
@@ -71,13 +115,34 @@ IsGoodCall shape past who (reply.End true) = IsLogged (log_of past) who.number �
 IsGoodCall shape past who (reply.End false) = Unit {0}
 IsGoodCall shape past who (reply.Answer answered) = answered.stamp ≡ length (log_of past)
 IsGoodCall shape past who (reply.Got got) = Unit {0}
+IsGoodCall shape past who (reply.Staged value txn) = Unit {0}
+IsGoodCall shape past who (reply.NotStaged fault txn) = Unit {0}
 IsGoodCall shape past who (reply.Set told) = Unit {0}
 IsGoodCall shape past who (reply.Quar told) = Unit {0}
 IsGoodCall shape past who (reply.NotCommitted fault txn grants) = Unit {0}
 IsGoodCall shape past who (reply.Rel told) = Unit {0}
+IsGoodCall shape past who (reply.SarBack grant) = Unit {0}
 IsGoodCall shape past who (reply.Fault fault) = Unit {0}
 IsGoodCall shape past who reply.Nothing = Unit {0}
+
+-- A step of the sweeper's on a shard drops a key and its quarantine, on the shard of the key, after the session of that quarantine.
+pub record IsGoodDrop (shape : Shape) (past : List Event) (place : ℕ) (on : QKey) (sid : Sid) (token : ℕ) : Type 0 where
+  pub home : place ≡ shard_of on shape.shards
+  pub over : IsOver (known_of past) sid.number
+  pub own : EndsItsOwn (steps_of place past) (step.Released on sid token ended.Drop)
+
+abbrev pub IsGoodSweep : Shape → List Event → ℕ → Option Step → Type 0
+IsGoodSweep shape past place None = Unit {0}
+IsGoodSweep shape past place (Some (step.Released on sid token ended.Drop)) = IsGoodDrop shape past place on sid token
+IsGoodSweep shape past place (Some other) = ⊥
+
+-- Whom the sweeper ended hasn't committed.
+abbrev pub IsGoodEnd : List Event → SweepWanted → SweepReply → Type 0
+IsGoodEnd past (sweep.End who) (sweeps.Ended true) = IsLogged (log_of past) who.number → ⊥
+IsGoodEnd past request told = Unit {0}
 
 abbrev pub IsGoodEvent : Shape → List Event → Event → Type 0
 IsGoodEvent shape past (Stepped place who request s told) = IsGoodStepped shape past place who s told
 IsGoodEvent shape past (Called who request told) = IsGoodCall shape past who told
+IsGoodEvent shape past (Ticked now) = Unit {0}
+IsGoodEvent shape past (Swept place request made told) = IsGoodSweep shape past place made × IsGoodEnd past request told

@@ -1,5 +1,5 @@
--- The rule, the tie and held entries of every key, and leases that are moments, are kept by each good event, whatever the keeper says.
-use Rattle.std.proofs.Common.{ℕ, ◌≡◌, ◌+◌, ◌≤◌, Bool, true, false, cond, ◌==◌, ◌&&◌, List, [], ◌∷◌, ◌++◌, length, Option, Some, None, append-nil, refl, sym, ap, subst, ◌∙◌, ◌⊎◌, inl, inr, ⊎_elim, arith}
+-- The rule, the tie and held entries of every key, leases that are moments, and quarantines that have their key for themselves, are kept by each good event, whatever the keeper says.
+use Rattle.std.proofs.Common.{ℕ, ◌≡◌, ◌≤◌, Bool, true, false, cond, ◌==◌, ◌&&◌, List, [], ◌∷◌, ◌++◌, length, Option, Some, None, append-nil, refl, sym, ap, subst, ◌∙◌, ◌⊎◌, inl, inr, ⊎_elim, arith}
 use Rattle.std.specs.List.{AllByRecursion}
 use Rattle.std.proofs.lemmas.Bool.{eqb-true, eq-eqb, false≢true}
 use Rattle.rows_model.specs.declared.keys.QKey.{QKey}
@@ -7,7 +7,7 @@ use Rattle.rows_model.specs.declared.keys.Sid.{Sid}
 use Rattle.rows_model.specs.Key.{same_key}
 use Rattle.rows_model.proofs.SameKey.{same_key-true}
 use Rattle.rows_model.specs.Placement.{shard_of}
-use Rattle.lease_table.specs.declared.records.Quar.{Quar}
+use Rattle.lease_table.specs.declared.records.Mode.TheVariants.{Refresh, Delta}
 use Rattle.lease_table.specs.declared.records.ReadLease.{ReadLease}
 use Rattle.key_shard.specs.declared.steps.Ended.{Ended as Ends}
 use Rattle.key_shard.specs.declared.steps.Ended.TheVariants as ended
@@ -17,7 +17,7 @@ use Rattle.key_shard.specs.Past.{standing, recorded, entry}
 use Rattle.sql_keeper.specs.declared.stores.Answer.{Answer}
 use Rattle.sql_keeper.specs.declared.stores.Commit.{Commit}
 use Rattle.key_freshness.specs.Marks.{Mark, Granted, Ended, Leased, Wrote, Has, key_of, marks_in, marks_of, writes_by}
-use Rattle.key_freshness.specs.Known.{Known, IsMore, IsRuled}
+use Rattle.key_freshness.specs.Known.{Known, IsLogged, IsMore, IsRuled}
 use Rattle.key_freshness.specs.Moments.{IsMoment, IsSince}
 use Rattle.key_freshness.specs.Held.{IsHeld, IsEntryHeld, IsTied}
 use Rattle.key_freshness.specs.Laws.{IsHonest, EndsItsOwn, with_commit, with_end}
@@ -26,14 +26,20 @@ use Rattle.key_freshness.proofs.MomentLemmas.{more_is_held, stored_is_latest}
 use Rattle.key_freshness.proofs.MomentSteps.{moment-of-none, since-append}
 use Rattle.key_freshness.proofs.StepLemmas.{steps_keep}
 use Rattle.key_freshness.proofs.TieLemmas.{steps_tie}
-use Rattle.key_freshness.proofs.StoreLemmas.{commits_keep, ends_keep}
+use Rattle.key_freshness.proofs.StoreLemmas.{more-commit, more-end, commits_keep, ends_keep}
+use Rattle.expiry_sweeper.specs.declared.replies.SweepReply.{SweepReply}
+use Rattle.expiry_sweeper.specs.declared.replies.SweepReply.TheVariants as sweeps
+use Rattle.expiry_sweeper.specs.declared.replies.SweepWanted.{SweepWanted}
+use Rattle.expiry_sweeper.specs.declared.replies.SweepWanted.TheVariants as sweep
 use Rattle.session_client.specs.declared.plans.Shape.{Shape}
 use Rattle.session_client.specs.declared.replies.Reply.{Reply}
 use Rattle.session_client.specs.declared.replies.Reply.TheVariants as reply
 use Rattle.session_client.specs.declared.replies.Wanted.{Wanted}
-use Rattle.core_history.specs.Events.{Event, Stepped, Called, steps_of, commits_told, log_of, ends_told, ended_of, known_of}
-use Rattle.core_history.specs.Facts.{leases, leased_at, answers_in, answers_under}
-use Rattle.core_history.proofs.GoodEvents.{IsTold, SetsTold, IsGoodStep, IsGoodEvent}
+use Rattle.session_client.specs.declared.replies.Wanted.TheVariants as wanted
+use Rattle.core_history.specs.Events.{Event, Stepped, Called, Ticked, Swept, steps_of, commits_told, log_of, ends_told, ends_swept, ended_of, known_of}
+use Rattle.core_history.specs.Facts.{leases, leased_at, answers_in, answers_under, Found, grants_as, found_at}
+use Rattle.core_history.proofs.ExclusiveLemmas.{AreAlone, HasNoReader, no_grant, grants-on, writes_held, apart_step, alone_step, alone-more, alone-after}
+use Rattle.core_history.proofs.GoodEvents.{IsTold, SetsTold, IsGoodStep, IsGoodSweep, IsGoodEnd, IsGoodEvent}
 use Rattle.core_history.proofs.ListLemmas.{choose, every-append, every-weaker, not_both, and_elim}
 
 -- the steps of a key's shard
@@ -53,6 +59,19 @@ pub record IsLeased (key : QKey) (token : ℕ) (past : List Event) (marks : List
 abbrev pub IsBetween : ℕ → ℕ → Answer → Type 0
 IsBetween least most answered = (least ≤ answered.stamp) × (answered.stamp ≤ most)
 
+-- the entry, if there is one, has a stamp of at most this
+abbrev pub IsWithin : ℕ → Option (List ℕ × ℕ) → Type 0
+IsWithin most None = Unit {0}
+IsWithin most (Some old) = old.1 ≤ most
+
+-- what was found was so with no more commits than these, and no more than it had by then has its entry
+abbrev pub IsFound : ℕ → Found → Type 0
+IsFound most found = (found.commits ≤ most) × IsWithin found.commits found.entry
+
+-- the step is on a key of this shard
+abbrev pub IsHome : Shape → ℕ → Step → Type 0
+IsHome shape place s = shard_of (key_of s) shape.shards ≡ place
+
 -- what holds after each event, whatever the keeper says
 pub record Holds (shape : Shape) (past : List Event) (known : Known) : Type 0 where
   pub ruled : (key : QKey) → IsRuled key (marks_of key (steps_at shape past key)) known
@@ -61,24 +80,19 @@ pub record Holds (shape : Shape) (past : List Event) (known : Known) : Type 0 wh
   pub leased : (key : QKey) (lease : ReadLease) → recorded key (steps_at shape past key) ≡ Some lease → IsLeased key lease.token past (marks_of key (steps_at shape past key)) known
   pub asked : (key : QKey) (token number least : ℕ) → leased_at key token past ≡ Some least
       → (least ≤ length known.log) × AllByRecursion (IsBetween least (length known.log)) (answers_under key token number past)
+  pub apart : (key : QKey) → HasNoReader key (steps_at shape past key)
+  pub alone : (key : QKey) → AreAlone key (standing key (steps_at shape past key)) past (marks_of key (steps_at shape past key)) known (entry key (steps_at shape past key))
+  pub grants : (key : QKey) (token : ℕ) (found : Found) → found_at key token past ≡ Some found → IsFound (length known.log) found
+  pub homes : (place : ℕ) → AllByRecursion (IsHome shape place) (steps_of place past)
 
 -- no mark is among none
 none_in : (mark : Mark) (b : Bool) → Has mark (cond b [] []) → ⊥
 none_in mark true h = h
 none_in mark false h = h
 
-no_grant : (who token by at : ℕ) (how : Ends) (b : Bool) → Has (Granted who token) (cond b (writes_by how ++ Ended by at ∷ []) []) → ⊥
-no_grant who token by at ended.Keep true (inl e) = cc
-no_grant who token by at ended.Keep true (inr h) = h
-no_grant who token by at ended.Drop true (inl e) = cc
-no_grant who token by at ended.Drop true (inr h) = h
-no_grant who token by at (ended.Put value stamp evicted) true (inl e) = cc
-no_grant who token by at (ended.Put value stamp evicted) true (inr (inl e)) = cc
-no_grant who token by at (ended.Put value stamp evicted) true (inr (inr h)) = h
-no_grant who token by at (ended.Shift change stamp) true (inl e) = cc
-no_grant who token by at (ended.Shift change stamp) true (inr (inl e)) = cc
-no_grant who token by at (ended.Shift change stamp) true (inr (inr h)) = h
-no_grant who token by at how false h = h
+no_end : (who token by at : ℕ) (how : Ends) (b : Bool) → Has (Granted who token) (cond b (writes_by how ++ Ended by at ∷ []) []) → ⊥
+no_end who token by at how true h = no_grant who token by at how h
+no_end who token by at how false h = h
 
 -- a lease that is recorded after a step was so before it, and the step gives none and grants nothing on the key
 pub record IsKeptLease (key : QKey) (lease : ReadLease) (past : List Step) (s : Step) : Type 0 where
@@ -123,7 +137,7 @@ recorded_cases key lease past (step.Stored on token now value stamp evicted) e =
     let old = store_cases key on lease past stamp (same_key key on) refl e in
     inl (record { was = old.0; gives_none = λ t. refl; grants_none = old.1 })
 recorded_cases key lease past (step.Released on sid token how) e =
-    inl (record { was = e; gives_none = λ t. refl; grants_none = λ who t h. no_grant who t sid.number token how (same_key key on) h })
+    inl (record { was = e; gives_none = λ t. refl; grants_none = λ who t h. no_end who t sid.number token how (same_key key on) h })
 recorded_cases key lease past (step.Hit on sid floor value stamp) e =
     inl (record { was = e; gives_none = λ t. refl; grants_none = λ who t h. none_in (Granted who t) (same_key key on) h })
 recorded_cases key lease past (step.Again on sid floor now stands) e =
@@ -183,8 +197,10 @@ honest_is : (shape : Shape) (past : List Event) (who : Sid) (s : Step) → Holds
 honest_is shape past who (step.Stored on token now value stamp evicted) holds good = set_held shape past who on token value stamp holds good
 honest_is shape past who (step.Released on sid token ended.Keep) holds good = good
 honest_is shape past who (step.Released on sid token ended.Drop) holds good = good
-honest_is shape past who (step.Released on sid token (ended.Put value stamp evicted)) holds good = absurd good
-honest_is shape past who (step.Released on sid token (ended.Shift by stamp)) holds good = absurd good
+honest_is shape past who (step.Released on sid token (ended.Put value stamp evicted)) holds good =
+    writes_held past (steps_at shape past on) on sid token Refresh stamp (λ e. cc) good.writes (holds.ruled on) (holds.alone on)
+honest_is shape past who (step.Released on sid token (ended.Shift by stamp)) holds good =
+    writes_held past (steps_at shape past on) on sid token Delta stamp (λ e. cc) good.writes (holds.ruled on) (holds.alone on)
 honest_is shape past who (step.Hit on sid floor value stamp) holds is_entry = tt
 honest_is shape past who (step.Lease on sid floor now token deadline) holds good = tt
 honest_is shape past who (step.Again on sid floor now stands) holds good = tt
@@ -215,6 +231,17 @@ module _ (shape : Shape) (past : List Event) (who : Sid) (request : Wanted) (s :
       → IsRuled key (marks_of key (s ∷ steps_at shape past key)) (known_of past) × IsEntryHeld key (marks_of key (s ∷ steps_at shape past key)) (known_of past) (entry key (s ∷ steps_at shape past key))
   kept key same = steps_keep key (known_of past) (steps_at shape past key) s (honest key same) (holds.ruled key) (holds.held key)
 
+  good_at : (key : QKey) → place ≡ shard_of key shape.shards → IsGoodStep past (steps_at shape past key) who s
+  good_at key same = subst (λ (p : ℕ). IsGoodStep past (steps_of p past) who s) same good
+
+  not_granted : (key : QKey) (token : ℕ) → (place == shard_of key shape.shards) ≡ false → grants_as key token s ≡ false
+  not_granted key token other =
+      not_so (grants_as key token s) (λ gives. not_both (eq-eqb place (shard_of key shape.shards) (ap (λ k. shard_of k shape.shards) (sym (grants-on key token s gives)))) other)
+
+  held_within : (key : QKey) (found : Option (List ℕ × ℕ)) → IsEntryHeld key (marks_of key (steps_at shape past key)) (known_of past) found → IsWithin (length (log_of past)) found
+  held_within key None held = tt
+  held_within key (Some found) held = held.within
+
   not_leased : (key : QKey) (token : ℕ) → (place == shard_of key shape.shards) ≡ false → leases key token s ≡ false
   not_leased key token other =
       not_so (leases key token s) (λ gives. not_both (eq-eqb place (shard_of key shape.shards) (ap (λ k. shard_of k shape.shards) (sym (leases-on key token s gives)))) other)
@@ -238,6 +265,10 @@ module _ (shape : Shape) (past : List Event) (who : Sid) (request : Wanted) (s :
     held = λ key. at_shard (λ k l. IsEntryHeld k (marks_of k l) (known_of past) (entry k l)) key (λ same. (kept key same).1) (holds.held key);
     leased = λ key lease is. leased_after key lease (place == shard_of key shape.shards) refl is;
     asked = λ key token number least is. asked_after key token number least (leases key token s) refl is;
+    apart = λ key. at_shard HasNoReader key (λ same. apart_step past (steps_at shape past key) who s key (good_at key same) (holds.apart key)) (holds.apart key);
+    alone = λ key. alone_after key (place == shard_of key shape.shards) refl;
+    grants = λ key token found is. grants_after key token found (grants_as key token s) refl is;
+    homes = λ at. choose (λ l. AllByRecursion (IsHome shape at) (l ++ steps_of at past)) (place == at) (s ∷ []) [] (λ same. (eqb-true place at same, holds.homes at)) (λ other. holds.homes at);
   }
     where
       given : (key : QKey) (lease : ReadLease) (x : Step) → (x ≡ s) → place ≡ shard_of key shape.shards → Gives key lease x
@@ -282,12 +313,36 @@ module _ (shape : Shape) (past : List Event) (who : Sid) (request : Wanted) (s :
           let is : length (log_of past) ≡ least = cc in (omega (arith, is), tt)
       asked_after key token number least false gives e = holds.asked key token number least e
 
--- a call of the store by which more is known
-called_holds : (shape : Shape) (past : List Event) (who : Sid) (request : Wanted) (told : Reply) (known : Known) → IsMore (known_of past) known
-    → ((key : QKey) → IsRuled key (marks_of key (steps_at shape past key)) known)
-    → ((key : QKey) (number least : ℕ) → least ≤ length (log_of past) → AllByRecursion (IsBetween least (length known.log)) (answers_in key number who told))
-    → Holds shape past (known_of past) → Holds shape (Called who request told ∷ past) known
-called_holds shape past who request told known grows ruled new holds = record {
+      now_found : QKey → Found
+      now_found key = record { commits = length (log_of past); entry = entry key (steps_of place past) }
+
+      alone_after : (key : QKey) (b : Bool) → (place == shard_of key shape.shards) ≡ b
+          → AreAlone key (standing key (cond b (s ∷ []) [] ++ steps_at shape past key)) (event ∷ past) (marks_of key (cond b (s ∷ []) [] ++ steps_at shape past key)) (known_of past) (entry key (cond b (s ∷ []) [] ++ steps_at shape past key))
+      alone_after key true here =
+          let same = eqb-true place (shard_of key shape.shards) here in
+          alone_step past (event ∷ past) (steps_at shape past key) who s key (good_at key same)
+          (record { ruled = holds.ruled key; tied = holds.tied key; held = holds.held key; apart = holds.apart key; alone = holds.alone key })
+          (λ token e. ap (λ b. cond b (Some (now_found key)) (found_at key token past)) e)
+          (λ token e. ap (λ b. cond b (Some (now_found key)) (found_at key token past)) e ∙ ap (λ (p : ℕ). Some (record { commits = length (log_of past); entry = entry key (steps_of p past) })) same)
+      alone_after key false other =
+          alone-after key (standing key (steps_at shape past key)) past (event ∷ past) (marks_of key (steps_at shape past key)) (known_of past) (entry key (steps_at shape past key))
+          (λ token. ap (λ b. cond b (Some (now_found key)) (found_at key token past)) (not_granted key token other)) (holds.alone key)
+
+      grants_after : (key : QKey) (token : ℕ) (found : Found) (b : Bool) → grants_as key token s ≡ b → cond b (Some (now_found key)) (found_at key token past) ≡ Some found
+          → IsFound (length (log_of past)) found
+      grants_after key token found true gives e =
+          let home = ap (λ k. shard_of k shape.shards) (grants-on key token s gives) in
+          let is : now_found key ≡ found = cc in
+          subst (IsFound (length (log_of past))) is (
+            omega arith,
+            subst (λ (p : ℕ). IsWithin (length (log_of past)) (entry key (steps_of p past))) home (held_within key (entry key (steps_at shape past key)) (holds.held key)),
+          )
+      grants_after key token found false gives e = holds.grants key token found e
+
+-- as much, or more, is known
+grow_holds : (shape : Shape) (past : List Event) (known new : Known) → IsMore known new → ((key : QKey) → IsRuled key (marks_of key (steps_at shape past key)) new)
+    → Holds shape past known → Holds shape past new
+grow_holds shape past known new grows ruled holds = record {
   ruled = ruled;
   tied = holds.tied;
   held = λ key. entry_more key (entry key (steps_at shape past key)) (holds.held key);
@@ -301,28 +356,124 @@ called_holds shape past who request told known grows ruled new holds = record {
   };
   asked = λ key token number least is.
       let was = holds.asked key token number least is in
-      let longer = more-length grows in (
-        omega (arith, was.0, longer),
-        every-append (IsBetween least (length known.log)) (answers_in key number who told) (answers_under key token number past) (new key number least was.0) (every-weaker (IsBetween least (length (log_of past))) (IsBetween least (length known.log)) (answers_under key token number past) (λ a h. (h.0, let le = h.1 in omega (arith, le, longer))) was.1),
-      );
+      (omega (arith, was.0, longer), every-weaker (IsBetween least (length known.log)) (IsBetween least (length new.log)) (answers_under key token number past) (λ a h. (h.0, let le = h.1 in omega (arith, le, longer))) was.1);
+  apart = holds.apart;
+  alone = λ key. alone-more key (standing key (steps_at shape past key)) past (marks_of key (steps_at shape past key)) known new (entry key (steps_at shape past key)) grows (holds.alone key);
+  grants = λ key token found is. let was = holds.grants key token found is in (let le = was.0 in omega (arith, le, longer), was.1);
+  homes = holds.homes;
 }
   where
-    entry_more : (key : QKey) (found : Option (List ℕ × ℕ)) → IsEntryHeld key (marks_of key (steps_at shape past key)) (known_of past) found
-        → IsEntryHeld key (marks_of key (steps_at shape past key)) known found
+    longer : length known.log ≤ length new.log
+    longer = more-length grows
+
+    entry_more : (key : QKey) (found : Option (List ℕ × ℕ)) → IsEntryHeld key (marks_of key (steps_at shape past key)) known found
+        → IsEntryHeld key (marks_of key (steps_at shape past key)) new found
     entry_more key None h = tt
     entry_more key (Some found) h =
-        more_is_held key (marks_of key (steps_at shape past key)) (known_of past) known found.1 grows (holds.ruled key) (ruled key) h
+        more_is_held key (marks_of key (steps_at shape past key)) known new found.1 grows (holds.ruled key) (ruled key) h
 
--- a call that tells of no commit, no end and no answer
-plain_holds : (shape : Shape) (past : List Event) (who : Sid) (request : Wanted) (told : Reply) → ((key : QKey) (number : ℕ) → answers_in key number who told ≡ [])
-    → Holds shape past (known_of past) → Holds shape (Called who request told ∷ past) (known_of past)
-plain_holds shape past who request told none holds =
-    called_holds shape past who request told (known_of past) (more-refl (known_of past)) holds.ruled (λ key number least le. subst (AllByRecursion (IsBetween least (length (log_of past)))) (sym (none key number)) tt) holds
+-- two pasts have the same steps, and tell the same of leases, of answers and of what was found
+pub record IsSamePast (past after : List Event) : Type 0 where
+  pub steps : (place : ℕ) → steps_of place after ≡ steps_of place past
+  pub leased : (key : QKey) (token : ℕ) → leased_at key token after ≡ leased_at key token past
+  pub under : (key : QKey) (token number : ℕ) → answers_under key token number after ≡ answers_under key token number past
+  pub found : (key : QKey) (token : ℕ) → found_at key token after ≡ found_at key token past
+
+same_holds : (shape : Shape) (past after : List Event) (known : Known) → IsSamePast past after → Holds shape past known → Holds shape after known
+same_holds shape past after known same holds = record {
+  ruled = λ key. subst (λ l. IsRuled key (marks_of key l) known) (at key) (holds.ruled key);
+  tied = λ key. subst (λ l. IsTied (marks_of key l) None (standing key l) (entry key l)) (at key) (holds.tied key);
+  held = λ key. subst (λ l. IsEntryHeld key (marks_of key l) known (entry key l)) (at key) (holds.held key);
+  leased = λ key lease is.
+      let was = holds.leased key lease (subst (λ l. recorded key l ≡ Some lease) (sym (at key)) is) in
+      subst (λ l. IsLeased key lease.token after (marks_of key l) known) (at key) (record {
+        then_marks = was.then_marks;
+        then_known = was.then_known;
+        leased = same.leased key lease.token ∙ was.leased;
+        moment = was.moment;
+        since = was.since;
+        more = was.more;
+      });
+  asked = λ key token number least is.
+      subst (λ l. (least ≤ length known.log) × AllByRecursion (IsBetween least (length known.log)) l) (sym (same.under key token number))
+      (holds.asked key token number least (sym (same.leased key token) ∙ is));
+  apart = λ key. subst (HasNoReader key) (at key) (holds.apart key);
+  alone = λ key. subst (λ l. AreAlone key (standing key l) after (marks_of key l) known (entry key l)) (at key)
+      (alone-after key (standing key (steps_at shape past key)) past after (marks_of key (steps_at shape past key)) known (entry key (steps_at shape past key)) (same.found key) (holds.alone key));
+  grants = λ key token found is. holds.grants key token found (sym (same.found key token) ∙ is);
+  homes = λ place. subst (AllByRecursion (IsHome shape place)) (sym (same.steps place)) (holds.homes place);
+}
+  where
+    at : (key : QKey) → steps_at shape past key ≡ steps_at shape after key
+    at key = sym (same.steps (shard_of key shape.shards))
+
+-- a call that tells no answer
+pub same-called : (past : List Event) (who : Sid) (request : Wanted) (told : Reply) → ((key : QKey) (number : ℕ) → answers_in key number who told ≡ [])
+    → IsSamePast past (Called who request told ∷ past)
+same-called past who request told none = record {
+  steps = λ place. refl;
+  leased = λ key token. refl;
+  under = λ key token number. ap (λ l. l ++ answers_under key token number past) (none key number);
+  found = λ key token. refl;
+}
+
+pub same-ticked : (past : List Event) (now : ℕ) → IsSamePast past (Ticked now ∷ past)
+same-ticked past now = record { steps = λ place. refl; leased = λ key token. refl; under = λ key token number. refl; found = λ key token. refl }
+
+-- a sweep without a step
+pub same-swept : (past : List Event) (shard : ℕ) (request : SweepWanted) (told : SweepReply) → IsSamePast past (Swept shard request None told ∷ past)
+same-swept past shard request told = record {
+  steps = λ place. choose (λ l. l ++ steps_of place past ≡ steps_of place past) (shard == place) [] [] (λ e. refl) (λ e. refl);
+  leased = λ key token. refl;
+  under = λ key token number. refl;
+  found = λ key token. refl;
+}
+
+-- a sweep that drops is as a session's release
+pub same-dropped : (past : List Event) (shard : ℕ) (on : QKey) (sid : Sid) (token : ℕ) (request : SweepWanted) (told : SweepReply)
+    → IsSamePast (Stepped shard sid wanted.Nothing (step.Released on sid token ended.Drop) reply.Nothing ∷ past) (Swept shard request (Some (step.Released on sid token ended.Drop)) told ∷ past)
+same-dropped past shard on sid token request told =
+    record { steps = λ place. refl; leased = λ key t. refl; under = λ key t number. refl; found = λ key t. refl }
+
+-- a call that tells no answer, by which more may be known
+called_holds : (shape : Shape) (past : List Event) (who : Sid) (request : Wanted) (told : Reply) (known : Known) → IsMore (known_of past) known
+    → ((key : QKey) → IsRuled key (marks_of key (steps_at shape past key)) known) → ((key : QKey) (number : ℕ) → answers_in key number who told ≡ [])
+    → Holds shape past (known_of past) → Holds shape (Called who request told ∷ past) known
+called_holds shape past who request told known grows ruled none holds =
+    same_holds shape past (Called who request told ∷ past) known (same-called past who request told none) (grow_holds shape past (known_of past) known grows ruled holds)
 
 -- the answer of a reply, if it is to the key
 one_between : (least most : ℕ) (answered : Answer) (b : Bool) → IsBetween least most answered → AllByRecursion (IsBetween least most) (cond b (answered ∷ []) [])
 one_between least most answered true h = (h, tt)
 one_between least most answered false h = tt
+
+-- a call that tells an answer
+answer_holds : (shape : Shape) (past : List Event) (who : Sid) (request : Wanted) (answered : Answer) (known : Known) → answered.stamp ≡ length known.log
+    → Holds shape past known → Holds shape (Called who request (reply.Answer answered) ∷ past) known
+answer_holds shape past who request answered known stamp holds = record {
+  ruled = holds.ruled;
+  tied = holds.tied;
+  held = holds.held;
+  leased = λ key lease is. let was = holds.leased key lease is in record {
+    then_marks = was.then_marks;
+    then_known = was.then_known;
+    leased = was.leased;
+    moment = was.moment;
+    since = was.since;
+    more = was.more;
+  };
+  asked = λ key token number least is.
+      let was = holds.asked key token number least is in
+      let le = was.0 in (
+        le,
+        every-append (IsBetween least (length known.log)) (answers_in key number who (reply.Answer answered)) (answers_under key token number past)
+            (one_between least (length known.log) answered ((who.number == number) && same_key key answered.key) (omega (arith, stamp, le), omega (arith, stamp))) was.1,
+      );
+  apart = holds.apart;
+  alone = λ key. alone-after key (standing key (steps_at shape past key)) past (Called who request (reply.Answer answered) ∷ past) (marks_of key (steps_at shape past key)) known (entry key (steps_at shape past key)) (λ token. refl) (holds.alone key);
+  grants = holds.grants;
+  homes = holds.homes;
+}
 
 -- nothing told of leaves what is known
 known_same : (past : List Event) (commits : List Commit) (ends : List ℕ) → commits ≡ [] → ends ≡ [] → known_of past ≡ record { log = log_of past ++ commits; ended = ends ++ ended_of past }
@@ -330,6 +481,31 @@ known_same past commits ends no_commit no_end =
     ap (λ l. record { log = l; ended = ended_of past }) (sym (append-nil (log_of past)))
     ∙ ap (λ l. record { log = log_of past ++ l; ended = ended_of past }) (sym no_commit)
     ∙ ap (λ l. record { log = log_of past ++ commits; ended = l ++ ended_of past }) (sym no_end)
+
+-- the end of a session that hasn't committed
+ended_holds : (shape : Shape) (past after : List Event) (who : ℕ) → (IsLogged (log_of past) who → ⊥) → Holds shape after (known_of past)
+    → Holds shape after (record { log = log_of past ++ []; ended = who ∷ ended_of past })
+ended_holds shape past after who ongoing holds =
+    subst (Holds shape after) (ap (λ l. record { log = l; ended = who ∷ ended_of past }) (sym (append-nil (log_of past))))
+    (grow_holds shape after (known_of past) (with_end (known_of past) who) (more-end (known_of past) who) (λ key. ends_keep key (marks_of key (steps_at shape after key)) (known_of past) who ongoing (holds.ruled key)) holds)
+
+-- what the sweeper ends
+swept_end : (shape : Shape) (past after : List Event) (request : SweepWanted) (told : SweepReply) → IsGoodEnd past request told → Holds shape after (known_of past)
+    → Holds shape after (record { log = log_of past ++ []; ended = ends_swept request told ++ ended_of past })
+swept_end shape past after (sweep.End who) (sweeps.Ended true) good holds = ended_holds shape past after who.number good holds
+swept_end shape past after request told good holds = subst (Holds shape after) (known_same past [] [] refl refl) holds
+
+-- what the sweeper drops
+swept_step : (shape : Shape) (past : List Event) (shard : ℕ) (request : SweepWanted) (made : Option Step) (told : SweepReply) → IsGoodSweep shape past shard made
+    → Holds shape past (known_of past) → Holds shape (Swept shard request made told ∷ past) (known_of past)
+swept_step shape past shard request None told good holds =
+    same_holds shape past (Swept shard request None told ∷ past) (known_of past) (same-swept past shard request told) holds
+swept_step shape past shard request (Some (step.Released on sid token ended.Drop)) told good holds =
+    let s = step.Released on sid token ended.Drop in
+    same_holds shape (Stepped shard sid wanted.Nothing s reply.Nothing ∷ past) (Swept shard request (Some s) told ∷ past) (known_of past) (same-dropped past shard on sid token request told)
+    (subst (λ (p : ℕ). Holds shape (Stepped p sid wanted.Nothing s reply.Nothing ∷ past) (known_of past)) (sym good.home)
+    (stepped_holds shape past sid wanted.Nothing s reply.Nothing holds good.over (subst (λ (p : ℕ). EndsItsOwn (steps_of p past) s) good.home good.own)))
+swept_step shape past shard request (Some other) told good holds = absurd good
 
 -- each good event keeps what holds
 pub good_holds : (shape : Shape) (past : List Event) (event : Event) → IsGoodEvent shape past event → Holds shape past (known_of past) → Holds shape (event ∷ past) (known_of (event ∷ past))
@@ -341,35 +517,20 @@ good_holds shape past (Stepped place who request s told) good holds =
     (subst (λ (p : ℕ). EndsItsOwn (steps_of p past) s) good.home good.own)))
 good_holds shape past (Called who request (reply.Committed number txn grants)) good holds =
     let commit : Commit = record { sid = who; txn = txn } in
-    let known = with_commit (known_of past) commit in
-    called_holds shape past who request (reply.Committed number txn grants) known (record { more = commit ∷ []; goes_on = refl; kept = λ n h. h })
-    (λ key. commits_keep key (marks_of key (steps_at shape past key)) (known_of past) commit good.opened (good.granted key) (holds.ruled key))
-    (λ key number least le. tt) holds
+    called_holds shape past who request (reply.Committed number txn grants) (with_commit (known_of past) commit) (more-commit (known_of past) commit)
+    (λ key. commits_keep key (marks_of key (steps_at shape past key)) (known_of past) commit good.opened (good.granted key) (holds.ruled key)) (λ key number. refl) holds
 good_holds shape past (Called who request (reply.End true)) good holds =
-    subst (Holds shape (Called who request (reply.End true) ∷ past)) (ap (λ l. record { log = l; ended = who.number ∷ ended_of past }) (sym (append-nil (log_of past))))
-    (called_holds shape past who request (reply.End true) (with_end (known_of past) who.number) (record { more = []; goes_on = sym (append-nil (log_of past)); kept = λ n h. inr h })
-    (λ key. ends_keep key (marks_of key (steps_at shape past key)) (known_of past) who.number good (holds.ruled key))
-    (λ key number least le. tt) holds)
+    let after = Called who request (reply.End true) ∷ past in
+    ended_holds shape past after who.number good (same_holds shape past after (known_of past) (same-called past who request (reply.End true) (λ key number. refl)) holds)
 good_holds shape past (Called who request (reply.Answer answered)) good holds =
-    subst (Holds shape (Called who request (reply.Answer answered) ∷ past)) (known_same past [] [] refl refl)
-    (called_holds shape past who request (reply.Answer answered) (known_of past) (more-refl (known_of past)) holds.ruled
-    (λ key number least le. one_between least (length (log_of past)) answered ((who.number == number) && same_key key answered.key) (omega (arith, good, le), omega (arith, good))) holds)
-good_holds shape past (Called who request (reply.End false)) good holds =
-    subst (Holds shape (Called who request (reply.End false) ∷ past)) (known_same past [] [] refl refl) (plain_holds shape past who request (reply.End false) (λ key number. refl) holds)
-good_holds shape past (Called who request (reply.Got got)) good holds =
-    subst (Holds shape (Called who request (reply.Got got) ∷ past)) (known_same past [] [] refl refl) (plain_holds shape past who request (reply.Got got) (λ key number. refl) holds)
-good_holds shape past (Called who request (reply.Set told)) good holds =
-    subst (Holds shape (Called who request (reply.Set told) ∷ past)) (known_same past [] [] refl refl) (plain_holds shape past who request (reply.Set told) (λ key number. refl) holds)
-good_holds shape past (Called who request (reply.Quar told)) good holds =
-    subst (Holds shape (Called who request (reply.Quar told) ∷ past)) (known_same past [] [] refl refl) (plain_holds shape past who request (reply.Quar told) (λ key number. refl) holds)
-good_holds shape past (Called who request (reply.NotCommitted fault txn grants)) good holds =
-    subst (Holds shape (Called who request (reply.NotCommitted fault txn grants) ∷ past)) (known_same past [] [] refl refl) (plain_holds shape past who request (reply.NotCommitted fault txn grants) (λ key number. refl) holds)
-good_holds shape past (Called who request (reply.Rel told)) good holds =
-    subst (Holds shape (Called who request (reply.Rel told) ∷ past)) (known_same past [] [] refl refl) (plain_holds shape past who request (reply.Rel told) (λ key number. refl) holds)
-good_holds shape past (Called who request (reply.Fault fault)) good holds =
-    subst (Holds shape (Called who request (reply.Fault fault) ∷ past)) (known_same past [] [] refl refl) (plain_holds shape past who request (reply.Fault fault) (λ key number. refl) holds)
-good_holds shape past (Called who request reply.Nothing) good holds =
-    subst (Holds shape (Called who request reply.Nothing ∷ past)) (known_same past [] [] refl refl) (plain_holds shape past who request reply.Nothing (λ key number. refl) holds)
+    subst (Holds shape (Called who request (reply.Answer answered) ∷ past)) (known_same past [] [] refl refl) (answer_holds shape past who request answered (known_of past) good holds)
+good_holds shape past (Called who request told) good holds =
+    subst (Holds shape (Called who request told ∷ past)) (known_same past [] [] refl refl)
+    (same_holds shape past (Called who request told ∷ past) (known_of past) (same-called past who request told (λ key number. refl)) holds)
+good_holds shape past (Ticked now) good holds =
+    subst (Holds shape (Ticked now ∷ past)) (known_same past [] [] refl refl) (same_holds shape past (Ticked now ∷ past) (known_of past) (same-ticked past now) holds)
+good_holds shape past (Swept place request made told) good holds =
+    swept_end shape past (Swept place request made told ∷ past) request told good.1 (swept_step shape past place request made told good.0 holds)
 
 -- at the start nothing is marked or known
 pub start_holds : (shape : Shape) → Holds shape [] (known_of [])
@@ -379,4 +540,11 @@ start_holds shape = record {
   held = λ key. tt;
   leased = λ key lease is. cc;
   asked = λ key token number least is. cc;
+  apart = λ key. inl refl;
+  alone = λ key. inl tt;
+  grants = λ key token found is. absurd (none_some found is);
+  homes = λ place. tt;
 }
+  where
+    none_some : (found : Found) → None ≡ Some found → ⊥
+    none_some found e = absurd cc

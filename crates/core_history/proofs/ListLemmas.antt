@@ -1,5 +1,5 @@
 -- Tests, counts and places of lists.
-use Rattle.std.proofs.Common.{ℕ, zero, suc, ◌≡◌, ◌+◌, ◌≤◌, Bool, true, false, cond, ◌&&◌, ◌||◌, List, [], ◌∷◌, ◌++◌, length, filter, count_by, reverse, Some, slice_get, refl, sym, subst, ◌∙◌, inl, inr, ◌⊎◌, arith}
+use Rattle.std.proofs.Common.{ℕ, zero, suc, ◌≡◌, ◌+◌, ◌≤◌, Bool, true, false, cond, ◌&&◌, ◌||◌, List, [], ◌∷◌, ◌++◌, length, filter, find, count_by, reverse, Some, None, slice_get, refl, sym, ap, subst, ◌∙◌, inl, inr, ◌⊎◌, arith}
 use Rattle.std.specs.List.{AllByRecursion, list_any}
 use Rattle.std.proofs.lemmas.Bool.{cases_Bool, false≢true}
 use Rattle.std.proofs.lemmas.List.Folds.{list_any-append}
@@ -105,6 +105,35 @@ push-place (z ∷ xs) y (suc i) x h =
       | inl old ↦ inl old
       | inr new ↦ inr (let e = new.0 in omega (arith, e), new.1)
     ]
+
+-- what is in a list stands at its place where the list goes on
+pub slice-front : {X : Type 0} (xs ys : List X) (i : ℕ) (x : X) → slice_get xs i ≡ Some x → slice_get (xs ++ ys) i ≡ Some x
+slice-front [] ys i x h = cc
+slice-front (z ∷ xs) ys zero x h = h
+slice-front (z ∷ xs) ys (suc i) x h = slice-front xs ys i x h
+
+-- what comes behind a list stands at the list's length
+pub slice-last : {X : Type 0} (xs : List X) (y : X) → slice_get (xs ++ y ∷ []) (length xs) ≡ Some y
+slice-last [] y = refl
+slice-last (z ∷ xs) y = slice-last xs y
+
+-- what is found in a list with one more that isn't sought was found before
+pub find-front : {X : Type 0} (p : X → Bool) (xs : List X) (y x : X) → p y ≡ false → find p (xs ++ y ∷ []) ≡ Some x → find p xs ≡ Some x
+find-front p [] y x none h = let empty : find p (y ∷ []) ≡ None = ap (λ b. cond b (Some y) None) none in cc
+find-front p (z ∷ xs) y x none h = by (p z) (find-front p xs y x none) h
+  where
+    by : (b : Bool) → (find p (xs ++ y ∷ []) ≡ Some x → find p xs ≡ Some x) → cond b (Some z) (find p (xs ++ y ∷ [])) ≡ Some x → cond b (Some z) (find p xs) ≡ Some x
+    by true rest h = h
+    by false rest h = rest h
+
+-- what is found passes the test, and has what each has
+pub every-found : {X : Type 0} (P : X → Type 0) (p : X → Bool) (xs : List X) (x : X) → AllByRecursion P xs → find p xs ≡ Some x → P x × (p x ≡ true)
+every-found P p [] x h e = cc
+every-found P p (z ∷ xs) x h e = by (p z) refl (every-found P p xs x h.1) e
+  where
+    by : (b : Bool) → p z ≡ b → (find p xs ≡ Some x → P x × (p x ≡ true)) → cond b (Some z) (find p xs) ≡ Some x → P x × (p x ≡ true)
+    by true is rest e = let same : z ≡ x = cc in subst (λ y. P y × (p y ≡ true)) same (h.0, is)
+    by false is rest e = rest e
 
 -- counts
 abbrev pub tick : Bool → ℕ

@@ -1,5 +1,5 @@
 -- Which sessions are open, at the store and by the events.
-use Rattle.std.proofs.Common.{ℕ, zero, suc, ◌-◌, ◌≡◌, ◌≢◌, ◌<◌, ◌≤◌, ◌==◌, ◌&&◌, ◌||◌, Bool, true, false, not, cond, if◌then◌else◌, List, [], ◌∷◌, ◌++◌, length, Some, None, slice_get, refl, sym, ap, subst, ◌∙◌, ⊎_elim, ◌⊎◌, append-nil, length-set, arith, rules, eq-eqb}
+use Rattle.std.proofs.Common.{ℕ, zero, suc, ◌-◌, ◌≡◌, ◌≢◌, ◌<◌, ◌≤◌, ◌==◌, ◌&&◌, ◌||◌, Bool, true, false, not, cond, if◌then◌else◌, List, [], ◌∷◌, ◌++◌, length, Some, None, slice_get, refl, sym, ap, subst, ◌∙◌, ⊎_elim, append-nil, length-set, arith, rules, eq-eqb}
 use Rattle.std.specs.List.{list_any}
 use Rattle.std.proofs.lemmas.Bool.{eqb-true, cases_Bool, false≢true}
 use Rattle.std.proofs.lemmas.List.Folds.{list_any-append}
@@ -9,11 +9,13 @@ use Rattle.sql_keeper.specs.declared.stores.Commit.{Commit}
 use Rattle.sql_keeper.specs.declared.stores.Phase.{Phase}
 use Rattle.sql_keeper.specs.declared.stores.Phase.TheVariants.{Committed, Ended}
 use Rattle.sql_keeper.specs.Sessions.{may_commit as may, is_open as may_commit, with_phase, ended}
+use Rattle.expiry_sweeper.specs.declared.replies.SweepReply.TheVariants as sweeps
+use Rattle.expiry_sweeper.specs.declared.replies.SweepWanted.TheVariants as sweep
 use Rattle.session_client.specs.Grants.{GrantsView}
 use Rattle.session_client.specs.declared.replies.Reply.TheVariants as reply
 use Rattle.session_client.specs.declared.replies.Wanted.TheVariants as wanted
 use Rattle.core_history.specs.Cores.{HasPhases}
-use Rattle.core_history.specs.Events.{Event, Called, who_in, reply_in, commits_told, ends_told, log_of, ended_of, was_ended, has_committed}
+use Rattle.core_history.specs.Events.{Event, Called, Swept, commits_in, ends_in, log_of, ended_of, was_ended, has_committed}
 use Rattle.core_history.specs.Machine.{World, plan_at, is_writer, is_open}
 use Rattle.core_history.specs.Requests.{after}
 use Rattle.core_history.proofs.ShardsLemmas.{slice_get-set_same, slice_get-set_other}
@@ -26,8 +28,8 @@ opened writer committed ended = writer && not committed && not ended
 abbrev same : ℕ → ℕ → Bool
 same number other = other == number
 
--- an event that tells of no commit and of no end leaves each session as it was
-pub opens_same : (world : World) (event : Event) (who : Sid) → commits_told (who_in event) (reply_in event) ≡ [] → ends_told (who_in event) (reply_in event) ≡ [] → is_open (after world event) who ≡ is_open world who
+-- an event that makes no commit and ends nobody leaves each session as it was
+pub opens_same : (world : World) (event : Event) (who : Sid) → commits_in event ≡ [] → ends_in event ≡ [] → is_open (after world event) who ≡ is_open world who
 opens_same world event who no_commit no_end =
     let n = who.number in
     let writer = is_writer (plan_at n world.plans) in
@@ -37,7 +39,7 @@ opens_same world event who no_commit no_end =
     let ended : was_ended n (event ∷ world.past) ≡ was_ended n world.past = ap (λ (l : List ℕ). list_any (same n) (l ++ ended_of world.past)) no_end in
     ap (λ (b : Bool). opened writer b (was_ended n (event ∷ world.past))) committed ∙ ap (λ (b : Bool). opened writer (has_committed n world.past) b) ended
 
-pub phases_same : (phases : List Phase) (world : World) (event : Event) → HasPhases phases world → commits_told (who_in event) (reply_in event) ≡ [] → ends_told (who_in event) (reply_in event) ≡ [] → HasPhases phases (after world event)
+pub phases_same : (phases : List Phase) (world : World) (event : Event) → HasPhases phases world → commits_in event ≡ [] → ends_in event ≡ [] → HasPhases phases (after world event)
 phases_same phases world event has no_commit no_end =
     record {
       count = has.count;
@@ -123,27 +125,29 @@ phases_committed phases world who txn grants number has some is_so =
         phase_other who other Committed phases some more apart ∙ has.opens other more
         ∙ sym (ap (λ (b : Bool). opened writer b (was_ended other.number (event ∷ world.past))) kept)
 
--- the sessions after one was ended, and told whether it was open
-pub phases_ended : (phases : List Phase) (world : World) (who : Sid) → HasPhases phases world → 1 ≤ who.number →
-    HasPhases (ended who phases) (after world (Called who wanted.End (reply.End (is_open world who))))
-phases_ended phases world who has some = by (is_open world who) (has.opens who some)
+-- the sessions after an event that tells whether one was open, and ends it if it was
+phases_closed : (phases : List Phase) (world : World) (who : Sid) (event : Bool → Event) → HasPhases phases world → 1 ≤ who.number →
+    ((was : Bool) → commits_in (event was) ≡ []) → ends_in (event true) ≡ who.number ∷ [] → ends_in (event false) ≡ [] → HasPhases (ended who phases) (after world (event (is_open world who)))
+phases_closed phases world who event has some no_commit one_end no_end = by (is_open world who) (has.opens who some)
   where
-    event : Bool → Event
-    event was = Called who wanted.End (reply.End was)
-
     committed_as : (n : ℕ) → has_committed n (event true ∷ world.past) ≡ has_committed n world.past
-    committed_as n = ap (list_any (λ commit. commit.sid.number == n)) (append-nil (log_of world.past))
+    committed_as n =
+        let mine : Commit → Bool = λ commit. commit.sid.number == n in
+        ap (λ (l : List Commit). list_any mine (log_of world.past ++ l)) (no_commit true) ∙ ap (list_any mine) (append-nil (log_of world.past))
+
+    ended_as : (n : ℕ) → was_ended n (event true ∷ world.past) ≡ ((who.number == n) || was_ended n world.past)
+    ended_as n = ap (λ (l : List ℕ). list_any (same n) (l ++ ended_of world.past)) one_end
 
     closed : (other : Sid) → (who.number == other.number) ≡ true → is_open (after world (event true)) other ≡ false
-    closed other same =
+    closed other mine =
         let writer = is_writer (plan_at other.number world.plans) in
-        ap (λ (b : Bool). opened writer (has_committed other.number (event true ∷ world.past)) (b || was_ended other.number world.past)) same
-        ∙ no_last writer (not (has_committed other.number (event true ∷ world.past)))
+        let committed = has_committed other.number (event true ∷ world.past) in
+        ap (opened writer committed) (ended_as other.number ∙ ap (λ (b : Bool). b || was_ended other.number world.past) mine) ∙ no_last writer (not committed)
 
     as_before : (other : Sid) → (who.number == other.number) ≡ false → is_open (after world (event true)) other ≡ is_open world other
     as_before other apart =
         let writer = is_writer (plan_at other.number world.plans) in
-        ap (λ (b : Bool). opened writer (has_committed other.number (event true ∷ world.past)) (b || was_ended other.number world.past)) apart
+        ap (opened writer (has_committed other.number (event true ∷ world.past))) (ended_as other.number ∙ ap (λ (b : Bool). b || was_ended other.number world.past) apart)
         ∙ ap (λ (b : Bool). opened writer b (was_ended other.number world.past)) (committed_as other.number)
 
     by : (was : Bool) → may_commit who phases ≡ was → HasPhases (ended who phases) (after world (event was))
@@ -161,4 +165,16 @@ phases_ended phases world who has some = by (is_open world who) (has.opens who s
     by false isnt =
         let here : ended who phases ≡ phases = ap (λ (b : Bool). cond b (with_phase who Ended phases) phases) isnt in
         let P : List Phase → Type 0 = λ xs. HasPhases xs (after world (event false)) in
-        subst P (sym here) (phases_same phases world (event false) has refl refl)
+        subst P (sym here) (phases_same phases world (event false) has (no_commit false) no_end)
+
+-- the sessions after one was ended by its own turn
+pub phases_ended : (phases : List Phase) (world : World) (who : Sid) → HasPhases phases world → 1 ≤ who.number →
+    HasPhases (ended who phases) (after world (Called who wanted.End (reply.End (is_open world who))))
+phases_ended phases world who has some =
+    phases_closed phases world who (λ was. Called who wanted.End (reply.End was)) has some (λ was. refl) refl refl
+
+-- the sessions after the sweeper ended one
+pub phases_swept : (phases : List Phase) (world : World) (who : Sid) → HasPhases phases world → 1 ≤ who.number →
+    HasPhases (ended who phases) (after world (Swept 0 (sweep.End who) None (sweeps.Ended (is_open world who))))
+phases_swept phases world who has some =
+    phases_closed phases world who (λ was. Swept 0 (sweep.End who) None (sweeps.Ended was)) has some (λ was. refl) refl refl

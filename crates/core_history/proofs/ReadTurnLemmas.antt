@@ -1,4 +1,4 @@
--- A turn of a reader, or of no session, keeps the facts.
+-- A turn of a reader, or of no session, keeps the facts; and so does a get of any session's.
 use Rattle.std.proofs.Common.{ℕ, ◌≡◌, ◌<◌, ◌==◌, true, false, cond, List, [], ◌∷◌, ◌++◌, length, Option, Some, None, append-nil, refl, sym, ap, subst, ◌∙◌, inl, arith}
 use Rattle.std.proofs.lemmas.Bool.{false≢true, eq-eqb, eqb-true}
 use Rattle.rows_model.specs.declared.keys.QKey.{QKey}
@@ -10,7 +10,9 @@ use Rattle.lease_table.specs.declared.records.ReadLease.{ReadLease}
 use Rattle.lease_table.specs.Leases.{is_current}
 use Rattle.key_shard.specs.declared.steps.Step.{Step}
 use Rattle.key_shard.specs.declared.steps.Step.TheVariants as step
+use Rattle.key_shard.specs.declared.replies.Got.{Got}
 use Rattle.key_shard.specs.declared.replies.Got.TheVariants as got
+use Rattle.key_shard.specs.declared.replies.SetAnswer.{SetAnswer}
 use Rattle.key_shard.specs.declared.replies.SetAnswer.TheVariants as set
 use Rattle.key_shard.specs.Past.{Terms, draws, recorded, evicts, next_token, deadline_at}
 use Rattle.key_shard.specs.Answers.{Answers, Get, Set, get_step, set_step}
@@ -25,16 +27,14 @@ use Rattle.session_client.specs.declared.replies.Wanted.{Wanted}
 use Rattle.session_client.specs.declared.replies.Wanted.TheVariants as wanted
 use Rattle.session_client.specs.Wants.{granted, grants_in, is_commit, read_wants}
 use Rattle.session_client.proofs.WantCases.{read_cases}
-use Rattle.core_history.specs.Events.{Event, Stepped, Called, who_in, reply_in, steps_of, told_to, log_of}
-use Rattle.core_history.specs.Machine.{World, Said, Value, Made, Rejected, Failed, terms_of, plan_at, shown, event_of, ask_told, out_by}
+use Rattle.core_history.specs.Events.{Event, Stepped, Called, steps_of, told_to, log_of, now_of}
+use Rattle.core_history.specs.Machine.{World, Said, Value, Made, Rejected, Failed, terms_of, plan_at, shown, event_of, ask_told}
 use Rattle.core_history.specs.Facts.{answers_under}
-use Rattle.core_history.specs.Freshness.{IsQuarantinedReply}
 use Rattle.core_history.proofs.GrantFacts.{IsDrawnBelow}
-use Rattle.core_history.proofs.ListLemmas.{and_elim, and_intro, count-cons}
-use Rattle.core_history.proofs.KeyLemmas.{QuietStep}
-use Rattle.core_history.proofs.EventLemmas.{late-mild, IsKnown}
-use Rattle.core_history.proofs.SessionLemmas.{maybe-step, stood-quiet, stood-called, Keeps}
-use Rattle.core_history.proofs.InnerLemmas.{Inner, IsSession, IsHolding, HasTold, DrawsLate, with_event, session-more, called-inner, quiet-inner, lease-late}
+use Rattle.core_history.proofs.ListLemmas.{and_elim, and_intro, not_both, count-cons}
+use Rattle.core_history.proofs.KeyLemmas.{IsQuietStep}
+use Rattle.core_history.proofs.SessionLemmas.{maybe-step, DrawsLate, IsLateDraw}
+use Rattle.core_history.proofs.InnerLemmas.{Inner, IsSession, IsHolding, HasHeard, with_event, reader-more, mild-inner, quiet-inner, draws-late}
 use Rattle.core_history.proofs.GoodEvents.{IsTold, IsGoodEvent}
 
 -- the facts after the event of a request, which is good
@@ -43,90 +43,85 @@ After shape world who said request =
     Inner shape (with_event world (event_of shape world who request said)) × IsGoodEvent shape world.past (event_of shape world who request said)
 
 -- a session that wants nothing
-pub idle-turn : (shape : Shape) (world : World) (who : Sid) (said : Said) → Inner shape world → HasTold shape world (Called who wanted.Nothing reply.Nothing)
+pub idle-turn : (shape : Shape) (world : World) (who : Sid) (said : Said) → Inner shape world → HasHeard shape world (Called who wanted.Nothing reply.Nothing) who reply.Nothing
     → After shape world who said wanted.Nothing
-idle-turn shape world who said inner mine =
-    (called-inner shape world who wanted.Nothing reply.Nothing inner refl (late-mild (Called who wanted.Nothing reply.Nothing) world.past refl) tt mine, tt)
+idle-turn shape world who said inner mine = (mild-inner shape world who wanted.Nothing reply.Nothing inner refl refl mine, tt)
+
+-- a session stays as its plan has it, whatever a get tells it
+abbrev pub TakesGot : Shape → World → Sid → QKey → ℕ → Type 0
+TakesGot shape world who key floor =
+    let home = shard_of key shape.shards in
+    (s : Step) (found : Got) → IsQuietStep s → IsLateDraw shape world.past s
+    → IsDrawnBelow (next_token (terms_of shape home) (steps_of home (Stepped home who (wanted.Get key floor) s (reply.Got found) ∷ world.past))) (reply.Got found)
+    → HasHeard shape world (Stepped home who (wanted.Get key floor) s (reply.Got found)) who (reply.Got found)
+
+-- a get, of whichever session
+pub got-turn : (shape : Shape) (world : World) (who : Sid) (said : Said) (key : QKey) (floor : ℕ) → Inner shape world → TakesGot shape world who key floor
+    → After shape world who said (wanted.Get key floor)
+got-turn shape world who said key floor inner takes =
+    got_cases P terms steps key who floor now
+    (λ value stamp found is. (told (step.Hit key who floor value stamp) (got.Hit value stamp) is tt tt, record { home = refl; good = found; own = tt; no_commit = refl; no_end = refl }))
+    (λ is. (told (step.Own key who) got.Own is tt tt, record { home = refl; good = tt; own = tt; no_commit = refl; no_end = refl }))
+    (λ stands is. (told (step.Again key who floor now stands) (got.Again stands) is tt tt, record { home = refl; good = tt; own = tt; no_commit = refl; no_end = refl }))
+    (λ none is. (told (step.Lease key who floor now token deadline) (got.Lease token) is tt low, record { home = refl; good = none; own = tt; no_commit = refl; no_end = refl }))
+    refl
+  where
+    past : List Event
+    past = world.past
+
+    home : ℕ
+    home = shard_of key shape.shards
+
+    terms : Terms
+    terms = terms_of shape home
+
+    steps : List Step
+    steps = steps_of home past
+
+    now : ℕ
+    now = now_of past
+
+    token : ℕ
+    token = next_token terms steps
+
+    deadline : ℕ
+    deadline = deadline_at terms now
+
+    request : Wanted
+    request = wanted.Get key floor
+
+    P : Step → Type 0
+    P s = s ≡ get_step terms steps key who floor now → Inner shape (with_event world (Stepped home who request s (shown terms steps s))) × IsGoodEvent shape past (Stepped home who request s (shown terms steps s))
+
+    told : (s : Step) (found : Got) → s ≡ get_step terms steps key who floor now → IsQuietStep s
+        → IsDrawnBelow (next_token terms (steps_of home (Stepped home who request s (reply.Got found) ∷ past))) (reply.Got found)
+        → Inner shape (with_event world (Stepped home who request s (reply.Got found)))
+    told s found is quiet drawn =
+        let answers : Answers terms steps s = record { request = Get key who floor now; at_home = refl; owed = tt; answer = is } in
+        quiet-inner shape world home who request s (reply.Got found) inner answers quiet (λ t x out. refl) refl refl (takes s found quiet (draws-late shape past home s answers) drawn)
+
+    low : token < next_token terms (steps_of home (Stepped home who request (step.Lease key who floor now token deadline) (reply.Got (got.Lease token)) ∷ past))
+    low =
+        let s = step.Lease key who floor now token deadline in
+        maybe-step (λ l. token < next_token terms l) (home == home) s steps (λ _. let one = count-cons draws s steps in omega (arith, one)) (λ other. absurd (not_both (eq-eqb home home refl) other))
 
 -- what a reader is told
-told-reader : (shape : Shape) (world : World) (event : Event) (key : QKey) (floor : ℕ) → Inner shape world → plan_at (who_in event).number world.plans ≡ Some (Read key floor)
-    → DrawsLate shape world.past event → Keeps shape event world.past (who_in event).number
-    → IsDrawnBelow (next_token (terms_of shape (shard_of key shape.shards)) (steps_of (shard_of key shape.shards) (event ∷ world.past))) (reply_in event)
-    → grants_in (reply_in event) ≡ [] → IsHolding key (who_in event).number (event ∷ world.past) (reply_in event ∷ told_to (who_in event).number world.past)
-    → HasTold shape world event
-told-reader shape world event key floor inner plan draws keeps drawn brings holding =
-    let n = (who_in event).number in
+told-reader : (shape : Shape) (world : World) (event : Event) (who : Sid) (told : Reply) (key : QKey) (floor : ℕ) → Inner shape world → plan_at who.number world.plans ≡ Some (Read key floor)
+    → DrawsLate shape world.past event → IsDrawnBelow (next_token (terms_of shape (shard_of key shape.shards)) (steps_of (shard_of key shape.shards) (event ∷ world.past))) told
+    → grants_in told ≡ [] → IsHolding key who.number (event ∷ world.past) (told ∷ told_to who.number world.past) → HasHeard shape world event who told
+told-reader shape world event who told key floor inner plan late drawn brings holding =
+    let n = who.number in
     let heard = told_to n world.past in
     let S : Option Plan → Type 0 = λ p. IsSession shape world.past n heard p in
-    let T : Option Plan → Type 0 = λ p. IsSession shape (event ∷ world.past) n (reply_in event ∷ heard) p in
-    let old = session-more shape event world.past n heard (Some (Read key floor)) draws keeps (subst S plan (inner.sessions n)) in
+    let T : Option Plan → Type 0 = λ p. IsSession shape (event ∷ world.past) n (told ∷ heard) p in
+    let old = reader-more shape event world.past n heard key late (subst S plan (inner.sessions n)) in
     subst T (sym plan) ((drawn, old.0), ap (λ l. granted heard ++ l) brings ∙ append-nil (granted heard) ∙ old.1, holding)
-
-quiet-hit : (key : QKey) (who : Sid) (floor : ℕ) (value : List ℕ) (stamp : ℕ) → QuietStep (step.Hit key who floor value stamp)
-quiet-hit key who floor value stamp = record { stands = λ k past. refl; no_grant = λ k w. refl }
-
-quiet-own : (key : QKey) (who : Sid) → QuietStep (step.Own key who)
-quiet-own key who = record { stands = λ k past. refl; no_grant = λ k w. refl }
-
-quiet-again : (key : QKey) (who : Sid) (floor now : ℕ) (stands : _) → QuietStep (step.Again key who floor now stands)
-quiet-again key who floor now stands = record { stands = λ k past. refl; no_grant = λ k w. refl }
-
-quiet-lease : (key : QKey) (who : Sid) (floor now token deadline : ℕ) → QuietStep (step.Lease key who floor now token deadline)
-quiet-lease key who floor now token deadline = record { stands = λ k past. refl; no_grant = λ k w. refl }
-
-quiet-stored : (key : QKey) (token now : ℕ) (value : List ℕ) (stamp : ℕ) (evicted : Option QKey) → QuietStep (step.Stored key token now value stamp evicted)
-quiet-stored key token now value stamp evicted = record { stands = λ k past. refl; no_grant = λ k w. refl }
-
-quiet-void : (key : QKey) (token now : ℕ) → QuietStep (step.Void key token now)
-quiet-void key token now = record { stands = λ k past. refl; no_grant = λ k w. refl }
-
--- a quiet step of a reader's
-reader-step : (shape : Shape) (world : World) (who : Sid) (key : QKey) (floor : ℕ) (request : Wanted) (s : Step) (told : Reply) → Inner shape world
-    → plan_at who.number world.plans ≡ Some (Read key floor) → Answers (terms_of shape (shard_of key shape.shards)) (steps_of (shard_of key shape.shards) world.past) s
-    → QuietStep s → ((terms : Terms) (out : List _) → out_by terms request s out ≡ out) → IsKnown (Stepped (shard_of key shape.shards) who request s told ∷ world.past) s
-    → DrawsLate shape world.past (Stepped (shard_of key shape.shards) who request s told) → is_commit told ≡ false → grants_in told ≡ []
-    → IsDrawnBelow (next_token (terms_of shape (shard_of key shape.shards)) (steps_of (shard_of key shape.shards) (Stepped (shard_of key shape.shards) who request s told ∷ world.past))) told
-    → IsHolding key who.number (Stepped (shard_of key shape.shards) who request s told ∷ world.past) (told ∷ told_to who.number world.past)
-    → Inner shape (with_event world (Stepped (shard_of key shape.shards) who request s told))
-reader-step shape world who key floor request s told inner plan answers quiet same known draws mild brings drawn holding =
-    let home = shard_of key shape.shards in
-    let event = Stepped home who request s told in
-    quiet-inner shape world home who request s told inner answers quiet same known draws mild brings
-    (told-reader shape world event key floor inner plan draws (λ grant own. stood-quiet shape home who request s told world.past quiet same who.number grant) drawn brings holding)
 
 get-turn : (shape : Shape) (world : World) (who : Sid) (said : Said) (key : QKey) (floor : ℕ) → Inner shape world → plan_at who.number world.plans ≡ Some (Read key floor)
     → After shape world who said (wanted.Get key floor)
 get-turn shape world who said key floor inner plan =
-    let home = shard_of key shape.shards in
-    let terms = terms_of shape home in
-    let steps = steps_of home world.past in
-    let request = wanted.Get key floor in
-    let P : Step → Type 0 = λ s. s ≡ get_step terms steps key who floor 0 → Inner shape (with_event world (Stepped home who request s (shown terms steps s))) × IsGoodEvent shape world.past (Stepped home who request s (shown terms steps s)) in
-    got_cases P terms steps key who floor 0
-    (λ value stamp found is. (
-      reader-step shape world who key floor request (step.Hit key who floor value stamp) (reply.Got (got.Hit value stamp)) inner plan (record { request = Get key who floor 0; at_home = refl; owed = tt; answer = is }) (quiet-hit key who floor value stamp) (λ t out. refl) tt (λ k t low. refl) refl refl tt tt,
-      record { home = refl; good = found; own = tt; no_commit = refl; no_end = refl },
-    ))
-    (λ is. (
-      reader-step shape world who key floor request (step.Own key who) (reply.Got got.Own) inner plan (record { request = Get key who floor 0; at_home = refl; owed = tt; answer = is }) (quiet-own key who) (λ t out. refl) tt (λ k t low. refl) refl refl tt tt,
-      record { home = refl; good = tt; own = tt; no_commit = refl; no_end = refl },
-    ))
-    (λ stands is. (
-      reader-step shape world who key floor request (step.Again key who floor 0 stands) (reply.Got (got.Again stands)) inner plan (record { request = Get key who floor 0; at_home = refl; owed = tt; answer = is }) (quiet-again key who floor 0 stands) (λ t out. refl) tt (λ k t low. refl) refl refl tt tt,
-      record { home = refl; good = tt; own = tt; no_commit = refl; no_end = refl },
-    ))
-    (λ none is.
-    let token = next_token terms steps in
-    let deadline = deadline_at terms 0 in
-    let s = step.Lease key who floor 0 token deadline in
-    let told = reply.Got (got.Lease token) in
-    let one = count-cons draws s steps in
-    let here : (home == home) ≡ true = eq-eqb home home refl in (
-      reader-step shape world who key floor request s told inner plan (record { request = Get key who floor 0; at_home = refl; owed = tt; answer = is }) (quiet-lease key who floor 0 token deadline) (λ t out. refl) tt (lease-late shape world.past who request told key floor 0 deadline) refl refl
-          (maybe-step (λ l. token < next_token terms l) (home == home) s steps (λ _. omega (arith, one)) (λ other. absurd (false≢true (sym other ∙ here)))) tt,
-      record { home = refl; good = none; own = tt; no_commit = refl; no_end = refl },
-    ))
-    refl
+    got-turn shape world who said key floor inner
+    (λ s found quiet late drawn. told-reader shape world (Stepped (shard_of key shape.shards) who (wanted.Get key floor) s (reply.Got found)) who (reply.Got found) key floor inner plan late drawn refl tt)
 
 -- the lease that a current token is of
 lease_of : (token now : ℕ) (lease : Option ReadLease) → is_current token now lease ≡ true → (found : ReadLease) × (lease ≡ Some found) × (found.token ≡ token)
@@ -137,34 +132,56 @@ set-turn : (shape : Shape) (world : World) (who : Sid) (said : Said) (key : QKey
     → plan_at who.number world.plans ≡ Some (Read key floor) → told_to who.number world.past ≡ reply.Answer answer ∷ reply.Got (got.Lease token) ∷ rest
     → After shape world who said (wanted.Set key token answer.value answer.stamp)
 set-turn shape world who said key floor token answer rest inner plan heard =
-    let home = shard_of key shape.shards in
-    let terms = terms_of shape home in
-    let steps = steps_of home world.past in
-    let value = answer.value in
-    let stamp = answer.stamp in
-    let request = wanted.Set key token value stamp in
-    let evicted = evicts terms key steps in
-    let S : Option Plan → Type 0 = λ p. IsSession shape world.past who.number (told_to who.number world.past) p in
-    let session = subst S plan (inner.sessions who.number) in
-    let told : IsTold answer (answers_under key token who.number world.past) = subst (IsHolding key who.number world.past) heard session.2 in
-    let P : Step → Type 0 = λ s. s ≡ set_step terms steps key token value stamp 0 → Inner shape (with_event world (Stepped home who request s (shown terms steps s))) × IsGoodEvent shape world.past (Stepped home who request s (shown terms steps s)) in
-    set_cases P terms steps key token value stamp 0
+    set_cases P terms steps key token answer.value answer.stamp now
     (λ current is.
-    let lease = lease_of token 0 (recorded key steps) current in (
-      reader-step shape world who key floor request (step.Stored key token 0 value stamp evicted) (reply.Set (set.Stored evicted)) inner plan (record { request = Set key token value stamp 0; at_home = refl; owed = tt; answer = is }) (quiet-stored key token 0 value stamp evicted) (λ t out. refl) tt (λ k t low. refl) refl refl tt tt,
+    let lease = lease_of token now (recorded key steps) current in (
+      told (step.Stored key token now answer.value answer.stamp evicted) (set.Stored evicted) is tt,
       record {
         home = refl;
-        good = record { lease = lease.0; is_recorded = lease.1; mine = lease.2; answered = answer; told = told; value_is = refl; stamp_is = refl };
+        good = record { lease = lease.0; is_recorded = lease.1; mine = lease.2; answered = answer; told = answered; value_is = refl; stamp_is = refl };
         own = tt;
         no_commit = refl;
         no_end = refl;
       },
     ))
-    (λ _ is. (
-      reader-step shape world who key floor request (step.Void key token 0) (reply.Set set.Void) inner plan (record { request = Set key token value stamp 0; at_home = refl; owed = tt; answer = is }) (quiet-void key token 0) (λ t out. refl) tt (λ k t low. refl) refl refl tt tt,
-      record { home = refl; good = tt; own = tt; no_commit = refl; no_end = refl },
-    ))
+    (λ _ is. (told (step.Void key token now) set.Void is tt, record { home = refl; good = tt; own = tt; no_commit = refl; no_end = refl }))
     refl
+  where
+    past : List Event
+    past = world.past
+
+    home : ℕ
+    home = shard_of key shape.shards
+
+    terms : Terms
+    terms = terms_of shape home
+
+    steps : List Step
+    steps = steps_of home past
+
+    now : ℕ
+    now = now_of past
+
+    evicted : Option QKey
+    evicted = evicts terms key steps
+
+    request : Wanted
+    request = wanted.Set key token answer.value answer.stamp
+
+    answered : IsTold answer (answers_under key token who.number past)
+    answered =
+        let S : Option Plan → Type 0 = λ p. IsSession shape past who.number (told_to who.number past) p in
+        subst (IsHolding key who.number past) heard (subst S plan (inner.sessions who.number)).2
+
+    P : Step → Type 0
+    P s = s ≡ set_step terms steps key token answer.value answer.stamp now → Inner shape (with_event world (Stepped home who request s (shown terms steps s))) × IsGoodEvent shape past (Stepped home who request s (shown terms steps s))
+
+    told : (s : Step) (found : SetAnswer) → s ≡ set_step terms steps key token answer.value answer.stamp now → IsQuietStep s → Inner shape (with_event world (Stepped home who request s (reply.Set found)))
+    told s found is quiet =
+        let answers : Answers terms steps s = record { request = Set key token answer.value answer.stamp now; at_home = refl; owed = tt; answer = is } in
+        let event = Stepped home who request s (reply.Set found) in
+        quiet-inner shape world home who request s (reply.Set found) inner answers quiet (λ t x out. refl) refl refl
+        (told-reader shape world event who (reply.Set found) key floor inner plan (draws-late shape past home s answers) tt refl tt)
 
 -- an answer that follows a lease is held under it
 ask-holding : (key : QKey) (who : Sid) (request : Wanted) (past : List Event) (answered : Answer) (heard : List Reply) → key ≡ answered.key
@@ -178,21 +195,20 @@ ask-turn : (shape : Shape) (world : World) (who : Sid) (said : Said) (key : QKey
 ask-turn shape world who said key floor inner plan = by said
   where
     after : (told : Reply) → grants_in told ≡ [] → is_commit told ≡ false → ((next : ℕ) → IsDrawnBelow next told)
-        → IsHolding key who.number (Called who (wanted.Ask key) told ∷ world.past) (told ∷ told_to who.number world.past) → IsQuarantinedReply shape world.past who told
+        → IsHolding key who.number (Called who (wanted.Ask key) told ∷ world.past) (told ∷ told_to who.number world.past)
         → Inner shape (with_event world (Called who (wanted.Ask key) told))
-    after told brings mild drawn holding quarantined =
+    after told brings mild drawn holding =
         let event = Called who (wanted.Ask key) told in
-        called-inner shape world who (wanted.Ask key) told inner brings (late-mild event world.past mild) quarantined
-        (told-reader shape world event key floor inner plan tt (λ grant own. stood-called shape who (wanted.Ask key) told world.past who.number grant) (drawn _) brings holding)
+        mild-inner shape world who (wanted.Ask key) told inner brings mild (told-reader shape world event who told key floor inner plan tt (drawn _) brings holding)
 
     by : (said : Said)
         → Inner shape (with_event world (Called who (wanted.Ask key) (ask_told world.past key said))) × IsGoodEvent shape world.past (Called who (wanted.Ask key) (ask_told world.past key said))
     by (Value value) =
         let answered : Answer = record { key = key; value = value; stamp = length (log_of world.past) } in
-        (after (reply.Answer answered) refl refl (λ next. tt) (ask-holding key who (wanted.Ask key) world.past answered (told_to who.number world.past) refl) tt, refl)
-    by Made = (after _ refl refl (λ next. tt) tt tt, tt)
-    by (Rejected index) = (after _ refl refl (λ next. tt) tt tt, tt)
-    by Failed = (after _ refl refl (λ next. tt) tt tt, tt)
+        (after (reply.Answer answered) refl refl (λ next. tt) (ask-holding key who (wanted.Ask key) world.past answered (told_to who.number world.past) refl), refl)
+    by Made = (after _ refl refl (λ next. tt) tt, tt)
+    by (Rejected index) = (after _ refl refl (λ next. tt) tt, tt)
+    by Failed = (after _ refl refl (λ next. tt) tt, tt)
 
 pub read-turn : (shape : Shape) (world : World) (who : Sid) (said : Said) (key : QKey) (floor : ℕ) → Inner shape world → plan_at who.number world.plans ≡ Some (Read key floor)
     → After shape world who said (read_wants key floor (told_to who.number world.past))
@@ -200,4 +216,4 @@ read-turn shape world who said key floor inner plan =
     let idle = Called who wanted.Nothing reply.Nothing in
     read_cases (After shape world who said) key floor (told_to who.number world.past) (get-turn shape world who said key floor inner plan) (ask-turn shape world who said key floor inner plan)
     (λ token answer rest heard. set-turn shape world who said key floor token answer rest inner plan heard)
-    (idle-turn shape world who said inner (told-reader shape world idle key floor inner plan tt (λ grant own. stood-called shape who wanted.Nothing reply.Nothing world.past who.number grant) tt refl tt))
+    (idle-turn shape world who said inner (told-reader shape world idle who reply.Nothing key floor inner plan tt tt refl tt))

@@ -1,31 +1,41 @@
--- What a shard's answer tells is what its step shows.
-use Rattle.std.proofs.Common.{ℕ, ◌≡◌, pos, List, ◌∷◌, ap, subst, set, ◌∙◌}
+-- A request that was made on the shard of its key is the machine's event.
+use Rattle.std.proofs.Common.{ℕ, ℤ, ◌≡◌, pos, List, ◌∷◌, Option, Some, None, Ok, refl, sym, ap, subst, set, ◌∙◌}
 use Rattle.std.proofs.lemmas.List.{reverse-reverse}
 use Rattle.rows_model.specs.declared.keys.QKey.{QKey}
 use Rattle.rows_model.specs.declared.keys.Sid.{Sid}
 use Rattle.rows_model.specs.Placement.{shard_of}
-use Rattle.lease_table.specs.declared.records.Mode.TheVariants.{Invalidate}
+use Rattle.case_tables.specs.Compatibility.{verdict, quarantine}
+use Rattle.case_tables.specs.declared.grids.Verdict.{Verdict}
+use Rattle.case_tables.specs.declared.grids.Verdict.TheVariants as verdicts
+use Rattle.lease_table.specs.declared.records.Mode.{Mode}
+use Rattle.lease_table.specs.declared.records.Mode.TheVariants.{Invalidate, Refresh, Delta}
+use Rattle.lease_table.specs.declared.records.Quar.{Quar}
+use Rattle.lease_table.specs.Leases.{way_of}
 use Rattle.key_shard.specs.Permit.{Permit}
 use Rattle.key_shard.specs.declared.steps.Step.{Step}
 use Rattle.key_shard.specs.declared.steps.Step.TheVariants as step
 use Rattle.key_shard.specs.declared.replies.Got.{Got}
 use Rattle.key_shard.specs.declared.replies.SetAnswer.{SetAnswer}
 use Rattle.key_shard.specs.declared.replies.QAnswer.{QAnswer}
+use Rattle.key_shard.specs.declared.replies.QAnswer.TheVariants as told
 use Rattle.key_shard.specs.declared.replies.Rel.{Rel}
-use Rattle.key_shard.specs.declared.replies.How.TheVariants.{Keep, Drop}
-use Rattle.key_shard.specs.Past.{Terms}
-use Rattle.key_shard.specs.Answers.{get_step, set_step, quarantine_step, release_step}
-use Rattle.key_shard.specs.Replies.{ShowsGot, ShowsSet, ShowsQuarantine, ShowsRelease}
+use Rattle.key_shard.specs.declared.replies.How.{How}
+use Rattle.key_shard.specs.declared.replies.How.TheVariants as how
+use Rattle.key_shard.specs.Past.{Terms, entry, seen_by, holder_of}
+use Rattle.key_shard.specs.Answers.{FitsShift, get_step, set_step, refused_step, quarantine_by, quarantine_step, release_step}
+use Rattle.key_shard.specs.Replies.{old_value, ShowsGot, ShowsSet, ShowsQuarantine, ShowsRelease}
 use Rattle.key_shard.specs.Shards.{ShardView, past_of, stepped, returned}
+use Rattle.session_client.specs.Belongs.{FitsOld, IsQuarantineOf, Belongs}
 use Rattle.session_client.specs.declared.plans.Shape.{Shape}
 use Rattle.session_client.specs.declared.replies.Reply.{Reply}
 use Rattle.session_client.specs.declared.replies.Reply.TheVariants as reply
 use Rattle.session_client.specs.declared.replies.Wanted.{Wanted}
 use Rattle.session_client.specs.declared.replies.Wanted.TheVariants as wanted
 use Rattle.core_history.specs.Cores.{HasShards}
-use Rattle.core_history.specs.Events.{Event, steps_of, reply_in}
-use Rattle.core_history.specs.Machine.{World, Failed, event_of, stepped_on, terms_of, shown}
-use Rattle.core_history.proofs.ShardsLemmas.{IsShardOf, step_is, shards_made}
+use Rattle.core_history.specs.Events.{Event, steps_of, now_of, reply_in}
+use Rattle.core_history.specs.Machine.{World, Failed, event_of, stepped_on, terms_of, shown, put_step}
+use Rattle.core_history.specs.Requests.{MakesStep, quarantined_as, released_as}
+use Rattle.core_history.proofs.ShardsLemmas.{IsShardOf, grown, shards_made}
 
 tells_got : (terms : Terms) (past : List Step) (s : Step) (answer : Got) → ShowsGot s answer → reply.Got answer ≡ shown terms past s
 tells_got terms past (step.Hit key sid floor value stamp) answer h = ap reply.Got h
@@ -79,67 +89,105 @@ tells_release terms past (step.Refused key sid mode holder held) answer h = absu
 tells_release terms past (step.Released key sid token how) answer h = ap reply.Rel h
 tells_release terms past (step.Gone key sid token) answer h = ap reply.Rel h
 
--- a request on a shard was made: its session is told what the step shows, and the shards stand after it
-abbrev MadeOn : Shape → List Event → Sid → Wanted → QKey → (Terms → List Step → Step) → List ShardView → Reply → Type 0
-MadeOn shape past who request key f shards told =
-    (told ≡ reply_in (stepped_on shape past who request key f)) × HasShards shards shape (stepped_on shape past who request key f ∷ past)
+-- what follows a shard's own past is what follows the steps on it
+shown_is : (shape : Shape) (past : List Event) (key : QKey) (place : ℕ) (shard : ShardView) (g : Terms → List Step → Reply) → IsShardOf shape past key place shard → g shard.terms (past_of shard) ≡ g (terms_of shape (shard_of key shape.shards)) (steps_of (shard_of key shape.shards) past)
+shown_is shape past key place shard g is =
+    ap (λ (v : ShardView). g v.terms (past_of v)) is.same ∙ ap (λ (steps : List Step). g (terms_of shape (shard_of key shape.shards)) steps) (reverse-reverse (steps_of (shard_of key shape.shards) past))
 
-pub got_made : (shape : Shape) (world : World) (who : Sid) (key : QKey) (floor : ℕ) (shards : List ShardView) (place : ℕ) (shard new : ShardView) (answer : Got) → HasShards shards shape world.past → IsShardOf shape world.past key place shard →
-    new ≡ stepped shard (get_step shard.terms (past_of shard) key who floor 0) → ShowsGot (get_step shard.terms (past_of shard) key who floor 0) answer →
-    (reply.Got answer ≡ reply_in (event_of shape world who (wanted.Get key floor) Failed)) × HasShards (set shards place new) shape (event_of shape world who (wanted.Get key floor) Failed ∷ world.past)
-got_made shape world who key floor shards place shard new answer has is grew shows =
-    let home = shard_of key shape.shards in
-    let f : Terms → List Step → Step = λ terms steps. get_step terms steps key who floor 0 in
-    let P : Step → Type 0 = λ s. ShowsGot s answer in (
-      tells_got (terms_of shape home) (steps_of home world.past) _ answer (subst P (step_is shape world.past key place shard f is) shows),
-      shards_made shape world.past who (wanted.Get key floor) key f shards place shard new has is grew,
-    )
-
-pub set_made : (shape : Shape) (world : World) (who : Sid) (key : QKey) (token : ℕ) (value : List ℕ) (stamp : ℕ) (shards : List ShardView) (place : ℕ) (shard new : ShardView) (answer : SetAnswer) → HasShards shards shape world.past → IsShardOf shape world.past key place shard →
-    new ≡ stepped shard (set_step shard.terms (past_of shard) key token value stamp 0) → ShowsSet (set_step shard.terms (past_of shard) key token value stamp 0) answer →
-    (reply.Set answer ≡ reply_in (event_of shape world who (wanted.Set key token value stamp) Failed)) × HasShards (set shards place new) shape (event_of shape world who (wanted.Set key token value stamp) Failed ∷ world.past)
-set_made shape world who key token value stamp shards place shard new answer has is grew shows =
-    let home = shard_of key shape.shards in
-    let f : Terms → List Step → Step = λ terms steps. set_step terms steps key token value stamp 0 in
-    let P : Step → Type 0 = λ s. ShowsSet s answer in (
-      tells_set (terms_of shape home) (steps_of home world.past) _ answer (subst P (step_is shape world.past key place shard f is) shows),
-      shards_made shape world.past who (wanted.Set key token value stamp) key f shards place shard new has is grew,
-    )
-
-pub quarantine_made : (shape : Shape) (world : World) (who : Sid) (key : QKey) (shards : List ShardView) (place : ℕ) (shard new : ShardView) (answer : QAnswer) → HasShards shards shape world.past → IsShardOf shape world.past key place shard →
-    new ≡ stepped shard (quarantine_step shard.terms (past_of shard) key who Invalidate (pos 0) 0) → ShowsQuarantine shard.terms (past_of shard) (quarantine_step shard.terms (past_of shard) key who Invalidate (pos 0) 0) answer →
-    (reply.Quar answer ≡ reply_in (event_of shape world who (wanted.QaReg key) Failed)) × HasShards (set shards place new) shape (event_of shape world who (wanted.QaReg key) Failed ∷ world.past)
-quarantine_made shape world who key shards place shard new answer has is grew shows =
-    let home = shard_of key shape.shards in
-    let f : Terms → List Step → Step = λ terms steps. quarantine_step terms steps key who Invalidate (pos 0) 0 in
+-- the shard of the key made the step, and told what it shows
+step_made : (shape : Shape) (world : World) (who : Sid) (request : Wanted) (key : QKey) (f : Terms → List Step → Step) (shards : List ShardView) (place : ℕ) (shard new : ShardView) (told : Reply) →
+    event_of shape world who request Failed ≡ stepped_on shape world.past who request key f → HasShards shards shape world.past → IsShardOf shape world.past key place shard →
+    new ≡ grown shard request (f shard.terms (past_of shard)) → told ≡ shown shard.terms (past_of shard) (f shard.terms (past_of shard)) → MakesStep shape world who request (set shards place new) (Ok told)
+step_made shape world who request key f shards place shard new told event has is grew tells =
     let g : Terms → List Step → Reply = λ terms steps. shown terms steps (f terms steps) in
-    let told : reply.Quar answer ≡ shown shard.terms (past_of shard) (f shard.terms (past_of shard)) = tells_quarantine shard.terms (past_of shard) _ answer shows in (
-      told ∙ reply_is shape world.past key place shard g is,
-      shards_made shape world.past who (wanted.QaReg key) key f shards place shard new has is grew,
-    )
+    let P : Event → Type 0 = λ e. HasShards (set shards place new) shape (e ∷ world.past) in
+    (tells ∙ shown_is shape world.past key place shard g is ∙ ap reply_in (sym event), subst P (sym event) (shards_made shape world.past who request key f shards place shard new has is grew))
+
+pub got_made : (shape : Shape) (world : World) (who : Sid) (key : QKey) (floor now : ℕ) (shards : List ShardView) (place : ℕ) (shard new : ShardView) (answer : Got) → now ≡ now_of world.past → HasShards shards shape world.past → IsShardOf shape world.past key place shard →
+    new ≡ stepped shard (get_step shard.terms (past_of shard) key who floor now) → ShowsGot (get_step shard.terms (past_of shard) key who floor now) answer → MakesStep shape world who (wanted.Get key floor) (set shards place new) (Ok (reply.Got answer))
+got_made shape world who key floor now shards place shard new answer time has is grew shows =
+    let f : ℕ → Terms → List Step → Step = λ n terms steps. get_step terms steps key who floor n in
+    step_made shape world who (wanted.Get key floor) key (f now) shards place shard new (reply.Got answer) (ap (λ (n : ℕ). stepped_on shape world.past who (wanted.Get key floor) key (f n)) (sym time)) has is grew
+    (tells_got shard.terms (past_of shard) _ answer shows)
+
+pub set_made : (shape : Shape) (world : World) (who : Sid) (key : QKey) (token : ℕ) (value : List ℕ) (stamp now : ℕ) (shards : List ShardView) (place : ℕ) (shard new : ShardView) (answer : SetAnswer) → now ≡ now_of world.past → HasShards shards shape world.past → IsShardOf shape world.past key place shard →
+    new ≡ stepped shard (set_step shard.terms (past_of shard) key token value stamp now) → ShowsSet (set_step shard.terms (past_of shard) key token value stamp now) answer → MakesStep shape world who (wanted.Set key token value stamp) (set shards place new) (Ok (reply.Set answer))
+set_made shape world who key token value stamp now shards place shard new answer time has is grew shows =
+    let f : ℕ → Terms → List Step → Step = λ n terms steps. set_step terms steps key token value stamp n in
+    step_made shape world who (wanted.Set key token value stamp) key (f now) shards place shard new (reply.Set answer) (ap (λ (n : ℕ). stepped_on shape world.past who (wanted.Set key token value stamp) key (f n)) (sym time)) has is grew
+    (tells_set shard.terms (past_of shard) _ answer shows)
+
+-- a quarantine is the event of its mode, and its grant is out afterwards
+quarantine_in : (shape : Shape) (world : World) (who : Sid) (key : QKey) (mode : Mode) (by : ℤ) (now : ℕ) (shards : List ShardView) (place : ℕ) (shard new : ShardView) (told : Reply) → FitsShift mode by → now ≡ now_of world.past → HasShards shards shape world.past → IsShardOf shape world.past key place shard →
+    new ≡ stepped shard (quarantine_step shard.terms (past_of shard) key who mode by now) → told ≡ shown shard.terms (past_of shard) (quarantine_step shard.terms (past_of shard) key who mode by now) → MakesStep shape world who (quarantined_as mode key by) (set shards place new) (Ok told)
+quarantine_in shape world who key Invalidate by now shards place shard new told fits time has is grew tells =
+    let f : ℤ → ℕ → Terms → List Step → Step = λ z n terms steps. quarantine_step terms steps key who Invalidate z n in
+    let E : ℤ → ℕ → Event = λ z n. stepped_on shape world.past who (wanted.QaReg key) key (f z n) in
+    step_made shape world who (wanted.QaReg key) key (f by now) shards place shard new told (ap (λ (n : ℕ). E (pos 0) n) (sym time) ∙ ap (λ (z : ℤ). E z now) (sym fits)) has is grew tells
+quarantine_in shape world who key Refresh by now shards place shard new told fits time has is grew tells =
+    let f : ℤ → ℕ → Terms → List Step → Step = λ z n terms steps. quarantine_step terms steps key who Refresh z n in
+    let E : ℤ → ℕ → Event = λ z n. stepped_on shape world.past who (wanted.QaRead key) key (f z n) in
+    step_made shape world who (wanted.QaRead key) key (f by now) shards place shard new told (ap (λ (n : ℕ). E (pos 0) n) (sym time) ∙ ap (λ (z : ℤ). E z now) (sym fits)) has is grew tells
+quarantine_in shape world who key Delta by now shards place shard new told fits time has is grew tells =
+    let f : ℕ → Terms → List Step → Step = λ n terms steps. quarantine_step terms steps key who Delta by n in
+    step_made shape world who (wanted.Delta key by) key (f now) shards place shard new told (ap (λ (n : ℕ). stepped_on shape world.past who (wanted.Delta key by) key (f n)) (sym time)) has is grew tells
+
+pub quarantine_made : (shape : Shape) (world : World) (who : Sid) (key : QKey) (mode : Mode) (by : ℤ) (now : ℕ) (shards : List ShardView) (place : ℕ) (shard new : ShardView) (answer : QAnswer) → FitsShift mode by → now ≡ now_of world.past → HasShards shards shape world.past → IsShardOf shape world.past key place shard →
+    new ≡ stepped shard (quarantine_step shard.terms (past_of shard) key who mode by now) → ShowsQuarantine shard.terms (past_of shard) (quarantine_step shard.terms (past_of shard) key who mode by now) answer → MakesStep shape world who (quarantined_as mode key by) (set shards place new) (Ok (reply.Quar answer))
+quarantine_made shape world who key mode by now shards place shard new answer fits time has is grew shows =
+    quarantine_in shape world who key mode by now shards place shard new (reply.Quar answer) fits time has is grew (tells_quarantine shard.terms (past_of shard) _ answer shows)
+
+-- a release is the event of how it is made, and its grant is out no more
+release_in : (shape : Shape) (world : World) (who : Sid) (grant : Permit) (way : How) (shards : List ShardView) (place : ℕ) (shard new : ShardView) (told : Reply) → HasShards shards shape world.past → IsShardOf shape world.past grant.key place shard →
+    new ≡ returned shard grant (release_step (past_of shard) grant way) → told ≡ shown shard.terms (past_of shard) (release_step (past_of shard) grant way) → MakesStep shape world who (released_as grant way) (set shards place new) (Ok told)
+release_in shape world who grant how.Keep shards place shard new told has is grew tells =
+    step_made shape world who (wanted.Abort grant) grant.key (λ terms steps. release_step steps grant how.Keep) shards place shard new told refl has is grew tells
+release_in shape world who grant how.Drop shards place shard new told has is grew tells =
+    step_made shape world who (wanted.Dar grant) grant.key (λ terms steps. release_step steps grant how.Drop) shards place shard new told refl has is grew tells
+release_in shape world who grant (how.Shift stamp) shards place shard new told has is grew tells =
+    step_made shape world who (wanted.Apply grant stamp) grant.key (λ terms steps. release_step steps grant (how.Shift stamp)) shards place shard new told refl has is grew tells
+
+pub release_made : (shape : Shape) (world : World) (who : Sid) (grant : Permit) (way : How) (shards : List ShardView) (place : ℕ) (shard new : ShardView) (answer : Rel) → HasShards shards shape world.past → IsShardOf shape world.past grant.key place shard →
+    new ≡ returned shard grant (release_step (past_of shard) grant way) → ShowsRelease (release_step (past_of shard) grant way) answer → MakesStep shape world who (released_as grant way) (set shards place new) (Ok (reply.Rel answer))
+release_made shape world who grant way shards place shard new answer has is grew shows =
+    release_in shape world who grant way shards place shard new (reply.Rel answer) has is grew (tells_release shard.terms (past_of shard) _ answer shows)
+
+pub sar_made : (shape : Shape) (world : World) (who : Sid) (grant : Permit) (value : Option (List ℕ)) (stamp : ℕ) (shards : List ShardView) (place : ℕ) (shard new : ShardView) (answer : Rel) → HasShards shards shape world.past → IsShardOf shape world.past grant.key place shard →
+    new ≡ returned shard grant (put_step shard.terms (past_of shard) grant value stamp) → ShowsRelease (put_step shard.terms (past_of shard) grant value stamp) answer → MakesStep shape world who (wanted.Sar grant value stamp) (set shards place new) (Ok (reply.Rel answer))
+sar_made shape world who grant value stamp shards place shard new answer has is grew shows =
+    step_made shape world who (wanted.Sar grant value stamp) grant.key (λ terms steps. put_step terms steps grant value stamp) shards place shard new (reply.Rel answer) refl has is grew
+    (tells_release shard.terms (past_of shard) _ answer shows)
+
+fits_old : (mode : Mode) (found : Option (List ℕ × ℕ)) → FitsOld mode (old_value mode found)
+fits_old Invalidate found = refl
+fits_old Refresh found = tt
+fits_old Delta found = refl
+
+-- what is told of a quarantine in a mode is an answer to one in that mode
+quarantine_of : (terms : Terms) (past : List Step) (key : QKey) (who : Sid) (mode : Mode) (by : ℤ) (now : ℕ) (answer : QAnswer) → ShowsQuarantine terms past (quarantine_step terms past key who mode by now) answer → IsQuarantineOf who key mode answer
+quarantine_of terms past key who mode by now answer = by_verdict (verdict (seen_by key who now past) (quarantine (way_of mode)))
   where
-    reply_is : (shape : Shape) (past : List Event) (key : QKey) (place : ℕ) (shard : ShardView) (g : Terms → List Step → Reply) → IsShardOf shape past key place shard → g shard.terms (past_of shard) ≡ g (terms_of shape (shard_of key shape.shards)) (steps_of (shard_of key shape.shards) past)
-    reply_is shape past key place shard g is =
-        ap (λ (v : ShardView). g v.terms (past_of v)) is.same ∙ ap (λ (steps : List Step). g (terms_of shape (shard_of key shape.shards)) steps) (reverse-reverse (steps_of (shard_of key shape.shards) past))
+    P : QAnswer → Type 0
+    P a = IsQuarantineOf who key mode a
 
-pub dar_made : (shape : Shape) (world : World) (who : Sid) (grant : Permit) (shards : List ShardView) (place : ℕ) (shard new : ShardView) (answer : Rel) → HasShards shards shape world.past → IsShardOf shape world.past grant.key place shard →
-    new ≡ returned shard grant (release_step (past_of shard) grant Drop) → ShowsRelease (release_step (past_of shard) grant Drop) answer →
-    (reply.Rel answer ≡ reply_in (event_of shape world who (wanted.Dar grant) Failed)) × HasShards (set shards place new) shape (event_of shape world who (wanted.Dar grant) Failed ∷ world.past)
-dar_made shape world who grant shards place shard new answer has is grew shows =
-    let home = shard_of grant.key shape.shards in
-    let f : Terms → List Step → Step = λ terms steps. release_step steps grant Drop in
-    let P : Step → Type 0 = λ s. ShowsRelease s answer in (
-      tells_release (terms_of shape home) (steps_of home world.past) _ answer (subst P (step_is shape world.past grant.key place shard f is) shows),
-      shards_made shape world.past who (wanted.Dar grant) grant.key f shards place shard new has is grew,
-    )
+    granted : (token : ℕ) → answer ≡ told.Granted (record { shard = terms.no; key = key; sid = who; mode = mode; token = token }) (old_value mode (entry key past)) → IsQuarantineOf who key mode answer
+    granted token is = subst P (sym is) (record { of_key = refl; of_session = refl; in_mode = refl }, fits_old mode (entry key past))
 
-pub abort_made : (shape : Shape) (world : World) (who : Sid) (grant : Permit) (shards : List ShardView) (place : ℕ) (shard new : ShardView) (answer : Rel) → HasShards shards shape world.past → IsShardOf shape world.past grant.key place shard →
-    new ≡ returned shard grant (release_step (past_of shard) grant Keep) → ShowsRelease (release_step (past_of shard) grant Keep) answer →
-    (reply.Rel answer ≡ reply_in (event_of shape world who (wanted.Abort grant) Failed)) × HasShards (set shards place new) shape (event_of shape world who (wanted.Abort grant) Failed ∷ world.past)
-abort_made shape world who grant shards place shard new answer has is grew shows =
-    let home = shard_of grant.key shape.shards in
-    let f : Terms → List Step → Step = λ terms steps. release_step steps grant Keep in
-    let P : Step → Type 0 = λ s. ShowsRelease s answer in (
-      tells_release (terms_of shape home) (steps_of home world.past) _ answer (subst P (step_is shape world.past grant.key place shard f is) shows),
-      shards_made shape world.past who (wanted.Abort grant) grant.key f shards place shard new has is grew,
-    )
+    refused : (o : Option Quar) → ShowsQuarantine terms past (refused_step key who mode o) answer → IsQuarantineOf who key mode answer
+    refused (Some holder) h = subst P (sym h) tt
+    refused None h = subst P (sym h) tt
+
+    by_verdict : (v : Verdict) → ShowsQuarantine terms past (quarantine_by terms past key who mode by now v) answer → IsQuarantineOf who key mode answer
+    by_verdict verdicts.Same h = subst P (sym h) tt
+    by_verdict verdicts.Refuse h = refused (holder_of key who past) h
+    by_verdict verdicts.Wait h = subst P (sym h) tt
+    by_verdict verdicts.Give h = granted _ h
+    by_verdict verdicts.Void h = granted _ h
+    by_verdict verdicts.Join h = granted _ h
+    by_verdict verdicts.Own h = subst P (sym h) tt
+
+-- and so it belongs to that request
+pub quarantine_belongs : (terms : Terms) (past : List Step) (key : QKey) (who : Sid) (mode : Mode) (by : ℤ) (now : ℕ) (answer : QAnswer) → ShowsQuarantine terms past (quarantine_step terms past key who mode by now) answer → Belongs who (quarantined_as mode key by) (reply.Quar answer)
+quarantine_belongs terms past key who Invalidate by now answer shows = quarantine_of terms past key who Invalidate by now answer shows
+quarantine_belongs terms past key who Refresh by now answer shows = quarantine_of terms past key who Refresh by now answer shows
+quarantine_belongs terms past key who Delta by now answer shows = quarantine_of terms past key who Delta by now answer shows

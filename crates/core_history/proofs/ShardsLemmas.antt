@@ -1,5 +1,5 @@
 -- How the shards of a core follow an event.
-use Rattle.std.proofs.Common.{ℕ, zero, suc, ◌+◌, ◌-◌, ◌^◌, ◌≡◌, ◌≢◌, ◌<◌, ◌≤◌, ◌==◌, ◌&&◌, Bool, true, false, cond, List, [], ◌∷◌, ◌++◌, length, reverse, Option, Some, None, Err, slice_get, set, refl, sym, ap, subst, ◌∙◌, inl, inr, ⊎_elim, ◌⊎◌, length-append, arith, rules, eq-eqb}
+use Rattle.std.proofs.Common.{ℕ, zero, suc, ◌+◌, ◌-◌, ◌^◌, ◌≡◌, ◌≢◌, ◌<◌, ◌≤◌, ◌==◌, ◌&&◌, Bool, true, false, cond, List, [], ◌∷◌, ◌++◌, length, reverse, Option, Some, None, Err, option_to_list, slice_get, set, refl, sym, ap, subst, ◌∙◌, inl, inr, ⊎_elim, ◌⊎◌, length-append, arith, rules, eq-eqb}
 use Rattle.std.proofs.lemmas.Bool.{eqb-true, cases_Bool, cases_lt, false≢true}
 use Rattle.std.proofs.lemmas.List.{reverse-reverse, reverse-append}
 use Rattle.std.proofs.lemmas.List.Sums.{count_by-le-length}
@@ -7,16 +7,22 @@ use Rattle.std.proofs.Math.ListN.{length-set}
 use Rattle.rows_model.specs.declared.keys.QKey.{QKey}
 use Rattle.rows_model.specs.declared.keys.Sid.{Sid}
 use Rattle.rows_model.specs.Placement.{shard_of}
+use Rattle.lease_table.specs.declared.records.Quar.{Quar}
+use Rattle.key_shard.specs.declared.steps.Ended.TheVariants.{Drop}
 use Rattle.key_shard.specs.declared.steps.Step.{Step}
+use Rattle.key_shard.specs.declared.steps.Step.TheVariants.{Released}
 use Rattle.key_shard.specs.declared.replies.ShardFault.{ShardFault}
 use Rattle.key_shard.specs.declared.replies.ShardFault.TheVariants as faults
-use Rattle.key_shard.specs.Past.{Terms, draws, next_token}
-use Rattle.key_shard.specs.Answers.{IsAtHome}
-use Rattle.key_shard.specs.Shards.{ShardView, past_of, refusal, spent_at, Refuses}
+use Rattle.key_shard.specs.Past.{Terms, draws, quar_of, next_token}
+use Rattle.key_shard.specs.Answers.{IsAtHome, sweep_step}
+use Rattle.key_shard.specs.Shards.{ShardView, past_of, swept, refusal, spent_at, Refuses}
+use Rattle.key_shard.proofs.SweepLemmas.{sweep_by}
+use Rattle.expiry_sweeper.specs.declared.replies.SweepReply.{SweepReply}
+use Rattle.expiry_sweeper.specs.declared.replies.SweepWanted.{SweepWanted}
 use Rattle.session_client.specs.declared.plans.Shape.{Shape}
 use Rattle.session_client.specs.declared.replies.Reply.{Reply}
 use Rattle.session_client.specs.declared.replies.Wanted.{Wanted}
-use Rattle.core_history.specs.Events.{Event, Stepped, Called, steps_of, steps_in}
+use Rattle.core_history.specs.Events.{Event, Stepped, Called, Ticked, Swept, steps_of, steps_in}
 use Rattle.core_history.specs.Machine.{stepped_on, terms_of, out_of, out_by}
 use Rattle.core_history.specs.Cores.{HasShards, HasHomes, shard_after}
 
@@ -58,42 +64,79 @@ abbrev pub grown : ShardView → Wanted → Step → ShardView
 grown shard request made =
     record { terms = shard.terms; history = shard.history ++ made ∷ []; out = out_by shard.terms request made shard.out }
 
-place_after : (shape : Shape) (past : List Event) (who : Sid) (request : Wanted) (made : Step) (told : Reply) (home : ℕ) (shards : List ShardView) (place : ℕ) → HasShards shards shape past → home < shape.shards → place < shape.shards → ((home == place) ≡ true) ⊎ ((home == place) ≡ false) →
-    slice_get (set shards home (grown (shard_after shape past home) request made)) place ≡ Some (shard_after shape (Stepped home who request made told ∷ past) place)
-place_after shape past who request made told home shards place has within below (inl same) =
-    let new = grown (shard_after shape past home) request made in
-    let P : ℕ → Type 0 = λ n. slice_get (set shards home new) n ≡ Some (shard_after shape (Stepped home who request made told ∷ past) n) in
-    let inside : home < length shards = omega (arith, has.count) in
-    let steps = steps_of home past in
-    let terms = terms_of shape home in
-    let outs = out_of shape home past in
-    let turned : reverse steps ++ made ∷ [] ≡ reverse (made ∷ steps) = sym (reverse-append (made ∷ []) steps) in
-    let V : Bool → ShardView = λ b. record { terms = terms; history = reverse (cond b (made ∷ []) [] ++ steps); out = cond b (out_by terms request made outs) outs } in
-    let H : List Step → ShardView = λ history. record { terms = terms; history = history; out = out_by terms request made outs } in
-    let view : new ≡ shard_after shape (Stepped home who request made told ∷ past) home = ap H turned ∙ ap V (sym (eq-eqb home home refl)) in
-    subst P (eqb-true home place same) (slice_get-set_same shards home new inside ∙ ap (λ (v : ShardView). Some v) view)
-place_after shape past who request made told home shards place has within below (inr apart) =
-    let new = grown (shard_after shape past home) request made in
-    let differ : home ≢ place = λ e. false≢true (sym apart ∙ eq-eqb home place e) in
-    let steps = steps_of place past in
-    let terms = terms_of shape place in
-    let outs = out_of shape place past in
-    slice_get-set_other shards home place new differ ∙ has.each place below
-    ∙ ap (λ (b : Bool). Some (record { terms = terms; history = reverse (cond b (made ∷ []) [] ++ steps); out = cond b (out_by terms request made outs) outs })) (sym apart)
+-- the shards after an event that changes one of them alone
+pub shards_after : (shape : Shape) (past : List Event) (event : Event) (home : ℕ) (new : ShardView) (shards : List ShardView) → HasShards shards shape past → home < shape.shards → new ≡ shard_after shape (event ∷ past) home
+    → ((place : ℕ) → (home == place) ≡ false → shard_after shape (event ∷ past) place ≡ shard_after shape past place) → HasShards (set shards home new) shape (event ∷ past)
+shards_after shape past event home new shards has within here others =
+    record {
+      fit = has.fit;
+      count = length-set shards home new ∙ has.count;
+      each = λ place below. by place below (cases_Bool (home == place));
+    }
+  where
+    by : (place : ℕ) → place < shape.shards → ((home == place) ≡ true) ⊎ ((home == place) ≡ false) → slice_get (set shards home new) place ≡ Some (shard_after shape (event ∷ past) place)
+    by place below (inl same) =
+        let P : ℕ → Type 0 = λ n. slice_get (set shards home new) n ≡ Some (shard_after shape (event ∷ past) n) in
+        let inside : home < length shards = omega (arith, has.count) in
+        subst P (eqb-true home place same) (slice_get-set_same shards home new inside ∙ ap (λ (v : ShardView). Some v) here)
+    by place below (inr apart) =
+        let differ : home ≢ place = λ e. false≢true (sym apart ∙ eq-eqb home place e) in
+        slice_get-set_other shards home place new differ ∙ has.each place below ∙ ap (λ (v : ShardView). Some v) (sym (others place apart))
+
+-- an event that makes no step and moves no grant leaves the shards
+pub shards_same : (shards : List ShardView) (shape : Shape) (past : List Event) (event : Event) → HasShards shards shape past → ((place : ℕ) → shard_after shape (event ∷ past) place ≡ shard_after shape past place) → HasShards shards shape (event ∷ past)
+shards_same shards shape past event has same = record { fit = has.fit; count = has.count; each = λ place below. has.each place below ∙ ap (λ (v : ShardView). Some v) (sym (same place)) }
+
+-- a step behind the others, the latest first
+turned : (steps : List Step) (made : Step) → reverse steps ++ made ∷ [] ≡ reverse (made ∷ steps)
+turned steps made = sym (reverse-append (made ∷ []) steps)
 
 -- a shard that made a step, and the others, stand after its event
 pub shards_after_step : (shape : Shape) (past : List Event) (who : Sid) (request : Wanted) (made : Step) (told : Reply) (home : ℕ) (shards : List ShardView) → HasShards shards shape past → home < shape.shards →
     HasShards (set shards home (grown (shard_after shape past home) request made)) shape (Stepped home who request made told ∷ past)
 shards_after_step shape past who request made told home shards has within =
-    record {
-      fit = has.fit;
-      count = length-set shards home (grown (shard_after shape past home) request made) ∙ has.count;
-      each = λ place below. place_after shape past who request made told home shards place has within below (cases_Bool (home == place));
-    }
+    shards_after shape past (Stepped home who request made told) home (grown (shard_after shape past home) request made) shards has within
+    (ap H (turned (steps_of home past) made) ∙ ap (after home) (sym (eq-eqb home home refl)))
+    (λ place apart. ap (after place) apart)
+  where
+    H : List Step → ShardView
+    H history = record { terms = terms_of shape home; history = history; out = out_by (terms_of shape home) request made (out_of shape home past) }
 
--- an event at the store leaves the shards
+    after : ℕ → Bool → ShardView
+    after place b = record { terms = terms_of shape place; history = reverse (cond b (made ∷ []) [] ++ steps_of place past); out = cond b (out_by (terms_of shape place) request made (out_of shape place past)) (out_of shape place past) }
+
+-- a step of the sweeper's that makes none on a shard leaves the shards
+pub shards_looked : (shards : List ShardView) (shape : Shape) (past : List Event) (place : ℕ) (request : SweepWanted) (told : SweepReply) → HasShards shards shape past → HasShards shards shape (Swept place request None told ∷ past)
+shards_looked shards shape past place request told has =
+    shards_same shards shape past (Swept place request None told) has
+    (λ at. ap (λ (steps : List Step). record { terms = terms_of shape at; history = reverse steps; out = out_of shape at past }) (none (place == at) (steps_of at past)))
+  where
+    none : (b : Bool) (steps : List Step) → cond b [] [] ++ steps ≡ steps
+    none true steps = refl
+    none false steps = refl
+
+-- a shard that was swept, and the others, stand after that
+pub shards_swept : (shape : Shape) (past : List Event) (request : SweepWanted) (key : QKey) (token : ℕ) (told : SweepReply) (home : ℕ) (shards : List ShardView) → HasShards shards shape past → home < shape.shards →
+    HasShards (set shards home (swept (shard_after shape past home) (sweep_step (steps_of home past) key token))) shape (Swept home request (sweep_step (steps_of home past) key token) told ∷ past)
+shards_swept shape past request key token told home shards has within =
+    shards_after shape past (Swept home request (sweep_step (steps_of home past) key token) told) home (swept (shard_after shape past home) (sweep_step (steps_of home past) key token)) shards has within
+    (by (quar_of key token (steps_of home past)) ∙ ap (after home (sweep_step (steps_of home past) key token)) (sym (eq-eqb home home refl)))
+    (λ place apart. ap (after place (sweep_step (steps_of home past) key token)) apart)
+  where
+    after : ℕ → Option Step → Bool → ShardView
+    after place made b = record { terms = terms_of shape place; history = reverse (cond b (option_to_list made) [] ++ steps_of place past); out = out_of shape place past }
+
+    by : (found : Option Quar) → swept (shard_after shape past home) (sweep_by key token found) ≡ after home (sweep_by key token found) true
+    by None = refl
+    by (Some quar) =
+        ap (λ (history : List Step). record { terms = terms_of shape home; history = history; out = out_of shape home past }) (turned (steps_of home past) (Released key quar.sid token Drop))
+
+-- an event at the store leaves the shards, and so does a tick
 pub shards_called : (shards : List ShardView) (shape : Shape) (past : List Event) (who : Sid) (request : Wanted) (told : Reply) → HasShards shards shape past → HasShards shards shape (Called who request told ∷ past)
-shards_called shards shape past who request told has = record { fit = has.fit; count = has.count; each = has.each }
+shards_called shards shape past who request told has = shards_same shards shape past (Called who request told) has (λ place. refl)
+
+pub shards_ticked : (shards : List ShardView) (shape : Shape) (past : List Event) (now : ℕ) → HasShards shards shape past → HasShards shards shape (Ticked now ∷ past)
+shards_ticked shards shape past now has = shards_same shards shape past (Ticked now) has (λ place. refl)
 
 -- a key's shard is one of them
 pub home_within : (key : QKey) (count : ℕ) → 1 ≤ count → shard_of key count < count
@@ -107,6 +150,13 @@ length-steps_in place (Stepped shard who request step told) = one (shard == plac
     one true s = omega arith
     one false s = omega arith
 length-steps_in place (Called who request told) = omega arith
+length-steps_in place (Ticked now) = omega arith
+length-steps_in place (Swept shard request made told) = some (shard == place) made
+  where
+    some : (b : Bool) (made : Option Step) → length (cond b (option_to_list made) []) ≤ 1
+    some true None = omega arith
+    some true (Some s) = omega arith
+    some false made = omega arith
 
 length-steps_of : (place : ℕ) (past : List Event) → length (steps_of place past) ≤ length past
 length-steps_of place [] = omega arith

@@ -43,5 +43,5 @@ sound core origin moves kept rows =
       histories = histories_are core.shards shape (world_of shape moves).past kept.shards;
       lawful = runs_are_lawful_is shape moves some kept.plans;
       rows = λ told is. rows told is ∙ ap (λ (t : Tables). rows_after t core.store.ledger.log) kept.store.opening ∙ ap (rows_after origin.opening) kept.store.log;
-      fresh = λ told. (runs_fresh shape origin.opening moves some kept.plans (kept.store.truth told)).1;
+      fresh = λ told. (runs_fresh shape origin.opening moves some kept.plans kept.fit (kept.store.truth told)).1;
     }

@@ -2,13 +2,20 @@
 use Rattle.std.proofs.Common.{ℕ, min, ◌-◌, ◌^◌, ◌+◌, ◌≡◌, ◌≢◌, ◌≤◌, Bool, true, false, List, [], ◌∷◌, ◌++◌, length, count_by, Option, Some, None, IsSome, Result, Ok, Err, OnOk, IfOk, IfErr, MatchResult, refl, sym, ap, subst, ◌∙◌, inl, inr, append-nil, arith}
 use Rattle.rows_model.specs.declared.changes.Change.{Change}
 use Rattle.rows_model.specs.declared.refusals.Memory.{Memory}
+use Rattle.rows_model.specs.declared.keys.QKey.{QKey}
 use Rattle.rows_model.specs.declared.keys.Sid.{Sid}
 use Rattle.rows_model.specs.Rows.{Tables}
 use Rattle.rows_model.specs.Changes.{apply_all}
+use Rattle.rows_model.specs.Query.{answer as answer_on}
 use Rattle.key_shard.specs.declared.steps.Step.{Step}
 use Rattle.key_shard.specs.declared.steps.Step.TheVariants as step
 use Rattle.key_shard.specs.Past.{Terms}
+use Rattle.sql_keeper.specs.declared.stores.Answer.{Answer}
 use Rattle.sql_keeper.specs.declared.stores.Commit.{Commit}
+use Rattle.sql_keeper.specs.declared.faults.AfterFault.{AfterFault}
+use Rattle.sql_keeper.specs.declared.faults.AfterFault.TheVariants as staged
+use Rattle.sql_keeper.specs.declared.faults.KeepFault.{KeepFault}
+use Rattle.sql_keeper.specs.declared.faults.KeepFault.TheVariants as keep
 use Rattle.sql_keeper.specs.declared.faults.CommitFault.{CommitFault}
 use Rattle.sql_keeper.specs.declared.faults.CommitFault.TheVariants as faults
 use Rattle.sql_keeper.specs.Log.{rows_after}
@@ -17,41 +24,58 @@ use Rattle.sql_keeper.specs.Stores.{Ledger, StoreView, with_call, with_commit, w
 use Rattle.key_shard.specs.Permit.{Permit}
 use Rattle.sql_keeper.specs.declared.stores.Phase.{Phase}
 use Rattle.sql_keeper.specs.declared.stores.Phase.TheVariants.{Committed}
-use Rattle.sql_keeper.specs.Faults.{is_failure, Counts}
+use Rattle.sql_keeper.specs.Faults.{keep_failed, staged_failed, is_failure, Counts}
+use Rattle.sql_keeper.specs.Keepers.{AnswersAfter}
 use Rattle.sql_keeper.specs.Sessions.{is_open as may_commit, with_phase}
 use Rattle.session_client.specs.Grants.{GrantsView}
 use Rattle.session_client.specs.declared.replies.Reply.{Reply}
 use Rattle.session_client.specs.declared.replies.Reply.TheVariants as reply
+use Rattle.session_client.specs.declared.replies.Fault.TheVariants as causes
+use Rattle.session_client.specs.declared.replies.Wanted.{Wanted}
 use Rattle.session_client.specs.declared.replies.Wanted.TheVariants as wanted
+use Rattle.expiry_sweeper.specs.declared.replies.SweepReply.{SweepReply}
+use Rattle.expiry_sweeper.specs.declared.replies.SweepWanted.TheVariants as sweep
 use Rattle.core_history.specs.Cores.{Origin, HasStore, HasPhases, RoseBy}
-use Rattle.core_history.specs.Events.{Event, Called, who_in, reply_in, commits_told, ends_told, log_of}
+use Rattle.core_history.specs.Events.{Event, Stepped, Called, Ticked, Swept, commits_in, ends_in, log_of}
 use Rattle.core_history.specs.Lines.{is_fault, tells_fault}
-use Rattle.core_history.specs.Machine.{World, Said, Made, Rejected, Failed, shown, is_open, commit_by, log_cap}
+use Rattle.core_history.specs.Machine.{World, Said, Value, Made, Rejected, Failed, shown, ask_told, is_open, commit_by, log_cap}
 use Rattle.core_history.specs.Requests.{StandsStore, MakesCall, IsToldOfCommit, after}
 use Rattle.core_history.proofs.OpenLemmas.{phases_same, phases_committed}
-use Rattle.core_history.specs.Truth.{IsTrueReply}
+use Rattle.core_history.specs.Truth.{IsTrueReply, IsTrueEvent}
 use Rattle.core_history.proofs.ListLemmas.{count-cons, tick, zero_if}
 
--- a reply that tells of no commit, of no end and of no fault, and says nothing of the rows
-pub record IsQuiet (who : Sid) (told : Reply) : Type 0 where
-  pub commits : commits_told who told ≡ []
-  pub ends : ends_told who told ≡ []
-  pub fault : tells_fault told ≡ false
-  pub truth : (rows : Tables) → IsTrueReply rows told
+-- an event that makes no commit and ends nobody, tells of no fault, and says nothing of the rows
+pub record IsQuiet (event : Event) : Type 0 where
+  pub commits : commits_in event ≡ []
+  pub ends : ends_in event ≡ []
+  pub fault : is_fault event ≡ false
+  pub truth : (rows : Tables) → IsTrueEvent rows event
 
--- what a shard tells is so
-pub quiet_shown : (who : Sid) (terms : Terms) (past : List Step) (s : Step) → IsQuiet who (shown terms past s)
-quiet_shown who terms past (step.Hit key sid floor value stamp) = record { commits = refl; ends = refl; fault = refl; truth = λ rows. tt }
-quiet_shown who terms past (step.Lease key sid floor now token deadline) = record { commits = refl; ends = refl; fault = refl; truth = λ rows. tt }
-quiet_shown who terms past (step.Again key sid floor now standing) = record { commits = refl; ends = refl; fault = refl; truth = λ rows. tt }
-quiet_shown who terms past (step.Own key sid) = record { commits = refl; ends = refl; fault = refl; truth = λ rows. tt }
-quiet_shown who terms past (step.Stored key token now value stamp evicted) = record { commits = refl; ends = refl; fault = refl; truth = λ rows. tt }
-quiet_shown who terms past (step.Void key token now) = record { commits = refl; ends = refl; fault = refl; truth = λ rows. tt }
-quiet_shown who terms past (step.Granted key sid mode shift now token deadline) = record { commits = refl; ends = refl; fault = refl; truth = λ rows. tt }
-quiet_shown who terms past (step.Held key sid mode) = record { commits = refl; ends = refl; fault = refl; truth = λ rows. tt }
-quiet_shown who terms past (step.Refused key sid mode holder held) = record { commits = refl; ends = refl; fault = refl; truth = λ rows. tt }
-quiet_shown who terms past (step.Released key sid token how) = record { commits = refl; ends = refl; fault = refl; truth = λ rows. tt }
-quiet_shown who terms past (step.Gone key sid token) = record { commits = refl; ends = refl; fault = refl; truth = λ rows. tt }
+-- a turn that tells what a step on a shard shows is so
+pub quiet_shown : (place : ℕ) (who : Sid) (request : Wanted) (made : Step) (terms : Terms) (past : List Step) (s : Step) → IsQuiet (Stepped place who request made (shown terms past s))
+quiet_shown place who request made terms past (step.Hit key sid floor value stamp) = record { commits = refl; ends = refl; fault = refl; truth = λ rows. tt }
+quiet_shown place who request made terms past (step.Lease key sid floor now token deadline) = record { commits = refl; ends = refl; fault = refl; truth = λ rows. tt }
+quiet_shown place who request made terms past (step.Again key sid floor now standing) = record { commits = refl; ends = refl; fault = refl; truth = λ rows. tt }
+quiet_shown place who request made terms past (step.Own key sid) = record { commits = refl; ends = refl; fault = refl; truth = λ rows. tt }
+quiet_shown place who request made terms past (step.Stored key token now value stamp evicted) = record { commits = refl; ends = refl; fault = refl; truth = λ rows. tt }
+quiet_shown place who request made terms past (step.Void key token now) = record { commits = refl; ends = refl; fault = refl; truth = λ rows. tt }
+quiet_shown place who request made terms past (step.Granted key sid mode shift now token deadline) = record { commits = refl; ends = refl; fault = refl; truth = λ rows. tt }
+quiet_shown place who request made terms past (step.Held key sid mode) = record { commits = refl; ends = refl; fault = refl; truth = λ rows. tt }
+quiet_shown place who request made terms past (step.Refused key sid mode holder held) = record { commits = refl; ends = refl; fault = refl; truth = λ rows. tt }
+quiet_shown place who request made terms past (step.Released key sid token how) = record { commits = refl; ends = refl; fault = refl; truth = λ rows. tt }
+quiet_shown place who request made terms past (step.Gone key sid token) = record { commits = refl; ends = refl; fault = refl; truth = λ rows. tt }
+
+-- a tick is so
+pub quiet_tick : (now : ℕ) → IsQuiet (Ticked now)
+quiet_tick now = record { commits = refl; ends = refl; fault = refl; truth = λ rows. tt }
+
+-- a scan is so
+pub quiet_scan : (place shard : ℕ) (made : Option Step) (told : SweepReply) → IsQuiet (Swept place (sweep.Scan shard) made told)
+quiet_scan place shard made told = record { commits = refl; ends = refl; fault = refl; truth = λ rows. tt }
+
+-- the sweeper's drop is so
+pub quiet_drop : (place : ℕ) (key : QKey) (token : ℕ) (made : Option Step) (told : SweepReply) → IsQuiet (Swept place (sweep.Drop key token) made told)
+quiet_drop place key token made told = record { commits = refl; ends = refl; fault = refl; truth = λ rows. tt }
 
 -- a call of the keeper leaves all but the count of its failures
 record CallsSame (before after : Ledger) : Type 0 where
@@ -90,13 +114,13 @@ quiet_more false count before old new quiet same none = same ∙ quiet (omega (a
 
 -- the store after a call that told this
 pub store_called : (old new : StoreView) (b : Bool) (origin : Origin) (past : List Event) (event : Event) → HasStore old origin past → new.ledger ≡ with_call b old.ledger → Counts b old.faults new.faults → old.faults ≤ new.faults →
-    is_fault event ≡ b → commits_told (who_in event) (reply_in event) ≡ [] → (IsSome new.told → IsSome old.told) → (IsSome new.told → IsTrueReply (rows_after old.ledger.opening old.ledger.log) (reply_in event)) → HasStore new origin (event ∷ past)
+    is_fault event ≡ b → commits_in event ≡ [] → (IsSome new.told → IsSome old.told) → (IsSome new.told → IsTrueEvent (rows_after old.ledger.opening old.ledger.log) event) → HasStore new origin (event ∷ past)
 store_called old new b origin past event has ledger rose more fault no_commit told truth =
     let same = called_same b old.ledger new.ledger ledger in
-    let log : log_of past ++ commits_told (who_in event) (reply_in event) ≡ log_of past = ap (λ (l : List Commit). log_of past ++ l) no_commit ∙ append-nil (log_of past) in
+    let log : log_of past ++ commits_in event ≡ log_of past = ap (λ (l : List Commit). log_of past ++ l) no_commit ∙ append-nil (log_of past) in
     let count : count_by is_fault (event ∷ past) ≡ tick b + count_by is_fault past = count-cons is_fault event past ∙ ap (λ (c : Bool). tick c + count_by is_fault past) fault in
     let F : ℕ → Type 0 = λ n. RoseBy n origin.faults new.faults in
-    let T : Tables → Type 0 = λ rows. IsTrueReply rows (reply_in event) in
+    let T : Tables → Type 0 = λ rows. IsTrueEvent rows event in
     record {
       opening = same.opening ∙ has.opening;
       log = same.log ∙ has.log ∙ sym log;
@@ -109,7 +133,7 @@ store_called old new b origin past event has ledger rose more fault no_commit to
     }
 
 -- an event that asks the store nothing
-pub store_quiet : (store : StoreView) (origin : Origin) (past : List Event) (event : Event) → HasStore store origin past → IsQuiet (who_in event) (reply_in event) → HasStore store origin (event ∷ past)
+pub store_quiet : (store : StoreView) (origin : Origin) (past : List Event) (event : Event) → HasStore store origin past → IsQuiet event → HasStore store origin (event ∷ past)
 store_quiet store origin past event has quiet =
     store_called store store false origin past event has refl refl (omega arith) quiet.fault quiet.commits (λ h. h) (λ h. quiet.truth _)
 
@@ -129,13 +153,13 @@ store_stays old new origin past has ledger same told =
 
 -- the store after a commit
 pub store_committed : (old new : StoreView) (origin : Origin) (past : List Event) (who : Sid) (txn : List Change) (event : Event) → HasStore old origin past → new.ledger ≡ with_commit who txn old.ledger → new.faults ≡ old.faults →
-    is_fault event ≡ false → commits_told (who_in event) (reply_in event) ≡ record { sid = who; txn = txn } ∷ [] → (IsSome new.told → IsSome old.told) → (IsSome new.told → IsTrueReply (rows_after old.ledger.opening old.ledger.log) (reply_in event)) → HasStore new origin (event ∷ past)
+    is_fault event ≡ false → commits_in event ≡ record { sid = who; txn = txn } ∷ [] → (IsSome new.told → IsSome old.told) → (IsSome new.told → IsTrueEvent (rows_after old.ledger.opening old.ledger.log) event) → HasStore new origin (event ∷ past)
 store_committed old new origin past who txn event has ledger same fault commits told truth =
     let e = count-cons is_fault event past in
     let z = zero_if (is_fault event) fault in
     let count : count_by is_fault (event ∷ past) ≡ count_by is_fault past = omega (arith, e, z) in
     let F : ℕ → ℕ → Type 0 = λ n faults. RoseBy n origin.faults faults in
-    let T : Tables → Type 0 = λ rows. IsTrueReply rows (reply_in event) in
+    let T : Tables → Type 0 = λ rows. IsTrueEvent rows event in
     record {
       opening = ap (λ (l : Ledger). l.opening) ledger ∙ has.opening;
       log = ap (λ (l : Ledger). l.log) ledger ∙ ap (λ (l : List Commit). l ++ record { sid = who; txn = txn } ∷ []) has.log ∙ sym (ap (λ (l : List Commit). log_of past ++ l) commits);
@@ -147,10 +171,11 @@ store_committed old new origin past who txn event has ledger same fault commits 
       truth = λ is_told. (subst T (ap (λ (rows : Tables). rows_after rows old.ledger.log) has.opening ∙ ap (rows_after origin.opening) has.log) (truth is_told), has.truth (told is_told));
     }
 
--- the store after a session was ended
-pub store_ended : (old new : StoreView) (origin : Origin) (past : List Event) (who : Sid) (was : Bool) → HasStore old origin past → new.ledger ≡ with_end who old.ledger → new.told ≡ old.told → new.faults ≡ old.faults → HasStore new origin (Called who wanted.End (reply.End was) ∷ past)
-store_ended old new origin past who was has ledger rows faults =
-    store_called new new false origin past (Called who wanted.End (reply.End was)) between refl refl (omega arith) refl refl (λ h. h) (λ is_told. tt)
+-- the store after a session was ended, by a turn of its own or by the sweeper
+pub store_ended : (old new : StoreView) (origin : Origin) (past : List Event) (who : Sid) (event : Event) → HasStore old origin past → new.ledger ≡ with_end who old.ledger → new.told ≡ old.told → new.faults ≡ old.faults →
+    is_fault event ≡ false → commits_in event ≡ [] → ((rows : Tables) → IsTrueEvent rows event) → HasStore new origin (event ∷ past)
+store_ended old new origin past who event has ledger rows faults fault no_commit truth =
+    store_called new new false origin past event between refl refl (omega arith) fault no_commit (λ h. h) (λ is_told. truth _)
   where
     between : HasStore new origin past
     between = record {
@@ -164,6 +189,76 @@ store_ended old new origin past who was has ledger rows faults =
       truth = λ is_told. has.truth (subst (λ (o : Option Tables). IsSome o) rows is_told);
     }
 
+-- the store after a call of the keeper that made no commit and ended nobody
+pub call_made : (old new : StoreView) (b : Bool) (origin : Origin) (world : World) (event : Event) → StandsStore old origin world → new.ledger ≡ with_call b old.ledger → Counts b old.faults new.faults → old.faults ≤ new.faults →
+    is_fault event ≡ b → commits_in event ≡ [] → ends_in event ≡ [] → (IsSome new.told → IsSome old.told) → (IsSome new.told → IsTrueEvent (rows_after old.ledger.opening old.ledger.log) event) → StandsStore new origin (after world event)
+call_made old new b origin world event stands ledger rose more fault no_commit no_end told truth =
+    let H : List Phase → Type 0 = λ xs. HasPhases xs (after world event) in (
+      store_called old new b origin world.past event stands.0 ledger rose more fault no_commit told truth,
+      subst H (sym (sessions_called b old.ledger new.ledger ledger)) (phases_same old.ledger.sessions world event stands.1 no_commit no_end),
+    )
+
+-- a call of the keeper that wasn't made, but perhaps that it tells its rows no more
+pub call_unmade : (old new : StoreView) (origin : Origin) (world : World) → StandsStore old origin world → new.ledger ≡ old.ledger → new.faults ≡ old.faults → (IsSome new.told → IsSome old.told) → StandsStore new origin world
+call_unmade old new origin world stands ledger same told =
+    let H : List Phase → Type 0 = λ xs. HasPhases xs world in (
+      store_stays old new origin world.past stands.0 ledger same told,
+      subst H (sym (ap (λ (l : Ledger). l.sessions) ledger)) stands.1,
+    )
+
+-- what a store says of the answer to a key
+pub record SaysAnswer (old new : StoreView) (key : QKey) (made : Result Answer KeepFault) : Type 0 where
+  pub ledger : new.ledger ≡ with_call (keep_failed made) old.ledger
+  pub answer : IfOk made (λ given. (given.key ≡ key) × (given.stamp ≡ length old.ledger.log))
+  pub tells : IsSome new.told → IsSome old.told × IfOk made (λ given. given.value ≡ answer_on key (rows_after old.ledger.opening old.ledger.log))
+  pub counts : Counts (keep_failed made) old.faults new.faults
+  pub never_falls : old.faults ≤ new.faults
+
+-- a key was answered
+pub ask_made : (old new : StoreView) (origin : Origin) (world : World) (who : Sid) (key : QKey) (given : Answer) → StandsStore old origin world → SaysAnswer old new key (Ok given) → MakesCall origin world who (wanted.Ask key) new (Ok (reply.Answer given))
+ask_made old new origin world who key given stands says =
+    let event : Event = Called who (wanted.Ask key) (ask_told world.past key (Value given.value)) in
+    let stamp : given.stamp ≡ length (log_of world.past) = says.answer.1 ∙ ap (λ (l : List Commit). length l) stands.0.log in (
+      Value given.value,
+      ap (λ (a : Answer). reply.Answer a) (answer_is given key (length (log_of world.past)) says.answer.0 stamp),
+      call_made old new false origin world event stands says.ledger says.counts says.never_falls refl refl refl (λ told. (says.tells told).0) (λ told. (says.tells told).1),
+    )
+  where
+    answer_is : (given : Answer) (key : QKey) (stamp : ℕ) → given.key ≡ key → given.stamp ≡ stamp → given ≡ record { key = key; value = given.value; stamp = stamp }
+    answer_is given key stamp e f = λ i. record { key = e i; value = given.value; stamp = f i }
+
+-- the keeper failed to answer a key
+pub ask_failed : (old new : StoreView) (origin : Origin) (world : World) (who : Sid) (key : QKey) → StandsStore old origin world → SaysAnswer old new key (Err keep.Failed) → MakesCall origin world who (wanted.Ask key) new (Ok (reply.Fault causes.Keep))
+ask_failed old new origin world who key stands says =
+    (Failed, refl, call_made old new true origin world (Called who (wanted.Ask key) (reply.Fault causes.Keep)) stands says.ledger says.counts says.never_falls refl refl refl (λ told. (says.tells told).0) (λ told. tt))
+
+-- what a store says of the answer that a transaction would leave
+pub record SaysStaged (old new : StoreView) (key : QKey) (txn : List Change) (made : Result (List ℕ) AfterFault) : Type 0 where
+  pub ledger : new.ledger ≡ with_call (staged_failed made) old.ledger
+  pub tells : IsSome new.told → IsSome old.told × AnswersAfter txn key (rows_after old.ledger.opening old.ledger.log) made
+  pub counts : Counts (staged_failed made) old.faults new.faults
+  pub never_falls : old.faults ≤ new.faults
+
+-- a key was answered as after a transaction
+pub staged_made : (old new : StoreView) (origin : Origin) (world : World) (who : Sid) (key : QKey) (txn : List Change) (value : List ℕ) → StandsStore old origin world → SaysStaged old new key txn (Ok value) →
+    MakesCall origin world who (wanted.Staged key txn) new (Ok (reply.Staged value txn))
+staged_made old new origin world who key txn value stands says =
+    (Value value, refl, call_made old new false origin world (Called who (wanted.Staged key txn) (reply.Staged value txn)) stands says.ledger says.counts says.never_falls refl refl refl (λ told. (says.tells told).0) (λ told. (says.tells told).1))
+
+-- the transaction is rejected
+pub staged_rejected : (old new : StoreView) (origin : Origin) (world : World) (who : Sid) (key : QKey) (txn : List Change) (index : ℕ) → StandsStore old origin world → SaysStaged old new key txn (Err (staged.Rejected index)) →
+    MakesCall origin world who (wanted.Staged key txn) new (Ok (reply.NotStaged (staged.Rejected index) txn))
+staged_rejected old new origin world who key txn index stands says =
+    let event : Event = Called who (wanted.Staged key txn) (reply.NotStaged (staged.Rejected index) txn) in
+    (Rejected index, refl, call_made old new false origin world event stands says.ledger says.counts says.never_falls refl refl refl (λ told. (says.tells told).0) (λ told. (says.tells told).1))
+
+-- the keeper failed to answer a key as after a transaction
+pub staged_fails : (old new : StoreView) (origin : Origin) (world : World) (who : Sid) (key : QKey) (txn : List Change) → StandsStore old origin world → SaysStaged old new key txn (Err staged.Failed) →
+    MakesCall origin world who (wanted.Staged key txn) new (Ok (reply.NotStaged staged.Failed txn))
+staged_fails old new origin world who key txn stands says =
+    let event : Event = Called who (wanted.Staged key txn) (reply.NotStaged staged.Failed txn) in
+    (Failed, refl, call_made old new true origin world event stands says.ledger says.counts says.never_falls refl refl refl (λ told. (says.tells told).0) (λ told. tt))
+
 -- a reply of this fault tells of the keeper where the fault is that of one that failed
 fault_is : (fault : CommitFault) (txn : List Change) (grants : GrantsView) → tells_fault (reply.NotCommitted fault txn grants) ≡ is_failure fault
 fault_is faults.Ended txn grants = refl
@@ -173,13 +268,13 @@ fault_is faults.Memory txn grants = refl
 fault_is (faults.Rejected index) txn grants = refl
 fault_is faults.KeepFault txn grants = refl
 
-true_fault : (fault : CommitFault) (txn : List Change) (grants : GrantsView) (rows : Tables) → IsTrueFault txn rows fault → IsTrueReply rows (reply.NotCommitted fault txn grants)
-true_fault faults.Ended txn grants rows h = tt
-true_fault (faults.Uncovered key) txn grants rows h = tt
-true_fault (faults.LogFull count) txn grants rows h = tt
-true_fault faults.Memory txn grants rows h = tt
-true_fault (faults.Rejected index) txn grants rows h = h
-true_fault faults.KeepFault txn grants rows h = tt
+true_fault : (fault : CommitFault) (request : Wanted) (txn : List Change) (grants : GrantsView) (rows : Tables) → IsTrueFault txn rows fault → IsTrueReply rows request (reply.NotCommitted fault txn grants)
+true_fault faults.Ended request txn grants rows h = tt
+true_fault (faults.Uncovered key) request txn grants rows h = tt
+true_fault (faults.LogFull count) request txn grants rows h = tt
+true_fault faults.Memory request txn grants rows h = tt
+true_fault (faults.Rejected index) request txn grants rows h = h
+true_fault faults.KeepFault request txn grants rows h = tt
 
 -- what the keeper said in a commit that was refused
 said_of : (count : ℕ) (txn : List Change) (grants : GrantsView) (first : Option CommitFault) (fault : CommitFault) → IsRefusal first fault → fault ≢ faults.Memory → (said : Said) × (reply.NotCommitted fault txn grants ≡ commit_by count txn grants said first)
@@ -219,11 +314,8 @@ commit_refused old new origin world who txn grants items fault stands some same 
     let answer : Reply = reply.NotCommitted fault txn grants in
     let event : Event = Called who request answer in
     let S : Reply → Type 0 = λ r. StandsStore new origin (after world (Called who request r)) in
-    let H : List Phase → Type 0 = λ xs. HasPhases xs (after world event) in
-    let there : StandsStore new origin (after world event) = (
-      store_called old new (is_failure fault) origin world.past event stands.0 ledger rose no_less (fault_is fault txn grants) refl told (λ is_told. true_fault fault txn grants (rows_after old.ledger.opening old.ledger.log) (truth is_told)),
-      subst H (sym (sessions_called (is_failure fault) old.ledger new.ledger ledger)) (phases_same old.ledger.sessions world event stands.1 refl refl),
-    ) in
+    let there : StandsStore new origin (after world event) =
+    call_made old new (is_failure fault) origin world event stands ledger rose no_less (fault_is fault txn grants) refl refl told (λ is_told. true_fault fault request txn grants (rows_after old.ledger.opening old.ledger.log) (truth is_told)) in
     (said.0, said.1, subst S said.1 there)
 
 -- a commit whose transaction no fault refuses is one of a session that is open
@@ -280,7 +372,4 @@ commit_makes old new origin world who txn grants items (Err back) (Ok told) stan
 commit_makes old new origin world who txn grants items (Err back) (Err memory) stands some same says is =
     let ledger : new.ledger ≡ old.ledger = says.err ∙ ap (λ (f : CommitFault). with_call (is_failure f) old.ledger) is in
     let same : new.faults ≡ old.faults = subst (λ (f : CommitFault). Counts (is_failure f) old.faults new.faults) is says.counts in
-    let H : List Phase → Type 0 = λ xs. HasPhases xs world in (
-      store_stays old new origin world.past stands.0 ledger same says.tells,
-      subst H (sym (ap (λ (l : Ledger). l.sessions) ledger)) stands.1,
-    )
+    call_unmade old new origin world stands ledger same says.tells

@@ -1,64 +1,181 @@
 -- What the grants of a writer are after each reply.
-use Rattle.std.proofs.Common.{append-nil, ℕ, ◌≡◌, true, false, List, [], ◌∷◌, length, length-append, count_by, Some, slice_get, sym, ap, subst, ◌∙◌, inl, inr, ◌⊎◌, arith}
-use Rattle.std.proofs.lemmas.Bool.{false≢true}
+use Rattle.std.proofs.Common.{append-nil, ℕ, ℤ, ◌≡◌, ◌<◌, ◌+◌, ◌==◌, true, cond, List, [], ◌∷◌, ◌++◌, length, length-append, count_by, Some, slice_get, refl, sym, ap, subst, ◌∙◌, inl, inr, ◌⊎◌, arith}
+use Rattle.std.proofs.lemmas.Bool.{false≢true, eq-eqb}
 use Rattle.rows_model.specs.declared.keys.QKey.{QKey}
+use Rattle.rows_model.specs.declared.keys.Sid.{Sid}
+use Rattle.rows_model.specs.declared.changes.Change.{Change}
 use Rattle.rows_model.specs.Key.{same_key}
-use Rattle.rows_model.proofs.SameKey.{same_key-true}
+use Rattle.rows_model.proofs.SameKey.{same_key-refl}
+use Rattle.rows_model.specs.Placement.{shard_of}
+use Rattle.lease_table.specs.declared.records.Mode.{Mode}
 use Rattle.key_shard.specs.Permit.{Permit}
+use Rattle.key_shard.specs.declared.steps.Step.{Step}
+use Rattle.key_shard.specs.declared.steps.Step.TheVariants as step
 use Rattle.key_shard.specs.declared.replies.QAnswer.TheVariants as quarantine
+use Rattle.key_shard.specs.declared.replies.Rel.{Rel}
+use Rattle.key_shard.specs.Past.{draws, entry, next_token, deadline_at}
+use Rattle.key_shard.specs.Answers.{granted_step}
+use Rattle.key_shard.specs.Replies.{old_value}
+use Rattle.sql_keeper.specs.declared.stores.Commit.{Commit}
+use Rattle.session_client.specs.Grants.{GrantsView}
 use Rattle.session_client.specs.declared.plans.Shape.{Shape}
 use Rattle.session_client.specs.declared.replies.Reply.{Reply}
 use Rattle.session_client.specs.declared.replies.Reply.TheVariants as reply
-use Rattle.session_client.specs.Wants.{granted, is_had, is_release, released}
-use Rattle.core_history.specs.Events.{Event}
-use Rattle.core_history.proofs.ListLemmas.{push-place, count-cons}
+use Rattle.session_client.specs.declared.replies.Wanted.{Wanted}
+use Rattle.session_client.specs.Plans.{mode_on}
+use Rattle.session_client.specs.Wants.{Writing, given, granted, is_had, is_release, released}
+use Rattle.session_client.proofs.WantCases.{is_asking, given-granted}
+use Rattle.core_history.specs.Events.{Event, Stepped, Called, steps_of, log_of, has_committed, was_ended}
+use Rattle.core_history.specs.Machine.{terms_of, stepped_on}
+use Rattle.core_history.specs.Facts.{found_at}
+use Rattle.core_history.proofs.ListLemmas.{or_inl, and_intro, not_both, any-at, push-place, slice-last, count-cons}
 use Rattle.core_history.proofs.EventLemmas.{closed, closed-more}
-use Rattle.core_history.proofs.SessionLemmas.{Stood, Fits, Writer, Keeps, shut-more}
+use Rattle.core_history.proofs.SessionLemmas.{Stood, Fits, Writer, Keeps, IsDrawn, IsOld, ReleasesNone, ReturnsGrant, IsLateDraw, maybe-step, late-draw, drawn-more, number-more, old-more, writer-more, stood-stepped, stood-granted, stood-new, stood-called, out-other}
 
-pub writer-granted : (shape : Shape) (event : Event) (past : List Event) (n : ℕ) (grant : Permit) (old : _) (heard : List Reply) (keys : List QKey)
-    → slice_get keys (count_by is_had heard) ≡ Some grant.key → grant.sid.number ≡ n → Keeps shape event past n → Stood shape (event ∷ past) n grant
-    → Writer shape past n heard keys → Writer shape (event ∷ past) n (reply.Quar (quarantine.Granted grant old) ∷ heard) keys
-writer-granted shape event past n grant old heard keys at own keeps new w =
-    let told = reply.Quar (quarantine.Granted grant old) in
+-- the event of a quarantine that is granted
+abbrev pub granted_event : Shape → List Event → Sid → Wanted → QKey → Mode → ℤ → ℕ → Event
+granted_event shape past who request key mode shift now =
+    stepped_on shape past who request key (λ terms steps. granted_step terms steps key who mode shift now)
+
+-- the grant that it gives, and what it tells
+abbrev pub granted_permit : Shape → List Event → Sid → QKey → Mode → Permit
+granted_permit shape past who key mode =
+    let home = shard_of key shape.shards in
+    record { shard = home; key = key; sid = who; mode = mode; token = next_token (terms_of shape home) (steps_of home past) }
+
+abbrev pub granted_told : Shape → List Event → Sid → QKey → Mode → Reply
+granted_told shape past who key mode =
+    reply.Quar (quarantine.Granted (granted_permit shape past who key mode) (old_value mode (entry key (steps_of (shard_of key shape.shards) past))))
+
+-- a quarantine that the session asked for is granted
+pub writer-granted : (shape : Shape) (past : List Event) (who : Sid) (request : Wanted) (key : QKey) (mode : Mode) (shift : ℤ) (now : ℕ) (heard : List Reply) (writing : Writing)
+    → ReleasesNone request → slice_get writing.keys (count_by is_had heard) ≡ Some key → mode ≡ mode_on writing.mode key → is_asking heard ≡ true
+    → Writer shape past who.number heard writing
+    → Writer shape (granted_event shape past who request key mode shift now ∷ past) who.number (granted_told shape past who key mode ∷ heard) writing
+writer-granted shape past who request key mode shift now heard writing none at in_mode asks w =
+    let n = who.number in
+    let home = shard_of key shape.shards in
+    let terms = terms_of shape home in
+    let steps = steps_of home past in
+    let token = next_token terms steps in
+    let deadline = deadline_at terms now in
+    let s = step.Granted key who mode shift now token deadline in
+    let grant = granted_permit shape past who key mode in
+    let old = old_value mode (entry key steps) in
+    let told = granted_told shape past who key mode in
+    let event = Stepped home who request s told in
+    let late : IsLateDraw shape past s = late-draw shape past home s (refl, refl) in
+    let keeps : Keeps shape event past n = λ g _ h. stood-granted shape home who request key who mode shift now token deadline told past none n g h in
+    let more = writer-more shape event past n heard writing late keeps w in
+    let new = stood-new shape who request key mode shift now token deadline told past none in
     let a = count-cons is_had told heard in
     let c = count-cons is_release told heard in
     let rel : released (told ∷ heard) ≡ released heard = omega (arith, c) in
     let had = w.had in
     let len = length-append (granted heard) (grant ∷ []) in
+    let here : (home == home) ≡ true = eq-eqb home home refl in
+    let drawn : IsDrawn shape (event ∷ past) grant = maybe-step (λ l. token < next_token terms l) (home == home) s steps
+    (λ _. let one = count-cons draws s steps in omega (arith, one)) (λ other. absurd (not_both here other)) in
     record {
       once = w.once;
       fits = λ i g e. elim (push-place (granted heard) grant i g e) [
         | inl before ↦ w.fits i g before
-        | inr last ↦ subst (Fits n keys i) last.1 (record { at_key = ap (slice_get keys) (last.0 ∙ sym had) ∙ at; own = own })
+        | inr last ↦ subst (Fits n writing i) last.1 (record { at_key = ap (slice_get writing.keys) (last.0 ∙ sym had) ∙ at; own = refl; in_mode = in_mode })
       ];
       had = omega (arith, a, had, len);
-      stood = λ i g e late. elim (push-place (granted heard) grant i g e) [
-        | inl before ↦ keeps g (w.fits i g before).own (w.stood i g before (omega (arith, late, rel)))
+      drawn = λ i g e. elim (push-place (granted heard) grant i g e) [
+        | inl before ↦ more.drawn i g before
+        | inr last ↦ subst (IsDrawn shape (event ∷ past)) last.1 drawn
+      ];
+      stood = λ i g e not_yet. elim (push-place (granted heard) grant i g e) [
+        | inl before ↦ more.stood i g before (omega (arith, not_yet, rel))
         | inr last ↦ subst (Stood shape (event ∷ past) n) last.1 new
       ];
-      shut = subst (λ r. (r ≡ 0) ⊎ (closed n (event ∷ past) ≡ true)) (sym rel) (shut-more n event past heard w.shut);
+      shut = subst (λ r. (r ≡ 0) ⊎ (closed n (event ∷ past) ≡ true)) (sym rel) more.shut;
       ending = λ e. absurd (false≢true e);
+      going = λ _. w.going asks;
+      numbered = more.numbered;
+      olds = λ i one e. elim (push-place (given heard) (record { permit = grant; old = old }) i one e) [
+        | inl before ↦ more.olds i one before
+        | inr last ↦ subst (IsOld (event ∷ past)) last.1 (record {
+          found = record { commits = length (log_of past); entry = entry key steps };
+          at = ap (λ b. cond b (Some (record { commits = length (log_of past); entry = entry key steps })) (found_at key token past)) (and_intro (same_key key key) (token == token) (same_key-refl key) (eq-eqb token token refl));
+          old = λ refreshes. ap (λ m. old_value m (entry key steps)) refreshes;
+        })
+      ];
     }
 
-pub writer-released : (shape : Shape) (event : Event) (past : List Event) (n : ℕ) (gone : Permit) (told : _) (heard : List Reply) (keys : List QKey)
-    → slice_get (granted heard) (released heard) ≡ Some gone → closed n past ≡ true
-    → ((grant : Permit) → grant.sid.number ≡ n → (same_key grant.key gone.key ≡ true → ⊥) → Stood shape past n grant → Stood shape (event ∷ past) n grant)
-    → Writer shape past n heard keys → Writer shape (event ∷ past) n (reply.Rel told ∷ heard) keys
-writer-released shape event past n gone told heard keys at shut keeps w =
-    let a = count-cons is_had (reply.Rel told) heard in
-    let c = count-cons is_release (reply.Rel told) heard in
-    let same : granted (reply.Rel told ∷ heard) ≡ granted heard = append-nil (granted heard) in
+-- a grant is released by a session that is closed, and ends or is gone
+pub writer-released : (shape : Shape) (past : List Event) (place : ℕ) (who : Sid) (request : Wanted) (s : Step) (rel : Rel) (gone : Permit) (heard : List Reply) (writing : Writing)
+    → ReturnsGrant gone request → IsLateDraw shape past s → slice_get (granted heard) (released heard) ≡ Some gone → closed who.number past ≡ true
+    → Writer shape past who.number heard writing → Writer shape (Stepped place who request s (reply.Rel rel) ∷ past) who.number (reply.Rel rel ∷ heard) writing
+writer-released shape past place who request s rel gone heard writing returns late at shut w =
+    let n = who.number in
+    let told = reply.Rel rel in
+    let event = Stepped place who request s told in
+    let a = count-cons is_had told heard in
+    let c = count-cons is_release told heard in
+    let same : granted (told ∷ heard) ≡ granted heard = append-nil (granted heard) in
+    let all : given (told ∷ heard) ≡ given heard = append-nil (given heard) in
     let had = w.had in
     let len = ap length same in
+    let old : (i : ℕ) (grant : Permit) → slice_get (granted (told ∷ heard)) i ≡ Some grant → slice_get (granted heard) i ≡ Some grant = λ i grant e. sym (ap (λ l. slice_get l i) same) ∙ e in
     record {
       once = w.once;
-      fits = λ i g e. w.fits i g (sym (ap (λ l. slice_get l i) same) ∙ e);
+      fits = λ i g e. w.fits i g (old i g e);
       had = omega (arith, a, had, len);
-      stood = λ i g e late.
-          let here = sym (ap (λ l. slice_get l i) same) ∙ e in
+      drawn = λ i g e. drawn-more shape event past g (w.drawn i g (old i g e));
+      stood = λ i g e not_yet.
+          let here = old i g e in
           let mine = w.fits i g here in
           let theirs = w.fits (released heard) gone at in
-          keeps g mine.own (λ one. let e : i ≡ released heard = w.once i (released heard) g.key mine.at_key (theirs.at_key ∙ ap (λ k. Some k) (sym (same_key-true g.key gone.key one))) in absurd (omega (arith, late, c, e))) (w.stood i g here (omega (arith, late, c)));
+          let other : gone ≡ g → ⊥ = λ one. let place_is : i ≡ released heard = w.once i (released heard) g.key mine.at_key (theirs.at_key ∙ ap (λ (p : Permit). Some p.key) one) in omega (arith, not_yet, c, place_is) in
+          stood-stepped shape place who request s told past n g (λ _ still _. absurd (not_both shut still)) (out-other g gone request s returns other) (w.stood i g here (omega (arith, not_yet, c)));
       shut = inr (closed-more n event past shut);
       ending = λ _. closed-more n event past shut;
+      going = λ asks. absurd (false≢true asks);
+      numbered = λ number e. number-more event past n number (w.numbered number e);
+      olds = λ i one e.
+          let here = sym (ap (λ l. slice_get l i) all) ∙ e in
+          old-more shape event past one late (w.drawn i one.permit (given-granted heard i one here)) (w.olds i one here);
     }
+
+-- the session is told that it has committed
+pub writer-committed : (shape : Shape) (past : List Event) (who : Sid) (request : Wanted) (txn : List Change) (lent : GrantsView) (heard : List Reply) (writing : Writing)
+    → Writer shape past who.number heard writing
+    → Writer shape (Called who request (reply.Committed (length (log_of past) + 1) txn lent) ∷ past) who.number (reply.Committed (length (log_of past) + 1) txn lent ∷ heard) writing
+writer-committed shape past who request txn lent heard writing w =
+    let n = who.number in
+    let number = length (log_of past) + 1 in
+    let told = reply.Committed number txn lent in
+    let event = Called who request told in
+    let commit : Commit = record { sid = who; txn = txn } in
+    let keeps : Keeps shape event past n = λ g _ h. stood-called shape who request told past n g h in
+    let more = writer-more shape event past n heard writing tt keeps w in
+    let a = count-cons is_had told heard in
+    let c = count-cons is_release told heard in
+    let rel : released (told ∷ heard) ≡ released heard = omega (arith, c) in
+    let same : granted (told ∷ heard) ≡ granted heard = append-nil (granted heard) in
+    let all : given (told ∷ heard) ≡ given heard = append-nil (given heard) in
+    let had = w.had in
+    let len = ap length same in
+    let last = slice-last (log_of past) commit in
+    let shut : closed n (event ∷ past) ≡ true = or_inl (has_committed n (event ∷ past)) (was_ended n (event ∷ past))
+    (any-at (λ (c : Commit). c.sid.number == n) (log_of past ++ commit ∷ []) (length (log_of past)) commit last (eq-eqb n n refl)) in
+    let old : (i : ℕ) (grant : Permit) → slice_get (granted (told ∷ heard)) i ≡ Some grant → slice_get (granted heard) i ≡ Some grant = λ i grant e. sym (ap (λ l. slice_get l i) same) ∙ e in
+    record {
+      once = w.once;
+      fits = λ i g e. w.fits i g (old i g e);
+      had = omega (arith, a, had, len);
+      drawn = λ i g e. more.drawn i g (old i g e);
+      stood = λ i g e not_yet. more.stood i g (old i g e) (omega (arith, not_yet, rel));
+      shut = inr shut;
+      ending = λ _. shut;
+      going = λ asks. absurd (false≢true asks);
+      numbered = λ m e. let is : number ≡ m = some_same e in
+          record { place = length (log_of past); commit = commit; is = sym is; at = last; own = refl };
+      olds = λ i one e. more.olds i one (sym (ap (λ l. slice_get l i) all) ∙ e);
+    }
+  where
+    some_same : {m k : ℕ} → Some m ≡ Some k → m ≡ k
+    some_same e = cc

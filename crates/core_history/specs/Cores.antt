@@ -1,5 +1,5 @@
 -- After which moves a core stands.
-use Rattle.std.specs.Prelude.{ℕ, min, ◌≡◌, ◌+◌, ◌-◌, ◌^◌, ◌≤◌, ◌<◌, ◌⊎◌, List, [], length, map, reverse, count_by, Some, slice_get, IsSome, Option}
+use Rattle.std.specs.Prelude.{ℕ, false, min, ◌≡◌, ◌+◌, ◌-◌, ◌^◌, ◌≤◌, ◌<◌, ◌⊎◌, List, [], length, map, reverse, count_by, Some, slice_get, IsSome, Option}
 use Rattle.std.specs.Option.{ForSome}
 use Rattle.rows_model.specs.declared.keys.QKey.{QKey}
 use Rattle.rows_model.specs.declared.keys.Sid.{Sid}
@@ -19,7 +19,9 @@ use Rattle.session_client.specs.declared.plans.Turn.{Turn}
 use Rattle.session_client.specs.declared.plans.Turn.TheVariants as turn
 use Rattle.session_client.specs.declared.sessions.Session.{Session}
 use Rattle.session_client.specs.Follows.{plan_of, sid_of, IsReady, Follows}
-use Rattle.core_history.specs.Events.{Event, steps_of, log_of, told_to}
+use Rattle.expiry_sweeper.specs.Follows.{shards_of, Follows as IsTold}
+use Rattle.expiry_sweeper.specs.declared.sweepers.Sweeper.{Sweeper}
+use Rattle.core_history.specs.Events.{Event, steps_of, log_of, told_to, sweeps_of, now_of}
 use Rattle.core_history.specs.Freshness.{IsLawful, histories_of}
 use Rattle.core_history.specs.Lines.{is_fault}
 use Rattle.core_history.specs.Machine.{World, Move, world_of, HasPlans, terms_of, log_cap, out_of, is_open}
@@ -47,6 +49,8 @@ pub record CoreView : Type 0 where
   pub store : StoreView
   pub shards : List ShardView
   pub sessions : List Session
+  pub sweeper : Sweeper
+  pub clock : ℕ
 
 -- what a core of this shape was made with, that is new
 abbrev pub origin_of : Shape → CoreView → Origin
@@ -95,17 +99,25 @@ pub record HasPhases (phases : List Phase) (world : World) : Type 0 where
 abbrev pub AreFollowing : List Session → List Event → Type 0
 AreFollowing sessions past =
     (place : ℕ) (session : Session) → slice_get sessions place ≡ Some session
-    → IsReady session × ((sid_of session).number ≡ place + 1) × Follows session (told_to (place + 1) past)
+    → IsReady session × ((sid_of session).number ≡ place + 1) × Follows session false (told_to (place + 1) past)
 
--- each session that began is there, and no other one was told anything
+-- each session that began is there, and no other one was told anything: none of a later number, nor any of the number 0, which no session has
 pub record HasSessions (sessions : List Session) (world : World) : Type 0 where
   pub plans : map plan_of sessions ≡ world.plans
   pub following : AreFollowing sessions world.past
   pub unbegun : (number : ℕ) → length sessions < number → told_to number world.past ≡ []
+  pub nobody : told_to 0 world.past ≡ []
+
+-- the sweeper sweeps the shards of the shape, and follows what it was told
+pub record HasSweeper (sweeper : Sweeper) (shape : Shape) (past : List Event) : Type 0 where
+  pub shards : shards_of sweeper ≡ shape.shards
+  pub following : IsTold sweeper (sweeps_of past)
 
 -- the core stands after these moves, the latest first
 pub record IsAt (core : CoreView) (origin : Origin) (moves : List Move) : Type 0 where
   pub kept : HasKept core origin moves
+  pub clock : core.clock ≡ now_of (world_of origin.shape moves).past
+  pub sweeper : HasSweeper core.sweeper origin.shape (world_of origin.shape moves).past
   pub phases : HasPhases core.store.ledger.sessions (world_of origin.shape moves)
   pub sessions : HasSessions core.sessions (world_of origin.shape moves)
 
@@ -130,9 +142,11 @@ abbrev pub IsRunning : CoreView → Type 0
 IsRunning core =
     (origin : Origin) × (moves : List Move) × IsAt core origin moves × (length (world_of origin.shape moves).past < 2 ^ 32)
 
--- the turn is that of a session that was begun
+-- the turn is that of a session that was begun, if it is one of a session
 abbrev pub HasBegun : CoreView → Turn → Type 0
 HasBegun core (turn.Session who) = (1 ≤ who.number) × (who.number ≤ length core.sessions)
+HasBegun core (turn.Tick by) = Unit {0}
+HasBegun core turn.Sweep = Unit {0}
 
 -- the key's shard is there, and its tokens don't end
 pub record HasHome (shards : List ShardView) (key : QKey) : Type 0 where

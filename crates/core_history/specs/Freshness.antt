@@ -1,19 +1,22 @@
 -- What holds of every run: of its log, its histories, and of each turn that commits.
-use Rattle.std.specs.Prelude.{ℕ, ◌≡◌, ◌≢◌, true, List, [], ◌∷◌, map, reverse}
-use Rattle.std.specs.List.{range_with_len}
+use Rattle.std.specs.Prelude.{ℕ, ◌≡◌, ◌≢◌, ◌+◌, true, List, [], ◌∷◌, map, reverse, Some, slice_get}
+use Rattle.std.specs.List.{range_with_len, AllByRecursion}
 use Rattle.rows_model.specs.declared.keys.QKey.{QKey}
 use Rattle.rows_model.specs.declared.keys.Sid.{Sid}
-use Rattle.rows_model.specs.Rows.{Tables}
+use Rattle.rows_model.specs.Rows.{Tables, Fit}
 use Rattle.rows_model.specs.Changes.{touches}
 use Rattle.rows_model.specs.Placement.{shard_of}
+use Rattle.key_shard.specs.declared.steps.Ended.TheVariants.{Put, Shift}
 use Rattle.key_shard.specs.declared.steps.Step.{Step}
+use Rattle.key_shard.specs.declared.steps.Step.TheVariants.{Released}
 use Rattle.key_shard.specs.Past.{standing}
 use Rattle.key_shard.specs.Answers.{IsLegalPast}
+use Rattle.sql_keeper.specs.declared.stores.Commit.{Commit}
 use Rattle.sql_keeper.specs.Fresh.{Fresh, Covered}
 use Rattle.session_client.specs.declared.plans.Shape.{Shape}
 use Rattle.session_client.specs.declared.replies.Reply.{Reply}
 use Rattle.session_client.specs.declared.replies.Reply.TheVariants as reply
-use Rattle.core_history.specs.Events.{Event, who_in, reply_in, steps_of, log_of}
+use Rattle.core_history.specs.Events.{Event, Stepped, Called, Ticked, Swept, steps_of, log_of}
 use Rattle.core_history.specs.Machine.{Move, world_of, HasPlans, terms_of}
 use Rattle.core_history.specs.Truth.{IsTruePast}
 use Rattle.core_history.specs.Facts.{Facts, stands_for}
@@ -28,27 +31,48 @@ IsQuarantinedReply shape past who (reply.Committed number txn grants) =
     (key : QKey) → touches txn key ≡ true → stands_for who (standing key (steps_of (shard_of key shape.shards) past)) ≡ true
 IsQuarantinedReply shape past who other = Unit {0}
 
+-- So it is of an event.
+abbrev pub IsQuarantinedEvent : Shape → List Event → Event → Type 0
+IsQuarantinedEvent shape past (Stepped shard who request step told) = IsQuarantinedReply shape past who told
+IsQuarantinedEvent shape past (Called who request told) = IsQuarantinedReply shape past who told
+IsQuarantinedEvent shape past (Ticked now) = Unit {0}
+IsQuarantinedEvent shape past (Swept shard request made told) = Unit {0}
+
 -- So it is at each turn.
 abbrev pub AreQuarantined : Shape → List Event → Type 0
 AreQuarantined shape [] = Unit {0}
-AreQuarantined shape (event ∷ past) =
-    IsQuarantinedReply shape past (who_in event) (reply_in event) × AreQuarantined shape past
+AreQuarantined shape (event ∷ past) = IsQuarantinedEvent shape past event × AreQuarantined shape past
 
--- What holds after any moves, whatever the keeper said: each history is legal, each commit is covered, and was so when it was made.
+-- The number of a session's commit is that of its place in the log, counted from 1.
+pub record IsCommitOf (log : List Commit) (sid : Sid) (number : ℕ) : Type 0 where
+  pub place : ℕ
+  pub commit : Commit
+  pub at : slice_get log place ≡ Some commit
+  pub own : commit.sid ≡ sid
+  pub is : number ≡ place + 1
+
+-- A value that is put or shifted as its session's quarantine ends has the number of that session's commit as its stamp.
+abbrev pub IsNumbered : List Commit → Step → Type 0
+IsNumbered log (Released key sid token (Put value stamp evicted)) = IsCommitOf log sid stamp
+IsNumbered log (Released key sid token (Shift by stamp)) = IsCommitOf log sid stamp
+IsNumbered log other = Unit {0}
+
+-- What holds after any moves, whatever the keeper said: each history is legal, each commit is covered, and was so when it was made, and each value that was put or shifted has the number of its session's commit.
 pub record IsLawful (shape : Shape) (past : List Event) : Type 0 where
   pub legal : (place : ℕ) → IsLegalPast (terms_of shape place) (steps_of place past)
   pub covered : Covered (log_of past) (histories_of shape past)
   pub quarantined : AreQuarantined shape past
+  pub numbered : (place : ℕ) → AllByRecursion (IsNumbered (log_of past)) (steps_of place past)
 
 -- Whichever sessions begin, in whatever order they take their turns, and whatever the keeper says, the run is lawful.
 abbrev pub RunsAreLawful : Type 0
 RunsAreLawful =
     (shape : Shape) (moves : List Move) → shape.shards ≢ 0 → HasPlans moves → IsLawful shape (world_of shape moves).past
 
--- Where the keeper's word was true as well, the facts hold, and each hit is fresh.
+-- Where the opening rows are fit and the keeper's word was true as well, the facts hold, and each hit is fresh.
 abbrev pub RunsAreFresh : Type 0
 RunsAreFresh =
-    (shape : Shape) (opening : Tables) (moves : List Move) → shape.shards ≢ 0 → HasPlans moves
+    (shape : Shape) (opening : Tables) (moves : List Move) → shape.shards ≢ 0 → HasPlans moves → Fit opening
     → IsTruePast opening (world_of shape moves).past
     → Facts opening shape (world_of shape moves)
     × Fresh opening (log_of (world_of shape moves).past) (histories_of shape (world_of shape moves).past)

@@ -13,5 +13,7 @@ pub mod Words
 pub mod Cores
 pub mod Requests
 pub mod Told
+pub mod Sweeping
 pub mod Voids
+pub mod Sweeps
 pub mod Determined

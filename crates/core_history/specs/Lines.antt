@@ -1,7 +1,9 @@
 -- What is printed: one line an event, and a last line that counts.
 use Rattle.std.specs.Prelude.{ℕ, ◌+◌, Bool, true, false, if◌then◌else◌, List, [], ◌∷◌, ◌++◌, flat_map, reverse, length, count_by, Option, Some, None, codes, decimal}
+use Rattle.std.specs.Fmt.{signed_decimal}
 use Rattle.std.specs.List.{join_with_byte}
 use Rattle.rows_model.specs.declared.keys.QKey.{QKey}
+use Rattle.rows_model.specs.declared.keys.Sid.{Sid}
 use Rattle.rows_model.specs.Key.{key_text}
 use Rattle.lease_table.specs.declared.records.Mode.{Mode}
 use Rattle.lease_table.specs.declared.records.Mode.TheVariants.{Invalidate, Refresh, Delta}
@@ -17,6 +19,8 @@ use Rattle.key_shard.specs.declared.replies.Rel.{Rel}
 use Rattle.key_shard.specs.declared.replies.Rel.TheVariants as rel
 use Rattle.key_shard.specs.declared.steps.Step.{Step}
 use Rattle.key_shard.specs.declared.steps.Step.TheVariants as step
+use Rattle.sql_keeper.specs.declared.faults.AfterFault.{AfterFault}
+use Rattle.sql_keeper.specs.declared.faults.AfterFault.TheVariants as after
 use Rattle.sql_keeper.specs.declared.faults.CommitFault.{CommitFault}
 use Rattle.sql_keeper.specs.declared.faults.CommitFault.TheVariants as faults
 use Rattle.sql_keeper.specs.declared.stores.Commit.{Commit}
@@ -26,7 +30,11 @@ use Rattle.session_client.specs.declared.replies.Reply.{Reply}
 use Rattle.session_client.specs.declared.replies.Reply.TheVariants as reply
 use Rattle.session_client.specs.declared.replies.Wanted.{Wanted}
 use Rattle.session_client.specs.declared.replies.Wanted.TheVariants as wanted
-use Rattle.core_history.specs.Events.{Event, who_in, request_in, reply_in}
+use Rattle.expiry_sweeper.specs.declared.replies.SweepReply.{SweepReply}
+use Rattle.expiry_sweeper.specs.declared.replies.SweepReply.TheVariants as sweeps
+use Rattle.expiry_sweeper.specs.declared.replies.SweepWanted.{SweepWanted}
+use Rattle.expiry_sweeper.specs.declared.replies.SweepWanted.TheVariants as sweep
+use Rattle.core_history.specs.Events.{Event, Stepped, Called, Ticked, Swept}
 
 -- Words with a space between, and the line's end.
 abbrev pub line : List (List ℕ) → List ℕ
@@ -41,11 +49,16 @@ shown (byte ∷ bytes) = byte ∷ bytes
 abbrev pub request_words : Wanted → List (List ℕ)
 request_words (wanted.Get key floor) = codes "get" ∷ key_text key ∷ []
 request_words (wanted.Ask key) = codes "ask" ∷ key_text key ∷ []
+request_words (wanted.Staged key txn) = codes "staged" ∷ key_text key ∷ []
 request_words (wanted.Set key token value stamp) = codes "set" ∷ key_text key ∷ []
 request_words (wanted.QaReg key) = codes "qareg" ∷ key_text key ∷ []
+request_words (wanted.QaRead key) = codes "qaread" ∷ key_text key ∷ []
+request_words (wanted.Delta key by) = codes "delta" ∷ key_text key ∷ signed_decimal by ∷ []
 request_words (wanted.Commit txn grants) = codes "commit" ∷ []
 request_words wanted.End = codes "end" ∷ []
 request_words (wanted.Dar grant) = codes "dar" ∷ key_text grant.key ∷ []
+request_words (wanted.Sar grant value stamp) = codes "sar" ∷ key_text grant.key ∷ []
+request_words (wanted.Apply grant stamp) = codes "apply" ∷ key_text grant.key ∷ []
 request_words (wanted.Abort grant) = codes "abort" ∷ key_text grant.key ∷ []
 request_words wanted.Nothing = codes "done" ∷ []
 
@@ -75,9 +88,21 @@ abbrev pub set_words : SetAnswer → List (List ℕ)
 set_words (set.Stored evicted) = codes "STORED" ∷ evicts_words evicted
 set_words set.Void = codes "VOID" ∷ []
 
+-- A value with its stamp, or that there is none.
+abbrev pub old_words : Option (List ℕ × ℕ) → List (List ℕ)
+old_words None = codes "NONE" ∷ []
+old_words (Some old) = decimal old.1 ∷ shown old.0 ∷ []
+
+-- The old value that came along with a grant to refresh. No other grant brings one.
+abbrev pub brought_words : Mode → Option (List ℕ × ℕ) → List (List ℕ)
+brought_words Invalidate old = []
+brought_words Refresh old = old_words old
+brought_words Delta old = []
+
 -- The words that print the answer to a quarantine.
 abbrev pub quarantine_words : QAnswer → List (List ℕ)
-quarantine_words (quarantine.Granted grant old) = codes "GRANTED" ∷ decimal grant.token ∷ []
+quarantine_words (quarantine.Granted grant old) =
+    codes "GRANTED" ∷ decimal grant.token ∷ brought_words grant.mode old
 quarantine_words quarantine.Held = codes "HELD" ∷ []
 quarantine_words (quarantine.Refused holder mode) =
     codes "REFUSED" ∷ decimal holder.number ∷ mode_word mode ∷ []
@@ -90,6 +115,12 @@ commit_fault_words (faults.LogFull count) = codes "FULL" ∷ decimal count ∷ [
 commit_fault_words faults.Memory = []
 commit_fault_words (faults.Rejected index) = codes "REJECTED" ∷ decimal index ∷ []
 commit_fault_words faults.KeepFault = codes "FAULT" ∷ []
+
+-- The words that print why there is no answer after a transaction.
+abbrev pub staged_fault_words : AfterFault → List (List ℕ)
+staged_fault_words (after.Rejected index) = codes "REJECTED" ∷ decimal index ∷ []
+staged_fault_words after.Failed = codes "FAULT" ∷ []
+staged_fault_words after.Memory = []
 
 -- The words that print whether a session was open.
 abbrev pub open_words : Bool → List (List ℕ)
@@ -111,19 +142,45 @@ fault_words causes.Memory = []
 abbrev pub reply_words : Reply → List (List ℕ)
 reply_words (reply.Got got) = got_words got
 reply_words (reply.Answer answer) = decimal answer.stamp ∷ shown answer.value ∷ []
+reply_words (reply.Staged value txn) = shown value ∷ []
+reply_words (reply.NotStaged fault txn) = staged_fault_words fault
 reply_words (reply.Set told) = set_words told
 reply_words (reply.Quar told) = quarantine_words told
 reply_words (reply.Committed number txn grants) = codes "COMMITTED" ∷ decimal number ∷ []
 reply_words (reply.NotCommitted fault txn grants) = commit_fault_words fault
 reply_words (reply.End was) = open_words was
 reply_words (reply.Rel told) = release_words told
+reply_words (reply.SarBack grant) = []
 reply_words (reply.Fault fault) = fault_words fault
 reply_words reply.Nothing = []
 
--- The line of an event: the session's number, its request, and what it was told.
+-- The words that print a step of the sweeper's.
+abbrev pub sweep_words : SweepWanted → List (List ℕ)
+sweep_words (sweep.Scan shard) = codes "scan" ∷ decimal shard ∷ []
+sweep_words (sweep.End who) = codes "end" ∷ decimal who.number ∷ []
+sweep_words (sweep.Drop key token) = codes "drop" ∷ key_text key ∷ []
+
+-- The words that print what the sweeper was told.
+abbrev pub swept_words : SweepReply → List (List ℕ)
+swept_words (sweeps.Found due) = codes "FOUND" ∷ key_text due.key ∷ decimal due.sid.number ∷ []
+swept_words sweeps.NoneFound = codes "NONE" ∷ []
+swept_words (sweeps.Ended was) = open_words was
+swept_words (sweeps.Dropped told) = release_words told
+
+-- The words of a session's turn: its number, its request, and what it was told.
+abbrev pub turn_words : Sid → Wanted → Reply → List (List ℕ)
+turn_words who request told = decimal who.number ∷ request_words request ++ reply_words told
+
+-- The words of an event.
+abbrev pub event_words : Event → List (List ℕ)
+event_words (Stepped shard who request step told) = turn_words who request told
+event_words (Called who request told) = turn_words who request told
+event_words (Ticked now) = codes "tick" ∷ decimal now ∷ []
+event_words (Swept shard request made told) = codes "sweep" ∷ sweep_words request ++ swept_words told
+
+-- The line of an event.
 unfoldable pub line_of : Event → List ℕ
-line_of event =
-    line (decimal (who_in event).number ∷ request_words (request_in event) ++ reply_words (reply_in event))
+line_of event = line (event_words event)
 
 -- The lines of the events, the earliest first.
 unfoldable pub lines_of : List Event → List ℕ
@@ -132,11 +189,16 @@ lines_of past = flat_map line_of (reverse past)
 -- Whether a reply tells that the store's keeper failed. It is printed as FAULT.
 abbrev pub tells_fault : Reply → Bool
 tells_fault (reply.Fault causes.Keep) = true
+tells_fault (reply.NotStaged after.Failed txn) = true
 tells_fault (reply.NotCommitted faults.KeepFault txn grants) = true
 tells_fault other = false
 
+-- Whether the line of an event says FAULT.
 abbrev pub is_fault : Event → Bool
-is_fault event = tells_fault (reply_in event)
+is_fault (Stepped shard who request step told) = tells_fault told
+is_fault (Called who request told) = tells_fault told
+is_fault (Ticked now) = false
+is_fault (Swept shard request made told) = false
 
 -- The turns that were answered FAULT, by their numbers, which count from 1: the lowest first.
 abbrev pub fault_turns : List Event → List ℕ

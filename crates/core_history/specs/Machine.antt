@@ -1,10 +1,12 @@
 -- The machine: what each turn does, read off the events before it, and off what the store's keeper said in it.
-use Rattle.std.specs.Prelude.{ℕ, pos, ◌+◌, ◌-◌, Bool, false, not, ◌==◌, ◌&&◌, if◌then◌else◌, List, [], ◌∷◌, ◌++◌, length, Option, Some, None, slice_get}
+use Rattle.std.specs.Prelude.{ℕ, ℤ, pos, min, ◌+◌, ◌-◌, ◌^◌, Bool, false, not, ◌==◌, ◌&&◌, if◌then◌else◌, List, [], ◌∷◌, ◌++◌, length, Option, Some, None, slice_get}
 use Rattle.rows_model.specs.declared.keys.QKey.{QKey}
 use Rattle.rows_model.specs.declared.keys.Sid.{Sid}
 use Rattle.rows_model.specs.declared.changes.Change.{Change}
 use Rattle.rows_model.specs.Placement.{shard_of}
-use Rattle.lease_table.specs.declared.records.Mode.TheVariants.{Invalidate}
+use Rattle.lease_table.specs.declared.records.Mode.{Mode}
+use Rattle.lease_table.specs.declared.records.Mode.TheVariants.{Invalidate, Refresh, Delta}
+use Rattle.lease_table.specs.declared.records.Due.{Due}
 use Rattle.key_shard.specs.Permit.{Permit}
 use Rattle.key_shard.specs.declared.steps.Step.{Step}
 use Rattle.key_shard.specs.declared.steps.Step.TheVariants as step
@@ -12,11 +14,18 @@ use Rattle.key_shard.specs.declared.replies.Got.TheVariants as got
 use Rattle.key_shard.specs.declared.replies.SetAnswer.TheVariants as set
 use Rattle.key_shard.specs.declared.replies.QAnswer.TheVariants as quarantine
 use Rattle.key_shard.specs.declared.replies.Rel.TheVariants as rel
-use Rattle.key_shard.specs.declared.replies.How.TheVariants.{Keep, Drop}
+use Rattle.key_shard.specs.declared.replies.How.TheVariants.{Keep, Drop, Shift}
+use Rattle.key_shard.specs.Dues.{first_due}
 use Rattle.key_shard.specs.Past.{Terms, entry, evicted_by}
-use Rattle.key_shard.specs.Answers.{get_step, set_step, quarantine_step, release_step}
-use Rattle.key_shard.specs.Replies.{old_value}
+use Rattle.key_shard.specs.Answers.{get_step, set_step, quarantine_step, release_step, replace_step, sweep_step}
+use Rattle.key_shard.specs.Replies.{old_value, sweep_told}
 use Rattle.key_shard.specs.Shards.{without_permit, out_after}
+use Rattle.expiry_sweeper.specs.Sweeps.{sweep_wants}
+use Rattle.expiry_sweeper.specs.declared.replies.SweepReply.{SweepReply}
+use Rattle.expiry_sweeper.specs.declared.replies.SweepReply.TheVariants as sweeps
+use Rattle.expiry_sweeper.specs.declared.replies.SweepWanted.{SweepWanted}
+use Rattle.expiry_sweeper.specs.declared.replies.SweepWanted.TheVariants as sweep
+use Rattle.sql_keeper.specs.declared.faults.AfterFault.TheVariants as after
 use Rattle.sql_keeper.specs.declared.faults.CommitFault.{CommitFault}
 use Rattle.sql_keeper.specs.declared.faults.CommitFault.TheVariants as faults
 use Rattle.sql_keeper.specs.Commits.{commit_fault}
@@ -32,7 +41,7 @@ use Rattle.session_client.specs.declared.replies.Wanted.{Wanted}
 use Rattle.session_client.specs.declared.replies.Wanted.TheVariants as wanted
 use Rattle.session_client.specs.Plans.{IsPlan, writes}
 use Rattle.session_client.specs.Wants.{wants}
-use Rattle.core_history.specs.Events.{Event, Stepped, Called, steps_of, told_to, log_of, was_ended, has_committed}
+use Rattle.core_history.specs.Events.{Event, Stepped, Called, Ticked, Swept, steps_of, told_to, sweeps_of, now_of, log_of, was_ended, has_committed}
 
 -- What a shard of this shape is made with. Its tokens begin at 1.
 abbrev pub terms_of : Shape → ℕ → Terms
@@ -63,10 +72,10 @@ start = record { plans = []; past = [] }
 abbrev pub plan_at : ℕ → List Plan → Option Plan
 plan_at number plans = slice_get plans (number - 1)
 
--- What a session of this plan wants; no session wants nothing.
+-- What a session of this plan wants; no session wants nothing. A run stops where memory runs out, so no session goes on after that.
 abbrev pub wanted_by : Option Plan → List Reply → Wanted
 wanted_by None heard = wanted.Nothing
-wanted_by (Some plan) heard = wants plan heard
+wanted_by (Some plan) heard = wants plan false heard
 
 -- Whether a session of this plan writes; no session does.
 abbrev pub is_writer : Option Plan → Bool
@@ -106,6 +115,12 @@ abbrev pub ask_told : List Event → QKey → Said → Reply
 ask_told past key (Value value) = reply.Answer (record { key = key; value = value; stamp = length (log_of past) })
 ask_told past key other = reply.Fault causes.Keep
 
+-- What a session is told of the answer that its transaction would leave.
+abbrev pub staged_told : List Change → Said → Reply
+staged_told txn (Value value) = reply.Staged value txn
+staged_told txn (Rejected index) = reply.NotStaged (after.Rejected index) txn
+staged_told txn other = reply.NotStaged after.Failed txn
+
 -- What a session is told of a commit that the keeper was asked for.
 abbrev pub commit_said : ℕ → List Change → GrantsView → Said → Reply
 commit_said count txn grants Made = reply.Committed (count + 1) txn grants
@@ -122,20 +137,39 @@ commit_told world who txn grants said =
     let count = length (log_of world.past) in
     commit_by count txn grants said (commit_fault (is_open world who) who grants.items txn count log_cap)
 
--- The event that a request is: on a shard, at the store, or nothing. The clock stands at 0.
+-- A quarantine of a key in this mode, to be shifted by this much.
+abbrev pub quarantined_on : Shape → World → Sid → Wanted → QKey → Mode → ℤ → Event
+quarantined_on shape world who request key mode shift =
+    stepped_on shape world.past who request key (λ terms steps. quarantine_step terms steps key who mode shift (now_of world.past))
+
+-- The step of a release with a new value: it is put where there is one, and else the key's value is dropped.
+abbrev pub put_step : Terms → List Step → Permit → Option (List ℕ) → ℕ → Step
+put_step terms steps grant (Some value) stamp = replace_step terms steps grant value stamp
+put_step terms steps grant None stamp = release_step steps grant Drop
+
+-- The event that a request is: on a shard, at the store, or nothing.
 abbrev pub event_of : Shape → World → Sid → Wanted → Said → Event
 event_of shape world who (wanted.Get key floor) said =
-    stepped_on shape world.past who (wanted.Get key floor) key (λ terms steps. get_step terms steps key who floor 0)
+    stepped_on shape world.past who (wanted.Get key floor) key (λ terms steps. get_step terms steps key who floor (now_of world.past))
 event_of shape world who (wanted.Ask key) said = Called who (wanted.Ask key) (ask_told world.past key said)
+event_of shape world who (wanted.Staged key txn) said = Called who (wanted.Staged key txn) (staged_told txn said)
 event_of shape world who (wanted.Set key token value stamp) said =
-    stepped_on shape world.past who (wanted.Set key token value stamp) key (λ terms steps. set_step terms steps key token value stamp 0)
+    stepped_on shape world.past who (wanted.Set key token value stamp) key (λ terms steps. set_step terms steps key token value stamp (now_of world.past))
 event_of shape world who (wanted.QaReg key) said =
-    stepped_on shape world.past who (wanted.QaReg key) key (λ terms steps. quarantine_step terms steps key who Invalidate (pos 0) 0)
+    quarantined_on shape world who (wanted.QaReg key) key Invalidate (pos 0)
+event_of shape world who (wanted.QaRead key) said =
+    quarantined_on shape world who (wanted.QaRead key) key Refresh (pos 0)
+event_of shape world who (wanted.Delta key by) said =
+    quarantined_on shape world who (wanted.Delta key by) key Delta by
 event_of shape world who (wanted.Commit txn grants) said =
     Called who (wanted.Commit txn grants) (commit_told world who txn grants said)
 event_of shape world who wanted.End said = Called who wanted.End (reply.End (is_open world who))
 event_of shape world who (wanted.Dar grant) said =
     stepped_on shape world.past who (wanted.Dar grant) grant.key (λ terms steps. release_step steps grant Drop)
+event_of shape world who (wanted.Sar grant value stamp) said =
+    stepped_on shape world.past who (wanted.Sar grant value stamp) grant.key (λ terms steps. put_step terms steps grant value stamp)
+event_of shape world who (wanted.Apply grant stamp) said =
+    stepped_on shape world.past who (wanted.Apply grant stamp) grant.key (λ terms steps. release_step steps grant (Shift stamp))
 event_of shape world who (wanted.Abort grant) said =
     stepped_on shape world.past who (wanted.Abort grant) grant.key (λ terms steps. release_step steps grant Keep)
 event_of shape world who wanted.Nothing said = Called who wanted.Nothing reply.Nothing
@@ -144,9 +178,34 @@ event_of shape world who wanted.Nothing said = Called who wanted.Nothing reply.N
 abbrev pub wanted_of : World → Sid → Wanted
 wanted_of world who = wanted_by (plan_at who.number world.plans) (told_to who.number world.past)
 
+-- What a scan tells the sweeper.
+abbrev pub scan_told : Option Due → SweepReply
+scan_told None = sweeps.NoneFound
+scan_told (Some due) = sweeps.Found due
+
+-- The event of what the sweeper wants: a scan finds the first quarantine that is past its deadline, an end is one at the store, and a drop is a step on the shard of its key, where the quarantine stands.
+abbrev pub sweep_of : Shape → World → SweepWanted → Event
+sweep_of shape world (sweep.Scan place) =
+    Swept place (sweep.Scan place) None (scan_told (first_due (now_of world.past) (steps_of place world.past)))
+sweep_of shape world (sweep.End who) = Swept 0 (sweep.End who) None (sweeps.Ended (is_open world who))
+sweep_of shape world (sweep.Drop key token) =
+    let place = shard_of key shape.shards in
+    let step = sweep_step (steps_of place world.past) key token in
+    Swept place (sweep.Drop key token) step (sweeps.Dropped (sweep_told step))
+
+-- What the sweeper wants next.
+abbrev pub swept_next : Shape → World → SweepWanted
+swept_next shape world = sweep_wants shape.shards (sweeps_of world.past)
+
+-- What the clock says after so many ticks more. It stops at 2^64-1.
+abbrev pub later : ℕ → List Event → ℕ
+later by past = min (now_of past + by) (2 ^ 64 - 1)
+
 -- The event of a turn.
 abbrev pub turn_event : Shape → World → Turn → Said → Event
 turn_event shape world (turn.Session who) said = event_of shape world who (wanted_of world who) said
+turn_event shape world (turn.Tick by) said = Ticked (later by world.past)
+turn_event shape world turn.Sweep said = sweep_of shape world (swept_next shape world)
 
 -- A move of the world: a session begins, or a turn is taken, in which the keeper said this if it was asked.
 pub data Move : Type 0 where
@@ -180,12 +239,16 @@ HasPlans (Take turn said ∷ moves) = HasPlans moves
 -- The grants that are out at a shard after a request and its step: a release takes its own away, and a granted quarantine adds one.
 abbrev pub out_by : Terms → Wanted → Step → List Permit → List Permit
 out_by terms (wanted.Dar grant) step out = without_permit grant out
+out_by terms (wanted.Sar grant value stamp) step out = without_permit grant out
+out_by terms (wanted.Apply grant stamp) step out = without_permit grant out
 out_by terms (wanted.Abort grant) step out = without_permit grant out
 out_by terms request step out = out_after terms step out
 
--- The grants that are out at the shard of this number after these events.
+-- The grants that are out at the shard of this number after these events. A sweep leaves them.
 abbrev pub out_of : Shape → ℕ → List Event → List Permit
 out_of shape place [] = []
 out_of shape place (Stepped shard who request step told ∷ past) =
     if shard == place then out_by (terms_of shape place) request step (out_of shape place past) else out_of shape place past
 out_of shape place (Called who request told ∷ past) = out_of shape place past
+out_of shape place (Ticked now ∷ past) = out_of shape place past
+out_of shape place (Swept shard request made told ∷ past) = out_of shape place past

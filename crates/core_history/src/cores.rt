@@ -9,8 +9,11 @@ ghost use Rattle.sql_keeper.specs.Faults.{Counts, has_failed};
 ghost use Rattle.sql_keeper.specs.Stores.{opened};
 ghost use Rattle.core_history.specs.Told.{IsToldOf};
 
+use crate::sweep_lines::tick_line;
+use crate::sweeps::sweep_turn;
 use crate::told::Told;
 use crate::turns::session_turn;
+use expiry_sweeper::Sweeper;
 use key_shard::{Shard, Step};
 use rows_model::{Memory, Rows, Sid};
 use session_client::{Plan, Session, Shape, Turn};
@@ -21,12 +24,15 @@ use std::marker::Model;
 /// How many commits the log holds at most.
 const LOG_CAP: u64 = 8_000_000;
 
-/// The core of a run: the store, the shards, and the sessions on their way. Contracts see these.
+/// The core of a run: the store, the shards, the sessions on their way, the sweeper, and the clock.
+/// Contracts see these.
 pub struct Core<K: Keeper> {
     alloc: Global,
     store: Store<K>,
     shards: Vec<Shard>,
     sessions: Vec<Session>,
+    sweeper: Sweeper,
+    clock: u64,
 }
 
 impl<K: Keeper> Model for Core<K> {
@@ -38,6 +44,8 @@ impl<K: Keeper> Model for Core<K> {
       store = core.store;
       shards = core.shards.items;
       sessions = core.sessions.items;
+      sweeper = core.sweeper;
+      clock = core.clock;
     } };
 }
 
@@ -86,6 +94,8 @@ impl<K: Keeper> Core<K> {
             store,
             shards,
             sessions: Vec::new(alloc),
+            sweeper: Sweeper::new(_shape.shards),
+            clock: 0,
         }
     }
 
@@ -129,7 +139,47 @@ impl<K: Keeper> Core<K> {
             OnErr result (HasKept self.new origin moves ⊎
             ((said : Said) × HasKept self.new origin (Take turn said ∷ moves))) }
     {
-        self.step_of(turn.sid())
+        match turn {
+            Turn::Session { sid } => self.step_of(sid),
+            Turn::Tick { by } => self.tick(by),
+            Turn::Sweep => self.sweep(),
+        }
+    }
+
+    /// So many ticks pass on the clock, which stops at its type's end.
+    fn tick(&mut self, by: u64) -> Result<Told, Memory>
+        ensures takes { (origin : Origin) (moves : List Move) → IsAt self.old origin moves →
+            IfOk result (λ told. (said : Said) ×
+            IsAt self.new origin (Take (Turn.Tick by) said ∷ moves) ×
+            IsToldOf (turn_event origin.shape (world_of origin.shape moves)
+            (Turn.Tick by) said) told) }
+        ensures err { (origin : Origin) (moves : List Move) → IsAt self.old origin moves →
+            OnErr result (HasKept self.new origin moves ⊎
+            ((said : Said) × HasKept self.new origin (Take (Turn.Tick by) said ∷ moves))) }
+    {
+        self.clock = self.clock.saturating_add(by);
+        tick_line(self.alloc, self.clock)
+    }
+
+    /// Takes a step of the sweeper's.
+    fn sweep(&mut self) -> Result<Told, Memory>
+        requires running { IsRunning self.old }
+        ensures takes { (origin : Origin) (moves : List Move) → IsAt self.old origin moves →
+            IfOk result (λ told. (said : Said) ×
+            IsAt self.new origin (Take Turn.Sweep said ∷ moves) ×
+            IsToldOf (turn_event origin.shape (world_of origin.shape moves)
+            Turn.Sweep said) told) }
+        ensures err { (origin : Origin) (moves : List Move) → IsAt self.old origin moves →
+            OnErr result (HasKept self.new origin moves ⊎
+            ((said : Said) × HasKept self.new origin (Take Turn.Sweep said ∷ moves))) }
+    {
+        sweep_turn(
+            self.alloc,
+            &mut self.store,
+            &mut self.shards,
+            &mut self.sweeper,
+            self.clock,
+        )
     }
 
     /// Takes a session's turn.
@@ -151,14 +201,15 @@ impl<K: Keeper> Core<K> {
             &mut self.shards,
             &mut self.sessions,
             who,
+            self.clock,
         )
     }
 
-    /// The time. It stands at 0.
+    /// What the clock says: 0 at first, and then what the ticks so far come to.
     pub fn now(&self) -> u64
-        ensures { result ≡ 0 }
+        ensures { result ≡ self.now.clock }
     {
-        0
+        self.clock
     }
 
     /// The transactions that were committed, the earliest first.
@@ -207,6 +258,8 @@ impl<K: Keeper> Core<K> {
             store,
             shards,
             sessions,
+            sweeper: _,
+            clock: _,
         } = self;
         let_go(sessions);
         let (keeper, opening, log) = store.into_parts();
@@ -228,7 +281,7 @@ fn writes(plan: &Plan) -> bool
 {
     match plan {
         Plan::Read { .. } => false,
-        Plan::Write { .. } | Plan::Skip { .. } => true,
+        Plan::Write { .. } | Plan::Look { .. } | Plan::Quit { .. } | Plan::Skip { .. } => true,
     }
 }
 

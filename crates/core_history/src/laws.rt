@@ -1,11 +1,13 @@
 // Laws of the machine, each the clause of a function that does nothing.
 ghost use Rattle.core_history.specs.Freshness.{RunsAreLawful, RunsAreFresh};
 ghost use Rattle.core_history.specs.Determined.{RunsAreDetermined};
+ghost use Rattle.core_history.specs.Sweeps.{SweepsAreFinal};
 ghost use Rattle.core_history.specs.Voids.{VoidsAreInert};
 
 /// Every run is lawful, whichever sessions it begins, in whatever order it takes their turns, and
-/// whatever the keeper says: each history is legal, and no transaction is committed that touches a key
-/// which its session hasn't quarantined.
+/// whatever the keeper says: each history is legal, no transaction is committed that touches a key
+/// which its session hasn't quarantined, and each value that is put or shifted has the number of its
+/// session's commit as its stamp.
 pub fn runs_are_lawful()
     ensures { RunsAreLawful }
 {}
@@ -28,4 +30,12 @@ pub fn voids_are_inert()
 /// the same log, the same histories and the same lines.
 pub fn runs_are_determined()
     ensures { RunsAreDetermined }
+{}
+
+/// What the sweeper drops is final, whatever the keeper says. After the drop no quarantine of that token
+/// stands on the key, and each later hit on the key has a stamp of at least as many commits as the log
+/// had at the drop. So each of them holds all that was committed before the sweeper ended the session,
+/// and the session's own commit, if it has one.
+pub fn sweeps_are_final()
+    ensures { SweepsAreFinal }
 {}

@@ -5,8 +5,13 @@ pub use cores::Core;
 pub use told::Told;
 
 pub mod cores;
+mod homes;
 pub mod laws;
 pub mod lines;
+mod quarantines;
+mod releases;
 mod requests;
+mod sweep_lines;
+mod sweeps;
 pub mod told;
 mod turns;

@@ -1,15 +1,16 @@
-// The lines that are printed, one a turn.
+// The lines of sessions' turns.
 ghost use Rattle.std.specs.Prelude.{◌≡◌, ◌∷◌, ◌++◌, [], IfOk, OnOk, codes, decimal};
+ghost use Rattle.std.specs.Fmt.{signed_decimal};
 ghost use Rattle.rows_model.specs.Key.{key_text};
-ghost use Rattle.core_history.specs.Lines.{line, shown, request_words, reply_words, stands_word, mode_word, evicts_words, got_words, set_words, quarantine_words, commit_fault_words, open_words, release_words, fault_words, tells_fault};
+ghost use Rattle.core_history.specs.Lines.{line, shown, request_words, reply_words, stands_word, mode_word, evicts_words, got_words, set_words, old_words, brought_words, quarantine_words, commit_fault_words, staged_fault_words, open_words, release_words, fault_words, tells_fault};
 ghost use Rattle.core_history.specs.Words.{spaced, asked_words};
 
 use itoa::Buffer;
 use key_shard::{Got, QAnswer, Rel, SetAnswer, Stands};
 use lease_table::Mode;
-use rows_model::{Memory, QKey, Sid};
+use rows_model::{Memory, QKey, Sid, Value};
 use session_client::{Fault, Reply, Wanted};
-use sql_keeper::CommitFault;
+use sql_keeper::{AfterFault, CommitFault};
 use std::alloc::Global;
 
 /// What a request asks for, as its line says it. It stays when the request is made.
@@ -17,11 +18,16 @@ use std::alloc::Global;
 pub enum Asked {
     Get { key: QKey },
     Ask { key: QKey },
+    Staged { key: QKey },
     Set { key: QKey },
     QaReg { key: QKey },
+    QaRead { key: QKey },
+    Delta { key: QKey, by: i32 },
     Commit,
     End,
     Dar { key: QKey },
+    Sar { key: QKey },
+    Apply { key: QKey },
     Abort { key: QKey },
     Nothing,
 }
@@ -34,11 +40,16 @@ impl Asked {
         match request {
             Wanted::Get { key, .. } => Asked::Get { key: *key },
             Wanted::Ask { key } => Asked::Ask { key: *key },
+            Wanted::Staged { key, .. } => Asked::Staged { key: *key },
             Wanted::Set { key, .. } => Asked::Set { key: *key },
             Wanted::QaReg { key } => Asked::QaReg { key: *key },
+            Wanted::QaRead { key } => Asked::QaRead { key: *key },
+            Wanted::Delta { key, by } => Asked::Delta { key: *key, by: *by },
             Wanted::Commit { .. } => Asked::Commit,
             Wanted::End => Asked::End,
             Wanted::Dar { grant } => Asked::Dar { key: grant.key() },
+            Wanted::Sar { grant, .. } => Asked::Sar { key: grant.key() },
+            Wanted::Apply { grant, .. } => Asked::Apply { key: grant.key() },
             Wanted::Abort { grant } => Asked::Abort { key: grant.key() },
             Wanted::Nothing => Asked::Nothing,
         }
@@ -69,6 +80,10 @@ pub(crate) fn tells_fault(reply: &Reply) -> bool
     matches!(
         reply,
         Reply::Fault { fault: Fault::Keep }
+            | Reply::NotStaged {
+                fault: AfterFault::Failed,
+                ..
+            }
             | Reply::NotCommitted {
                 fault: CommitFault::KeepFault,
                 ..
@@ -90,14 +105,28 @@ fn push_asked(alloc: Global, text: &mut Vec<u8>, asked: Asked) -> Result<(), Mem
     match asked {
         Asked::Get { key } => push_verb(alloc, text, b"get", &key),
         Asked::Ask { key } => push_verb(alloc, text, b"ask", &key),
+        Asked::Staged { key } => push_verb(alloc, text, b"staged", &key),
         Asked::Set { key } => push_verb(alloc, text, b"set", &key),
         Asked::QaReg { key } => push_verb(alloc, text, b"qareg", &key),
+        Asked::QaRead { key } => push_verb(alloc, text, b"qaread", &key),
+        Asked::Delta { key, by } => push_delta(alloc, text, &key, by),
         Asked::Commit => push_word(text, b"commit"),
         Asked::End => push_word(text, b"end"),
         Asked::Dar { key } => push_verb(alloc, text, b"dar", &key),
+        Asked::Sar { key } => push_verb(alloc, text, b"sar", &key),
+        Asked::Apply { key } => push_verb(alloc, text, b"apply", &key),
         Asked::Abort { key } => push_verb(alloc, text, b"abort", &key),
         Asked::Nothing => push_word(text, b"done"),
     }
+}
+
+fn push_delta(alloc: Global, text: &mut Vec<u8>, key: &QKey, by: i32) -> Result<(), Memory>
+    ensures { OnOk result (text.new.items ≡ text.old.items ++
+        spaced (codes "delta" ∷ key_text key.now ∷ signed_decimal by ∷ [])) }
+{
+    push_verb(alloc, text, b"delta", key)?;
+    let mut buffer = Buffer::new();
+    push_word(text, buffer.format(by).as_bytes())
 }
 
 fn push_reply(alloc: Global, text: &mut Vec<u8>, reply: &Reply) -> Result<(), Memory>
@@ -106,14 +135,16 @@ fn push_reply(alloc: Global, text: &mut Vec<u8>, reply: &Reply) -> Result<(), Me
     match reply {
         Reply::Got { got } => push_got(text, got),
         Reply::Answer { answer } => push_answer(text, answer.stamp, answer.value.bytes()),
+        Reply::Staged { value, .. } => push_value(text, value.bytes()),
+        Reply::NotStaged { fault, .. } => push_staged_fault(text, *fault),
         Reply::Set { told } => push_set(alloc, text, *told),
         Reply::Quar { told } => push_quarantine(text, told),
         Reply::Committed { number, .. } => push_counted(text, b"COMMITTED", *number),
         Reply::NotCommitted { fault, .. } => push_commit_fault(alloc, text, *fault),
-        Reply::End { was } => push_word(text, if *was { b"YES" } else { b"NO" }),
+        Reply::End { was } => push_open(text, *was),
         Reply::Rel { told } => push_release(alloc, text, *told),
         Reply::Fault { fault: Fault::Keep } => push_word(text, b"FAULT"),
-        Reply::Fault { .. } | Reply::Nothing => Ok(()),
+        Reply::SarBack { .. } | Reply::Fault { .. } | Reply::Nothing => Ok(()),
     }
 }
 
@@ -155,12 +186,43 @@ fn push_quarantine(text: &mut Vec<u8>, told: &QAnswer) -> Result<(), Memory>
     ensures { OnOk result (text.new.items ≡ text.old.items ++ spaced (quarantine_words told.now)) }
 {
     match told {
-        QAnswer::Granted { grant, .. } => push_counted(text, b"GRANTED", grant.token()),
+        QAnswer::Granted { grant, old } => {
+            push_counted(text, b"GRANTED", grant.token())?;
+            push_brought(text, grant.mode(), old)
+        }
         QAnswer::Held => push_word(text, b"HELD"),
         QAnswer::Refused { holder, mode } => {
             push_counted(text, b"REFUSED", holder.number)?;
             push_word(text, word_of_mode(*mode))
         }
+    }
+}
+
+fn push_brought(text: &mut Vec<u8>, mode: Mode, old: &Option<(Value, u64)>) -> Result<(), Memory>
+    ensures { OnOk result (text.new.items ≡ text.old.items ++ spaced (brought_words mode old.now)) }
+{
+    match mode {
+        Mode::Refresh => push_old(text, old),
+        Mode::Invalidate | Mode::Delta => Ok(()),
+    }
+}
+
+fn push_old(text: &mut Vec<u8>, old: &Option<(Value, u64)>) -> Result<(), Memory>
+    ensures { OnOk result (text.new.items ≡ text.old.items ++ spaced (old_words old.now)) }
+{
+    match old {
+        Some((value, stamp)) => push_answer(text, *stamp, value.bytes()),
+        None => push_word(text, b"NONE"),
+    }
+}
+
+fn push_staged_fault(text: &mut Vec<u8>, fault: AfterFault) -> Result<(), Memory>
+    ensures { OnOk result (text.new.items ≡ text.old.items ++ spaced (staged_fault_words fault)) }
+{
+    match fault {
+        AfterFault::Rejected { index } => push_counted(text, b"REJECTED", index as u64),
+        AfterFault::Failed => push_word(text, b"FAULT"),
+        AfterFault::Memory => Ok(()),
     }
 }
 
@@ -177,7 +239,13 @@ fn push_commit_fault(alloc: Global, text: &mut Vec<u8>, fault: CommitFault) -> R
     }
 }
 
-fn push_release(alloc: Global, text: &mut Vec<u8>, told: Rel) -> Result<(), Memory>
+pub(crate) fn push_open(text: &mut Vec<u8>, was: bool) -> Result<(), Memory>
+    ensures { OnOk result (text.new.items ≡ text.old.items ++ spaced (open_words was)) }
+{
+    push_word(text, if was { b"YES" } else { b"NO" })
+}
+
+pub(crate) fn push_release(alloc: Global, text: &mut Vec<u8>, told: Rel) -> Result<(), Memory>
     ensures { OnOk result (text.new.items ≡ text.old.items ++ spaced (release_words told)) }
 {
     match told {
@@ -202,7 +270,12 @@ fn push_evicting(
     }
 }
 
-fn push_verb(alloc: Global, text: &mut Vec<u8>, verb: &[u8], key: &QKey) -> Result<(), Memory>
+pub(crate) fn push_verb(
+    alloc: Global,
+    text: &mut Vec<u8>,
+    verb: &[u8],
+    key: &QKey,
+) -> Result<(), Memory>
     ensures { OnOk result (text.new.items ≡ text.old.items ++
         spaced (verb.now ∷ key_text key.now ∷ [])) }
 {
@@ -211,7 +284,7 @@ fn push_verb(alloc: Global, text: &mut Vec<u8>, verb: &[u8], key: &QKey) -> Resu
     push_word(text, word.bytes())
 }
 
-fn push_counted(text: &mut Vec<u8>, word: &[u8], number: u64) -> Result<(), Memory>
+pub(crate) fn push_counted(text: &mut Vec<u8>, word: &[u8], number: u64) -> Result<(), Memory>
     ensures { OnOk result (text.new.items ≡ text.old.items ++
         spaced (word.now ∷ decimal number ∷ [])) }
 {
@@ -219,7 +292,7 @@ fn push_counted(text: &mut Vec<u8>, word: &[u8], number: u64) -> Result<(), Memo
     push_number(text, number)
 }
 
-fn push_word(text: &mut Vec<u8>, word: &[u8]) -> Result<(), Memory>
+pub(crate) fn push_word(text: &mut Vec<u8>, word: &[u8]) -> Result<(), Memory>
     ensures { OnOk result (text.new.items ≡ text.old.items ++ spaced (word.now ∷ [])) }
 {
     text.push(b' ')?;
@@ -227,7 +300,7 @@ fn push_word(text: &mut Vec<u8>, word: &[u8]) -> Result<(), Memory>
     Ok(())
 }
 
-fn push_number(text: &mut Vec<u8>, number: u64) -> Result<(), Memory>
+pub(crate) fn push_number(text: &mut Vec<u8>, number: u64) -> Result<(), Memory>
     ensures { OnOk result (text.new.items ≡ text.old.items ++ spaced (decimal number ∷ [])) }
 {
     let mut buffer = Buffer::new();

@@ -1,7 +1,7 @@
 use Rattle.std.proofs.Common.{◌≡◌, ℕ, length, ap, ◌∙◌, arith}
 use Rattle.rows_model.specs.Placement.{shard_of}
 use Rattle.core_history.proofs.ShardsLemmas.{home_within}
-use Rattle.core_history.proofs.requests.home_of.Goals as goal
+use Rattle.core_history.proofs.homes.home_of.Goals as goal
 
 pub returns-clause-within : goal.returns-clause-within
 returns-clause-within c =

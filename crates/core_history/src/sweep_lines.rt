@@ -1,0 +1,63 @@
+// The lines of the clock and of the sweeper.
+ghost use Rattle.std.specs.Prelude.{◌≡◌, ◌++◌, ℕ, Option, IfOk, OnOk};
+ghost use Rattle.key_shard.specs.declared.steps.Step.{Step};
+ghost use Rattle.core_history.specs.Events.{Ticked, Swept};
+ghost use Rattle.core_history.specs.Lines.{sweep_words, swept_words};
+ghost use Rattle.core_history.specs.Told.{IsToldOf};
+ghost use Rattle.core_history.specs.Words.{spaced};
+
+use crate::lines::{push_counted, push_number, push_open, push_release, push_verb, push_word};
+use crate::told::Told;
+use expiry_sweeper::{SweepReply, SweepWanted};
+use rows_model::Memory;
+use std::alloc::Global;
+
+/// What a tick prints, by what the clock says after it.
+pub(crate) fn tick_line(alloc: Global, now: u64) -> Result<Told, Memory>
+    ensures { IfOk result (IsToldOf (Ticked now)) }
+{
+    let mut line = Vec::from_slice(alloc, b"tick")?;
+    push_number(&mut line, now)?;
+    line.push(b'\n')?;
+    Ok(Told { line, fault: false })
+}
+
+/// What a step of the sweeper's prints: what was wanted, and the reply.
+pub(crate) fn sweep_line(
+    alloc: Global,
+    request: SweepWanted,
+    told: SweepReply,
+) -> Result<Told, Memory>
+    ensures { (shard : ℕ) (made : Option Step) →
+        IfOk result (IsToldOf (Swept shard request made told)) }
+{
+    let mut line = Vec::from_slice(alloc, b"sweep")?;
+    push_wanted(alloc, &mut line, request)?;
+    push_told(alloc, &mut line, told)?;
+    line.push(b'\n')?;
+    Ok(Told { line, fault: false })
+}
+
+fn push_wanted(alloc: Global, text: &mut Vec<u8>, request: SweepWanted) -> Result<(), Memory>
+    ensures { OnOk result (text.new.items ≡ text.old.items ++ spaced (sweep_words request)) }
+{
+    match request {
+        SweepWanted::Scan { shard } => push_counted(text, b"scan", shard as u64),
+        SweepWanted::End { sid } => push_counted(text, b"end", sid.number),
+        SweepWanted::Drop { key, .. } => push_verb(alloc, text, b"drop", &key),
+    }
+}
+
+fn push_told(alloc: Global, text: &mut Vec<u8>, told: SweepReply) -> Result<(), Memory>
+    ensures { OnOk result (text.new.items ≡ text.old.items ++ spaced (swept_words told)) }
+{
+    match told {
+        SweepReply::Found { due } => {
+            push_verb(alloc, text, b"FOUND", &due.key)?;
+            push_number(text, due.sid.number)
+        }
+        SweepReply::NoneFound => push_word(text, b"NONE"),
+        SweepReply::Ended { was } => push_open(text, was),
+        SweepReply::Dropped { told } => push_release(alloc, text, told),
+    }
+}
