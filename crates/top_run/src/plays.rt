@@ -65,7 +65,7 @@ impl Tally {
     }
 }
 
-/// Plays the acts in order.
+/// Plays the acts in order: sessions begin, and turns are taken, of sessions, the clock or the sweeper.
 pub(crate) fn play<W: Sink, K: Keeper>(
     core: &mut Core<K>,
     acts: Vec<Act>,
@@ -118,7 +118,7 @@ fn play_act<W: Sink, K: Keeper>(
     }
 }
 
-/// Takes so many turns.
+/// Takes so many turns: those of a session, ticks of the clock, or steps of the sweeper.
 fn take_turns<W: Sink, K: Keeper>(
     core: &mut Core<K>,
     turn: Turn,

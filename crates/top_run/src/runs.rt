@@ -59,7 +59,8 @@ pub struct RunEnd<K> {
 }
 
 /// Runs a script over a store with this keeper, at a fresh place: the words are the one word `replay`,
-/// the script comes from the source, and a line a turn and a last line go to the sink.
+/// the script comes from the source, and a line a turn and a last line go to the sink. A turn is a
+/// session's, a tick of the clock, or a step of the sweeper.
 ///
 /// The script is read whole before anything is printed; of a text that is too long 16,777,217 bytes
 /// are taken. The bytes printed are always the first of what the whole run prints. A keeper that fails
