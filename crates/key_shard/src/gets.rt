@@ -18,9 +18,14 @@ impl Body {
     pub fn get(&mut self, key: QKey, who: Sid, floor: u64, now: u64) -> Result<Got, ShardFault>
         requires { IsKept self.old }
         ensures kept { IsKept self.new }
-        ensures refusal { let step = get_step (terms_of self.old) (steps_of self.old) key who floor now in Refuses (refusal (shown self.old) key step) result }
-        ensures step { let step = get_step (terms_of self.old) (steps_of self.old) key who floor now in OnOk result (shown self.new ≡ stepped (shown self.old) step) }
-        ensures shows { let step = get_step (terms_of self.old) (steps_of self.old) key who floor now in IfOk result (ShowsGot step) }
+        ensures refusal { let step = get_step (terms_of self.old)
+            (steps_of self.old) key who floor now in
+            Refuses (refusal (shown self.old) key step) result }
+        ensures step { let step = get_step (terms_of self.old)
+            (steps_of self.old) key who floor now in
+            OnOk result (shown self.new ≡ stepped (shown self.old) step) }
+        ensures shows { let step = get_step (terms_of self.old)
+            (steps_of self.old) key who floor now in IfOk result (ShowsGot step) }
         ensures err { OnErr result (shown self.new ≡ shown self.old) }
     {
         self.check_home(&key)?;
@@ -51,8 +56,11 @@ impl Body {
         requires found { (found : List ℕ × ℕ) × (entry key (steps_of self.old) ≡ Some found)
             × Answers (terms_of self.old) (steps_of self.old) (Step.Hit key who floor found.0 found.1) }
         ensures kept { IsKept self.new }
-        ensures step { (found : List ℕ × ℕ) → entry key (steps_of self.old) ≡ Some found → OnOk result (shown self.new ≡ stepped (shown self.old) (Step.Hit key who floor found.0 found.1)) }
-        ensures shows { (found : List ℕ × ℕ) → entry key (steps_of self.old) ≡ Some found → IfOk result (λ got. got ≡ Got.Hit found.0 found.1) }
+        ensures step { (found : List ℕ × ℕ) → entry key (steps_of self.old) ≡ Some found →
+            OnOk result (shown self.new ≡ stepped (shown self.old)
+            (Step.Hit key who floor found.0 found.1)) }
+        ensures shows { (found : List ℕ × ℕ) → entry key (steps_of self.old) ≡ Some found →
+            IfOk result (λ got. got ≡ Got.Hit found.0 found.1) }
         ensures err { OnErr result (shown self.new ≡ shown self.old) }
     {
         let (value, stamp) = self.entries.peek(&key).unwrap();
@@ -80,9 +88,11 @@ impl Body {
         standing: Stands,
     ) -> Result<Got, Memory>
         requires kept { IsKept self.old }
-        requires answers { Answers (terms_of self.old) (steps_of self.old) (Step.Again key who floor now standing) }
+        requires answers { Answers (terms_of self.old) (steps_of self.old)
+            (Step.Again key who floor now standing) }
         ensures kept { IsKept self.new }
-        ensures step { OnOk result (shown self.new ≡ stepped (shown self.old) (Step.Again key who floor now standing)) }
+        ensures step { OnOk result (shown self.new ≡ stepped (shown self.old)
+            (Step.Again key who floor now standing)) }
         ensures shows { IfOk result (λ got. got ≡ Got.Again standing) }
         ensures err { OnErr result (shown self.new ≡ shown self.old) }
     {
@@ -102,11 +112,18 @@ impl Body {
     fn lease(&mut self, key: QKey, who: Sid, floor: u64, now: u64) -> Result<Got, ShardFault>
         requires kept { IsKept self.old }
         requires free { verdict (seen_by key who now (steps_of self.old)) read ≡ verdicts.Give }
-        requires answers { Answers (terms_of self.old) (steps_of self.old) (Step.Lease key who floor now (next_token (terms_of self.old) (steps_of self.old)) (deadline_at (terms_of self.old) now)) }
+        requires answers { Answers (terms_of self.old) (steps_of self.old)
+            (Step.Lease key who floor now (next_token (terms_of self.old) (steps_of self.old))
+            (deadline_at (terms_of self.old) now)) }
         ensures kept { IsKept self.new }
-        ensures refusal { Refuses (spent_at (next_token (terms_of self.old) (steps_of self.old)) (Step.Lease key who floor now (next_token (terms_of self.old) (steps_of self.old)) (deadline_at (terms_of self.old) now))) result }
-        ensures step { OnOk result (shown self.new ≡ stepped (shown self.old) (Step.Lease key who floor now (next_token (terms_of self.old) (steps_of self.old)) (deadline_at (terms_of self.old) now))) }
-        ensures shows { IfOk result (λ got. got ≡ Got.Lease (next_token (terms_of self.old) (steps_of self.old))) }
+        ensures refusal { Refuses (spent_at (next_token (terms_of self.old) (steps_of self.old))
+            (Step.Lease key who floor now (next_token (terms_of self.old) (steps_of self.old))
+            (deadline_at (terms_of self.old) now))) result }
+        ensures step { OnOk result (shown self.new ≡ stepped (shown self.old)
+            (Step.Lease key who floor now (next_token (terms_of self.old) (steps_of self.old))
+            (deadline_at (terms_of self.old) now))) }
+        ensures shows { IfOk result (λ got. got ≡ Got.Lease
+            (next_token (terms_of self.old) (steps_of self.old))) }
         ensures err { OnErr result (shown self.new ≡ shown self.old) }
     {
         let token = self.next;

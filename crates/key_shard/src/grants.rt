@@ -78,7 +78,8 @@ impl Grant {
         mode: Mode,
         token: u64,
     ) -> Result<Grant, Memory>
-        ensures { IfOk result (λ grant. grant ≡ record { shard = shard; key = key; sid = sid; mode = mode; token = token }) }
+        ensures { IfOk result (λ grant. grant ≡ record
+            { shard = shard; key = key; sid = sid; mode = mode; token = token }) }
     {
         let digits = match mode {
             Mode::Delta => Vec::with_capacity(alloc, DIGITS)?,

@@ -29,9 +29,15 @@ impl Body {
         requires kept { IsKept self.old }
         requires fits { FitsShift mode shift }
         ensures kept { IsKept self.new }
-        ensures refusal { let step = quarantine_step (terms_of self.old) (steps_of self.old) key sid mode shift now in Refuses (refusal (shown self.old) key step) result }
-        ensures step { let step = quarantine_step (terms_of self.old) (steps_of self.old) key sid mode shift now in OnOk result (shown self.new ≡ stepped (shown self.old) step) }
-        ensures shows { let step = quarantine_step (terms_of self.old) (steps_of self.old) key sid mode shift now in IfOk result (ShowsQuarantine (terms_of self.old) (steps_of self.old) step) }
+        ensures refusal { let step = quarantine_step (terms_of self.old)
+            (steps_of self.old) key sid mode shift now in
+            Refuses (refusal (shown self.old) key step) result }
+        ensures step { let step = quarantine_step (terms_of self.old)
+            (steps_of self.old) key sid mode shift now in
+            OnOk result (shown self.new ≡ stepped (shown self.old) step) }
+        ensures shows { let step = quarantine_step (terms_of self.old)
+            (steps_of self.old) key sid mode shift now in
+            IfOk result (ShowsQuarantine (terms_of self.old) (steps_of self.old) step) }
         ensures err { OnErr result (shown self.new ≡ shown self.old) }
     {
         self.check_home(&key)?;
@@ -48,9 +54,11 @@ impl Body {
     /// Answers that the session has this quarantine already.
     fn held(&mut self, key: QKey, sid: Sid, mode: Mode) -> Result<QAnswer, Memory>
         requires kept { IsKept self.old }
-        requires answers { Answers (terms_of self.old) (steps_of self.old) (Step.Held key sid mode) }
+        requires answers { Answers (terms_of self.old) (steps_of self.old)
+            (Step.Held key sid mode) }
         ensures kept { IsKept self.new }
-        ensures step { OnOk result (shown self.new ≡ stepped (shown self.old) (Step.Held key sid mode)) }
+        ensures step { OnOk result (shown self.new ≡ stepped (shown self.old)
+            (Step.Held key sid mode)) }
         ensures shows { IfOk result (λ answer. answer ≡ QAnswer.Held) }
         ensures err { OnErr result (shown self.new ≡ shown self.old) }
     {
@@ -62,10 +70,13 @@ impl Body {
     fn refuse(&mut self, key: QKey, sid: Sid, mode: Mode) -> Result<QAnswer, Memory>
         requires kept { IsKept self.old }
         requires holder { IsSome (holder_of key sid (steps_of self.old)) }
-        requires answers { Answers (terms_of self.old) (steps_of self.old) (refused_step key sid mode (holder_of key sid (steps_of self.old))) }
+        requires answers { Answers (terms_of self.old) (steps_of self.old)
+            (refused_step key sid mode (holder_of key sid (steps_of self.old))) }
         ensures kept { IsKept self.new }
-        ensures step { OnOk result (shown self.new ≡ stepped (shown self.old) (refused_step key sid mode (holder_of key sid (steps_of self.old)))) }
-        ensures shows { IfOk result (ShowsQuarantine (terms_of self.old) (steps_of self.old) (refused_step key sid mode (holder_of key sid (steps_of self.old)))) }
+        ensures step { OnOk result (shown self.new ≡ stepped (shown self.old)
+            (refused_step key sid mode (holder_of key sid (steps_of self.old)))) }
+        ensures shows { IfOk result (ShowsQuarantine (terms_of self.old) (steps_of self.old)
+            (refused_step key sid mode (holder_of key sid (steps_of self.old)))) }
         ensures err { OnErr result (shown self.new ≡ shown self.old) }
     {
         let quar = self.leases.holder(&key, sid).unwrap();
@@ -106,12 +117,21 @@ impl Body {
     ) -> Result<QAnswer, ShardFault>
         requires kept { IsKept self.old }
         requires home { shard_of key self.old.count ≡ self.old.no }
-        requires given { IsTrue (is_given (verdict (seen_by key sid now (steps_of self.old)) (quarantine (way_of mode)))) }
-        requires answers { Answers (terms_of self.old) (steps_of self.old) (Step.Granted key sid mode shift now (next_token (terms_of self.old) (steps_of self.old)) (deadline_at (terms_of self.old) now)) }
+        requires given { IsTrue (is_given (verdict (seen_by key sid now (steps_of self.old))
+            (quarantine (way_of mode)))) }
+        requires answers { Answers (terms_of self.old) (steps_of self.old)
+            (Step.Granted key sid mode shift now (next_token (terms_of self.old)
+            (steps_of self.old)) (deadline_at (terms_of self.old) now)) }
         ensures kept { IsKept self.new }
-        ensures refusal { Refuses (spent_at (next_token (terms_of self.old) (steps_of self.old)) (Step.Granted key sid mode shift now (next_token (terms_of self.old) (steps_of self.old)) (deadline_at (terms_of self.old) now))) result }
-        ensures step { OnOk result (shown self.new ≡ stepped (shown self.old) (Step.Granted key sid mode shift now (next_token (terms_of self.old) (steps_of self.old)) (deadline_at (terms_of self.old) now))) }
-        ensures shows { IfOk result (ShowsQuarantine (terms_of self.old) (steps_of self.old) (Step.Granted key sid mode shift now (next_token (terms_of self.old) (steps_of self.old)) (deadline_at (terms_of self.old) now))) }
+        ensures refusal { Refuses (spent_at (next_token (terms_of self.old) (steps_of self.old))
+            (Step.Granted key sid mode shift now (next_token (terms_of self.old)
+            (steps_of self.old)) (deadline_at (terms_of self.old) now))) result }
+        ensures step { OnOk result (shown self.new ≡ stepped (shown self.old)
+            (Step.Granted key sid mode shift now (next_token (terms_of self.old)
+            (steps_of self.old)) (deadline_at (terms_of self.old) now))) }
+        ensures shows { IfOk result (ShowsQuarantine (terms_of self.old) (steps_of self.old)
+            (Step.Granted key sid mode shift now (next_token (terms_of self.old)
+            (steps_of self.old)) (deadline_at (terms_of self.old) now))) }
         ensures err { OnErr result (shown self.new ≡ shown self.old) }
     {
         let token = self.next;

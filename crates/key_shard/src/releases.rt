@@ -40,7 +40,8 @@ fn has_grant(outs: &[Out], no: u32, grant: &Grant) -> bool
 
 /// Takes a grant from those that are out.
 fn drop_out(outs: &mut Vec<Out>, no: u32, grant: &Grant)
-    ensures items { outs.new.items ≡ filter (λ out. not (same_permit grant.now (permit_of no out))) outs.old.items }
+    ensures items { outs.new.items ≡ filter (λ out. not (same_permit grant.now (permit_of no out)))
+        outs.old.items }
 {
     outs.retain(|out| !is_grant(out, no, grant));
 }
@@ -113,9 +114,11 @@ impl Body {
         requires kept { IsKept self.old }
         requires out { IsTrue (is_out (shown self.old) grant) }
         requires none { quar_of grant.key grant.token (steps_of self.old) ≡ None }
-        requires answers { Answers (terms_of self.old) (steps_of self.old) (Step.Gone grant.key grant.sid grant.token) }
+        requires answers { Answers (terms_of self.old) (steps_of self.old)
+            (Step.Gone grant.key grant.sid grant.token) }
         ensures kept { IsKept self.new }
-        ensures step { shown self.new ≡ returned (shown self.old) grant (Step.Gone grant.key grant.sid grant.token) }
+        ensures step { shown self.new ≡ returned (shown self.old) grant
+            (Step.Gone grant.key grant.sid grant.token) }
         ensures gone { result ≡ Rel.Gone }
     {
         drop_out(&mut self.out, self.no, &grant);
@@ -135,10 +138,13 @@ impl Body {
         requires out { IsTrue (is_out (shown self.old) grant) }
         requires fits { FitsMode grant.mode how }
         requires stands { quar_of grant.key grant.token (steps_of self.old) ≡ Some quar }
-        requires answers { Answers (terms_of self.old) (steps_of self.old) (Step.Released grant.key quar.sid grant.token (ended_as quar how)) }
+        requires answers { Answers (terms_of self.old) (steps_of self.old)
+            (Step.Released grant.key quar.sid grant.token (ended_as quar how)) }
         ensures kept { IsKept self.new }
-        ensures step { shown self.new ≡ returned (shown self.old) grant (Step.Released grant.key quar.sid grant.token (ended_as quar how)) }
-        ensures shows { ShowsRelease (Step.Released grant.key quar.sid grant.token (ended_as quar how)) result }
+        ensures step { shown self.new ≡ returned (shown self.old) grant
+            (Step.Released grant.key quar.sid grant.token (ended_as quar how)) }
+        ensures shows { ShowsRelease (Step.Released grant.key quar.sid grant.token
+            (ended_as quar how)) result }
     {
         let (key, token) = (grant.key(), grant.token());
         drop_out(&mut self.out, self.no, &grant);
@@ -159,9 +165,13 @@ impl Body {
         requires kept { IsKept self.old }
         requires fits { FitsMode grant.mode how }
         ensures kept { IsKept self.new }
-        ensures out { IsTrue (is_out (shown self.old) grant) → shown self.new ≡ returned (shown self.old) grant (release_step (steps_of self.old) grant how) }
-        ensures shows { IsTrue (is_out (shown self.old) grant) → ShowsRelease (release_step (steps_of self.old) grant how) result }
-        ensures unknown { IsFalse (is_out (shown self.old) grant) → (shown self.new ≡ shown self.old) × (result ≡ Rel.Gone) }
+        ensures out { IsTrue (is_out (shown self.old) grant) →
+            shown self.new ≡ returned (shown self.old) grant
+            (release_step (steps_of self.old) grant how) }
+        ensures shows { IsTrue (is_out (shown self.old) grant) →
+            ShowsRelease (release_step (steps_of self.old) grant how) result }
+        ensures unknown { IsFalse (is_out (shown self.old) grant) →
+            (shown self.new ≡ shown self.old) × (result ≡ Rel.Gone) }
     {
         if !self.is_out(&grant) {
             let _ = grant.spend();
@@ -178,10 +188,15 @@ impl Body {
         requires kept { IsKept self.old }
         requires out { IsTrue (is_out (shown self.old) grant) }
         requires stands { quar_of grant.key grant.token (steps_of self.old) ≡ Some quar }
-        requires answers { Answers (terms_of self.old) (steps_of self.old) (Step.Released grant.key quar.sid grant.token (Ended.Put value stamp (evicts (terms_of self.old) grant.key (steps_of self.old)))) }
+        requires answers { Answers (terms_of self.old) (steps_of self.old)
+            (Step.Released grant.key quar.sid grant.token
+            (Ended.Put value stamp (evicts (terms_of self.old) grant.key (steps_of self.old)))) }
         ensures kept { IsKept self.new }
-        ensures step { OnOk result (shown self.new ≡ returned (shown self.old) grant (Step.Released grant.key quar.sid grant.token (Ended.Put value stamp (evicts (terms_of self.old) grant.key (steps_of self.old))))) }
-        ensures shows { IfOk result (λ rel. rel ≡ Rel.Released (evicts (terms_of self.old) grant.key (steps_of self.old))) }
+        ensures step { OnOk result (shown self.new ≡ returned (shown self.old) grant
+            (Step.Released grant.key quar.sid grant.token
+            (Ended.Put value stamp (evicts (terms_of self.old) grant.key (steps_of self.old))))) }
+        ensures shows { IfOk result (λ rel. rel ≡ Rel.Released
+            (evicts (terms_of self.old) grant.key (steps_of self.old))) }
         ensures returned { IfErr result (λ back. (back.grant ≡ grant) × (back.value ≡ value)) }
         ensures err { OnErr result (shown self.new ≡ shown self.old) }
     {
@@ -215,9 +230,14 @@ impl Body {
         requires kept { IsKept self.old }
         requires refresh { grant.mode ≡ Mode.Refresh }
         ensures kept { IsKept self.new }
-        ensures out { IsTrue (is_out (shown self.old) grant) → OnOk result (shown self.new ≡ returned (shown self.old) grant (replace_step (terms_of self.old) (steps_of self.old) grant value stamp)) }
-        ensures shows { IsTrue (is_out (shown self.old) grant) → IfOk result (ShowsRelease (replace_step (terms_of self.old) (steps_of self.old) grant value stamp)) }
-        ensures unknown { IsFalse (is_out (shown self.old) grant) → (shown self.new ≡ shown self.old) × (result ≡ Ok Rel.Gone) }
+        ensures out { IsTrue (is_out (shown self.old) grant) →
+            OnOk result (shown self.new ≡ returned (shown self.old) grant
+            (replace_step (terms_of self.old) (steps_of self.old) grant value stamp)) }
+        ensures shows { IsTrue (is_out (shown self.old) grant) →
+            IfOk result (ShowsRelease (replace_step (terms_of self.old)
+            (steps_of self.old) grant value stamp)) }
+        ensures unknown { IsFalse (is_out (shown self.old) grant) →
+            (shown self.new ≡ shown self.old) × (result ≡ Ok Rel.Gone) }
         ensures returned { IfErr result (λ back. (back.grant ≡ grant) × (back.value ≡ value)) }
         ensures err { OnErr result (shown self.new ≡ shown self.old) }
     {

@@ -44,9 +44,14 @@ impl Body {
     ) -> Result<SetAnswer, ShardFault>
         requires { IsKept self.old }
         ensures kept { IsKept self.new }
-        ensures refusal { let step = set_step (terms_of self.old) (steps_of self.old) key token value stamp now in Refuses (refusal (shown self.old) key step) result }
-        ensures step { let step = set_step (terms_of self.old) (steps_of self.old) key token value stamp now in OnOk result (shown self.new ≡ stepped (shown self.old) step) }
-        ensures shows { let step = set_step (terms_of self.old) (steps_of self.old) key token value stamp now in IfOk result (ShowsSet step) }
+        ensures refusal { let step = set_step (terms_of self.old)
+            (steps_of self.old) key token value stamp now in
+            Refuses (refusal (shown self.old) key step) result }
+        ensures step { let step = set_step (terms_of self.old)
+            (steps_of self.old) key token value stamp now in
+            OnOk result (shown self.new ≡ stepped (shown self.old) step) }
+        ensures shows { let step = set_step (terms_of self.old)
+            (steps_of self.old) key token value stamp now in IfOk result (ShowsSet step) }
         ensures err { OnErr result (shown self.new ≡ shown self.old) }
     {
         self.check_home(&key)?;
@@ -69,10 +74,15 @@ impl Body {
     ) -> Result<SetAnswer, Memory>
         requires kept { IsKept self.old }
         requires current { IsTrue (is_current token now (recorded key (steps_of self.old))) }
-        requires answers { Answers (terms_of self.old) (steps_of self.old) (Step.Stored key token now value stamp (evicts (terms_of self.old) key (steps_of self.old))) }
+        requires answers { Answers (terms_of self.old) (steps_of self.old)
+            (Step.Stored key token now value stamp (evicts (terms_of self.old) key
+            (steps_of self.old))) }
         ensures kept { IsKept self.new }
-        ensures step { OnOk result (shown self.new ≡ stepped (shown self.old) (Step.Stored key token now value stamp (evicts (terms_of self.old) key (steps_of self.old)))) }
-        ensures shows { IfOk result (λ answer. answer ≡ SetAnswer.Stored (evicts (terms_of self.old) key (steps_of self.old))) }
+        ensures step { OnOk result (shown self.new ≡ stepped (shown self.old)
+            (Step.Stored key token now value stamp (evicts (terms_of self.old) key
+            (steps_of self.old)))) }
+        ensures shows { IfOk result (λ answer. answer ≡ SetAnswer.Stored
+            (evicts (terms_of self.old) key (steps_of self.old))) }
         ensures err { OnErr result (shown self.new ≡ shown self.old) }
     {
         let copy = value.copy()?;

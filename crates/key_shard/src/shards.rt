@@ -82,9 +82,12 @@ impl Shard {
     /// A key of another shard is a `Stranger`. Where a lease would take the last number there is as
     /// its token, the shard is `Spent`. After a refusal everything is as before.
     pub fn get(&mut self, key: QKey, who: Sid, floor: u64, now: u64) -> Result<Got, ShardFault>
-        ensures refusal { let step = get_step self.old.terms (past_of self.old) key who floor now in Refuses (refusal self.old key step) result }
-        ensures step { let step = get_step self.old.terms (past_of self.old) key who floor now in OnOk result (self.new ≡ stepped self.old step) }
-        ensures shows { let step = get_step self.old.terms (past_of self.old) key who floor now in IfOk result (ShowsGot step) }
+        ensures refusal { let step = get_step self.old.terms (past_of self.old) key who floor now in
+            Refuses (refusal self.old key step) result }
+        ensures step { let step = get_step self.old.terms (past_of self.old) key who floor now in
+            OnOk result (self.new ≡ stepped self.old step) }
+        ensures shows { let step = get_step self.old.terms (past_of self.old) key who floor now in
+            IfOk result (ShowsGot step) }
         ensures err { OnErr result (self.new ≡ self.old) }
     {
         self.body.get(key, who, floor, now)
@@ -101,9 +104,14 @@ impl Shard {
         stamp: u64,
         now: u64,
     ) -> Result<SetAnswer, ShardFault>
-        ensures refusal { let step = set_step self.old.terms (past_of self.old) key token value stamp now in Refuses (refusal self.old key step) result }
-        ensures step { let step = set_step self.old.terms (past_of self.old) key token value stamp now in OnOk result (self.new ≡ stepped self.old step) }
-        ensures shows { let step = set_step self.old.terms (past_of self.old) key token value stamp now in IfOk result (ShowsSet step) }
+        ensures refusal { let step = set_step self.old.terms
+            (past_of self.old) key token value stamp now in
+            Refuses (refusal self.old key step) result }
+        ensures step { let step = set_step self.old.terms
+            (past_of self.old) key token value stamp now in
+            OnOk result (self.new ≡ stepped self.old step) }
+        ensures shows { let step = set_step self.old.terms
+            (past_of self.old) key token value stamp now in IfOk result (ShowsSet step) }
         ensures err { OnErr result (self.new ≡ self.old) }
     {
         self.body.set(key, token, value, stamp, now)
@@ -121,9 +129,15 @@ impl Shard {
         now: u64,
     ) -> Result<QAnswer, ShardFault>
         requires { FitsShift mode shift }
-        ensures refusal { let step = quarantine_step self.old.terms (past_of self.old) key sid mode shift now in Refuses (refusal self.old key step) result }
-        ensures step { let step = quarantine_step self.old.terms (past_of self.old) key sid mode shift now in OnOk result (self.new ≡ stepped self.old step) }
-        ensures shows { let step = quarantine_step self.old.terms (past_of self.old) key sid mode shift now in IfOk result (ShowsQuarantine self.old.terms (past_of self.old) step) }
+        ensures refusal { let step = quarantine_step self.old.terms
+            (past_of self.old) key sid mode shift now in
+            Refuses (refusal self.old key step) result }
+        ensures step { let step = quarantine_step self.old.terms
+            (past_of self.old) key sid mode shift now in
+            OnOk result (self.new ≡ stepped self.old step) }
+        ensures shows { let step = quarantine_step self.old.terms
+            (past_of self.old) key sid mode shift now in
+            IfOk result (ShowsQuarantine self.old.terms (past_of self.old) step) }
         ensures err { OnErr result (self.new ≡ self.old) }
     {
         self.body.quarantine(key, sid, mode, shift, now)
@@ -135,9 +149,12 @@ impl Shard {
     /// grant that isn't out at this shard, which leaves the history too. It takes no memory.
     pub fn release(&mut self, grant: Grant, how: How) -> Rel
         requires { FitsMode grant.mode how }
-        ensures out { IsTrue (is_out self.old grant) → self.new ≡ returned self.old grant (release_step (past_of self.old) grant how) }
-        ensures shows { IsTrue (is_out self.old grant) → ShowsRelease (release_step (past_of self.old) grant how) result }
-        ensures unknown { IsFalse (is_out self.old grant) → (self.new ≡ self.old) × (result ≡ Rel.Gone) }
+        ensures out { IsTrue (is_out self.old grant) →
+            self.new ≡ returned self.old grant (release_step (past_of self.old) grant how) }
+        ensures shows { IsTrue (is_out self.old grant) →
+            ShowsRelease (release_step (past_of self.old) grant how) result }
+        ensures unknown { IsFalse (is_out self.old grant) → (self.new ≡ self.old) ×
+            (result ≡ Rel.Gone) }
     {
         self.body.release(grant, how)
     }
@@ -147,9 +164,14 @@ impl Shard {
     /// come back, and everything is as before.
     pub fn replace(&mut self, grant: Grant, value: Value, stamp: u64) -> Result<Rel, Back>
         requires { grant.mode ≡ Mode.Refresh }
-        ensures out { IsTrue (is_out self.old grant) → OnOk result (self.new ≡ returned self.old grant (replace_step self.old.terms (past_of self.old) grant value stamp)) }
-        ensures shows { IsTrue (is_out self.old grant) → IfOk result (ShowsRelease (replace_step self.old.terms (past_of self.old) grant value stamp)) }
-        ensures unknown { IsFalse (is_out self.old grant) → (self.new ≡ self.old) × (result ≡ Ok Rel.Gone) }
+        ensures out { IsTrue (is_out self.old grant) →
+            OnOk result (self.new ≡ returned self.old grant
+            (replace_step self.old.terms (past_of self.old) grant value stamp)) }
+        ensures shows { IsTrue (is_out self.old grant) →
+            IfOk result (ShowsRelease (replace_step self.old.terms
+            (past_of self.old) grant value stamp)) }
+        ensures unknown { IsFalse (is_out self.old grant) → (self.new ≡ self.old) ×
+            (result ≡ Ok Rel.Gone) }
         ensures returned { IfErr result (λ back. (back.grant ≡ grant) × (back.value ≡ value)) }
         ensures err { OnErr result (self.new ≡ self.old) }
     {

@@ -26,7 +26,8 @@ impl Body {
     pub fn expired(&self, now: u64) -> Option<Due>
         requires { IsKept self.now }
         ensures due { IfSome result (StandsDue now (λ key. standing key (steps_of self.now))) }
-        ensures least { IfSome result (NoneDueBefore now (λ key. standing key (steps_of self.now))) }
+        ensures least { IfSome result (NoneDueBefore now
+            (λ key. standing key (steps_of self.now))) }
         ensures none { IfNone result (NoneDue now (λ key. standing key (steps_of self.now))) }
         ensures first { result ≡ first_due now (steps_of self.now) }
     {

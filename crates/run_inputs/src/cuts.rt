@@ -21,7 +21,8 @@ fn place_of(text: &[u8], byte: u8) -> Option<usize>
 
 /// What stands before the first such byte, and what stands behind it if there is one.
 pub(crate) fn cut(text: &[u8], byte: u8) -> (&[u8], Option<&[u8]>)
-    ensures parts { parts_at byte text.now ≡ result.0.now ∷ parts_behind byte (option_copied result.1) }
+    ensures parts { parts_at byte text.now ≡ result.0.now ∷ parts_behind byte
+        (option_copied result.1) }
     ensures shorter { IfSome result.1 (λ rest. length rest.now < length text.now) }
     ensures whole { IfNone result.1 (result.0.now ≡ text.now) }
 {

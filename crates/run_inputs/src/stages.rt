@@ -250,7 +250,8 @@ impl Progress {
     // What the line says, if it may stand next.
     fn said_by(&self, alloc: Global, line: &[u8]) -> Result<Option<Line>, Memory>
         ensures said { IfOk result (λ read. IfSome read (λ said. Says self.now line.now said)) }
-        ensures none { IfOk result (λ read. IfNone read ((said : Line) → Says self.now line.now said → ⊥)) }
+        ensures none { IfOk result (λ read. IfNone read
+            ((said : Line) → Says self.now line.now said → ⊥)) }
     {
         let Some(said) = line_of(alloc, line)? else {
             return Ok(None);

@@ -92,7 +92,8 @@ impl Keeper for MapKeeper {
         ensures counts { Counts (keep_failed result) self.old.faults self.new.faults }
         ensures never_falls { self.old.faults ≤ self.new.faults }
 
-        ensures fails { IsTrue (keep_failed result) ↔ Contains self.old.fails (count_up self.old.calls) }
+        ensures fails { IsTrue (keep_failed result) ↔ Contains self.old.fails
+            (count_up self.old.calls) }
         ensures opening { IfOk result (λ opening. opening ≡ start_tables members) }
         ensures ok { IfOk result (λ opening.
             self.new ≡ counted false (with_rows (Some opening) self.old)) }
@@ -116,7 +117,8 @@ impl Keeper for MapKeeper {
         ensures counts { Counts (keep_failed result) self.old.faults self.new.faults }
         ensures never_falls { self.old.faults ≤ self.new.faults }
 
-        ensures fails { IsTrue (keep_failed result) ↔ Contains self.old.fails (count_up self.old.calls) }
+        ensures fails { IsTrue (keep_failed result) ↔ Contains self.old.fails
+            (count_up self.old.calls) }
         ensures same { self.new ≡ counted (keep_failed result) self.old }
     {
         if self.fails_now() {
@@ -134,7 +136,8 @@ impl Keeper for MapKeeper {
         ensures counts { Counts (staged_failed result) self.old.faults self.new.faults }
         ensures never_falls { self.old.faults ≤ self.new.faults }
 
-        ensures fails { IsTrue (staged_failed result) ↔ Contains self.old.fails (count_up self.old.calls) }
+        ensures fails { IsTrue (staged_failed result) ↔ Contains self.old.fails
+            (count_up self.old.calls) }
         ensures same { self.new ≡ counted (staged_failed result) self.old }
     {
         if self.fails_now() {
@@ -152,8 +155,10 @@ impl Keeper for MapKeeper {
         ensures counts { Counts (staged_failed result) self.old.faults self.new.faults }
         ensures never_falls { self.old.faults ≤ self.new.faults }
 
-        ensures fails { IsTrue (staged_failed result) ↔ Contains self.old.fails (count_up self.old.calls) }
-        ensures same { self.new ≡ counted (staged_failed result) (with_rows self.new.rows self.old) }
+        ensures fails { IsTrue (staged_failed result) ↔ Contains self.old.fails
+            (count_up self.old.calls) }
+        ensures same { self.new ≡ counted (staged_failed result)
+            (with_rows self.new.rows self.old) }
     {
         if self.fails_now() {
             return Err(AfterFault::Failed);

@@ -303,7 +303,8 @@ impl<K: Keeper, N: Start> Store<K, N> {
         ensures items { result.now ≡ self.now.ledger.log }
         ensures few { length result.now ≤ self.now.ledger.cap }
         ensures once { AllPairs (λ commit later. commit.sid.number ≢ later.sid.number) result.now }
-        ensures closed { All (λ commit. IsFalse (is_open commit.sid self.now.ledger.sessions)) result.now }
+        ensures closed { All (λ commit. IsFalse (is_open commit.sid self.now.ledger.sessions))
+            result.now }
         ensures told { ForSome self.now.told (λ told. told ≡ rows_of self.now.ledger) }
     {
         self.log.as_slice()
