@@ -59,6 +59,7 @@ renewed_as modes.Invalidate key txn value = value
 renewed_as modes.Refresh key txn value = option_and_then (λ old. refreshed key old txn) value
 renewed_as modes.Delta key txn value = value
 
+-- The value beside this grant after the commit.
 abbrev pub renewed : List Change → Permit → Option (List ℕ) → Option (List ℕ)
 renewed txn grant value = renewed_as grant.mode grant.key txn value
 

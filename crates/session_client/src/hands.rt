@@ -39,7 +39,12 @@ impl Model for Hand {
 impl Hand {
     /// No grants yet, and room for so many.
     pub fn new(alloc: Global, room: u32) -> Result<Hand, Memory>
-        ensures { IfOk result (λ hand. hand ≡ record { room = room; given = []; grants = record { items = []; room = room }; values = [] }) }
+        ensures { IfOk result (λ hand. hand ≡ record {
+          room = room;
+          given = [];
+          grants = record { items = []; room = room };
+          values = [];
+        }) }
     {
         Ok(Hand {
             room,
@@ -88,7 +93,8 @@ impl Hand {
 
     /// Whether these are the grants that were given, in their order, with no less room.
     pub fn are_back(&self, grants: &Grants) -> bool
-        ensures { IsTrue result ↔ AreBack (record { items = self.now.given; room = self.now.room }) grants.now }
+        ensures { IsTrue result ↔
+            AreBack (record { items = self.now.given; room = self.now.room }) grants.now }
     {
         self.room <= grants.room() && are_of(self.notes.as_slice(), grants.items())
     }
@@ -119,7 +125,8 @@ impl Hand {
         ensures given { self.new.given ≡ self.old.given }
         ensures grants { self.new.grants ≡ self.old.grants }
         ensures as_many { length self.new.values ≡ length self.old.values }
-        ensures memory { OnErr result (Any (λ (grant : Permit). grant.mode ≡ Mode.Refresh) self.old.given) }
+        ensures memory { OnErr result (
+            Any (λ (grant : Permit). grant.mode ≡ Mode.Refresh) self.old.given) }
     {
         refresh_all(
             alloc,
