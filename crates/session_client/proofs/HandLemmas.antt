@@ -1,5 +1,5 @@
 -- What a writer has in hand, and what it wants by that.
-use Rattle.std.proofs.Common.{append-nil, ◌≡◌, ◌+◌, ◌<◌, ◌≤◌, ℕ, zero, suc, Bool, true, false, List, [], ◌∷◌, ◌++◌, length, map, take, drop, set, get_or, Option, Some, None, slice_get, count_by, refl, ap, sym, subst, ◌∙◌, arith}
+use Rattle.std.proofs.Common.{append-nil, ◌≡◌, ◌+◌, ◌<◌, ◌≤◌, ℕ, zero, suc, Bool, false, List, [], ◌∷◌, length, map, take, drop, set, get_or, Option, Some, None, slice_get, count_by, refl, ap, sym, subst, ◌∙◌, arith}
 use Rattle.rows_model.specs.declared.keys.QKey.{QKey}
 use Rattle.rows_model.specs.declared.changes.Change.{Change}
 use Rattle.lease_table.specs.declared.records.Mode.{Mode}
@@ -208,9 +208,10 @@ pub after_take : (writing : Writing) (hand : HandView) (ended : Outcome) (how : 
     → PartsFollow writing (record { room = hand.room; given = hand.given; grants = record { items = drop 1 hand.grants.items; room = hand.grants.room }; values = drop 1 hand.values }) (stages.Returning ended how back) short heard
 after_take writing hand ended how back grant short heard first same (wanted, ending) =
     let (items, values, way, outcome) = ending in
-    let at = sym (at_place (granted heard) (released heard)) ∙ ap (λ l. slice_get l 0) (sym items) ∙ first in
-    (next_back back grant heard same at,
-      (ap (λ (l : List Permit). drop 1 l) items ∙ drop_more (granted heard) (released heard), rest_new how writing.txn (given heard) hand.values (released heard) values, way, outcome))
+    let at = sym (at_place (granted heard) (released heard)) ∙ ap (λ l. slice_get l 0) (sym items) ∙ first in (
+      next_back back grant heard same at,
+      (ap (λ (l : List Permit). drop 1 l) items ∙ drop_more (granted heard) (released heard), rest_new how writing.txn (given heard) hand.values (released heard) values, way, outcome),
+    )
 
 -- and so where that grant came back, and has no value beside it
 pub after_take_alone : (writing : Writing) (hand : HandView) (ended : Outcome) (how : Release) (short : Bool) (heard : List Reply)
@@ -252,13 +253,16 @@ after_back writing hand ended how back grant short heard named (next, ending) =
     let (items, values, way, outcome) = ending in
     let at : slice_get (granted heard) (released heard) ≡ Some grant = subst (λ o. IsNext o heard) named next in
     let same = append-nil (granted heard) in
-    let all = append-nil (given heard) in
-    (refl,
-      (ap (λ (l : List Permit). grant ∷ l) (items ∙ ap (λ m. drop m (granted heard)) (sym (suc-plus (released heard)))) ∙ in_front (granted heard) (released heard) grant at
-        ∙ ap (λ l. drop (released heard) l) (sym same),
-      subst (λ l. HasNew how writing.txn (drop (released heard + 1) l) hand.values) (sym all) values,
-      way,
-      outcome))
+    let all = append-nil (given heard) in (
+      refl,
+      (
+        ap (λ (l : List Permit). grant ∷ l) (items ∙ ap (λ m. drop m (granted heard)) (sym (suc-plus (released heard)))) ∙ in_front (granted heard) (released heard) grant at
+            ∙ ap (λ l. drop (released heard) l) (sym same),
+        subst (λ l. HasNew how writing.txn (drop (released heard + 1) l) hand.values) (sym all) values,
+        way,
+        outcome,
+      ),
+    )
 
 ended_so : (next : Then) (ended : Outcome) → end_outcome next (Some ended) ≡ Some ended
 ended_so Commits ended = refl
@@ -268,7 +272,7 @@ ended_so Quits ended = refl
 -- a writer that was told of its commit, with memory for the new values, finishes its grants
 pub committed_wants : (writing : Writing) (number : ℕ) (txn : List Change) (back : GrantsView) (short : Bool) (heard : List Reply) → short ≡ false
     → write_wants writing short (reply.Committed number txn back ∷ heard)
-      ≡ release_of writing.txn (wants.Finishes number) (slice_get (given (reply.Committed number txn back ∷ heard)) (released (reply.Committed number txn back ∷ heard)))
+    ≡ release_of writing.txn (wants.Finishes number) (slice_get (given (reply.Committed number txn back ∷ heard)) (released (reply.Committed number txn back ∷ heard)))
 committed_wants writing number txn back short heard roomy =
     ap (λ b. release_of writing.txn (release_after b (Some number)) (slice_get (given (reply.Committed number txn back ∷ heard)) (released (reply.Committed number txn back ∷ heard)))) roomy
 
@@ -276,16 +280,17 @@ committed_wants writing number txn back short heard roomy =
 pub after_commit : (writing : Writing) (hand : HandView) (number room : ℕ) (txn : List Change) (back : GrantsView) (short : Bool) (heard : List Reply)
     → CommitAwaits writing.txn (record { items = hand.given; room = room }) (reply.Committed number txn back) → hand.given ≡ granted heard → IsOut hand short heard
     → IsEnding writing (record { room = hand.room; given = hand.given; grants = back; values = all_renewed txn hand.given hand.values }) (outcomes.Committed number) (releases.Finish number)
-      (released (reply.Committed number txn back ∷ heard)) (released (reply.Committed number txn back ∷ heard)) short (reply.Committed number txn back ∷ heard)
+    (released (reply.Committed number txn back ∷ heard)) (released (reply.Committed number txn back ∷ heard)) short (reply.Committed number txn back ∷ heard)
 after_commit writing hand number room txn back short heard awaits told (values, none, before, roomy) =
     let same = append-nil (granted heard) in
-    let all = append-nil (given heard) in
-    (awaits.1.same ∙ told ∙ ap (λ m. drop m (granted heard)) (sym none) ∙ ap (λ l. drop (released heard) l) (sym same),
+    let all = append-nil (given heard) in (
+      awaits.1.same ∙ told ∙ ap (λ m. drop m (granted heard)) (sym none) ∙ ap (λ l. drop (released heard) l) (sym same),
       ap (λ l. all_renewed txn l hand.values) (told ∙ granted-given heard) ∙ ap (λ l. all_renewed txn (permits (given heard)) l) values ∙ renewed_all txn (given heard)
-        ∙ ap (λ l. new_values l (given heard)) awaits.0 ∙ ap (λ m. new_values writing.txn (drop m (given heard))) (sym none)
-        ∙ ap (λ l. new_values writing.txn (drop (released heard) l)) (sym all),
+          ∙ ap (λ l. new_values l (given heard)) awaits.0 ∙ ap (λ m. new_values writing.txn (drop m (given heard))) (sym none)
+          ∙ ap (λ l. new_values writing.txn (drop (released heard) l)) (sym all),
       ap (λ b. release_after b (Some number)) (sym roomy),
-      ended_so writing.next (commit_outcome short number) ∙ ap (λ b. Some (commit_outcome b number)) roomy)
+      ended_so writing.next (commit_outcome short number) ∙ ap (λ b. Some (commit_outcome b number)) roomy,
+    )
 
 -- what holds however a result came out holds with what each outcome gives
 pub with_fact : {T E : Type 0} (r : Result T E) (A : Type 0) (P : T → Type 0) (Q : E → Type 0) → A → MatchResult r P Q → MatchResult r (λ x. A × P x) (λ e. A × Q e)

@@ -156,7 +156,7 @@ release_cases : (P : Wanted → Type 0) (writing : Writing) (short : Bool) (hear
     → ((one : Given) → slice_get (given heard) (released heard) ≡ Some one → number_of heard ≡ None → P (wanted.Abort one.permit))
     → ((one : Given) → slice_get (given heard) (released heard) ≡ Some one → P (wanted.Dar one.permit))
     → ((one : Given) (number : ℕ) → slice_get (given heard) (released heard) ≡ Some one → number_of heard ≡ Some number → one.permit.mode ≡ mode.Refresh
-        → P (wanted.Sar one.permit (new_value one.permit.key writing.txn one.old) number))
+    → P (wanted.Sar one.permit (new_value one.permit.key writing.txn one.old) number))
     → ((one : Given) (number : ℕ) → slice_get (given heard) (released heard) ≡ Some one → number_of heard ≡ Some number → one.permit.mode ≡ mode.Delta → P (wanted.Apply one.permit number))
     → P wanted.Nothing → P (release_next writing short heard)
 release_cases P writing short heard abort dar sar apply nothing = by heard refl
@@ -215,18 +215,18 @@ pub write_cases : (P : Wanted → Type 0) (writing : Writing) (short : Bool) (he
     → ((one : Given) → slice_get (given heard) (released heard) ≡ Some one → is_ending heard ≡ true → number_of heard ≡ None → P (wanted.Abort one.permit))
     → ((one : Given) → slice_get (given heard) (released heard) ≡ Some one → is_ending heard ≡ true → P (wanted.Dar one.permit))
     → ((one : Given) (number : ℕ) → slice_get (given heard) (released heard) ≡ Some one → is_ending heard ≡ true → number_of heard ≡ Some number → one.permit.mode ≡ mode.Refresh
-        → P (wanted.Sar one.permit (new_value one.permit.key writing.txn one.old) number))
+    → P (wanted.Sar one.permit (new_value one.permit.key writing.txn one.old) number))
     → ((one : Given) (number : ℕ) → slice_get (given heard) (released heard) ≡ Some one → is_ending heard ≡ true → number_of heard ≡ Some number → one.permit.mode ≡ mode.Delta
-        → P (wanted.Apply one.permit number))
+    → P (wanted.Apply one.permit number))
     → P wanted.Nothing → P (write_wants writing short heard)
 write_cases P writing short heard ask commit get staged end abort dar sar apply nothing = by heard refl
   where
     due : (told : Reply) (rest : List Reply) → heard ≡ told ∷ rest → is_ending (told ∷ rest) ≡ true → P (release_next writing short (told ∷ rest))
     due told rest e ending =
-      let ends : is_ending heard ≡ true = ap is_ending e ∙ ending in
-      subst (λ l. P (release_next writing short l)) e
-      (release_cases P writing short heard (λ one at none. abort one at ends none) (λ one at. dar one at ends) (λ one number at told fits. sar one number at ends told fits)
-      (λ one number at told fits. apply one number at ends told fits) nothing)
+        let ends : is_ending heard ≡ true = ap is_ending e ∙ ending in
+        subst (λ l. P (release_next writing short l)) e
+        (release_cases P writing short heard (λ one at none. abort one at ends none) (λ one at. dar one at ends) (λ one number at told fits. sar one number at ends told fits)
+        (λ one number at told fits. apply one number at ends told fits) nothing)
 
     next : is_asking heard ≡ true → is_ending heard ≡ false → P (quarantine_next writing heard)
     next asks going = next_cases P writing heard (λ key at. ask key at asks) (commit going) (λ key looks none. get key looks asks none) (end going)
@@ -236,8 +236,8 @@ write_cases P writing short heard ask commit get staged end abort dar sar apply 
 
     committing : (told : Reply) (rest : List Reply) → heard ≡ told ∷ rest → is_ending (told ∷ rest) ≡ false → granted (told ∷ rest) ≡ granted rest → P (commit_with writing rest)
     committing told rest e going same =
-      let all : granted heard ≡ granted rest = ap granted e ∙ same in
-      subst (λ items. P (wanted.Commit writing.txn (record { items = items; room = length writing.keys }))) all (commit (ap is_ending e ∙ going))
+        let all : granted heard ≡ granted rest = ap granted e ∙ same in
+        subst (λ items. P (wanted.Commit writing.txn (record { items = items; room = length writing.keys }))) all (commit (ap is_ending e ∙ going))
 
     looked : (found : Got) (rest : List Reply) → heard ≡ reply.Got found ∷ rest → (next : Then) → writing.next ≡ next → P (look_after next writing found rest)
     looked got.Own rest e (Looks key) looks = staged key looks (ap is_ending e)

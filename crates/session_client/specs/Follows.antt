@@ -50,6 +50,7 @@ StageFollows key floor reads.Storing heard = Unit {0}
 StageFollows key floor (reads.Done ended) heard =
     (read_wants key floor heard ≡ wanted.Nothing) × (read_outcome heard ≡ Some ended)
 
+-- A reader may have heard this, the latest first.
 abbrev pub ReadFollows : Reader → List Reply → Type 0
 ReadFollows reader heard = StageFollows reader.key reader.floor reader.stage heard
 
@@ -180,6 +181,7 @@ StageAwaits who writing given (writes.Returning ended how back) told = ReleaseAw
 StageAwaits who writing given (writes.Done ended) reply.Nothing = Unit {0}
 StageAwaits who writing given stage told = ⊥
 
+-- The replies to the request that a writer of these changes has out.
 abbrev pub WriteAwaits : Sid → List Change → WriterView → Reply → Type 0
 WriteAwaits who changes writer told = StageAwaits who (writing_as writer changes) writer.hand.given writer.stage told
 

@@ -5,7 +5,6 @@ pub mod Grants
 pub mod Plans
 pub mod Wants
 pub mod Belongs
-pub mod Outcomes
 pub mod Writers
 pub mod Follows
 pub mod Desks

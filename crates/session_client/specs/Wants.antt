@@ -109,6 +109,7 @@ pub data Then : Type 0 where
   Looks : (key : QKey) → Then
   Quits : Then
 
+-- What a session of this plan does then.
 abbrev pub then_of : Plan → Then
 then_of (Read key floor) = Commits
 then_of (Write mode txn) = Commits
@@ -123,6 +124,7 @@ pub record Writing : Type 0 where
   pub txn : List Change
   pub next : Then
 
+-- How a session of this plan writes.
 abbrev pub writing_of : Plan → Writing
 writing_of plan =
     record { mode = mode_of plan; keys = keys_of plan; txn = changes_of plan; next = then_of plan }
@@ -149,6 +151,7 @@ abbrev pub quarantine_or_then : Writing → List Reply → Option QKey → Wante
 quarantine_or_then writing heard (Some key) = quarantine_as (mode_on writing.mode key) key writing.txn
 quarantine_or_then writing heard None = then_wants writing.next writing heard
 
+-- What a writer wants that has heard of these quarantines: the next one, or what comes after the last.
 abbrev pub quarantine_next : Writing → List Reply → Wanted
 quarantine_next writing heard =
     quarantine_or_then writing heard (slice_get writing.keys (count_by is_had heard))
@@ -195,6 +198,7 @@ finish mode.Invalidate txn number one = wanted.Dar one.permit
 finish mode.Refresh txn number one = wanted.Sar one.permit (new_value one.permit.key txn one.old) number
 finish mode.Delta txn number one = wanted.Apply one.permit number
 
+-- The release of a grant in this way, if there is one to be released.
 abbrev pub release_of : List Change → Release → Option Given → Wanted
 release_of txn how None = wanted.Nothing
 release_of txn Keeps (Some one) = wanted.Abort one.permit
@@ -271,9 +275,11 @@ abbrev pub end_outcome : Then → Option Outcome → Option Outcome
 end_outcome Quits None = Some outcome.Quit
 end_outcome next ended = ended
 
+-- How a writer ended, whether or not it was hindered.
 abbrev pub writing_outcome : Writing → Bool → List Reply → Option Outcome
 writing_outcome writing short heard = end_outcome writing.next (write_outcome writing short heard)
 
+-- How a session of this plan ended.
 abbrev pub outcome_of : Plan → Bool → List Reply → Option Outcome
 outcome_of (Read key floor) short heard = read_outcome heard
 outcome_of (Write mode txn) short heard = writing_outcome (writing_of (Write mode txn)) short heard

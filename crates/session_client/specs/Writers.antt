@@ -1,5 +1,5 @@
 -- What contracts see of a writer, and what always holds of it.
-use Rattle.std.specs.Prelude.{ℕ, ◌≡◌, ◌≤◌, ◌<◌, ◌+◌, List, [], ◌++◌, ◌∷◌, length, map, Option}
+use Rattle.std.specs.Prelude.{ℕ, ◌≡◌, ◌≤◌, ◌<◌, ◌+◌, List, [], ◌∷◌, length, map, Option}
 use Rattle.std.specs.Option.{option_map, option_and_then}
 use Rattle.rows_model.specs.declared.keys.QKey.{QKey}
 use Rattle.rows_model.specs.declared.changes.Change.{Change}
@@ -59,6 +59,7 @@ renewed_as modes.Invalidate key txn value = value
 renewed_as modes.Refresh key txn value = option_and_then (λ old. refreshed key old txn) value
 renewed_as modes.Delta key txn value = value
 
+-- The value beside this grant after the commit.
 abbrev pub renewed : List Change → Permit → Option (List ℕ) → Option (List ℕ)
 renewed txn grant value = renewed_as grant.mode grant.key txn value
 

@@ -39,7 +39,12 @@ impl Model for Hand {
 impl Hand {
     /// No grants yet, and room for so many.
     pub fn new(alloc: Global, room: u32) -> Result<Hand, Memory>
-        ensures { IfOk result (λ hand. hand ≡ record { room = room; given = []; grants = record { items = []; room = room }; values = [] }) }
+        ensures { IfOk result (λ hand. hand ≡ record {
+          room = room;
+          given = [];
+          grants = record { items = []; room = room };
+          values = [];
+        }) }
     {
         Ok(Hand {
             room,
@@ -62,10 +67,11 @@ impl Hand {
         requires grants { length self.old.grants.items < self.old.grants.room }
         requires values { length self.old.values < self.old.room }
         ensures { self.new ≡ record {
-            room = self.old.room;
-            given = self.old.given ++ grant ∷ [];
-            grants = record { items = self.old.grants.items ++ grant ∷ []; room = self.old.grants.room };
-            values = self.old.values ++ option_map (λ (o : List ℕ × ℕ). o.0) old ∷ [] } }
+          room = self.old.room;
+          given = self.old.given ++ grant ∷ [];
+          grants = record { items = self.old.grants.items ++ grant ∷ []; room = self.old.grants.room };
+          values = self.old.values ++ option_map (λ (o : List ℕ × ℕ). o.0) old ∷ [];
+        } }
     {
         self.notes.push_reserved(Note::of(&grant));
         self.grants.add(grant);
@@ -76,17 +82,19 @@ impl Hand {
     pub fn lend(&mut self, alloc: Global) -> Grants
         ensures grants { result ≡ self.old.grants }
         ensures hand { self.new ≡ record {
-            room = self.old.room;
-            given = self.old.given;
-            grants = record { items = []; room = 0 };
-            values = self.old.values } }
+          room = self.old.room;
+          given = self.old.given;
+          grants = record { items = []; room = 0 };
+          values = self.old.values;
+        } }
     {
         mem::replace(&mut self.grants, Grants::none(alloc))
     }
 
     /// Whether these are the grants that were given, in their order, with no less room.
     pub fn are_back(&self, grants: &Grants) -> bool
-        ensures { IsTrue result ↔ AreBack (record { items = self.now.given; room = self.now.room }) grants.now }
+        ensures { IsTrue result ↔
+            AreBack (record { items = self.now.given; room = self.now.room }) grants.now }
     {
         self.room <= grants.room() && are_of(self.notes.as_slice(), grants.items())
     }
@@ -94,10 +102,11 @@ impl Hand {
     /// Takes in the grants that were handed out.
     pub fn take_back(&mut self, grants: Grants)
         ensures { self.new ≡ record {
-            room = self.old.room;
-            given = self.old.given;
-            grants = grants;
-            values = self.old.values } }
+          room = self.old.room;
+          given = self.old.given;
+          grants = grants;
+          values = self.old.values;
+        } }
     {
         mem::replace(&mut self.grants, grants).let_go();
     }
@@ -107,17 +116,24 @@ impl Hand {
     pub fn refresh(&mut self, alloc: Global, txn: &Txn) -> Result<(), Memory>
         requires { length self.old.values ≡ length self.old.given }
         ensures ok { OnOk result (self.new ≡ record {
-            room = self.old.room;
-            given = self.old.given;
-            grants = self.old.grants;
-            values = all_renewed txn.now self.old.given self.old.values }) }
+          room = self.old.room;
+          given = self.old.given;
+          grants = self.old.grants;
+          values = all_renewed txn.now self.old.given self.old.values;
+        }) }
         ensures room { self.new.room ≡ self.old.room }
         ensures given { self.new.given ≡ self.old.given }
         ensures grants { self.new.grants ≡ self.old.grants }
         ensures as_many { length self.new.values ≡ length self.old.values }
-        ensures memory { OnErr result (Any (λ (grant : Permit). grant.mode ≡ Mode.Refresh) self.old.given) }
+        ensures memory { OnErr result (
+            Any (λ (grant : Permit). grant.mode ≡ Mode.Refresh) self.old.given) }
     {
-        refresh_all(alloc, txn, self.notes.as_slice(), self.values.as_mut_slice())
+        refresh_all(
+            alloc,
+            txn,
+            self.notes.as_slice(),
+            self.values.as_mut_slice(),
+        )
     }
 
     /// Takes out the first grant and the value beside it.
@@ -127,10 +143,11 @@ impl Hand {
         ensures grant { slice_get self.old.grants.items 0 ≡ Some result.0 }
         ensures value { slice_get self.old.values 0 ≡ Some result.1 }
         ensures hand { self.new ≡ record {
-            room = self.old.room;
-            given = self.old.given;
-            grants = record { items = drop 1 self.old.grants.items; room = self.old.grants.room };
-            values = drop 1 self.old.values } }
+          room = self.old.room;
+          given = self.old.given;
+          grants = record { items = drop 1 self.old.grants.items; room = self.old.grants.room };
+          values = drop 1 self.old.values;
+        } }
     {
         (self.grants.take(0), self.values.remove(0))
     }
@@ -140,10 +157,11 @@ impl Hand {
         requires grant { 1 ≤ length self.old.grants.items }
         ensures grant { slice_get self.old.grants.items 0 ≡ Some result }
         ensures hand { self.new ≡ record {
-            room = self.old.room;
-            given = self.old.given;
-            grants = record { items = drop 1 self.old.grants.items; room = self.old.grants.room };
-            values = self.old.values } }
+          room = self.old.room;
+          given = self.old.given;
+          grants = record { items = drop 1 self.old.grants.items; room = self.old.grants.room };
+          values = self.old.values;
+        } }
     {
         self.grants.take(0)
     }
@@ -152,10 +170,11 @@ impl Hand {
     pub fn put_back(&mut self, grant: Grant)
         requires { length self.old.grants.items < self.old.grants.room }
         ensures { self.new ≡ record {
-            room = self.old.room;
-            given = self.old.given;
-            grants = record { items = grant ∷ self.old.grants.items; room = self.old.grants.room };
-            values = self.old.values } }
+          room = self.old.room;
+          given = self.old.given;
+          grants = record { items = grant ∷ self.old.grants.items; room = self.old.grants.room };
+          values = self.old.values;
+        } }
     {
         self.grants.put_back(grant);
     }

@@ -62,7 +62,9 @@ pub fn answers_staged(changes: &[Change], reply: &Reply) -> bool
 fn stage_after_got(key: QKey, txn: Txn, got: Got) -> WriteStage
     ensures ready { WriteIsReady result }
     ensures room { (keys : List QKey) (hand : HandView) → HoldsAll hand → HasRoom keys hand result }
-    ensures follows { (writing : Writing) (hand : HandView) (short : Bool) (heard : List Reply) → PartsFollow writing hand (WriteStage.Getting key txn) short heard → PartsFollow writing hand result short (Reply.Got got ∷ heard) }
+    ensures follows { (writing : Writing) (hand : HandView) (short : Bool) (heard : List Reply) →
+        PartsFollow writing hand (WriteStage.Getting key txn) short heard →
+        PartsFollow writing hand result short (Reply.Got got ∷ heard) }
 {
     match got {
         Got::Own => WriteStage::Staging { key, txn },
@@ -76,7 +78,9 @@ pub fn stage_after_get(key: QKey, txn: Txn, reply: Reply) -> WriteStage
     ensures ready { WriteIsReady result }
     ensures room { (keys : List QKey) (hand : HandView) → HoldsAll hand → HasRoom keys hand result }
     ensures given { (heard : List Reply) → granted (reply ∷ heard) ≡ granted heard }
-    ensures follows { (writing : Writing) (hand : HandView) (short : Bool) (heard : List Reply) → PartsFollow writing hand (WriteStage.Getting key txn) short heard → PartsFollow writing hand result short (reply ∷ heard) }
+    ensures follows { (writing : Writing) (hand : HandView) (short : Bool) (heard : List Reply) →
+        PartsFollow writing hand (WriteStage.Getting key txn) short heard →
+        PartsFollow writing hand result short (reply ∷ heard) }
 {
     match reply {
         Reply::Got { got } => stage_after_got(key, txn, got),
@@ -104,7 +108,10 @@ pub fn stage_after_staged(reply: Reply) -> WriteStage
     ensures ready { WriteIsReady result }
     ensures room { (keys : List QKey) (hand : HandView) → HoldsAll hand → HasRoom keys hand result }
     ensures given { (heard : List Reply) → granted (reply ∷ heard) ≡ granted heard }
-    ensures follows { (writing : Writing) (hand : HandView) (short : Bool) (heard : List Reply) → StagedAwaits writing.txn reply → PartsFollow writing hand WriteStage.Asking short heard → PartsFollow writing hand result short (reply ∷ heard) }
+    ensures follows { (writing : Writing) (hand : HandView) (short : Bool) (heard : List Reply) →
+        StagedAwaits writing.txn reply →
+        PartsFollow writing hand WriteStage.Asking short heard →
+        PartsFollow writing hand result short (reply ∷ heard) }
 {
     match reply {
         Reply::Staged { value: _, txn } => WriteStage::Ready { txn },

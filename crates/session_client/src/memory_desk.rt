@@ -429,23 +429,55 @@ fn keeps_a_count_in_every_mode(rt: HostRuntime) -> Result<(), Fail> {
     let mode = Mode::Refresh;
     let txn = Txn::of(alloc, &[Change::Invite { a: 1, b: 2 }])?;
     let first = Outcome::Committed { number: 1 };
-    check_count(&rt, alloc, &mut desk, Plan::Write { mode, txn }, 2, first, ("1", 1))?;
+    check_count(
+        &rt,
+        alloc,
+        &mut desk,
+        Plan::Write { mode, txn },
+        2,
+        first,
+        ("1", 1),
+    )?;
     let mode = Mode::Delta;
     let txn = Txn::of(alloc, &[Change::Invite { a: 3, b: 2 }])?;
     let second = Outcome::Committed { number: 2 };
-    check_count(&rt, alloc, &mut desk, Plan::Write { mode, txn }, 3, second, ("2", 2))?;
+    check_count(
+        &rt,
+        alloc,
+        &mut desk,
+        Plan::Write { mode, txn },
+        3,
+        second,
+        ("2", 2),
+    )?;
     let txn = Txn::of(alloc, &[Change::Reject { a: 1, b: 2 }])?;
     let quit = Plan::Quit { mode, txn };
     check_count(&rt, alloc, &mut desk, quit, 4, Outcome::Quit, ("2", 2))?;
     let txn = Txn::of(alloc, &[Change::Reject { a: 1, b: 2 }])?;
     assert!(rt; touches(&txn, &key));
     let third = Outcome::Committed { number: 3 };
-    check_count(&rt, alloc, &mut desk, Plan::Look { mode, key, txn }, 5, third, ("1", 3))?;
+    check_count(
+        &rt,
+        alloc,
+        &mut desk,
+        Plan::Look { mode, key, txn },
+        5,
+        third,
+        ("1", 3),
+    )?;
     let mode = Mode::Refresh;
     let txn = Txn::of(alloc, &[Change::Invite { a: 3, b: 2 }])?;
     assert!(rt; touches(&txn, &key));
     let fault = CommitFault::Rejected { index: 0 };
     let none = Outcome::NotCommitted { fault };
-    check_count(&rt, alloc, &mut desk, Plan::Look { mode, key, txn }, 6, none, ("1", 3))?;
+    check_count(
+        &rt,
+        alloc,
+        &mut desk,
+        Plan::Look { mode, key, txn },
+        6,
+        none,
+        ("1", 3),
+    )?;
     Ok(())
 }

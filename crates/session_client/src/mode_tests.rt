@@ -225,8 +225,18 @@ fn shifts_counts_alone(rt: HostRuntime) -> Result<(), Fail> {
     let alloc = rt.alloc();
     let mut shard = new_shard(alloc)?;
     let mut session = writer(alloc, Mode::Delta)?;
-    quarantine(&rt, &mut session, &mut shard, (PROFILE, Mode::Invalidate, 0));
-    quarantine(&rt, &mut session, &mut shard, (PENDING, Mode::Invalidate, 0));
+    quarantine(
+        &rt,
+        &mut session,
+        &mut shard,
+        (PROFILE, Mode::Invalidate, 0),
+    );
+    quarantine(
+        &rt,
+        &mut session,
+        &mut shard,
+        (PENDING, Mode::Invalidate, 0),
+    );
     quarantine(&rt, &mut session, &mut shard, (N_PENDING, Mode::Delta, 1));
     make(&rt, &mut session);
     release(&rt, &mut session, How::Drop, PROFILE);
@@ -348,8 +358,18 @@ fn quits_in_each_mode(rt: HostRuntime) -> Result<(), Fail> {
     session.let_go();
     let mut shard = new_shard(alloc)?;
     let mut session = quitter(alloc, Mode::Delta)?;
-    quarantine(&rt, &mut session, &mut shard, (PROFILE, Mode::Invalidate, 0));
-    quarantine(&rt, &mut session, &mut shard, (PENDING, Mode::Invalidate, 0));
+    quarantine(
+        &rt,
+        &mut session,
+        &mut shard,
+        (PROFILE, Mode::Invalidate, 0),
+    );
+    quarantine(
+        &rt,
+        &mut session,
+        &mut shard,
+        (PENDING, Mode::Invalidate, 0),
+    );
     quarantine(&rt, &mut session, &mut shard, (N_PENDING, Mode::Delta, 1));
     end(&rt, &mut session);
     keep_all(&rt, &mut session);

@@ -30,7 +30,8 @@ fn mode_on(mode: Mode, key: &QKey) -> Mode
 /// The quarantine of a key by a writer of this mode and transaction.
 pub fn quarantine_as(mode: Mode, key: QKey, txn: &Txn) -> Wanted
     ensures wanted { result ≡ quarantine_as (mode_on mode key) key txn.now }
-    ensures awaits { (who : Sid) (told : Reply) → QuarantineAwaits who mode (Some key) told ↔ Belongs who result told }
+    ensures awaits { (who : Sid) (told : Reply) →
+        QuarantineAwaits who mode (Some key) told ↔ Belongs who result told }
     ensures proper { IsProper result }
 {
     match mode_on(mode, &key) {
@@ -76,8 +77,13 @@ pub fn answers_quarantine(who: Sid, mode: Mode, key: &QKey, reply: &Reply) -> bo
 /// Where a writer of these keys stands that has so many of them quarantined.
 pub fn stage_with(keys: &[QKey], next: Next, count: usize, txn: Txn) -> WriteStage
     ensures ready { WriteIsReady result }
-    ensures room { (hand : HandView) → HoldsAll hand → length hand.given ≤ count → hand.grants.room ≡ length keys.now → HasRoom keys.now hand result }
-    ensures follows { (writing : Writing) (hand : HandView) (short : Bool) (heard : List Reply) → writing.keys ≡ keys.now → writing.next ≡ then_as next → write_wants writing short heard ≡ quarantine_next writing heard → count_by is_had heard ≡ count → txn ≡ writing.txn → IsOpen writing hand short heard → PartsFollow writing hand result short heard }
+    ensures room { (hand : HandView) → HoldsAll hand → length hand.given ≤ count →
+        hand.grants.room ≡ length keys.now → HasRoom keys.now hand result }
+    ensures follows { (writing : Writing) (hand : HandView) (short : Bool) (heard : List Reply) →
+        writing.keys ≡ keys.now → writing.next ≡ then_as next →
+        write_wants writing short heard ≡ quarantine_next writing heard →
+        count_by is_had heard ≡ count → txn ≡ writing.txn → IsOpen writing hand short heard →
+        PartsFollow writing hand result short heard }
 {
     if count < keys.len() {
         return WriteStage::Quarantining { count, txn };
@@ -106,8 +112,12 @@ fn stage_after_answer(
     ensures ready { WriteIsReady result }
     ensures room { HasRoom keys.now hand.new result }
     ensures as_long { hand.new.room ≡ hand.old.room }
-    ensures given { (heard : List Reply) → hand.old.given ≡ granted heard → hand.new.given ≡ granted (Reply.Quar told ∷ heard) }
-    ensures follows { (writing : Writing) (short : Bool) (heard : List Reply) → writing.keys ≡ keys.now → writing.next ≡ then_as next → PartsFollow writing hand.old (WriteStage.Quarantining count txn) short heard → PartsFollow writing hand.new result short (Reply.Quar told ∷ heard) }
+    ensures given { (heard : List Reply) → hand.old.given ≡ granted heard →
+        hand.new.given ≡ granted (Reply.Quar told ∷ heard) }
+    ensures follows { (writing : Writing) (short : Bool) (heard : List Reply) →
+        writing.keys ≡ keys.now → writing.next ≡ then_as next →
+        PartsFollow writing hand.old (WriteStage.Quarantining count txn) short heard →
+        PartsFollow writing hand.new result short (Reply.Quar told ∷ heard) }
 {
     match told {
         QAnswer::Granted { grant, old } => {
@@ -133,12 +143,17 @@ pub fn stage_after_quarantine(
 ) -> WriteStage
     requires room { HasRoom keys.now hand.old (WriteStage.Quarantining count txn) }
     requires as_long { hand.old.room ≡ length keys.now }
-    requires quarantine { (who : Sid) × (mode : Mode) × (key : QKey) × QuarantineAwaits who mode (Some key) reply }
+    requires quarantine { (who : Sid) × (mode : Mode) × (key : QKey)
+        × QuarantineAwaits who mode (Some key) reply }
     ensures ready { WriteIsReady result }
     ensures room { HasRoom keys.now hand.new result }
     ensures as_long { hand.new.room ≡ hand.old.room }
-    ensures given { (heard : List Reply) → hand.old.given ≡ granted heard → hand.new.given ≡ granted (reply ∷ heard) }
-    ensures follows { (writing : Writing) (short : Bool) (heard : List Reply) → writing.keys ≡ keys.now → writing.next ≡ then_as next → PartsFollow writing hand.old (WriteStage.Quarantining count txn) short heard → PartsFollow writing hand.new result short (reply ∷ heard) }
+    ensures given { (heard : List Reply) → hand.old.given ≡ granted heard →
+        hand.new.given ≡ granted (reply ∷ heard) }
+    ensures follows { (writing : Writing) (short : Bool) (heard : List Reply) →
+        writing.keys ≡ keys.now → writing.next ≡ then_as next →
+        PartsFollow writing hand.old (WriteStage.Quarantining count txn) short heard →
+        PartsFollow writing hand.new result short (reply ∷ heard) }
 {
     match reply {
         Reply::Quar { told } => stage_after_answer(keys, next, hand, count, txn, told),

@@ -59,9 +59,12 @@ impl Reader {
         requires { ReadIsReady self.old.stage }
         ensures key { self.new.key ≡ self.old.key }
         ensures floor { self.new.floor ≡ self.old.floor }
-        ensures wanted { (heard : List Reply) → ReadFollows self.old heard → result ≡ read_wants self.old.key self.old.floor heard }
-        ensures follows { (heard : List Reply) → ReadFollows self.old heard → ReadFollows self.new heard }
-        ensures awaits { (who : Sid) (told : Reply) → ReadAwaits self.new.key self.new.stage told ↔ Belongs who result told }
+        ensures wanted { (heard : List Reply) → ReadFollows self.old heard →
+            result ≡ read_wants self.old.key self.old.floor heard }
+        ensures follows { (heard : List Reply) → ReadFollows self.old heard →
+            ReadFollows self.new heard }
+        ensures awaits { (who : Sid) (told : Reply) →
+            ReadAwaits self.new.key self.new.stage told ↔ Belongs who result told }
     {
         let key = self.key;
         match mem::replace(&mut self.stage, ReadStage::Storing) {
@@ -124,7 +127,8 @@ impl Reader {
         ensures key { self.new.key ≡ self.old.key }
         ensures floor { self.new.floor ≡ self.old.floor }
         ensures ready { ReadIsReady self.new.stage }
-        ensures follows { (heard : List Reply) → ReadFollows self.old heard → ReadFollows self.new (reply ∷ heard) }
+        ensures follows { (heard : List Reply) → ReadFollows self.old heard →
+            ReadFollows self.new (reply ∷ heard) }
     {
         let stage = mem::replace(&mut self.stage, ReadStage::Storing);
         self.stage = next_stage(self.key, stage, reply);
@@ -139,7 +143,10 @@ impl Reader {
 
     /// How the reader ended, if it has.
     pub fn done(&self) -> Option<Outcome>
-        ensures done { (heard : List Reply) → ReadIsReady self.now.stage → ReadFollows self.now heard → result ≡ (if is_nothing (read_wants self.now.key self.now.floor heard) then read_outcome heard else None) }
+        ensures done { (heard : List Reply) → ReadIsReady self.now.stage →
+            ReadFollows self.now heard →
+            result ≡ (if is_nothing (read_wants self.now.key self.now.floor heard)
+            then read_outcome heard else None) }
         ensures going { IfSome result (λ _. IsTrue (read_is_over self.now.stage)) }
         ensures ready { IfSome result (λ _. ReadIsReady self.now.stage) }
     {
@@ -156,7 +163,8 @@ ghost use Rattle.session_client.specs.Follows.{ReadAwaits, ReadIsReady, StageFol
 fn next_stage(key: QKey, stage: ReadStage, reply: Reply) -> ReadStage
     requires { ReadAwaits key stage reply }
     ensures ready { ReadIsReady result }
-    ensures follows { (floor : ℕ) (heard : List Reply) → StageFollows key floor stage heard → StageFollows key floor result (reply ∷ heard) }
+    ensures follows { (floor : ℕ) (heard : List Reply) → StageFollows key floor stage heard →
+        StageFollows key floor result (reply ∷ heard) }
 {
     match reply {
         Reply::Got { got } => match stage {
@@ -194,7 +202,9 @@ fn next_stage(key: QKey, stage: ReadStage, reply: Reply) -> ReadStage
 /// Where a reader stands after the answer to a get.
 fn stage_after_get(agains: u32, got: Got) -> ReadStage
     ensures ready { ReadIsReady result }
-    ensures follows { (key : QKey) (floor : ℕ) (heard : List Reply) → StageFollows key floor (ReadStage.Getting agains) heard → StageFollows key floor result (Reply.Got got ∷ heard) }
+    ensures follows { (key : QKey) (floor : ℕ) (heard : List Reply) →
+        StageFollows key floor (ReadStage.Getting agains) heard →
+        StageFollows key floor result (Reply.Got got ∷ heard) }
 {
     match got {
         Got::Hit { .. } => ReadStage::Done {
@@ -209,7 +219,9 @@ fn stage_after_get(agains: u32, got: Got) -> ReadStage
 /// Where a reader stands after the store's answer.
 fn stage_after_ask(lease: Option<u64>, answer: Answer) -> ReadStage
     ensures ready { ReadIsReady result }
-    ensures follows { (key : QKey) (floor : ℕ) (heard : List Reply) → StageFollows key floor (ReadStage.Asking lease) heard → StageFollows key floor result (Reply.Answer answer ∷ heard) }
+    ensures follows { (key : QKey) (floor : ℕ) (heard : List Reply) →
+        StageFollows key floor (ReadStage.Asking lease) heard →
+        StageFollows key floor result (Reply.Answer answer ∷ heard) }
 {
     match lease {
         Some(token) => ReadStage::Holding { token, answer },

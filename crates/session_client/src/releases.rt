@@ -5,6 +5,7 @@ ghost use Rattle.rows_model.specs.declared.keys.Sid.{Sid};
 ghost use Rattle.key_shard.specs.Permit.{Permit};
 ghost use Rattle.session_client.specs.Belongs.{Belongs};
 ghost use Rattle.session_client.specs.Desks.{IsProper};
+ghost use Rattle.session_client.specs.Grants.{GrantsView};
 ghost use Rattle.session_client.specs.Follows.{CommitAwaits, IsEnding, IsRefreshing, PartsFollow, ReleaseAwaits, StageAwaits, WriteIsReady};
 ghost use Rattle.session_client.specs.Wants.{Given, Writing, given, granted, released, release_of, finish, write_wants};
 ghost use Rattle.session_client.specs.Writers.{HandView, HasRoom, IsNewBeside, IsPaired, release_as};
@@ -24,7 +25,8 @@ use std::alloc::Global;
 
 /// Whether the reply is one to a commit of these changes with the grants that were given.
 pub fn answers_commit(hand: &Hand, changes: &[Change], reply: &Reply) -> bool
-    ensures { IsTrue result ↔ CommitAwaits changes.now (record { items = hand.now.given; room = hand.now.room }) reply.now }
+    ensures { let lent : GrantsView = record { items = hand.now.given; room = hand.now.room } in
+        IsTrue result ↔ CommitAwaits changes.now lent reply.now }
 {
     match reply {
         Reply::Committed {
@@ -78,8 +80,11 @@ pub fn answers_release(back: &Option<Note>, reply: &Reply) -> bool
 /// The release of a grant after the commit of this number, with the value beside it, and a note of the
 /// grant where it may come back.
 fn finish(number: u64, grant: Grant, value: Option<Value>) -> (Wanted, Option<Note>)
-    ensures wanted { (one : Given) (txn : List Change) → one.permit ≡ grant → IsNewBeside (Release.Finish number) txn one value → result.0 ≡ finish grant.mode txn number one }
-    ensures awaits { (who : Sid) (told : Reply) → ReleaseAwaits result.1 told ↔ Belongs who result.0 told }
+    ensures wanted { (one : Given) (txn : List Change) → one.permit ≡ grant →
+        IsNewBeside (Release.Finish number) txn one value →
+        result.0 ≡ finish grant.mode txn number one }
+    ensures awaits { (who : Sid) (told : Reply) →
+        ReleaseAwaits result.1 told ↔ Belongs who result.0 told }
     ensures back { IfSome result.1 (λ note. note ≡ grant) }
     ensures proper { IsProper result.0 }
 {
@@ -107,8 +112,10 @@ fn finish(number: u64, grant: Grant, value: Option<Value>) -> (Wanted, Option<No
 /// The release of a grant in this way, with the value beside it, and a note of the grant where it may
 /// come back.
 pub fn release(how: Release, grant: Grant, value: Option<Value>) -> (Wanted, Option<Note>)
-    ensures wanted { (one : Given) (txn : List Change) → one.permit ≡ grant → IsNewBeside how txn one value → result.0 ≡ release_of txn (release_as how) (Some one) }
-    ensures awaits { (who : Sid) (told : Reply) → ReleaseAwaits result.1 told ↔ Belongs who result.0 told }
+    ensures wanted { (one : Given) (txn : List Change) → one.permit ≡ grant →
+        IsNewBeside how txn one value → result.0 ≡ release_of txn (release_as how) (Some one) }
+    ensures awaits { (who : Sid) (told : Reply) →
+        ReleaseAwaits result.1 told ↔ Belongs who result.0 told }
     ensures back { IfSome result.1 (λ note. note ≡ grant) }
     ensures proper { IsProper result.0 }
 {
@@ -125,7 +132,11 @@ fn releasing(hand: &Hand, outcome: Outcome, how: Release) -> WriteStage
     requires { IsPaired hand.now }
     ensures ready { WriteIsReady result }
     ensures room { (keys : List QKey) → HasRoom keys hand.now result }
-    ensures follows { (writing : Writing) (short : Bool) (heard : List Reply) → write_wants writing short heard ≡ release_of writing.txn (release_as how) (slice_get (given heard) (released heard)) → IsEnding writing hand.now outcome how (released heard) (released heard) short heard → PartsFollow writing hand.now result short heard }
+    ensures follows { (writing : Writing) (short : Bool) (heard : List Reply) →
+        write_wants writing short heard
+        ≡ release_of writing.txn (release_as how) (slice_get (given heard) (released heard)) →
+        IsEnding writing hand.now outcome how (released heard) (released heard) short heard →
+        PartsFollow writing hand.now result short heard }
 {
     if hand.grants().is_empty() {
         WriteStage::Done { outcome }
@@ -143,13 +154,19 @@ pub fn stage_after_commit(
 ) -> (WriteStage, Result<(), Memory>)
     requires values { length hand.old.values ≡ length hand.old.given }
     requires room { length hand.old.given ≤ hand.old.room }
-    requires awaits { (changes : List Change) × CommitAwaits changes (record { items = hand.old.given; room = hand.old.room }) reply }
+    requires awaits { (changes : List Change)
+        × CommitAwaits changes (record { items = hand.old.given; room = hand.old.room }) reply }
     ensures ready { WriteIsReady result.0 }
     ensures room { (keys : List QKey) → HasRoom keys hand.new result.0 }
     ensures as_long { hand.new.room ≡ hand.old.room }
     ensures given { hand.new.given ≡ hand.old.given }
     ensures granted { (heard : List Reply) → granted (reply ∷ heard) ≡ granted heard }
-    ensures follows { (writing : Writing) (short : Bool) (heard : List Reply) → CommitAwaits writing.txn (record { items = hand.old.given; room = hand.old.room }) reply → hand.old.given ≡ granted heard → PartsFollow writing hand.old WriteStage.Committing short heard → MatchResult result.1 (λ _. PartsFollow writing hand.new result.0 short (reply ∷ heard)) (λ _. PartsFollow writing hand.new result.0 true (reply ∷ heard)) }
+    ensures follows { (writing : Writing) (short : Bool) (heard : List Reply) →
+        CommitAwaits writing.txn (record { items = hand.old.given; room = hand.old.room }) reply →
+        hand.old.given ≡ granted heard →
+        PartsFollow writing hand.old WriteStage.Committing short heard →
+        MatchResult result.1 (λ _. PartsFollow writing hand.new result.0 short (reply ∷ heard))
+        (λ _. PartsFollow writing hand.new result.0 true (reply ∷ heard)) }
     ensures memory { OnErr result.1 (IsRefreshing reply) }
 {
     match reply {
@@ -204,11 +221,14 @@ pub fn stage_after_commit(
 /// Where a writer that was to be ended at the store stands after that: it keeps every value.
 pub fn stage_after_end(hand: &Hand, outcome: Outcome, reply: Reply) -> WriteStage
     requires room { IsPaired hand.now }
-    requires awaits { (who : Sid) × (writing : Writing) × (given : List Permit) × StageAwaits who writing given (WriteStage.Ending outcome) reply }
+    requires awaits { (who : Sid) × (writing : Writing) × (given : List Permit)
+        × StageAwaits who writing given (WriteStage.Ending outcome) reply }
     ensures ready { WriteIsReady result }
     ensures room { (keys : List QKey) → HasRoom keys hand.now result }
     ensures granted { (heard : List Reply) → granted (reply ∷ heard) ≡ granted heard }
-    ensures follows { (writing : Writing) (short : Bool) (heard : List Reply) → PartsFollow writing hand.now (WriteStage.Ending outcome) short heard → PartsFollow writing hand.now result short (reply ∷ heard) }
+    ensures follows { (writing : Writing) (short : Bool) (heard : List Reply) →
+        PartsFollow writing hand.now (WriteStage.Ending outcome) short heard →
+        PartsFollow writing hand.now result short (reply ∷ heard) }
 {
     match reply {
         Reply::End { was: _ } => releasing(hand, outcome, Release::Keep),
@@ -246,7 +266,10 @@ pub fn stage_after_release(
     ensures as_long { hand.new.room ≡ hand.old.room }
     ensures given { hand.new.given ≡ hand.old.given }
     ensures granted { (heard : List Reply) → granted (reply ∷ heard) ≡ granted heard }
-    ensures follows { (writing : Writing) (back : Option Permit) (short : Bool) (heard : List Reply) → ReleaseAwaits back reply → PartsFollow writing hand.old (WriteStage.Returning outcome how back) short heard → PartsFollow writing hand.new result short (reply ∷ heard) }
+    ensures follows { (writing : Writing) (back : Option Permit) (short : Bool) (heard : List Reply) →
+        ReleaseAwaits back reply →
+        PartsFollow writing hand.old (WriteStage.Returning outcome how back) short heard →
+        PartsFollow writing hand.new result short (reply ∷ heard) }
 {
     match reply {
         Reply::Rel { told: _ } => releasing(hand, outcome, how),

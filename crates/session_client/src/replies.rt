@@ -258,15 +258,3 @@ pub enum Outcome {
     /// A request was not made.
     Failed { fault: Fault },
 }
-
-impl Outcome {
-    ghost use Rattle.std.specs.Prelude.{◌≡◌};
-    ghost use Rattle.session_client.specs.Outcomes.{is_committed};
-
-    /// Whether the session's transaction was committed.
-    pub fn is_committed(self) -> bool
-        ensures { result ≡ is_committed self }
-    {
-        matches!(self, Outcome::Committed { .. })
-    }
-}

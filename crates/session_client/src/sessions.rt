@@ -167,7 +167,7 @@ impl Session {
 
 ghost use Rattle.std.specs.Prelude.{◌<◌, ◌^◌, length};
 ghost use Rattle.session_client.specs.Follows.{Goes, CourseIsReady, is_over};
-ghost use Rattle.session_client.specs.Wants.{writing_of};
+ghost use Rattle.session_client.specs.Wants.{Writing, writing_of};
 ghost use Rattle.session_client.specs.Writers.{then_as};
 ghost use Rattle.session_client.specs.declared.plans.Plan.{Plan};
 
@@ -193,7 +193,14 @@ fn writing(
 ) -> Result<Course, Memory>
     requires { length keys.items < 2 ^ 32 }
     ensures ready { IfOk result CourseIsReady }
-    ensures goes { IfOk result (λ course. (plan : Plan) → changes_of plan ≡ txn.now → writing_of plan ≡ record { mode = mode; keys = keys.items; txn = txn.now; next = then_as next } → writes plan ≡ true → Goes plan course false []) }
+    ensures goes { let way : Writing = record {
+      mode = mode;
+      keys = keys.items;
+      txn = txn.now;
+      next = then_as next;
+    } in
+        IfOk result (λ course. (plan : Plan) → changes_of plan ≡ txn.now → writing_of plan ≡ way →
+        writes plan ≡ true → Goes plan course false []) }
 {
     Ok(Course::Write(Writer::new(alloc, mode, keys, next, txn.copy()?)?))
 }

@@ -28,21 +28,37 @@ pub enum Release {
 #[derive(Debug, Drop)]
 pub enum WriteStage {
     /// So many keys are quarantined, and it wants the next one.
-    Quarantining { count: usize, txn: Txn },
+    Quarantining {
+        count: usize,
+        txn: Txn,
+    },
     /// It wants this key, which it has quarantined.
-    Getting { key: QKey, txn: Txn },
+    Getting {
+        key: QKey,
+        txn: Txn,
+    },
     /// It wants the answer for this key that the store would give after its transaction.
-    Staging { key: QKey, txn: Txn },
+    Staging {
+        key: QKey,
+        txn: Txn,
+    },
     /// It has handed out its transaction for such an answer.
     Asking,
     /// It wants to commit.
-    Ready { txn: Txn },
+    Ready {
+        txn: Txn,
+    },
     /// It has handed out its transaction and its grants to be committed.
     Committing,
     /// It won't commit, and wants to be ended at the store.
-    Ending { outcome: Outcome },
+    Ending {
+        outcome: Outcome,
+    },
     /// It wants to release its first grant.
-    Releasing { outcome: Outcome, how: Release },
+    Releasing {
+        outcome: Outcome,
+        how: Release,
+    },
     /// It has handed out a grant to be released, of which there is a note where it may come back.
     Returning {
         outcome: Outcome,
@@ -50,7 +66,12 @@ pub enum WriteStage {
         back: Option<Note>,
     },
     /// Its first grant came back, and it wants to drop the value of that key.
-    Dropping { outcome: Outcome, how: Release },
+    Dropping {
+        outcome: Outcome,
+        how: Release,
+    },
     /// It has ended so.
-    Done { outcome: Outcome },
+    Done {
+        outcome: Outcome,
+    },
 }

@@ -435,8 +435,18 @@ fn gives_back_what_it_has_when_it_is_refused(rt: HostRuntime) -> Result<(), Fail
         Err(fault) => panic!(rt; "{fault:?}"),
     }
     let mut session = writer(alloc, Mode::Invalidate)?;
-    quarantine(&rt, &mut session, &mut shard, (PROFILE, Mode::Invalidate, 0));
-    quarantine(&rt, &mut session, &mut shard, (PENDING, Mode::Invalidate, 0));
+    quarantine(
+        &rt,
+        &mut session,
+        &mut shard,
+        (PROFILE, Mode::Invalidate, 0),
+    );
+    quarantine(
+        &rt,
+        &mut session,
+        &mut shard,
+        (PENDING, Mode::Invalidate, 0),
+    );
     end(&rt, &mut session);
     release(&rt, &mut session, How::Keep, PROFILE);
     let refused = Outcome::Refused {
@@ -489,7 +499,12 @@ fn leaves_its_quarantines_when_it_is_let_go(rt: HostRuntime) -> Result<(), Fail>
     let alloc = rt.alloc();
     let mut shard = new_shard(alloc)?;
     let mut session = writer(alloc, Mode::Invalidate)?;
-    quarantine(&rt, &mut session, &mut shard, (PROFILE, Mode::Invalidate, 0));
+    quarantine(
+        &rt,
+        &mut session,
+        &mut shard,
+        (PROFILE, Mode::Invalidate, 0),
+    );
     session.let_go();
     let got = shard.get(PROFILE, WHO, 0, 0);
     assert!(rt; matches!(got, Ok(Got::Own)));

@@ -82,9 +82,14 @@ impl Writer {
         ensures mode { self.new.mode ≡ self.old.mode }
         ensures keys { self.new.keys ≡ self.old.keys }
         ensures next { self.new.next ≡ self.old.next }
-        ensures wanted { (changes : List Change) (short : Bool) (heard : List Reply) → WriteFollows changes self.old short heard → result ≡ write_wants (writing_as self.old changes) short heard }
-        ensures follows { (changes : List Change) (short : Bool) (heard : List Reply) → WriteFollows changes self.old short heard → WriteFollows changes self.new short heard }
-        ensures awaits { (who : Sid) (changes : List Change) (short : Bool) (heard : List Reply) (told : Reply) → WriteFollows changes self.old short heard → WriteAwaits who changes self.new told ↔ Belongs who result told }
+        ensures wanted { (changes : List Change) (short : Bool) (heard : List Reply) →
+            WriteFollows changes self.old short heard →
+            result ≡ write_wants (writing_as self.old changes) short heard }
+        ensures follows { (changes : List Change) (short : Bool) (heard : List Reply) →
+            WriteFollows changes self.old short heard → WriteFollows changes self.new short heard }
+        ensures awaits { (who : Sid) (changes : List Change) (short : Bool) (heard : List Reply)
+            (told : Reply) → WriteFollows changes self.old short heard →
+            WriteAwaits who changes self.new told ↔ Belongs who result told }
         ensures proper { IsProper result }
     {
         match mem::replace(&mut self.stage, WriteStage::Committing) {
@@ -164,7 +169,11 @@ impl Writer {
         ensures keys { self.new.keys ≡ self.old.keys }
         ensures next { self.new.next ≡ self.old.next }
         ensures ready { WriteIsReady self.new.stage }
-        ensures follows { (changes : List Change) (short : Bool) (heard : List Reply) → (who : Sid) → WriteAwaits who changes self.old reply → WriteFollows changes self.old short heard → MatchResult result (λ _. WriteFollows changes self.new short (reply ∷ heard)) (λ _. WriteFollows changes self.new true (reply ∷ heard)) }
+        ensures follows { (who : Sid) (changes : List Change) (short : Bool) (heard : List Reply) →
+            WriteAwaits who changes self.old reply →
+            WriteFollows changes self.old short heard →
+            MatchResult result (λ _. WriteFollows changes self.new short (reply ∷ heard))
+            (λ _. WriteFollows changes self.new true (reply ∷ heard)) }
         ensures memory { OnErr result (IsRefreshing reply) }
     {
         match mem::replace(&mut self.stage, WriteStage::Committing) {
@@ -189,7 +198,10 @@ impl Writer {
 
     /// How the writer ended, if it has.
     pub fn done(&self) -> Option<Outcome>
-        ensures done { (changes : List Change) (short : Bool) (heard : List Reply) → WriteIsReady self.now.stage → WriteFollows changes self.now short heard → result ≡ (if is_nothing (write_wants (writing_as self.now changes) short heard) then writing_outcome (writing_as self.now changes) short heard else None) }
+        ensures done { (changes : List Change) (short : Bool) (heard : List Reply) →
+            WriteIsReady self.now.stage → WriteFollows changes self.now short heard →
+            result ≡ (if is_nothing (write_wants (writing_as self.now changes) short heard)
+            then writing_outcome (writing_as self.now changes) short heard else None) }
         ensures going { IfSome result (λ _. IsTrue (write_is_over self.now.stage)) }
         ensures ready { IfSome result (λ _. WriteIsReady self.now.stage) }
     {
@@ -231,12 +243,18 @@ fn next_stage(
     requires as_long { hand.old.room ≡ length keys.now }
     requires room { HasRoom keys.now hand.old stage }
     requires apart { stage ≢ WriteStage.Committing }
-    requires awaits { (who : Sid) × (writing : Writing) × (writing.keys ≡ keys.now) × StageAwaits who writing hand.old.given stage reply }
+    requires awaits { (who : Sid) × (writing : Writing) × (writing.keys ≡ keys.now)
+        × StageAwaits who writing hand.old.given stage reply }
     ensures ready { WriteIsReady result }
     ensures as_long { hand.new.room ≡ hand.old.room }
     ensures room { HasRoom keys.now hand.new result }
-    ensures given { (heard : List Reply) → hand.old.given ≡ granted heard → hand.new.given ≡ granted (reply ∷ heard) }
-    ensures follows { (who : Sid) (writing : Writing) (short : Bool) (heard : List Reply) → writing.keys ≡ keys.now → writing.next ≡ then_as next → StageAwaits who writing hand.old.given stage reply → PartsFollow writing hand.old stage short heard → PartsFollow writing hand.new result short (reply ∷ heard) }
+    ensures given { (heard : List Reply) → hand.old.given ≡ granted heard →
+        hand.new.given ≡ granted (reply ∷ heard) }
+    ensures follows { (who : Sid) (writing : Writing) (short : Bool) (heard : List Reply) →
+        writing.keys ≡ keys.now → writing.next ≡ then_as next →
+        StageAwaits who writing hand.old.given stage reply →
+        PartsFollow writing hand.old stage short heard →
+        PartsFollow writing hand.new result short (reply ∷ heard) }
 {
     match stage {
         WriteStage::Quarantining { count, txn } => {

@@ -17,9 +17,9 @@ pub returns-in-Staging : goal.returns-in-Staging
 returns-in-Staging c =
     let (who, writing, keys, awaits) = c.requires.awaits in
     absurd (elim c.in-Staging.is [
-      inl (key, txn, e) ↦ rw e at awaits
-    | inr (inl (txn, e)) ↦ rw e at awaits
-    | inr (inr (inl e)) ↦ c.requires.apart e
-    | inr (inr (inr (inl (ended, how, e)))) ↦ rw e at awaits
-    | inr (inr (inr (inr (ended, how, e)))) ↦ rw e at awaits
+      | inl (key, txn, e) ↦ rw e at awaits
+      | inr (inl (txn, e)) ↦ rw e at awaits
+      | inr (inr (inl e)) ↦ c.requires.apart e
+      | inr (inr (inr (inl (ended, how, e)))) ↦ rw e at awaits
+      | inr (inr (inr (inr (ended, how, e)))) ↦ rw e at awaits
     ])

@@ -5,11 +5,11 @@ use Rattle.session_client.proofs.writers.Writer.done.Goals as goal
 pub returns-in_default : goal.returns-in_default
 returns-in_default c = record {
   done = λ changes short heard ready follows.
-    let f = rw (← c.self.view_is) at follows in
-    let r = rw (← c.self.view_is) at ready in
-    let over = not_over c.self.inside.stage c.in_default.not-Done in
-    let some = wants_more _ c.self.inside.hand c.self.inside.stage short heard c.self.invariant.1 r over f.1 in
-    rw (← c.self.view_is, some) refl;
+      let f = rw (← c.self.view_is) at follows in
+      let r = rw (← c.self.view_is) at ready in
+      let over = not_over c.self.inside.stage c.in_default.not-Done in
+      let some = wants_more _ c.self.inside.hand c.self.inside.stage short heard c.self.invariant.1 r over f.1 in
+      rw (← c.self.view_is, some) refl;
   going = tt;
   ready = tt;
 }

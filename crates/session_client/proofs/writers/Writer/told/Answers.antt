@@ -16,7 +16,7 @@ next_stage-requires c =
     rw c.deref.ensures.value (record { as_long = c.self.invariant.0; room = held; apart = c.in_default.not-Committing; awaits = (who, writing, refl, awaited) })
 
 pub returns-in-Committing-clause-follows : goal.returns-in-Committing-clause-follows
-returns-in-Committing-clause-follows c = λ changes short heard who awaits follows.
+returns-in-Committing-clause-follows c = λ who changes short heard awaits follows.
     let awaited = rw (← c.self.view_is, ← c.replace.ensures.value, c.in-Committing.is, ← c.self.invariant.0) at awaits in
     let f = rw (← c.self.view_is, ← c.replace.ensures.value, c.in-Committing.is) at follows in
     let writing : Writing = record { mode = c.self.inside.mode; keys = c.self.inside.keys.items; txn = changes; next = then_as c.self.inside.next } in
