@@ -1,3 +1,6 @@
 pub mod FloorLemmas
 pub mod StoreLemmas
 pub mod RunLemmas
+pub mod WriteLemmas
+pub mod QuitLemmas
+pub mod DropLemmas

@@ -30,20 +30,21 @@ use Rattle.core_history.specs.Machine.{Move, terms_of}
 use Rattle.core_history.specs.Truth.{IsTruePast}
 use Rattle.top_run.specs.declared.runs.Status.{Status}
 use Rattle.top_run.specs.declared.runs.Status.TheVariants as status
-use Rattle.top_run.specs.Runs.{calls_of, AreMoves, past_of, out, Held, Tells, Left, IsRead, IsOpened, Keeps, IsWhole, IsCutOff, IsNotStarted, Ended}
+use Rattle.top_run.specs.Runs.{calls_of, AreMoves, AreFirstMoves, past_of, out, Held, Tells, Left, IsRead, IsOpened, Keeps, IsWhole, IsCutOff, IsNotStarted, Ended}
 use Rattle.callers.specs.Shards.{MeetsItsFloor, HitsMeetTheirFloors}
 use Rattle.callers.specs.Runs.{IsFreshRun, HitsHoldCommits, AreAlike}
 
 -- a run that began
-record Began (held : Held) (before after : Tells) (left : Left) : Type 0 where
-  shape : Shape
-  acts : List Act
-  read : IsRead before.left after.left shape acts
-  opening : Tables
-  opening_is : left.opening ≡ Some opening
-  opened : IsOpened held shape opening after.rows
-  moves : List Move
-  keeps : Keeps shape opening moves after.rows left.log left.histories
+pub record Began (held : Held) (before after : Tells) (left : Left) : Type 0 where
+  pub shape : Shape
+  pub acts : List Act
+  pub read : IsRead before.left after.left shape acts
+  pub opening : Tables
+  pub opening_is : left.opening ≡ Some opening
+  pub opened : IsOpened held shape opening after.rows
+  pub moves : List Move
+  pub made : AreFirstMoves acts moves
+  pub keeps : Keeps shape opening moves after.rows left.log left.histories
 
 began-whole : (held : Held) (before after : Tells) (left : Left) (written : ℕ) (turns : List ℕ) → IsWhole held before after left written turns → Began held before after left
 began-whole held before after left written turns h = record {
@@ -54,6 +55,7 @@ began-whole held before after left written turns h = record {
   opening_is = h.opening_is;
   opened = h.opened;
   moves = h.moves;
+  made = ([], append-nil (map call_of (reverse h.moves)) ∙ h.made);
   keeps = h.keeps;
 }
 
@@ -66,11 +68,12 @@ began-cut-off held before after left written h = record {
   opening_is = h.opening_is;
   opened = h.opened;
   moves = h.moves;
+  made = h.made;
   keeps = h.keeps;
 }
 
 -- a run began or it didn't
-began-or-not : (s : Status) (held : Held) (before after : Tells) (left : Left) (written : ℕ) → Ended s held before after left written → IsNotStarted before after left written ⊎ Began held before after left
+pub began-or-not : (s : Status) (held : Held) (before after : Tells) (left : Left) (written : ℕ) → Ended s held before after left written → IsNotStarted before after left written ⊎ Began held before after left
 began-or-not status.Done held before after left written h = inr (began-whole held before after left written [] h)
 began-or-not status.Usage held before after left written h = inl h.1
 began-or-not (status.Script line kind) held before after left written h = inl h.2
@@ -81,7 +84,8 @@ began-or-not status.KeepFault held before after left written (rose, inr (turns, 
 began-or-not status.Memory held before after left written (inl h) = inl h.2
 began-or-not status.Memory held before after left written (inr h) = inr (began-cut-off held before after left written h)
 
-some-at : {X : Type 0} (o : Option X) → IsSome o → (x : X) × (o ≡ Some x)
+-- a value that is there
+pub some-at : {X : Type 0} (o : Option X) → IsSome o → (x : X) × (o ≡ Some x)
 some-at (Some x) h = (x, refl)
 some-at None h = absurd cc
 
@@ -145,23 +149,26 @@ covered-run s held before after left written h = by (began-or-not s held before 
 pub untouched-run : (s : Status) (held : Held) (before after : Tells) (left : Left) (written : ℕ) → Ended s held before after left written → s ≡ status.Usage → after ≡ before
 untouched-run s held before after left written h usage = (subst (λ (s : Status). Ended s held before after left written) usage h).0
 
-at-place : {X : Type 0} (P : X → Type 0) (xs : List X) (i : ℕ) (x : X) → All P xs → slice_get xs i ≡ Some x → P x
+-- what holds of all elements holds of the one at a place
+pub at-place : {X : Type 0} (P : X → Type 0) (xs : List X) (i : ℕ) (x : X) → All P xs → slice_get xs i ≡ Some x → P x
 at-place P xs i x h is = subst P (get_or_from_slice_get xs i x x is) (h i x (slice_get_within xs i x is))
 
-reverse-middle : {X : Type 0} (xs : List X) (x : X) (ys : List X) → reverse (xs ++ x ∷ ys) ≡ reverse ys ++ x ∷ reverse xs
+-- a list with an element in the middle, and one with two, turned round
+pub reverse-middle : {X : Type 0} (xs : List X) (x : X) (ys : List X) → reverse (xs ++ x ∷ ys) ≡ reverse ys ++ x ∷ reverse xs
 reverse-middle {X} xs x ys =
     reverse-append xs (x ∷ ys)
     ∙ ap (λ (l : List X). l ++ reverse xs) (reverse-append (x ∷ []) ys)
     ∙ append_assoc (reverse ys) (x ∷ []) (reverse xs)
 
-turned : {X : Type 0} (before between after : List X) (r h : X)
+pub turned : {X : Type 0} (before between after : List X) (r h : X)
     → reverse (before ++ r ∷ (between ++ h ∷ after)) ≡ reverse after ++ h ∷ (reverse between ++ r ∷ reverse before)
 turned {X} before between after r h =
     reverse-middle before r (between ++ h ∷ after)
     ∙ ap (λ (l : List X). l ++ r ∷ reverse before) (reverse-middle between h after)
     ∙ append_assoc (reverse after) (h ∷ reverse between) (r ∷ reverse before)
 
-fresh-later : (opening : Tables) (log : List Commit) (later past : List Step) → IsFreshPast opening log (later ++ past) → IsFreshPast opening log past
+-- the earlier steps of a fresh past are fresh
+pub fresh-later : (opening : Tables) (log : List Commit) (later past : List Step) → IsFreshPast opening log (later ++ past) → IsFreshPast opening log past
 fresh-later opening log [] past h = h
 fresh-later opening log (step ∷ later) past h = fresh-later opening log later past h.1
 

@@ -1,3 +1,6 @@
 pub mod Shards
 pub mod Stores
+pub mod Quits
 pub mod Runs
+pub mod Writes
+pub mod Drops

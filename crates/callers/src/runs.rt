@@ -4,9 +4,11 @@ ghost use Rattle.sql_keeper.specs.Fresh.{Covered};
 ghost use Rattle.top_run.specs.Runs.{AreReplay, Left, moment};
 ghost use Rattle.callers.specs.Shards.{MeetsItsFloor};
 ghost use Rattle.callers.specs.Runs.{IsFreshRun, HitsHoldCommits, IsUnharmed, AreAlike};
+ghost use Rattle.callers.specs.Writes.{HitsAfterWrites};
+ghost use Rattle.callers.specs.Drops.{IsSweptRun};
 
 use crate::shards::hits_meet_their_floors;
-use core_history::laws::runs_are_determined;
+use core_history::laws::{runs_are_determined, sweeps_are_final};
 use iq_outside::{Sink, Source};
 use run_inputs::texts_tell_scripts;
 use sql_keeper::{Keeper, MapKeeper};
@@ -43,6 +45,42 @@ pub fn run_holding_commits<S: Source, W: Sink>(
         HitsHoldCommits opening result.log.items histories) }
 {
     run_fresh(alloc, words, source, sink, keeper)
+}
+
+/// Who reads behind a writer is served what that left. Where a writer's release put a value, or shifted
+/// the number of an entry, and each step since has left that entry, a get of the key with a floor of at
+/// most its stamp is a hit of that value, for each session that holds no quarantine of the key. The
+/// stamp is the number of the writer's commit, and the value is the key's answer after as many commits.
+pub fn run_serving_writes<S: Source, W: Sink>(
+    alloc: Global,
+    words: &[Vec<u8>],
+    source: &mut S,
+    sink: &mut W,
+    keeper: MapKeeper,
+) -> RunEnd<MapKeeper>
+    ensures { let histories = map (λ history. history.items) result.histories.items in
+        IfSome result.opening (λ opening.
+        HitsAfterWrites opening result.log.items histories) }
+{
+    run(alloc, words, source, sink, keeper)
+}
+
+/// What the sweeper drops in a run is final, whatever the keeper does: at the end the quarantine that it
+/// dropped doesn't stand, and each later hit on the key holds all that was committed before the drop,
+/// and the commit of the session whose quarantine it was, if that has one.
+pub fn run_swept<S: Source, W: Sink, K: Keeper>(
+    alloc: Global,
+    words: &[Vec<u8>],
+    source: &mut S,
+    sink: &mut W,
+    keeper: K,
+) -> RunEnd<K>
+    ensures { let histories = map (λ history. history.items) result.histories.items in
+        IsSome result.opening →
+        IsSweptRun (S.left source.old) (S.left source.new) result.log.items histories }
+{
+    sweeps_are_final();
+    run(alloc, words, source, sink, keeper)
 }
 
 /// No reader of a run is served a value older than its floor, whatever the keeper does.
