@@ -59,7 +59,8 @@ pub(crate) fn make_sar(
 fn release_on(shard: &mut Shard, grant: Grant, how: How) -> Rel
     requires out { IsTrue (is_out shard.old grant) }
     requires fits { FitsMode grant.mode how }
-    ensures step { shard.new ≡ returned shard.old grant (release_step (past_of shard.old) grant how) }
+    ensures step { shard.new ≡ returned shard.old grant
+        (release_step (past_of shard.old) grant how) }
     ensures shows { ShowsRelease (release_step (past_of shard.old) grant how) result }
 {
     match how {
