@@ -70,7 +70,8 @@ spares_turn n (Ticked now) none = tt
 spares_turn n (Swept shard request made told) none = absurd cc
 
 -- the sweeper ends none that was told nothing
-spares_sweep : (shape : Shape) (world : World) (n : ℕ) (request : SweepWanted) → told_to n world.past ≡ [] → EndsHeard world.past request → SparesOne n (sweep_of shape world request)
+spares_sweep : (shape : Shape) (world : World) (n : ℕ) (request : SweepWanted) → told_to n world.past ≡ [] → EndsHeard world.past request
+    → SparesOne n (sweep_of shape world request)
 spares_sweep shape world n (sweep.Scan place) none heard = refl
 spares_sweep shape world n (sweep.Drop key token) none heard = refl
 spares_sweep shape world n (sweep.End who) none heard = by (is_open world who)
@@ -82,7 +83,8 @@ spares_sweep shape world n (sweep.End who) none heard = by (is_open world who)
     by true = ap (λ (b : Bool). b || false) apart
     by false = refl
 
-spares : (shape : Shape) (moves : List Move) (n : ℕ) (turn : Turn) (said : Said) → told_to n (world_of shape moves).past ≡ [] → SparesOne n (turn_event shape (world_of shape moves) turn said)
+spares : (shape : Shape) (moves : List Move) (n : ℕ) (turn : Turn) (said : Said) → told_to n (world_of shape moves).past ≡ []
+    → SparesOne n (turn_event shape (world_of shape moves) turn said)
 spares shape moves n (turn.Session who) said none =
     let world = world_of shape moves in
     spares_turn n (event_of shape world who (wanted_of world who) said) (event_turn shape world who (wanted_of world who) said).swept
@@ -119,7 +121,8 @@ alone true = refl
 alone false = refl
 
 -- the sessions at the store with one more
-pub phases_begun : (phases : List Phase) (world : World) (plan : Plan) → HasPhases phases world → told_to (length world.plans + 1) world.past ≡ [] → was_ended (length world.plans + 1) world.past ≡ false → HasPhases (begun_phases (writes plan) phases) (begun world plan)
+pub phases_begun : (phases : List Phase) (world : World) (plan : Plan) → HasPhases phases world → told_to (length world.plans + 1) world.past ≡ []
+    → was_ended (length world.plans + 1) world.past ≡ false → HasPhases (begun_phases (writes plan) phases) (begun world plan)
 phases_begun phases world plan has none unended =
     record {
       count = omega (arith, length-append phases (first_phase (writes plan) ∷ []), length-append world.plans (plan ∷ []), has.count);
@@ -140,8 +143,10 @@ phases_begun phases world plan has none unended =
 
     new : (who : Sid) → 1 ≤ who.number → who.number - 1 ≡ length phases → may_commit who (phases ++ first ∷ []) ≡ is_open (begun world plan) who
     new who some last =
-        let here : slice_get (phases ++ first ∷ []) (who.number - 1) ≡ Some first = ap (slice_get (phases ++ first ∷ [])) last ∙ slice_get_pushed phases first in
-        let there : slice_get (world.plans ++ plan ∷ []) (who.number - 1) ≡ Some plan = ap (slice_get (world.plans ++ plan ∷ [])) (last ∙ has.count) ∙ slice_get_pushed world.plans plan in
+        let here : slice_get (phases ++ first ∷ []) (who.number - 1) ≡ Some first =
+        ap (slice_get (phases ++ first ∷ [])) last ∙ slice_get_pushed phases first in
+        let there : slice_get (world.plans ++ plan ∷ []) (who.number - 1) ≡ Some plan =
+        ap (slice_get (world.plans ++ plan ∷ [])) (last ∙ has.count) ∙ slice_get_pushed world.plans plan in
         let number : length world.plans + 1 ≡ who.number = omega (arith, last, has.count, some) in
         let unheard : told_to who.number world.past ≡ [] = subst (λ (n : ℕ). told_to n world.past ≡ []) number none in
         let still : was_ended who.number world.past ≡ false = subst (λ (n : ℕ). was_ended n world.past ≡ false) number unended in
@@ -158,7 +163,8 @@ phases_begun phases world plan has none unended =
     from who some far = ⊎_elim (λ h. new who some (omega (arith, h, far))) (λ h. later who some h) (cases_lt (who.number - 1) (length phases + 1))
 
 -- a session began
-pub core_begun : (old new : CoreView) (origin : Origin) (moves : List Move) (plan : Plan) (session : Session) → IsAt old origin moves → IsPlan plan → plan_of session ≡ plan → (sid_of session).number ≡ length old.sessions + 1 → IsReady session → Follows session false [] →
+pub core_begun : (old new : CoreView) (origin : Origin) (moves : List Move) (plan : Plan) (session : Session) → IsAt old origin moves → IsPlan plan
+    → plan_of session ≡ plan → (sid_of session).number ≡ length old.sessions + 1 → IsReady session → Follows session false [] →
     new.sessions ≡ old.sessions ++ session ∷ [] → new.shards ≡ old.shards → new.sweeper ≡ old.sweeper → new.clock ≡ old.clock → new.store.ledger ≡ with_session (writes plan) old.store.ledger → new.store.told ≡ old.store.told → new.store.faults ≡ old.store.faults → IsAt new origin (Begin plan ∷ moves)
 core_begun old new origin moves plan session at is_plan plan_is number ready follows sessions shards sweeper now ledger told faults =
     let world = world_of origin.shape moves in

@@ -52,7 +52,8 @@ sid_is a b e = ap (λ (n : ℕ). record { number = n }) e
 abbrev pub NoneUnbegun : List Session → List Event → Type 0
 NoneUnbegun sessions past = (number : ℕ) → length sessions < number → told_to number past ≡ []
 
-pub follow_begun : (sessions : List Session) (new : Session) (past : List Event) → AreFollowing sessions past → NoneUnbegun sessions past → IsReady new → (sid_of new).number ≡ length sessions + 1 → Follows new false [] → AreFollowing (sessions ++ new ∷ []) past
+pub follow_begun : (sessions : List Session) (new : Session) (past : List Event) → AreFollowing sessions past → NoneUnbegun sessions past → IsReady new
+    → (sid_of new).number ≡ length sessions + 1 → Follows new false [] → AreFollowing (sessions ++ new ∷ []) past
 follow_begun sessions new past all none ready number follows place session found =
     ⊎_elim (λ h. all place session (sym (slice_get_push sessions new place h) ∙ found))
     (λ h.
@@ -67,8 +68,10 @@ follow_begun sessions new past all none ready number follows place session found
 pub none_begun : (sessions : List Session) (new : Session) (past : List Event) → NoneUnbegun sessions past → NoneUnbegun (sessions ++ new ∷ []) past
 none_begun sessions new past none number above = none number (omega (arith, length-append sessions (new ∷ [])))
 
-pub plans_begun : (sessions : List Session) (new : Session) (plans : List Plan) (plan : Plan) → map plan_of sessions ≡ plans → plan_of new ≡ plan → map plan_of (sessions ++ new ∷ []) ≡ plans ++ plan ∷ []
-plans_begun sessions new plans plan all is = map-append plan_of sessions (new ∷ []) ∙ ap (λ (ps : List Plan). ps ++ plan_of new ∷ []) all ∙ ap (λ (p : Plan). plans ++ p ∷ []) is
+pub plans_begun : (sessions : List Session) (new : Session) (plans : List Plan) (plan : Plan) → map plan_of sessions ≡ plans → plan_of new ≡ plan
+    → map plan_of (sessions ++ new ∷ []) ≡ plans ++ plan ∷ []
+plans_begun sessions new plans plan all is =
+    map-append plan_of sessions (new ∷ []) ∙ ap (λ (ps : List Plan). ps ++ plan_of new ∷ []) all ∙ ap (λ (p : Plan). plans ++ p ∷ []) is
 
 -- what each session was told with one reply more, to the session of this number
 abbrev pub TellsOne : ℕ → Reply → List Event → Event → Type 0
@@ -76,7 +79,8 @@ TellsOne who told past event =
     (number : ℕ) → told_to number (event ∷ past) ≡ cond (who == number) (told ∷ []) [] ++ told_to number past
 
 -- the sessions after a turn of one
-pub follow_turn : (sessions : List Session) (who : ℕ) (after : Session) (told : Reply) (past : List Event) (event : Event) → AreFollowing sessions past → 1 ≤ who → who ≤ length sessions → TellsOne who told past event →
+pub follow_turn : (sessions : List Session) (who : ℕ) (after : Session) (told : Reply) (past : List Event) (event : Event) → AreFollowing sessions past
+    → 1 ≤ who → who ≤ length sessions → TellsOne who told past event →
     IsReady after → (sid_of after).number ≡ who → Follows after false (told ∷ told_to who past) → AreFollowing (set sessions (who - 1) after) (event ∷ past)
 follow_turn sessions who after told past event all some begun tells ready number follows place session found =
     ⊎_elim mine others (cases_Bool (who == place + 1))
@@ -85,7 +89,8 @@ follow_turn sessions who after told past event all some begun tells ready number
     mine here =
         let is : who ≡ place + 1 = eqb-true who (place + 1) here in
         let at : who - 1 ≡ place = omega arith in
-        let same : after ≡ session = some_same after session (sym (slice_get-set_same sessions (who - 1) after (omega arith)) ∙ ap (slice_get (set sessions (who - 1) after)) at ∙ found) in
+        let same : after ≡ session =
+        some_same after session (sym (slice_get-set_same sessions (who - 1) after (omega arith)) ∙ ap (slice_get (set sessions (who - 1) after)) at ∙ found) in
         let heard : told ∷ told_to who past ≡ told_to (place + 1) (event ∷ past) =
         ap (λ (n : ℕ). told ∷ told_to n past) is ∙ ap (λ (b : Bool). cond b (told ∷ []) [] ++ told_to (place + 1) past) (sym here) ∙ sym (tells (place + 1)) in
         let P : Session → Type 0 = λ s. IsReady s × ((sid_of s).number ≡ place + 1) × Follows s false (told_to (place + 1) (event ∷ past)) in
@@ -102,26 +107,31 @@ follow_turn sessions who after told past event all some begun tells ready number
         (old.0, old.1, subst Q heard old.2)
 
 -- who isn't told is told as much as before
-pub still_told : (who number : ℕ) (told : Reply) (past : List Event) (event : Event) → TellsOne who told past event → who ≢ number → told_to number (event ∷ past) ≡ told_to number past
+pub still_told : (who number : ℕ) (told : Reply) (past : List Event) (event : Event) → TellsOne who told past event → who ≢ number
+    → told_to number (event ∷ past) ≡ told_to number past
 still_told who number told past event tells other =
     let apart : (who == number) ≡ false = grind (arith, rules) in
     tells number ∙ ap (λ (b : Bool). cond b (told ∷ []) [] ++ told_to number past) apart
 
-pub none_turn : (sessions : List Session) (who : ℕ) (after : Session) (told : Reply) (past : List Event) (event : Event) → NoneUnbegun sessions past → who ≤ length sessions → TellsOne who told past event → NoneUnbegun (set sessions (who - 1) after) (event ∷ past)
+pub none_turn : (sessions : List Session) (who : ℕ) (after : Session) (told : Reply) (past : List Event) (event : Event) → NoneUnbegun sessions past
+    → who ≤ length sessions → TellsOne who told past event → NoneUnbegun (set sessions (who - 1) after) (event ∷ past)
 none_turn sessions who after told past event none begun tells number above =
     let far : length sessions < number = omega (arith, length-set sessions (who - 1) after) in
     still_told who number told past event tells (omega (arith, far, begun)) ∙ none number far
 
 -- writing a session with the same plan leaves the plans
-pub plans_turn : (sessions : List Session) (place : ℕ) (after session : Session) → slice_get sessions place ≡ Some session → plan_of after ≡ plan_of session → map plan_of (set sessions place after) ≡ map plan_of sessions
+pub plans_turn : (sessions : List Session) (place : ℕ) (after session : Session) → slice_get sessions place ≡ Some session → plan_of after ≡ plan_of session
+    → map plan_of (set sessions place after) ≡ map plan_of sessions
 plans_turn [] place after session found same = refl
 plans_turn (first ∷ sessions) zero after session found same =
     let is : first ≡ session = some_same first session found in
     ap (λ (p : Plan). p ∷ map plan_of sessions) (same ∙ ap plan_of (sym is))
-plans_turn (first ∷ sessions) (suc place) after session found same = ap (λ (ps : List Plan). plan_of first ∷ ps) (plans_turn sessions place after session found same)
+plans_turn (first ∷ sessions) (suc place) after session found same =
+    ap (λ (ps : List Plan). plan_of first ∷ ps) (plans_turn sessions place after session found same)
 
 -- the plan of a session, by its place
-plan_there : (sessions : List Session) (plans : List Plan) (place : ℕ) (session : Session) → map plan_of sessions ≡ plans → slice_get sessions place ≡ Some session → slice_get plans place ≡ Some (plan_of session)
+plan_there : (sessions : List Session) (plans : List Plan) (place : ℕ) (session : Session) → map plan_of sessions ≡ plans
+    → slice_get sessions place ≡ Some session → slice_get plans place ≡ Some (plan_of session)
 plan_there sessions plans place session all found =
     ap (λ (ps : List Plan). slice_get ps place) (sym all) ∙ slice_get-map plan_of sessions place ∙ ap (option_map plan_of) found
 
@@ -132,7 +142,8 @@ there (y ∷ xs) zero h = (y, refl)
 there (y ∷ xs) (suc place) h = there xs place (omega arith)
 
 -- what a session wants is what its own plan wants
-pub wants_is : (world : World) (who : Sid) (sessions : List Session) (session : Session) → map plan_of sessions ≡ world.plans → slice_get sessions (who.number - 1) ≡ Some session →
+pub wants_is : (world : World) (who : Sid) (sessions : List Session) (session : Session) → map plan_of sessions ≡ world.plans
+    → slice_get sessions (who.number - 1) ≡ Some session →
     wants (plan_of session) false (told_to who.number world.past) ≡ wanted_of world who
 wants_is world who sessions session plans found =
     ap (λ (o : Option Plan). wanted_by o (told_to who.number world.past)) (sym (plan_there sessions world.plans (who.number - 1) session plans found))
@@ -148,7 +159,8 @@ is_true true e = refl
 is_true false e = absurd (false≢true e)
 
 -- a grant that a session wants to release is out at its shard
-pub out_there : (shards : List ShardView) (shape : Shape) (world : World) (who : Sid) (request : Wanted) → HasShards shards shape world.past → GrantFacts shape world → request ≡ wanted_of world who → IsOutWhereReleased shards request
+pub out_there : (shards : List ShardView) (shape : Shape) (world : World) (who : Sid) (request : Wanted) → HasShards shards shape world.past
+    → GrantFacts shape world → request ≡ wanted_of world who → IsOutWhereReleased shards request
 out_there shards shape world who request has facts is = by request (λ grant h. here grant (release grant h))
   where
     release : (grant : Permit) → IsReleaseOf grant request → list_any (same_permit grant) (out_of shape (shard_of grant.key shape.shards) world.past) ≡ true
@@ -177,7 +189,8 @@ out_there shards shape world who request has facts is = by request (λ grant h. 
     by wanted.Nothing f = tt
 
 -- the session of a turn waits for it
-pub waits_there : (core : CoreView) (origin : Origin) (moves : List Move) (who : Sid) (session : Session) → IsAt core origin moves → 1 ≤ who.number → slice_get core.sessions (who.number - 1) ≡ Some session → IsWaiting core.shards who session
+pub waits_there : (core : CoreView) (origin : Origin) (moves : List Move) (who : Sid) (session : Session) → IsAt core origin moves → 1 ≤ who.number
+    → slice_get core.sessions (who.number - 1) ≡ Some session → IsWaiting core.shards who session
 waits_there core origin moves who session at some found =
     let world = world_of origin.shape moves in
     let following = at.sessions.following (who.number - 1) session found in
@@ -199,17 +212,21 @@ TakesStep origin moves turn new result =
     (λ _. HasKept new origin moves ⊎ ((said : Said) × HasKept new origin (Take turn said ∷ moves)))
 
 -- a turn whose event was made, and its line told unless memory ran out
-pub event_taken : (new : CoreView) (origin : Origin) (moves : List Move) (turn : Turn) (said : Said) (result : Result Told Memory) → IsAt new origin (Take turn said ∷ moves) → IfOk result (IsToldOf (turn_event origin.shape (world_of origin.shape moves) turn said)) → TakesStep origin moves turn new result
+pub event_taken : (new : CoreView) (origin : Origin) (moves : List Move) (turn : Turn) (said : Said) (result : Result Told Memory)
+    → IsAt new origin (Take turn said ∷ moves) → IfOk result (IsToldOf (turn_event origin.shape (world_of origin.shape moves) turn said))
+    → TakesStep origin moves turn new result
 event_taken new origin moves turn said (Ok told) at line = (said, at, line)
 event_taken new origin moves turn said (Err memory) at line = inr (said, at.kept)
 
 -- the sweeper and the clock after an event that is none of theirs
-sweeper_same : (sweeper : Sweeper) (shape : Shape) (past : List Event) (event : Event) → swept_in event ≡ [] → HasSweeper sweeper shape past → HasSweeper sweeper shape (event ∷ past)
+sweeper_same : (sweeper : Sweeper) (shape : Shape) (past : List Event) (event : Event) → swept_in event ≡ [] → HasSweeper sweeper shape past
+    → HasSweeper sweeper shape (event ∷ past)
 sweeper_same sweeper shape past event none has =
     record { shards = has.shards; following = subst (IsTold sweeper) (ap (λ (l : List SweepReply). l ++ sweeps_of past) (sym none)) has.following }
 
 -- the sessions after an event that is no session's
-pub sessions_same : (sessions : List Session) (world : World) (event : Event) → ((number : ℕ) → told_in number event ≡ []) → HasSessions sessions world → HasSessions sessions (after world event)
+pub sessions_same : (sessions : List Session) (world : World) (event : Event) → ((number : ℕ) → told_in number event ≡ []) → HasSessions sessions world
+    → HasSessions sessions (after world event)
 sessions_same sessions world event none has = record {
   plans = has.plans;
   following = λ place session found.
@@ -223,7 +240,8 @@ sessions_same sessions world event none has = record {
     same number = ap (λ (l : List Reply). l ++ told_to number world.past) (none number)
 
 -- a turn of a session
-pub turn_taken : (old new : CoreView) (origin : Origin) (moves : List Move) (who : Sid) (result : Result Told Memory) → IsAt old origin moves → 1 ≤ who.number → who.number ≤ length old.sessions → new.sweeper ≡ old.sweeper → new.clock ≡ old.clock →
+pub turn_taken : (old new : CoreView) (origin : Origin) (moves : List Move) (who : Sid) (result : Result Told Memory) → IsAt old origin moves → 1 ≤ who.number
+    → who.number ≤ length old.sessions → new.sweeper ≡ old.sweeper → new.clock ≡ old.clock →
     TakesOne old.shards old.store old.sessions who old.clock new.shards new.store new.sessions result → TakesStep origin moves (turn.Session who) new result
 turn_taken old new origin moves who result at some begun sweeper now takes = by result one.4 taken
   where
@@ -247,16 +265,19 @@ turn_taken old new origin moves who result at some begun sweeper now takes = by 
     follows = subst (λ (n : ℕ). Follows found.0 false (told_to n world.past)) number (at.sessions.following (who.number - 1) found.0 found.1).2
 
     taken : TakesTurn origin world who (wanted_of world who) heard new.shards new.store one.0 result
-    taken = subst (λ (w : Wanted). TakesTurn origin world who w heard new.shards new.store one.0 result) (wants_is world who old.sessions found.0 at.sessions.plans found.1)
+    taken =
+        subst (λ (w : Wanted). TakesTurn origin world who w heard new.shards new.store one.0 result) (wants_is world who old.sessions found.0 at.sessions.plans found.1)
         (one.5 origin world heard (at.kept.shards, (at.kept.store, at.phases)) at.clock follows)
 
-    kept : (said : Said) → Stands new.shards new.store origin (after world (event_of origin.shape world who (wanted_of world who) said)) → HasKept new origin (Take (turn.Session who) said ∷ moves)
+    kept : (said : Said) → Stands new.shards new.store origin (after world (event_of origin.shape world who (wanted_of world who) said))
+        → HasKept new origin (Take (turn.Session who) said ∷ moves)
     kept said stands = record { plans = at.kept.plans; fit = at.kept.fit; shards = stands.0; store = stands.1.0 }
 
     sid : (sid_of one.0).number ≡ who.number
     sid = ap (λ (s : Sid). s.number) one.3 ∙ (at.sessions.following (who.number - 1) found.0 found.1).1 ∙ number
 
-    by : (r : Result Told Memory) → OnOk r (IsReady one.0) → TakesTurn origin world who (wanted_of world who) heard new.shards new.store one.0 r → TakesStep origin moves (turn.Session who) new r
+    by : (r : Result Told Memory) → OnOk r (IsReady one.0) → TakesTurn origin world who (wanted_of world who) heard new.shards new.store one.0 r
+        → TakesStep origin moves (turn.Session who) new r
     by (Ok told) ready t =
         let event = event_of origin.shape world who (wanted_of world who) t.0 in
         let answer = reply_in event in
@@ -283,7 +304,9 @@ turn_taken old new origin moves who result at some begun sweeper now takes = by 
     by (Err memory) ready (inr made) = inr (made.0, kept made.0 made.1)
 
 -- a tick of the clock
-pub tick_taken : (old new : CoreView) (origin : Origin) (moves : List Move) (by : ℕ) (result : Result Told Memory) → IsAt old origin moves → new.store ≡ old.store → new.shards ≡ old.shards → new.sessions ≡ old.sessions → new.sweeper ≡ old.sweeper → new.clock ≡ min (old.clock + by) (2 ^ 64 - 1) →
+pub tick_taken : (old new : CoreView) (origin : Origin) (moves : List Move) (by : ℕ) (result : Result Told Memory) → IsAt old origin moves
+    → new.store ≡ old.store → new.shards ≡ old.shards → new.sessions ≡ old.sessions → new.sweeper ≡ old.sweeper
+    → new.clock ≡ min (old.clock + by) (2 ^ 64 - 1) →
     IfOk result (IsToldOf (Ticked new.clock)) → TakesStep origin moves (turn.Tick by) new result
 tick_taken old new origin moves by result at store shards sessions sweeper now line =
     event_taken new origin moves (turn.Tick by) Failed result ticked (subst (λ (n : ℕ). IfOk result (IsToldOf (Ticked n))) clock line)
@@ -330,11 +353,13 @@ unmoved shape world (sweep.Drop key token) = refl
 pub sweeper_numbered : (core : CoreView) (origin : Origin) (moves : List Move) → IsAt core origin moves → IsNumbered (wanted_by_stage core.sweeper)
 sweeper_numbered core origin moves at =
     let heard = sweeps_of (world_of origin.shape moves).past in
-    let wants : wanted_by_stage core.sweeper ≡ swept_next origin.shape (world_of origin.shape moves) = at.sweeper.following.wants ∙ ap (λ (n : ℕ). sweep_wants n heard) at.sweeper.shards in
+    let wants : wanted_by_stage core.sweeper ≡ swept_next origin.shape (world_of origin.shape moves) =
+    at.sweeper.following.wants ∙ ap (λ (n : ℕ). sweep_wants n heard) at.sweeper.shards in
     subst IsNumbered (sym wants) (ends_numbered origin.shape moves at.sessions.nobody)
 
 -- a step of the sweeper's
-pub sweep_taken : (old new : CoreView) (origin : Origin) (moves : List Move) (result : Result Told Memory) → IsAt old origin moves → new.sessions ≡ old.sessions → new.clock ≡ old.clock →
+pub sweep_taken : (old new : CoreView) (origin : Origin) (moves : List Move) (result : Result Told Memory) → IsAt old origin moves
+    → new.sessions ≡ old.sessions → new.clock ≡ old.clock →
     TakesSweep origin (world_of origin.shape moves) new.shards new.store new.sweeper result → TakesStep origin moves turn.Sweep new result
 sweep_taken old new origin moves result at sessions now takes =
     event_taken new origin moves turn.Sweep Failed result swept takes.2

@@ -33,7 +33,8 @@ module _ {A : Type 0} where
   tails x y xs ys e = cc
 
 -- two values that are both a key's answer on the same rows
-ask_same : (past : List Event) (rows : Tables) (key : QKey) (one two : Said) → IsTrueReply rows (wanted.Ask key) (ask_told past key one) → IsTrueReply rows (wanted.Ask key) (ask_told past key two) → tells_fault (ask_told past key one) ≡ tells_fault (ask_told past key two)
+ask_same : (past : List Event) (rows : Tables) (key : QKey) (one two : Said) → IsTrueReply rows (wanted.Ask key) (ask_told past key one)
+    → IsTrueReply rows (wanted.Ask key) (ask_told past key two) → tells_fault (ask_told past key one) ≡ tells_fault (ask_told past key two)
     → ask_told past key one ≡ ask_told past key two
 ask_same past rows key (Value value) (Value other) one two same = ap (λ v. ask_told past key (Value v)) (one ∙ sym two)
 ask_same past rows key (Value value) other one two same = absurd cc
@@ -45,7 +46,8 @@ ok_same : {a b : Tables} {found : Result Tables ℕ} → found ≡ Ok a → foun
 ok_same e f = cc
 
 -- two values that are both the answer after the transaction, which applies on rows or fails at one change of it
-staged_same : (rows : Tables) (key : QKey) (txn : List Change) (one two : Said) → IsTrueReply rows (wanted.Staged key txn) (staged_told txn one) → IsTrueReply rows (wanted.Staged key txn) (staged_told txn two) → tells_fault (staged_told txn one) ≡ tells_fault (staged_told txn two)
+staged_same : (rows : Tables) (key : QKey) (txn : List Change) (one two : Said) → IsTrueReply rows (wanted.Staged key txn) (staged_told txn one)
+    → IsTrueReply rows (wanted.Staged key txn) (staged_told txn two) → tells_fault (staged_told txn one) ≡ tells_fault (staged_told txn two)
     → staged_told txn one ≡ staged_told txn two
 staged_same rows key txn (Value value) (Value other) one two same =
     ap (λ v. staged_told txn (Value v)) (one.2 ∙ ap (answer key) (ok_same one.1 two.1) ∙ sym two.2)
@@ -60,7 +62,9 @@ staged_same rows key txn other (Rejected index) one two same = absurd cc
 staged_same rows key txn other another one two same = refl
 
 -- a transaction applies on rows or fails at one change of it
-said_same : (rows : Tables) (request : Wanted) (count : ℕ) (txn : List Change) (grants : GrantsView) (one two : Said) → IsTrueReply rows request (commit_said count txn grants one) → IsTrueReply rows request (commit_said count txn grants two) → tells_fault (commit_said count txn grants one) ≡ tells_fault (commit_said count txn grants two)
+said_same : (rows : Tables) (request : Wanted) (count : ℕ) (txn : List Change) (grants : GrantsView) (one two : Said)
+    → IsTrueReply rows request (commit_said count txn grants one) → IsTrueReply rows request (commit_said count txn grants two)
+    → tells_fault (commit_said count txn grants one) ≡ tells_fault (commit_said count txn grants two)
     → commit_said count txn grants one ≡ commit_said count txn grants two
 said_same rows request count txn grants Made Made one two same = refl
 said_same rows request count txn grants Made (Rejected index) (after, one) two same = absurd cc
@@ -73,14 +77,17 @@ said_same rows request count txn grants other Made one two same = absurd cc
 said_same rows request count txn grants other (Rejected index) one two same = absurd cc
 said_same rows request count txn grants other another one two same = refl
 
-by_same : (rows : Tables) (request : Wanted) (count : ℕ) (txn : List Change) (grants : GrantsView) (one two : Said) (fault : Option CommitFault) → IsTrueReply rows request (commit_by count txn grants one fault) → IsTrueReply rows request (commit_by count txn grants two fault)
+by_same : (rows : Tables) (request : Wanted) (count : ℕ) (txn : List Change) (grants : GrantsView) (one two : Said) (fault : Option CommitFault)
+    → IsTrueReply rows request (commit_by count txn grants one fault) → IsTrueReply rows request (commit_by count txn grants two fault)
     → tells_fault (commit_by count txn grants one fault) ≡ tells_fault (commit_by count txn grants two fault) → commit_by count txn grants one fault ≡ commit_by count txn grants two fault
 by_same rows request count txn grants one two (Some fault) true_one true_two same = refl
 by_same rows request count txn grants one two None true_one true_two same =
     said_same rows request count txn grants one two true_one true_two same
 
 -- whatever a session wants, only the store's answers tell what the keeper said
-event_same : (shape : Shape) (rows : Tables) (world : World) (who : Sid) (one two : Said) (request : Wanted) → IsTrueEvent rows (event_of shape world who request one) → IsTrueEvent rows (event_of shape world who request two) → is_fault (event_of shape world who request one) ≡ is_fault (event_of shape world who request two)
+event_same : (shape : Shape) (rows : Tables) (world : World) (who : Sid) (one two : Said) (request : Wanted)
+    → IsTrueEvent rows (event_of shape world who request one) → IsTrueEvent rows (event_of shape world who request two)
+    → is_fault (event_of shape world who request one) ≡ is_fault (event_of shape world who request two)
     → event_of shape world who request one ≡ event_of shape world who request two
 event_same shape rows world who one two (wanted.Ask key) true_one true_two same =
     ap (λ told. Called who (wanted.Ask key) told) (ask_same world.past rows key one two true_one true_two same)
@@ -93,9 +100,11 @@ event_same shape rows world who one two (wanted.Commit txn grants) true_one true
 event_same shape rows world who one two other true_one true_two same = refl
 
 -- so it is of each turn: ticks and sweeps are told by the events before
-turn_event_same : (shape : Shape) (rows : Tables) (world : World) (turn : Turn) (one two : Said) → IsTrueEvent rows (turn_event shape world turn one) → IsTrueEvent rows (turn_event shape world turn two) → is_fault (turn_event shape world turn one) ≡ is_fault (turn_event shape world turn two)
+turn_event_same : (shape : Shape) (rows : Tables) (world : World) (turn : Turn) (one two : Said) → IsTrueEvent rows (turn_event shape world turn one)
+    → IsTrueEvent rows (turn_event shape world turn two) → is_fault (turn_event shape world turn one) ≡ is_fault (turn_event shape world turn two)
     → turn_event shape world turn one ≡ turn_event shape world turn two
-turn_event_same shape rows world (turn.Session who) one two true_one true_two same = event_same shape rows world who one two (wanted_of world who) true_one true_two same
+turn_event_same shape rows world (turn.Session who) one two true_one true_two same =
+    event_same shape rows world who one two (wanted_of world who) true_one true_two same
 turn_event_same shape rows world (turn.Tick by) one two true_one true_two same = refl
 turn_event_same shape rows world turn.Sweep one two true_one true_two same = refl
 
@@ -108,13 +117,17 @@ module _ (shape : Shape) (opening : Tables) where
   IsTrueTurn world turn said = IsTrueEvent (rows_after opening (log_of world.past)) (turned world turn said)
 
   -- one turn in one world
-  turn_same : (world other : World) (turn : Turn) (one two : Said) → world ≡ other → IsTrueTurn world turn one → IsTrueTurn other turn two → is_fault (turned world turn one) ≡ is_fault (turned other turn two) → taken shape world turn one ≡ taken shape other turn two
+  turn_same : (world other : World) (turn : Turn) (one two : Said) → world ≡ other → IsTrueTurn world turn one → IsTrueTurn other turn two
+      → is_fault (turned world turn one) ≡ is_fault (turned other turn two) → taken shape world turn one ≡ taken shape other turn two
   turn_same world other turn one two is true_one =
-      let P : World → Type 0 = λ w. IsTrueTurn w turn two → is_fault (turned world turn one) ≡ is_fault (turned w turn two) → taken shape world turn one ≡ taken shape w turn two in
+      let P : World → Type 0 =
+      λ w. IsTrueTurn w turn two → is_fault (turned world turn one) ≡ is_fault (turned w turn two) → taken shape world turn one ≡ taken shape w turn two in
       let event : Event → World = λ e. record { plans = world.plans; past = e ∷ world.past } in
       subst P is (λ true_two same. ap event (turn_event_same shape (rows_after opening (log_of world.past)) world turn one two true_one true_two same))
 
-  worlds_same : (moves others : List Move) → map call_of moves ≡ map call_of others → IsTruePast opening (world_of shape moves).past → IsTruePast opening (world_of shape others).past → map is_fault (world_of shape moves).past ≡ map is_fault (world_of shape others).past → world_of shape moves ≡ world_of shape others
+  worlds_same : (moves others : List Move) → map call_of moves ≡ map call_of others → IsTruePast opening (world_of shape moves).past
+      → IsTruePast opening (world_of shape others).past → map is_fault (world_of shape moves).past ≡ map is_fault (world_of shape others).past
+      → world_of shape moves ≡ world_of shape others
   worlds_same [] [] calls one two faults = refl
   worlds_same [] (move ∷ others) calls one two faults = absurd cc
   worlds_same (move ∷ moves) [] calls one two faults = absurd cc
@@ -133,11 +146,13 @@ module _ (shape : Shape) (opening : Tables) where
       let head = heads (Turns turn) (Turns again) _ _ calls in
       let same : turn ≡ again = cc in
       let rest = worlds_same moves others (tails (Turns turn) (Turns again) _ _ calls) one.1 two.1 (tails _ _ _ _ faults) in
-      let P : Turn → Type 0 = λ t. IsTrueTurn other t word → is_fault (turned world turn said) ≡ is_fault (turned other t word) → taken shape world turn said ≡ taken shape other t word in
+      let P : Turn → Type 0 =
+      λ t. IsTrueTurn other t word → is_fault (turned world turn said) ≡ is_fault (turned other t word) → taken shape world turn said ≡ taken shape other t word in
       subst P same (turn_same world other turn said word rest one.0) two.0 (heads _ _ _ _ faults)
 
 -- two runs of one script take as many turns
-turns_same : (shape : Shape) (moves others : List Move) → map call_of moves ≡ map call_of others → length (world_of shape moves).past ≡ length (world_of shape others).past
+turns_same : (shape : Shape) (moves others : List Move) → map call_of moves ≡ map call_of others
+    → length (world_of shape moves).past ≡ length (world_of shape others).past
 turns_same shape [] [] calls = refl
 turns_same shape [] (move ∷ others) calls = absurd cc
 turns_same shape (move ∷ moves) [] calls = absurd cc
@@ -169,17 +184,21 @@ marks_same [] (event ∷ two) count same = absurd cc
 marks_same (event ∷ one) [] count same = absurd cc
 marks_same (event ∷ one) (other ∷ two) count same =
     let shorter : length one ≡ length two = omega (arith, count) in
-    let both = by (is_fault event) (is_fault other) (length one) (length two) (fault_turns one) (fault_turns two) shorter (turns_within one) (turns_within two) same in
+    let both =
+    by (is_fault event) (is_fault other) (length one) (length two) (fault_turns one) (fault_turns two) shorter (turns_within one) (turns_within two) same in
     ap (λ b. b ∷ map is_fault one) both.1 ∙ ap (λ l. is_fault other ∷ l) (marks_same one two shorter both.0)
   where
     last_of : (n : ℕ) (xs : List ℕ) → list_any (λ k. k == n + 1) (xs ++ (n + 1) ∷ []) ≡ true
-    last_of n xs = list_any-append (λ k. k == n + 1) xs ((n + 1) ∷ []) ∙ ap (λ b. list_any (λ k. k == n + 1) xs || (b || false)) (eq-eqb (n + 1) (n + 1) refl) ∙ or_true (list_any (λ k. k == n + 1) xs)
+    last_of n xs =
+        list_any-append (λ k. k == n + 1) xs ((n + 1) ∷ []) ∙ ap (λ b. list_any (λ k. k == n + 1) xs || (b || false)) (eq-eqb (n + 1) (n + 1) refl)
+        ∙ or_true (list_any (λ k. k == n + 1) xs)
       where
         or_true : (b : Bool) → (b || (true || false)) ≡ true
         or_true true = refl
         or_true false = refl
 
-    by : (b c : Bool) (n m : ℕ) (xs ys : List ℕ) → n ≡ m → list_any (λ k. k == n + 1) xs ≡ false → list_any (λ k. k == m + 1) ys ≡ false → xs ++ cond b ((n + 1) ∷ []) [] ≡ ys ++ cond c ((m + 1) ∷ []) [] → (xs ≡ ys) × (b ≡ c)
+    by : (b c : Bool) (n m : ℕ) (xs ys : List ℕ) → n ≡ m → list_any (λ k. k == n + 1) xs ≡ false → list_any (λ k. k == m + 1) ys ≡ false
+        → xs ++ cond b ((n + 1) ∷ []) [] ≡ ys ++ cond c ((m + 1) ∷ []) [] → (xs ≡ ys) × (b ≡ c)
     by true true n m xs ys e low high same = (append_cancel_right xs ys ((n + 1) ∷ []) (same ∙ ap (λ k. ys ++ (k + 1) ∷ []) (sym e)), refl)
     by false false n m xs ys e low high same = (append_cancel_right xs ys [] same, refl)
     by true false n m xs ys e low high same =
@@ -191,9 +210,11 @@ marks_same (event ∷ one) (other ∷ two) count same =
 pub turns_count : (past : List Event) → length (fault_turns past) ≡ count_by is_fault past
 turns_count [] = refl
 turns_count (event ∷ past) =
-    length-append (fault_turns past) (cond (is_fault event) ((length past + 1) ∷ []) []) ∙ by (is_fault event) (turns_count past) ∙ sym (count-cons is_fault event past)
+    length-append (fault_turns past) (cond (is_fault event) ((length past + 1) ∷ []) []) ∙ by (is_fault event) (turns_count past)
+    ∙ sym (count-cons is_fault event past)
   where
-    by : (b : Bool) → length (fault_turns past) ≡ count_by is_fault past → length (fault_turns past) + length (cond b ((length past + 1) ∷ []) []) ≡ tick b + count_by is_fault past
+    by : (b : Bool) → length (fault_turns past) ≡ count_by is_fault past
+        → length (fault_turns past) + length (cond b ((length past + 1) ∷ []) []) ≡ tick b + count_by is_fault past
     by true e = omega (arith, e)
     by false e = omega (arith, e)
 

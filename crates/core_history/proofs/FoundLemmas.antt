@@ -72,7 +72,8 @@ granted-heard past (step.Released key sid token how) known = tt
 granted-heard past (step.Gone key sid token) known = tt
 
 -- whose quarantine a scan finds was told something
-scan-heard : (shape : Shape) (world : World) (place : ℕ) (due : Due) → Inner shape world → first_due (now_of world.past) (steps_of place world.past) ≡ Some due → IsHeard world.past due.sid.number
+scan-heard : (shape : Shape) (world : World) (place : ℕ) (due : Due) → Inner shape world
+    → first_due (now_of world.past) (steps_of place world.past) ≡ Some due → IsHeard world.past due.sid.number
 scan-heard shape world place due inner e =
     let steps = steps_of place world.past in
     let found = first-stands (terms_of shape place) steps (now_of world.past) due (inner.legal place) e in
@@ -82,7 +83,8 @@ scan-heard shape world place due inner e =
     subst (λ (who : Sid). IsHeard world.past who.number) found.own own
 
 -- what the sweeper is told in its own step
-sweep-heard : (shape : Shape) (world : World) (request : SweepWanted) → Inner shape world → AllByRecursion (IsOfHeard (sweep_of shape world request ∷ world.past)) (swept_in (sweep_of shape world request))
+sweep-heard : (shape : Shape) (world : World) (request : SweepWanted) → Inner shape world
+    → AllByRecursion (IsOfHeard (sweep_of shape world request ∷ world.past)) (swept_in (sweep_of shape world request))
 sweep-heard shape world (sweep.Scan place) inner = (by (first_due (now_of world.past) (steps_of place world.past)) refl, tt)
   where
     event : Event
@@ -94,7 +96,8 @@ sweep-heard shape world (sweep.Scan place) inner = (by (first_due (now_of world.
 sweep-heard shape world (sweep.End who) inner = (tt, tt)
 sweep-heard shape world (sweep.Drop key token) inner = (tt, tt)
 
-turn-heard : (shape : Shape) (world : World) (turn : Turn) (said : Said) → Inner shape world → AllByRecursion (IsOfHeard (turn_event shape world turn said ∷ world.past)) (swept_in (turn_event shape world turn said))
+turn-heard : (shape : Shape) (world : World) (turn : Turn) (said : Said) → Inner shape world
+    → AllByRecursion (IsOfHeard (turn_event shape world turn said ∷ world.past)) (swept_in (turn_event shape world turn said))
 turn-heard shape world (turn.Session who) said inner =
     let event = turn_event shape world (turn.Session who) said in
     subst (AllByRecursion (IsOfHeard (event ∷ world.past))) (sym (event_turn shape world who (wanted_of world who) said).swept) tt

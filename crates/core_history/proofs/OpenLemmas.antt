@@ -39,7 +39,8 @@ opens_same world event who no_commit no_end =
     let ended : was_ended n (event ∷ world.past) ≡ was_ended n world.past = ap (λ (l : List ℕ). list_any (same n) (l ++ ended_of world.past)) no_end in
     ap (λ (b : Bool). opened writer b (was_ended n (event ∷ world.past))) committed ∙ ap (λ (b : Bool). opened writer (has_committed n world.past) b) ended
 
-pub phases_same : (phases : List Phase) (world : World) (event : Event) → HasPhases phases world → commits_in event ≡ [] → ends_in event ≡ [] → HasPhases phases (after world event)
+pub phases_same : (phases : List Phase) (world : World) (event : Event) → HasPhases phases world → commits_in event ≡ [] → ends_in event ≡ []
+    → HasPhases phases (after world event)
 phases_same phases world event has no_commit no_end =
     record {
       count = has.count;
@@ -47,7 +48,8 @@ phases_same phases world event has no_commit no_end =
     }
 
 -- the phase of a session that is there, and its place
-pub phase_there : (number : ℕ) (phases : List Phase) → 1 ≤ number → (if number == 0 then None else slice_get phases (number - 1)) ≡ slice_get phases (number - 1)
+pub phase_there : (number : ℕ) (phases : List Phase) → 1 ≤ number
+    → (if number == 0 then None else slice_get phases (number - 1)) ≡ slice_get phases (number - 1)
 phase_there number phases h =
     let apart : (number == 0) ≡ false = grind (arith, rules) in
     ap (λ (b : Bool). cond b None (slice_get phases (number - 1))) apart
@@ -62,11 +64,13 @@ open_within who phases h some = by phases (who.number - 1) (sym (ap may (phase_t
     by (x ∷ xs) (suc place) h = let e = by xs place h in omega (arith, e)
 
 -- a session whose phase was changed has that phase
-phase_same : (who : Sid) (phase : Phase) (phases : List Phase) → 1 ≤ who.number → who.number - 1 < length phases → may_commit who (with_phase who phase phases) ≡ may (Some phase)
+phase_same : (who : Sid) (phase : Phase) (phases : List Phase) → 1 ≤ who.number → who.number - 1 < length phases
+    → may_commit who (with_phase who phase phases) ≡ may (Some phase)
 phase_same who phase phases some within =
     ap may (phase_there who.number (with_phase who phase phases) some ∙ slice_get-set_same phases (who.number - 1) phase within)
 
-phase_other : (who other : Sid) (phase : Phase) (phases : List Phase) → 1 ≤ who.number → 1 ≤ other.number → (who.number == other.number) ≡ false → may_commit other (with_phase who phase phases) ≡ may_commit other phases
+phase_other : (who other : Sid) (phase : Phase) (phases : List Phase) → 1 ≤ who.number → 1 ≤ other.number → (who.number == other.number) ≡ false
+    → may_commit other (with_phase who phase phases) ≡ may_commit other phases
 phase_other who other phase phases some more apart =
     let differ : who.number - 1 ≢ other.number - 1 = λ e. false≢true (sym apart ∙ eq-eqb who.number other.number (omega arith)) in
     ap may (phase_there other.number (with_phase who phase phases) more ∙ slice_get-set_other phases (who.number - 1) (other.number - 1) phase differ ∙ sym (phase_there other.number phases more))
@@ -95,7 +99,8 @@ sid_is : (a b : Sid) → a.number ≡ b.number → a ≡ b
 sid_is a b e = ap (λ (n : ℕ). record { number = n }) e
 
 -- the sessions after a commit
-pub phases_committed : (phases : List Phase) (world : World) (who : Sid) (txn : List Change) (grants : GrantsView) (number : ℕ) → HasPhases phases world → 1 ≤ who.number → may_commit who phases ≡ true →
+pub phases_committed : (phases : List Phase) (world : World) (who : Sid) (txn : List Change) (grants : GrantsView) (number : ℕ) → HasPhases phases world
+    → 1 ≤ who.number → may_commit who phases ≡ true →
     HasPhases (with_phase who Committed phases) (after world (Called who (wanted.Commit txn grants) (reply.Committed number txn grants)))
 phases_committed phases world who txn grants number has some is_so =
     record {
@@ -106,22 +111,30 @@ phases_committed phases world who txn grants number has some is_so =
     event : Event
     event = Called who (wanted.Commit txn grants) (reply.Committed number txn grants)
 
-    commits : (other : Sid) → has_committed other.number (event ∷ world.past) ≡ (has_committed other.number world.past || ((who.number == other.number) || false))
+    commits : (other : Sid)
+        → has_committed other.number (event ∷ world.past) ≡ (has_committed other.number world.past || ((who.number == other.number) || false))
     commits other = list_any-append (λ commit. commit.sid.number == other.number) (log_of world.past) (record { sid = who; txn = txn } ∷ [])
 
-    mine : (other : Sid) → 1 ≤ other.number → (who.number == other.number) ≡ true → may_commit other (with_phase who Committed phases) ≡ is_open (after world event) other
+    mine : (other : Sid) → 1 ≤ other.number → (who.number == other.number) ≡ true
+        → may_commit other (with_phase who Committed phases) ≡ is_open (after world event) other
     mine other more same =
         let n : who.number ≡ other.number = eqb-true who.number other.number same in
         let writer = is_writer (plan_at other.number world.plans) in
-        let closed : has_committed other.number (event ∷ world.past) ≡ true = commits other ∙ ap (λ (b : Bool). has_committed other.number world.past || (b || false)) same ∙ or_last (has_committed other.number world.past) in
+        let closed : has_committed other.number (event ∷ world.past) ≡ true =
+        commits other ∙ ap (λ (b : Bool). has_committed other.number world.past || (b || false)) same ∙ or_last (has_committed other.number world.past) in
         let P : Sid → Type 0 = λ s. may_commit s (with_phase who Committed phases) ≡ false in
-        let there : may_commit other (with_phase who Committed phases) ≡ false = subst P (sid_is who other n) (phase_same who Committed phases some (open_within who phases is_so some)) in
-        there ∙ sym (ap (λ (b : Bool). opened writer b (was_ended other.number (event ∷ world.past))) closed ∙ no_more writer (not (was_ended other.number (event ∷ world.past))))
+        let there : may_commit other (with_phase who Committed phases) ≡ false =
+        subst P (sid_is who other n) (phase_same who Committed phases some (open_within who phases is_so some)) in
+        there
+        ∙ sym (ap (λ (b : Bool). opened writer b (was_ended other.number (event ∷ world.past))) closed ∙ no_more writer (not (was_ended other.number (event ∷ world.past))))
 
-    others : (other : Sid) → 1 ≤ other.number → (who.number == other.number) ≡ false → may_commit other (with_phase who Committed phases) ≡ is_open (after world event) other
+    others : (other : Sid) → 1 ≤ other.number → (who.number == other.number) ≡ false
+        → may_commit other (with_phase who Committed phases) ≡ is_open (after world event) other
     others other more apart =
         let writer = is_writer (plan_at other.number world.plans) in
-        let kept : has_committed other.number (event ∷ world.past) ≡ has_committed other.number world.past = commits other ∙ ap (λ (b : Bool). has_committed other.number world.past || (b || false)) apart ∙ or_none (has_committed other.number world.past) in
+        let kept : has_committed other.number (event ∷ world.past) ≡ has_committed other.number world.past =
+        commits other ∙ ap (λ (b : Bool). has_committed other.number world.past || (b || false)) apart
+        ∙ or_none (has_committed other.number world.past) in
         phase_other who other Committed phases some more apart ∙ has.opens other more
         ∙ sym (ap (λ (b : Bool). opened writer b (was_ended other.number (event ∷ world.past))) kept)
 

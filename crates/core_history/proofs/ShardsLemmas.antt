@@ -35,7 +35,8 @@ at_home : (b : Bool) (spent : Option ShardFault) (shard : ℕ) → b ≡ true �
 at_home true spent shard h n = n
 at_home false spent shard h n = absurd (false≢true h)
 
-pub not_refused : (shard : ShardView) (key : QKey) (s : Step) → IsAtHome shard.terms key → next_token shard.terms (past_of shard) < 2 ^ 64 - 1 → refusal shard key s ≡ None
+pub not_refused : (shard : ShardView) (key : QKey) (s : Step) → IsAtHome shard.terms key → next_token shard.terms (past_of shard) < 2 ^ 64 - 1
+    → refusal shard key s ≡ None
 not_refused shard key s home unspent =
     at_home (shard_of key shard.terms.count == shard.terms.no) (spent_at (next_token shard.terms (past_of shard)) s) (shard_of key shard.terms.count)
     (eq-eqb _ _ home) (never_spent (draws s) (next_token shard.terms (past_of shard)) unspent)
@@ -65,7 +66,8 @@ grown shard request made =
     record { terms = shard.terms; history = shard.history ++ made ∷ []; out = out_by shard.terms request made shard.out }
 
 -- the shards after an event that changes one of them alone
-pub shards_after : (shape : Shape) (past : List Event) (event : Event) (home : ℕ) (new : ShardView) (shards : List ShardView) → HasShards shards shape past → home < shape.shards → new ≡ shard_after shape (event ∷ past) home
+pub shards_after : (shape : Shape) (past : List Event) (event : Event) (home : ℕ) (new : ShardView) (shards : List ShardView) → HasShards shards shape past
+    → home < shape.shards → new ≡ shard_after shape (event ∷ past) home
     → ((place : ℕ) → (home == place) ≡ false → shard_after shape (event ∷ past) place ≡ shard_after shape past place) → HasShards (set shards home new) shape (event ∷ past)
 shards_after shape past event home new shards has within here others =
     record {
@@ -74,7 +76,8 @@ shards_after shape past event home new shards has within here others =
       each = λ place below. by place below (cases_Bool (home == place));
     }
   where
-    by : (place : ℕ) → place < shape.shards → ((home == place) ≡ true) ⊎ ((home == place) ≡ false) → slice_get (set shards home new) place ≡ Some (shard_after shape (event ∷ past) place)
+    by : (place : ℕ) → place < shape.shards → ((home == place) ≡ true) ⊎ ((home == place) ≡ false)
+        → slice_get (set shards home new) place ≡ Some (shard_after shape (event ∷ past) place)
     by place below (inl same) =
         let P : ℕ → Type 0 = λ n. slice_get (set shards home new) n ≡ Some (shard_after shape (event ∷ past) n) in
         let inside : home < length shards = omega (arith, has.count) in
@@ -84,15 +87,18 @@ shards_after shape past event home new shards has within here others =
         slice_get-set_other shards home place new differ ∙ has.each place below ∙ ap (λ (v : ShardView). Some v) (sym (others place apart))
 
 -- an event that makes no step and moves no grant leaves the shards
-pub shards_same : (shards : List ShardView) (shape : Shape) (past : List Event) (event : Event) → HasShards shards shape past → ((place : ℕ) → shard_after shape (event ∷ past) place ≡ shard_after shape past place) → HasShards shards shape (event ∷ past)
-shards_same shards shape past event has same = record { fit = has.fit; count = has.count; each = λ place below. has.each place below ∙ ap (λ (v : ShardView). Some v) (sym (same place)) }
+pub shards_same : (shards : List ShardView) (shape : Shape) (past : List Event) (event : Event) → HasShards shards shape past
+    → ((place : ℕ) → shard_after shape (event ∷ past) place ≡ shard_after shape past place) → HasShards shards shape (event ∷ past)
+shards_same shards shape past event has same =
+    record { fit = has.fit; count = has.count; each = λ place below. has.each place below ∙ ap (λ (v : ShardView). Some v) (sym (same place)) }
 
 -- a step behind the others, the latest first
 turned : (steps : List Step) (made : Step) → reverse steps ++ made ∷ [] ≡ reverse (made ∷ steps)
 turned steps made = sym (reverse-append (made ∷ []) steps)
 
 -- a shard that made a step, and the others, stand after its event
-pub shards_after_step : (shape : Shape) (past : List Event) (who : Sid) (request : Wanted) (made : Step) (told : Reply) (home : ℕ) (shards : List ShardView) → HasShards shards shape past → home < shape.shards →
+pub shards_after_step : (shape : Shape) (past : List Event) (who : Sid) (request : Wanted) (made : Step) (told : Reply) (home : ℕ) (shards : List ShardView)
+    → HasShards shards shape past → home < shape.shards →
     HasShards (set shards home (grown (shard_after shape past home) request made)) shape (Stepped home who request made told ∷ past)
 shards_after_step shape past who request made told home shards has within =
     shards_after shape past (Stepped home who request made told) home (grown (shard_after shape past home) request made) shards has within
@@ -103,10 +109,12 @@ shards_after_step shape past who request made told home shards has within =
     H history = record { terms = terms_of shape home; history = history; out = out_by (terms_of shape home) request made (out_of shape home past) }
 
     after : ℕ → Bool → ShardView
-    after place b = record { terms = terms_of shape place; history = reverse (cond b (made ∷ []) [] ++ steps_of place past); out = cond b (out_by (terms_of shape place) request made (out_of shape place past)) (out_of shape place past) }
+    after place b =
+        record { terms = terms_of shape place; history = reverse (cond b (made ∷ []) [] ++ steps_of place past); out = cond b (out_by (terms_of shape place) request made (out_of shape place past)) (out_of shape place past) }
 
 -- a step of the sweeper's that makes none on a shard leaves the shards
-pub shards_looked : (shards : List ShardView) (shape : Shape) (past : List Event) (place : ℕ) (request : SweepWanted) (told : SweepReply) → HasShards shards shape past → HasShards shards shape (Swept place request None told ∷ past)
+pub shards_looked : (shards : List ShardView) (shape : Shape) (past : List Event) (place : ℕ) (request : SweepWanted) (told : SweepReply)
+    → HasShards shards shape past → HasShards shards shape (Swept place request None told ∷ past)
 shards_looked shards shape past place request told has =
     shards_same shards shape past (Swept place request None told) has
     (λ at. ap (λ (steps : List Step). record { terms = terms_of shape at; history = reverse steps; out = out_of shape at past }) (none (place == at) (steps_of at past)))
@@ -116,7 +124,8 @@ shards_looked shards shape past place request told has =
     none false steps = refl
 
 -- a shard that was swept, and the others, stand after that
-pub shards_swept : (shape : Shape) (past : List Event) (request : SweepWanted) (key : QKey) (token : ℕ) (told : SweepReply) (home : ℕ) (shards : List ShardView) → HasShards shards shape past → home < shape.shards →
+pub shards_swept : (shape : Shape) (past : List Event) (request : SweepWanted) (key : QKey) (token : ℕ) (told : SweepReply) (home : ℕ) (shards : List ShardView)
+    → HasShards shards shape past → home < shape.shards →
     HasShards (set shards home (swept (shard_after shape past home) (sweep_step (steps_of home past) key token))) shape (Swept home request (sweep_step (steps_of home past) key token) told ∷ past)
 shards_swept shape past request key token told home shards has within =
     shards_after shape past (Swept home request (sweep_step (steps_of home past) key token) told) home (swept (shard_after shape past home) (sweep_step (steps_of home past) key token)) shards has within
@@ -124,7 +133,8 @@ shards_swept shape past request key token told home shards has within =
     (λ place apart. ap (after place (sweep_step (steps_of home past) key token)) apart)
   where
     after : ℕ → Option Step → Bool → ShardView
-    after place made b = record { terms = terms_of shape place; history = reverse (cond b (option_to_list made) [] ++ steps_of place past); out = out_of shape place past }
+    after place made b =
+        record { terms = terms_of shape place; history = reverse (cond b (option_to_list made) [] ++ steps_of place past); out = out_of shape place past }
 
     by : (found : Option Quar) → swept (shard_after shape past home) (sweep_by key token found) ≡ after home (sweep_by key token found) true
     by None = refl
@@ -132,10 +142,12 @@ shards_swept shape past request key token told home shards has within =
         ap (λ (history : List Step). record { terms = terms_of shape home; history = history; out = out_of shape home past }) (turned (steps_of home past) (Released key quar.sid token Drop))
 
 -- an event at the store leaves the shards, and so does a tick
-pub shards_called : (shards : List ShardView) (shape : Shape) (past : List Event) (who : Sid) (request : Wanted) (told : Reply) → HasShards shards shape past → HasShards shards shape (Called who request told ∷ past)
+pub shards_called : (shards : List ShardView) (shape : Shape) (past : List Event) (who : Sid) (request : Wanted) (told : Reply) → HasShards shards shape past
+    → HasShards shards shape (Called who request told ∷ past)
 shards_called shards shape past who request told has = shards_same shards shape past (Called who request told) has (λ place. refl)
 
-pub shards_ticked : (shards : List ShardView) (shape : Shape) (past : List Event) (now : ℕ) → HasShards shards shape past → HasShards shards shape (Ticked now ∷ past)
+pub shards_ticked : (shards : List ShardView) (shape : Shape) (past : List Event) (now : ℕ) → HasShards shards shape past
+    → HasShards shards shape (Ticked now ∷ past)
 shards_ticked shards shape past now has = shards_same shards shape past (Ticked now) has (λ place. refl)
 
 -- a key's shard is one of them
@@ -160,7 +172,8 @@ length-steps_in place (Swept shard request made told) = some (shard == place) ma
 
 length-steps_of : (place : ℕ) (past : List Event) → length (steps_of place past) ≤ length past
 length-steps_of place [] = omega arith
-length-steps_of place (event ∷ past) = omega (arith, length-append (steps_in place event) (steps_of place past), length-steps_in place event, length-steps_of place past)
+length-steps_of place (event ∷ past) =
+    omega (arith, length-append (steps_in place event) (steps_of place past), length-steps_in place event, length-steps_of place past)
 
 some_is : (a b : ShardView) → Some a ≡ Some b → a ≡ b
 some_is a b e = cc
@@ -187,7 +200,8 @@ pub record IsShardOf (shape : Shape) (past : List Event) (key : QKey) (place : �
   pub within : shard_of key shape.shards < shape.shards
   pub same : shard ≡ shard_after shape past (shard_of key shape.shards)
 
-pub shard_found : (shape : Shape) (past : List Event) (key : QKey) (shards : List ShardView) (place : ℕ) (shard : ShardView) → HasShards shards shape past → place ≡ shard_of key (length shards) → slice_get shards place ≡ Some shard → IsShardOf shape past key place shard
+pub shard_found : (shape : Shape) (past : List Event) (key : QKey) (shards : List ShardView) (place : ℕ) (shard : ShardView) → HasShards shards shape past
+    → place ≡ shard_of key (length shards) → slice_get shards place ≡ Some shard → IsShardOf shape past key place shard
 shard_found shape past key shards place shard has at found =
     let here : place ≡ shard_of key shape.shards = at ∙ ap (λ (n : ℕ). shard_of key n) has.count in
     let within = home_within key shape.shards has.fit.some_shards in
@@ -195,12 +209,16 @@ shard_found shape past key shards place shard has at found =
     record { here = here; within = within; same = some_is shard _ (sym there ∙ has.each (shard_of key shape.shards) within) }
 
 -- what follows the shard's own past follows the steps on it
-pub step_is : (shape : Shape) (past : List Event) (key : QKey) (place : ℕ) (shard : ShardView) (f : Terms → List Step → Step) → IsShardOf shape past key place shard → f shard.terms (past_of shard) ≡ f (terms_of shape (shard_of key shape.shards)) (steps_of (shard_of key shape.shards) past)
+pub step_is : (shape : Shape) (past : List Event) (key : QKey) (place : ℕ) (shard : ShardView) (f : Terms → List Step → Step)
+    → IsShardOf shape past key place shard
+    → f shard.terms (past_of shard) ≡ f (terms_of shape (shard_of key shape.shards)) (steps_of (shard_of key shape.shards) past)
 step_is shape past key place shard f is =
-    ap (λ (v : ShardView). f v.terms (past_of v)) is.same ∙ ap (λ (steps : List Step). f (terms_of shape (shard_of key shape.shards)) steps) (reverse-reverse (steps_of (shard_of key shape.shards) past))
+    ap (λ (v : ShardView). f v.terms (past_of v)) is.same
+    ∙ ap (λ (steps : List Step). f (terms_of shape (shard_of key shape.shards)) steps) (reverse-reverse (steps_of (shard_of key shape.shards) past))
 
 -- the shards after a request on one of them
-pub shards_made : (shape : Shape) (past : List Event) (who : Sid) (request : Wanted) (key : QKey) (f : Terms → List Step → Step) (shards : List ShardView) (place : ℕ) (shard new : ShardView) → HasShards shards shape past → IsShardOf shape past key place shard → new ≡ grown shard request (f shard.terms (past_of shard)) →
+pub shards_made : (shape : Shape) (past : List Event) (who : Sid) (request : Wanted) (key : QKey) (f : Terms → List Step → Step) (shards : List ShardView) (place : ℕ) (shard new : ShardView)
+    → HasShards shards shape past → IsShardOf shape past key place shard → new ≡ grown shard request (f shard.terms (past_of shard)) →
     HasShards (set shards place new) shape (stepped_on shape past who request key f ∷ past)
 shards_made shape past who request key f shards place shard new has is grew =
     let home = shard_of key shape.shards in
@@ -222,7 +240,8 @@ slice_get_pushed [] x = refl
 slice_get_pushed (y ∷ xs) x = slice_get_pushed xs x
 
 -- what is at each place below the length, and at the new one
-pub each_pushed : {X : Type 0} (at : ℕ → X) (xs : List X) (x : X) (n : ℕ) → length xs ≡ n → x ≡ at n → ((place : ℕ) → place < n → slice_get xs place ≡ Some (at place)) → (place : ℕ) → place < n + 1 → slice_get (xs ++ x ∷ []) place ≡ Some (at place)
+pub each_pushed : {X : Type 0} (at : ℕ → X) (xs : List X) (x : X) (n : ℕ) → length xs ≡ n → x ≡ at n
+    → ((place : ℕ) → place < n → slice_get xs place ≡ Some (at place)) → (place : ℕ) → place < n + 1 → slice_get (xs ++ x ∷ []) place ≡ Some (at place)
 each_pushed {X} at xs x n count is each place below =
     ⊎_elim (λ h. slice_get_push xs x place (omega (arith, count)) ∙ each place h)
     (λ h. let last : place ≡ length xs = omega (arith, count) in

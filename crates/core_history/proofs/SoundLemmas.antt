@@ -15,7 +15,8 @@ use Rattle.core_history.proofs.FreshRuns.{runs_fresh}
 use Rattle.core_history.proofs.GrantLemmas.{runs_are_lawful_is}
 
 -- the histories of shards that are those of a past from this place on
-each_history : (shape : Shape) (past : List Event) (shards : List ShardView) (first : ℕ) → ((place : ℕ) → place < length shards → slice_get shards place ≡ Some (shard_after shape past (first + place))) →
+each_history : (shape : Shape) (past : List Event) (shards : List ShardView) (first : ℕ)
+    → ((place : ℕ) → place < length shards → slice_get shards place ≡ Some (shard_after shape past (first + place))) →
     map (λ shard. shard.history) shards ≡ map (λ place. reverse (steps_of place past)) (range_with_len first (length shards))
 each_history shape past [] first each = refl
 each_history shape past (shard ∷ shards) first each =
@@ -29,12 +30,14 @@ each_history shape past (shard ∷ shards) first each =
     some_is a b e = cc
 
 -- the histories of the shards are those of the past
-histories_are : (shards : List ShardView) (shape : Shape) (past : List Event) → HasShards shards shape past → map (λ shard. shard.history) shards ≡ histories_of shape past
+histories_are : (shards : List ShardView) (shape : Shape) (past : List Event) → HasShards shards shape past
+    → map (λ shard. shard.history) shards ≡ histories_of shape past
 histories_are shards shape past has =
     each_history shape past shards 0 (λ place below. has.each place (omega (arith, below, has.count)) ∙ ap (λ (n : ℕ). Some (shard_after shape past n)) (omega arith))
     ∙ ap (λ (n : ℕ). map (λ place. reverse (steps_of place past)) (range_with_len 0 n)) has.count
 
-pub sound : (core : CoreView) (origin : Origin) (moves : List Move) → HasKept core origin moves → ForSome core.store.told (λ told. told ≡ rows_after core.store.ledger.opening core.store.ledger.log) → IsSound core origin moves
+pub sound : (core : CoreView) (origin : Origin) (moves : List Move) → HasKept core origin moves
+    → ForSome core.store.told (λ told. told ≡ rows_after core.store.ledger.opening core.store.ledger.log) → IsSound core origin moves
 sound core origin moves kept rows =
     let shape = origin.shape in
     let some : shape.shards ≢ 0 = λ e. absurd (omega (arith, kept.shards.fit.some_shards, e)) in
@@ -42,6 +45,7 @@ sound core origin moves kept rows =
       log = kept.store.log;
       histories = histories_are core.shards shape (world_of shape moves).past kept.shards;
       lawful = runs_are_lawful_is shape moves some kept.plans;
-      rows = λ told is. rows told is ∙ ap (λ (t : Tables). rows_after t core.store.ledger.log) kept.store.opening ∙ ap (rows_after origin.opening) kept.store.log;
+      rows = λ told is. rows told is ∙ ap (λ (t : Tables). rows_after t core.store.ledger.log) kept.store.opening
+          ∙ ap (rows_after origin.opening) kept.store.log;
       fresh = λ told. (runs_fresh shape origin.opening moves some kept.plans kept.fit (kept.store.truth told)).1;
     }

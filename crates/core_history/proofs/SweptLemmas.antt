@@ -42,16 +42,19 @@ past_is : (shape : Shape) (past : List Event) (place : ℕ) (shard : ShardView) 
 past_is shape past place shard same = ap past_of same ∙ reverse-reverse (steps_of place past)
 
 -- what a scan finds is told
-pub scan_told_is : (shape : Shape) (world : World) (place now : ℕ) (shards : List ShardView) (shard : ShardView) (found : Option Due) → HasShards shards shape world.past → place < length shards → slice_get shards place ≡ Some shard → now ≡ now_of world.past
+pub scan_told_is : (shape : Shape) (world : World) (place now : ℕ) (shards : List ShardView) (shard : ShardView) (found : Option Due)
+    → HasShards shards shape world.past → place < length shards → slice_get shards place ≡ Some shard → now ≡ now_of world.past
     → found ≡ first_due now (past_of shard) → IsToldSweeper shape world (sweep.Scan place) (scan_told found)
 scan_told_is shape world place now shards shard found has within there time is =
-    let same : shard ≡ shard_after shape world.past place = some_is shard (shard_after shape world.past place) (sym there ∙ has.each place (omega (arith, within, has.count))) in
+    let same : shard ≡ shard_after shape world.past place =
+    some_is shard (shard_after shape world.past place) (sym there ∙ has.each place (omega (arith, within, has.count))) in
     let found_is : first_due (now_of world.past) (steps_of place world.past) ≡ found =
     ap (first_due (now_of world.past)) (sym (past_is shape world.past place shard same)) ∙ ap (λ (n : ℕ). first_due n (past_of shard)) (sym time) ∙ sym is in
     ap (λ (o : Option Due). scan_told o ∷ []) found_is
 
 -- a session that was ended
-pub end_told_is : (old new : StoreView) (origin : Origin) (world : World) (who : Sid) (was : Bool) → StandsStore old origin world → 1 ≤ who.number → was ≡ may_commit who old.ledger.sessions → new.ledger ≡ with_end who old.ledger → new.told ≡ old.told → new.faults ≡ old.faults
+pub end_told_is : (old new : StoreView) (origin : Origin) (world : World) (who : Sid) (was : Bool) → StandsStore old origin world → 1 ≤ who.number
+    → was ≡ may_commit who old.ledger.sessions → new.ledger ≡ with_end who old.ledger → new.told ≡ old.told → new.faults ≡ old.faults
     → SweepsStore origin world (sweep.End who) new (sweeps.Ended was)
 end_told_is old new origin world who was stands some was_is ledger told faults =
     let event = sweep_of origin.shape world (sweep.End who) in
@@ -65,7 +68,8 @@ end_told_is old new origin world who was stands some was_is ledger told faults =
     )
 
 -- a key that was dropped on its shard
-pub drop_told_is : (shape : Shape) (world : World) (key : QKey) (token : ℕ) (shards : List ShardView) (place : ℕ) (shard new : ShardView) (told : Rel) → HasShards shards shape world.past → IsShardOf shape world.past key place shard
+pub drop_told_is : (shape : Shape) (world : World) (key : QKey) (token : ℕ) (shards : List ShardView) (place : ℕ) (shard new : ShardView) (told : Rel)
+    → HasShards shards shape world.past → IsShardOf shape world.past key place shard
     → new ≡ swept shard (sweep_step (past_of shard) key token) → told ≡ sweep_told (sweep_step (past_of shard) key token) → SweepsShards shape world (sweep.Drop key token) (set shards place new) (sweeps.Dropped told)
 drop_told_is shape world key token shards place shard new told has is made answer = (
   ap (λ (t : Rel). sweeps.Dropped t ∷ []) (sym (answer ∙ ap sweep_told step_is)),
@@ -91,19 +95,23 @@ drop_told_is shape world key token shards place shard new told has is made answe
     Q s = HasShards (set shards home s) shape (sweep_of shape world (sweep.Drop key token) ∷ world.past)
 
 -- the store stands after an event that asks nothing of it
-stands_quiet : (store : StoreView) (origin : Origin) (world : World) (event : Event) → StandsStore store origin world → IsQuiet event → StandsStore store origin (after world event)
+stands_quiet : (store : StoreView) (origin : Origin) (world : World) (event : Event) → StandsStore store origin world → IsQuiet event
+    → StandsStore store origin (after world event)
 stands_quiet store origin world event stands quiet =
     (store_quiet store origin world.past event stands.0 quiet, phases_same store.ledger.sessions world event stands.1 quiet.commits quiet.ends)
 
-pub scan_sweeps : (origin : Origin) (world : World) (place : ℕ) (shards : List ShardView) (store : StoreView) (told : SweepReply) → Stands shards store origin world → IsToldSweeper origin.shape world (sweep.Scan place) told → Sweeps origin world (sweep.Scan place) shards store told
+pub scan_sweeps : (origin : Origin) (world : World) (place : ℕ) (shards : List ShardView) (store : StoreView) (told : SweepReply)
+    → Stands shards store origin world → IsToldSweeper origin.shape world (sweep.Scan place) told → Sweeps origin world (sweep.Scan place) shards store told
 scan_sweeps origin world place shards store told stands is =
     (is, (shards_looked shards origin.shape world.past place (sweep.Scan place) _ stands.0, stands_quiet store origin world (sweep_of origin.shape world (sweep.Scan place)) stands.1 (quiet_scan place place None _)))
 
-pub end_sweeps : (origin : Origin) (world : World) (who : Sid) (shards : List ShardView) (store : StoreView) (told : SweepReply) → HasShards shards origin.shape world.past → SweepsStore origin world (sweep.End who) store told → Sweeps origin world (sweep.End who) shards store told
+pub end_sweeps : (origin : Origin) (world : World) (who : Sid) (shards : List ShardView) (store : StoreView) (told : SweepReply)
+    → HasShards shards origin.shape world.past → SweepsStore origin world (sweep.End who) store told → Sweeps origin world (sweep.End who) shards store told
 end_sweeps origin world who shards store told has made =
     (made.0, (shards_looked shards origin.shape world.past 0 (sweep.End who) _ has, made.1))
 
-pub drop_sweeps : (origin : Origin) (world : World) (key : QKey) (token : ℕ) (shards : List ShardView) (store : StoreView) (told : SweepReply) → StandsStore store origin world → SweepsShards origin.shape world (sweep.Drop key token) shards told
+pub drop_sweeps : (origin : Origin) (world : World) (key : QKey) (token : ℕ) (shards : List ShardView) (store : StoreView) (told : SweepReply)
+    → StandsStore store origin world → SweepsShards origin.shape world (sweep.Drop key token) shards told
     → Sweeps origin world (sweep.Drop key token) shards store told
 drop_sweeps origin world key token shards store told stands made =
     (made.0, (made.1, stands_quiet store origin world (sweep_of origin.shape world (sweep.Drop key token)) stands (quiet_drop _ key token _ _)))
@@ -112,7 +120,8 @@ told_same : (a b : SweepReply) → a ∷ [] ≡ b ∷ [] → a ≡ b
 told_same a b e = cc
 
 -- the line of what was wanted and told is the event's
-sweep_told_of : (shape : Shape) (world : World) (request : SweepWanted) (told : SweepReply) (result : Result Told Memory) → IsToldSweeper shape world request told → ((shard : ℕ) (made : Option Step) → IfOk result (IsToldOf (Swept shard request made told)))
+sweep_told_of : (shape : Shape) (world : World) (request : SweepWanted) (told : SweepReply) (result : Result Told Memory)
+    → IsToldSweeper shape world request told → ((shard : ℕ) (made : Option Step) → IfOk result (IsToldOf (Swept shard request made told)))
     → IfOk result (IsToldOf (sweep_of shape world request))
 sweep_told_of shape world (sweep.Scan place) told result is line =
     subst (λ (t : SweepReply). IfOk result (IsToldOf (Swept place (sweep.Scan place) None t))) (sym (told_same _ told is)) (line place None)
@@ -124,7 +133,8 @@ sweep_told_of shape world (sweep.Drop key token) told result is line =
     subst (λ (t : SweepReply). IfOk result (IsToldOf (Swept place (sweep.Drop key token) made t))) (sym (told_same _ told is)) (line place made)
 
 -- what a sweeper wanted was made and told, and its line written
-pub sweep_takes : (origin : Origin) (world : World) (request : SweepWanted) (shards : List ShardView) (store : StoreView) (old new : Sweeper) (told : SweepReply) (result : Result Told Memory) → HasSweeper old origin.shape world.past
+pub sweep_takes : (origin : Origin) (world : World) (request : SweepWanted) (shards : List ShardView) (store : StoreView) (old new : Sweeper) (told : SweepReply) (result : Result Told Memory)
+    → HasSweeper old origin.shape world.past
     → request ≡ sweep_wants (shards_of old) (sweeps_of world.past) → Sweeps origin world request shards store told → shards_of new ≡ shards_of old → Follows new (told ∷ sweeps_of world.past)
     → ((shard : ℕ) (made : Option Step) → IfOk result (IsToldOf (Swept shard request made told))) → TakesSweep origin world shards store new result
 sweep_takes origin world request shards store old new told result has wants made same follows line =
@@ -138,4 +148,5 @@ sweep_takes origin world request shards store old new told result has wants made
     )
   where
     T : SweepWanted → Type 0
-    T w = Stands shards store origin (after world (sweep_of origin.shape world w)) × HasSweeper new origin.shape (sweep_of origin.shape world w ∷ world.past) × IfOk result (IsToldOf (sweep_of origin.shape world w))
+    T w =
+        Stands shards store origin (after world (sweep_of origin.shape world w)) × HasSweeper new origin.shape (sweep_of origin.shape world w ∷ world.past) × IfOk result (IsToldOf (sweep_of origin.shape world w))

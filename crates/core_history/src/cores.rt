@@ -50,9 +50,9 @@ impl<K: Keeper> Model for Core<K> {
 }
 
 impl<K: Keeper> Core<K> {
-    /// A core of this shape, with no session. What needs memory is made before its keeper is started
-    /// at this place: so where memory runs out before, the keeper comes back as it was. Where it
-    /// doesn't start, it comes back with the cause, as `Store::new` gives it.
+    /// A core of this shape, with no session, whose clock says 0. What needs memory is made before its
+    /// keeper is started at this place: so where memory runs out before, the keeper comes back as it
+    /// was. Where it doesn't start, it comes back with the cause, as `Store::new` gives it.
     pub fn new(alloc: Global, keeper: K, place: &Place, shape: Shape) -> Result<Core<K>, NoStore<K>>
         requires { IsShape shape }
         ensures begins { IfOk result (λ core. IsAt core (origin_of shape core) []) }
@@ -126,9 +126,9 @@ impl<K: Keeper> Core<K> {
         }
     }
 
-    /// Takes a turn: one event, and its line. A keeper that fails is told as FAULT, and the core goes
-    /// on. After want of memory the event may have been made or not, and the core is only to be read
-    /// and taken apart.
+    /// Takes a turn, of a session, of the clock or of the sweeper: one event, and its line. A keeper
+    /// that fails is told as FAULT, and the core goes on. After want of memory the event may have been
+    /// made or not, and the core is only to be read and taken apart.
     pub fn step(&mut self, turn: Turn) -> Result<Told, Memory>
         requires running { IsRunning self.old }
         requires begun { HasBegun self.old turn }

@@ -20,8 +20,8 @@ use rows_model::{Memory, QKey, Sid};
 use sql_keeper::{Keeper, Store};
 use std::alloc::Global;
 
-/// Takes the sweeper's next step, at the time that the clock says now. The keeper isn't asked. Where
-/// memory runs out the step was made, and its line is lost.
+/// Takes the sweeper's next step, at the time that the clock says now. The keeper isn't asked.
+/// Where memory runs out the step was made, and its line is lost.
 pub(crate) fn sweep_turn<K: Keeper>(
     alloc: Global,
     store: &mut Store<K>,

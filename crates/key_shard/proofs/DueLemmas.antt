@@ -77,7 +77,8 @@ IsGrantOf key token other = ⊥
 abbrev WasGrantedIn : QKey → List Step → Quar → Type 0
 WasGrantedIn key past quar = OneOf (IsGrantOf key quar.token) past
 
-granted-later : (key : QKey) (s : Step) (past : List Step) (quars : List Quar) → AllByRecursion (WasGrantedIn key past) quars → AllByRecursion (WasGrantedIn key (s ∷ past)) quars
+granted-later : (key : QKey) (s : Step) (past : List Step) (quars : List Quar) → AllByRecursion (WasGrantedIn key past) quars
+    → AllByRecursion (WasGrantedIn key (s ∷ past)) quars
 granted-later key s past quars h =
     every-weaker (WasGrantedIn key past) (WasGrantedIn key (s ∷ past)) quars (λ quar was. inr was) h
 
@@ -97,21 +98,27 @@ standing-granted key (step.Released on sid token how ∷ past) =
     cond_both (same_key key on) (filter (λ quar. not (has_token token quar)) (standing key past)) (standing key past) (AllByRecursion (WasGrantedIn key (s ∷ past)))
     (λ _. every-filter (WasGrantedIn key (s ∷ past)) (λ quar. not (has_token token quar)) (standing key past) old)
     (λ _. old)
-standing-granted key (step.Hit on sid floor value stamp ∷ past) = granted-later key (step.Hit on sid floor value stamp) past (standing key past) (standing-granted key past)
-standing-granted key (step.Lease on sid floor now token deadline ∷ past) = granted-later key (step.Lease on sid floor now token deadline) past (standing key past) (standing-granted key past)
-standing-granted key (step.Again on sid floor now stands ∷ past) = granted-later key (step.Again on sid floor now stands) past (standing key past) (standing-granted key past)
+standing-granted key (step.Hit on sid floor value stamp ∷ past) =
+    granted-later key (step.Hit on sid floor value stamp) past (standing key past) (standing-granted key past)
+standing-granted key (step.Lease on sid floor now token deadline ∷ past) =
+    granted-later key (step.Lease on sid floor now token deadline) past (standing key past) (standing-granted key past)
+standing-granted key (step.Again on sid floor now stands ∷ past) =
+    granted-later key (step.Again on sid floor now stands) past (standing key past) (standing-granted key past)
 standing-granted key (step.Own on sid ∷ past) = granted-later key (step.Own on sid) past (standing key past) (standing-granted key past)
-standing-granted key (step.Stored on token now value stamp evicted ∷ past) = granted-later key (step.Stored on token now value stamp evicted) past (standing key past) (standing-granted key past)
+standing-granted key (step.Stored on token now value stamp evicted ∷ past) =
+    granted-later key (step.Stored on token now value stamp evicted) past (standing key past) (standing-granted key past)
 standing-granted key (step.Void on token now ∷ past) = granted-later key (step.Void on token now) past (standing key past) (standing-granted key past)
 standing-granted key (step.Held on sid mode ∷ past) = granted-later key (step.Held on sid mode) past (standing key past) (standing-granted key past)
-standing-granted key (step.Refused on sid mode holder held ∷ past) = granted-later key (step.Refused on sid mode holder held) past (standing key past) (standing-granted key past)
+standing-granted key (step.Refused on sid mode holder held ∷ past) =
+    granted-later key (step.Refused on sid mode holder held) past (standing key past) (standing-granted key past)
 standing-granted key (step.Gone on sid token ∷ past) = granted-later key (step.Gone on sid token) past (standing key past) (standing-granted key past)
 
 -- where each has a token of its own, each is the one that is found by its token
 pub found-own_token : (quars : List Quar) → AllOfOwnToken quars → AllByRecursion (λ quar. find (has_token quar.token) quars ≡ Some quar) quars
 found-own_token [] h = tt
 found-own_token (one ∷ quars) h =
-    let itself : find (has_token one.token) (one ∷ quars) ≡ Some one = ap (λ b. cond b (Some one) (find (has_token one.token) quars)) (eq-eqb one.token one.token refl) in
+    let itself : find (has_token one.token) (one ∷ quars) ≡ Some one =
+        ap (λ b. cond b (Some one) (find (has_token one.token) quars)) (eq-eqb one.token one.token refl) in
     let P : Quar → Type 0 = λ quar. one.token ≢ quar.token in
     let Q : Quar → Type 0 = λ quar. find (has_token quar.token) quars ≡ Some quar in
     (itself, every-weaker (λ quar. P quar × Q quar) (λ quar. find (has_token quar.token) (one ∷ quars) ≡ Some quar) quars behind (every-both P Q quars h.0 (found-own_token quars h.1)))
@@ -140,7 +147,8 @@ abbrev listed : ℕ → List Step → List Step → List Due
 listed now past steps = flat_map (due_by now past) steps
 
 -- a quarantine that stands and is due is listed where it was granted
-due-listed_by : (now : ℕ) (past : List Step) (s : Step) (key : QKey) (quar : Quar) → IsGrantOf key quar.token s → quar_of key quar.token past ≡ Some quar → quar.deadline ≤ now
+due-listed_by : (now : ℕ) (past : List Step) (s : Step) (key : QKey) (quar : Quar) → IsGrantOf key quar.token s → quar_of key quar.token past ≡ Some quar
+    → quar.deadline ≤ now
     → OneOf (λ due. due ≡ due_as key quar) (due_by now past s)
 due-listed_by now past (step.Granted on sid mode shift at token deadline) key quar is stands late =
     let P : List Due → Type 0 = OneOf (λ due. due ≡ due_as key quar) in
@@ -158,7 +166,8 @@ due-listed_by now past (step.Refused on sid mode holder held) key quar is stands
 due-listed_by now past (step.Released on sid token how) key quar is stands late = absurd is
 due-listed_by now past (step.Gone on sid token) key quar is stands late = absurd is
 
-due-listed : (now : ℕ) (past steps : List Step) (key : QKey) (quar : Quar) → OneOf (IsGrantOf key quar.token) steps → quar_of key quar.token past ≡ Some quar → quar.deadline ≤ now
+due-listed : (now : ℕ) (past steps : List Step) (key : QKey) (quar : Quar) → OneOf (IsGrantOf key quar.token) steps → quar_of key quar.token past ≡ Some quar
+    → quar.deadline ≤ now
     → OneOf (λ due. due ≡ due_as key quar) (listed now past steps)
 due-listed now past [] key quar was stands late = absurd was
 due-listed now past (s ∷ steps) key quar was stands late =
@@ -176,7 +185,8 @@ IsToldOf now key due quar = IsDue now quar × (due ≡ due_as key quar)
 abbrev StandsListed : ℕ → List Step → Due → Type 0
 StandsListed now past due = OneOf (IsToldOf now due.key due) (standing due.key past)
 
-listed-due_now : (now : ℕ) (past : List Step) (key : QKey) (token : ℕ) (found : Option Quar) → quar_of key token past ≡ found → AllByRecursion (StandsListed now past) (due_now now key found)
+listed-due_now : (now : ℕ) (past : List Step) (key : QKey) (token : ℕ) (found : Option Quar) → quar_of key token past ≡ found
+    → AllByRecursion (StandsListed now past) (due_now now key found)
 listed-due_now now past key token None e = tt
 listed-due_now now past key token (Some quar) e =
     let there = found-there (has_token token) (standing key past) quar e in
@@ -263,10 +273,13 @@ first_due-is now past own = by (first_due now past) (first-of (listed now past p
         (λ quar h late. due-listed now past past key quar h.0 h.1 late)
         (every-both (λ quar. OneOf (IsGrantOf key quar.token) past) (λ quar. quar_of key quar.token past ≡ Some quar) (stands key) (standing-granted key past) (found-own_token (stands key) (own key)))
 
-    all : (P : QKey → Quar → Type 0) → ((key : QKey) (quar : Quar) → (quar.deadline ≤ now → OneOf (λ due. due ≡ due_as key quar) (listed now past past)) → P key quar) → (key : QKey) → All (P key) (stands key)
+    all : (P : QKey → Quar → Type 0)
+        → ((key : QKey) (quar : Quar) → (quar.deadline ≤ now → OneOf (λ due. due ≡ due_as key quar) (listed now past past)) → P key quar) → (key : QKey)
+        → All (P key) (stands key)
     all P f key = All-from_recursion (P key) (stands key) (every-weaker _ (P key) (stands key) (f key) (each key))
 
-    ahead : listed now past past ≡ [] → (key : QKey) (quar : Quar) → (quar.deadline ≤ now → OneOf (λ due. due ≡ due_as key quar) (listed now past past)) → now < quar.deadline
+    ahead : listed now past past ≡ [] → (key : QKey) (quar : Quar) → (quar.deadline ≤ now → OneOf (λ due. due ≡ due_as key quar) (listed now past past))
+        → now < quar.deadline
     ahead none key quar h =
         let no : quar.deadline ≤ now → ⊥ = λ late. subst (OneOf (λ due. due ≡ due_as key quar)) none (h late) in
         omega (arith, no)
@@ -289,7 +302,8 @@ same-place a b h k =
     (same, grind (arith, nat_tests))
 
 -- of what stands on a key one is told this way at most
-same-told : (quars : List Quar) (key : QKey) (a b : Quar) → AllOfOwnToken quars → OneOf (λ quar. quar ≡ a) quars → OneOf (λ quar. quar ≡ b) quars → a.token ≡ b.token → a ≡ b
+same-told : (quars : List Quar) (key : QKey) (a b : Quar) → AllOfOwnToken quars → OneOf (λ quar. quar ≡ a) quars → OneOf (λ quar. quar ≡ b) quars
+    → a.token ≡ b.token → a ≡ b
 same-told quars key a b own here there same =
     some_same (sym (find-there a here) ∙ ap (λ t. find (has_token t) quars) same ∙ find-there b there)
   where
@@ -299,7 +313,8 @@ same-told quars key a b own here there same =
         subst (λ quar. find (has_token quar.token) quars ≡ Some quar) found.2 found.1
 
 -- what stands and is told
-told-there : (now : ℕ) (key : QKey) (due : Due) (quars : List Quar) → OneOf (IsToldOf now key due) quars → (quar : Quar) × OneOf (λ other. other ≡ quar) quars × IsToldOf now key due quar
+told-there : (now : ℕ) (key : QKey) (due : Due) (quars : List Quar) → OneOf (IsToldOf now key due) quars
+    → (quar : Quar) × OneOf (λ other. other ≡ quar) quars × IsToldOf now key due quar
 told-there now key due [] h = absurd h
 told-there now key due (one ∷ quars) (inl here) = (one, inl refl, here)
 told-there now key due (one ∷ quars) (inr there) =
@@ -309,7 +324,8 @@ told-there now key due (one ∷ quars) (inr there) =
 -- where nothing is due nothing due stands
 none-stands : (now : ℕ) (stands : QKey → List Quar) (due : Due) → NoneDue now stands → StandsDue now stands due → ⊥
 none-stands now stands due none there =
-    let one = one-has (λ quar. now < quar.deadline) (IsToldOf now due.key due) (stands due.key) (recursion_from_All (λ quar. now < quar.deadline) (stands due.key) (none due.key)) (any-one (IsToldOf now due.key due) (stands due.key) there) in
+    let one =
+        one-has (λ quar. now < quar.deadline) (IsToldOf now due.key due) (stands due.key) (recursion_from_All (λ quar. now < quar.deadline) (stands due.key) (none due.key)) (any-one (IsToldOf now due.key due) (stands due.key) there) in
     let ahead = one.1 in
     let late = one.2.0 in
     omega (arith, ahead, late)
@@ -341,7 +357,8 @@ one-first_due now stands (Some a) (Some b) own h k =
     ap Some (p.2.1 ∙ ap (due_as a.key) quars ∙ ap (λ key. due_as key q.0) (sym keys) ∙ sym q.2.1)
 
 -- after a legal past what a scan tells is what is found by looking back
-pub first_due-one : (terms : Terms) (past : List Step) (now : ℕ) (found : Option Due) → IsLegalPast terms past → IsFirstDue now (λ key. standing key past) found → found ≡ first_due now past
+pub first_due-one : (terms : Terms) (past : List Step) (now : ℕ) (found : Option Due) → IsLegalPast terms past
+    → IsFirstDue now (λ key. standing key past) found → found ≡ first_due now past
 first_due-one terms past now found legal h =
     one-first_due now (λ key. standing key past) found (first_due now past) own h (first_due-is now past own)
   where
@@ -349,11 +366,13 @@ first_due-one terms past now found legal h =
     own key = distinct terms past key (legal_stands_well terms past legal key)
 
 -- so is what is told by a table that has what stands on each key
-pub first_due-told : (terms : Terms) (past : List Step) (now : ℕ) (stands : QKey → List Quar) (found : Option Due) → IsLegalPast terms past → ((key : QKey) → stands key ≡ standing key past)
+pub first_due-told : (terms : Terms) (past : List Step) (now : ℕ) (stands : QKey → List Quar) (found : Option Due) → IsLegalPast terms past
+    → ((key : QKey) → stands key ≡ standing key past)
     → IfSome found (StandsDue now stands) → IfSome found (NoneDueBefore now stands) → IfNone found (NoneDue now stands) → found ≡ first_due now past
 first_due-told terms past now stands found legal same due least none =
     first_due-one terms past now found legal (subst (λ (f : QKey → List Quar). IsFirstDue now f found) (λ i key. same key i) (by found due least none))
   where
-    by : (found : Option Due) → IfSome found (StandsDue now stands) → IfSome found (NoneDueBefore now stands) → IfNone found (NoneDue now stands) → IsFirstDue now stands found
+    by : (found : Option Due) → IfSome found (StandsDue now stands) → IfSome found (NoneDueBefore now stands) → IfNone found (NoneDue now stands)
+        → IsFirstDue now stands found
     by None due least none = none
     by (Some one) due least none = (due, least)

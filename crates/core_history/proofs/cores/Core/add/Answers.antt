@@ -12,13 +12,16 @@ use Rattle.core_history.proofs.cores.Core.add.Goals as goal
 pub returns-in-Ok-clause-begins : goal.returns-in-Ok-clause-begins
 returns-in-Ok-clause-begins g c origin moves before =
     let inside = c.self.inside in
-    let core : CoreView = record { store = inside.store; shards = inside.shards.items; sessions = inside.sessions.items; sweeper = inside.sweeper; clock = inside.clock } in
-    let new : CoreView = record { store = c.begin.new.self; shards = inside.shards.items; sessions = c.push_reserved.new.self.items; sweeper = inside.sweeper; clock = inside.clock } in
+    let core : CoreView =
+    record { store = inside.store; shards = inside.shards.items; sessions = inside.sessions.items; sweeper = inside.sweeper; clock = inside.clock } in
+    let new : CoreView =
+    record { store = c.begin.new.self; shards = inside.shards.items; sessions = c.push_reserved.new.self.items; sweeper = inside.sweeper; clock = inside.clock } in
     let at : IsAt core origin moves = subst (λ (v : CoreView). IsAt v origin moves) (sym c.self.view_is) before in
     let session = c.in_ok-session.session in
     let count : c.len.result ≡ length core.sessions = c.len.ensures ∙ inside.sessions.ok.0 in
     let number = ap (λ (s : Sid). s.number) c.in_ok-session.ensures.sid ∙ ap (λ (n : ℕ). n + 1) count in
-    let sessions : new.sessions ≡ core.sessions ++ session ∷ [] = c.push_reserved.ensures.items ∙ ap (λ (l : List Session). l ++ session ∷ []) c.in_ok-reserve.ensures.items in
+    let sessions : new.sessions ≡ core.sessions ++ session ∷ [] =
+    c.push_reserved.ensures.items ∙ ap (λ (l : List Session). l ++ session ∷ []) c.in_ok-reserve.ensures.items in
     let plans : length core.sessions ≡ length _ = sym (length-map core.sessions plan_of) ∙ ap (λ (l : List Plan). length l) at.sessions.plans in
     let ledger = c.in-Ok.ensures.ledger in (
       ap (λ (n : ℕ). n + 1) (count ∙ plans),
