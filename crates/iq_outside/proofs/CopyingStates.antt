@@ -1,3 +1,4 @@
+-- What was written or read so far, in a loop over pieces.
 use Rattle.std.proofs.Common.{ℕ, ◌+◌, ◌-◌, ◌≤◌, ◌≡◌, ◌∙◌, ◌++◌, List, length, take, drop, arith, length-drop, length-append}
 use Rattle.std.specs.Prelude.{Option}
 use Rattle.std.proofs.Math.Seq.{take-add}

@@ -28,12 +28,14 @@ pub fn read_up_to<S: Source>(
     source: &mut S,
     limit: usize,
 ) -> Result<TextRead, ReadStop>
-    ensures bytes { IfOk result (λ read. Takes (S.left source.old) (S.left source.new) read.text.items) }
+    ensures bytes { IfOk result (λ read. Takes (S.left source.old)
+        (S.left source.new) read.text.items) }
     ensures end { IfOk result (λ read. MatchBool read.at_end
         ((vec_len read.text < limit) × AtEnd (S.left source.new))
         (vec_len read.text ≡ limit)) }
     ensures lost { OnErr result (TakesAtMost limit (S.left source.old) (S.left source.new)) }
-    ensures failed_rose { result ≡ Err ReadStop.Failed → Rose (S.faults source.old) (S.faults source.new) }
+    ensures failed_rose { result ≡ Err ReadStop.Failed →
+        Rose (S.faults source.old) (S.faults source.new) }
     ensures no_fault { OnOk result (S.faults source.new ≡ S.faults source.old) }
     ensures memory { result ≡ Err ReadStop.Memory → S.faults source.new ≡ S.faults source.old }
     ensures never_falls { S.faults source.old ≤ S.faults source.new }
@@ -59,7 +61,8 @@ pub fn read_up_to<S: Source>(
 /// After a fault the sink has taken the first bytes, as many as the error tells, and no others.
 pub fn write_all<W: Sink>(sink: &mut W, bytes: &[u8]) -> Result<(), Short>
     ensures all { OnOk result (Gains (W.taken sink.old) (W.taken sink.new) bytes.now) }
-    ensures some { IfErr result (λ short. Gains (W.taken sink.old) (W.taken sink.new) (take short.written bytes.now)) }
+    ensures some { IfErr result (λ short. Gains (W.taken sink.old) (W.taken sink.new)
+        (take short.written bytes.now)) }
     ensures fewer { IfErr result (λ short. short.written < length bytes.now) }
     ensures failed_rose { OnErr result (Rose (W.faults sink.old) (W.faults sink.new)) }
     ensures no_fault { OnOk result (W.faults sink.new ≡ W.faults sink.old) }

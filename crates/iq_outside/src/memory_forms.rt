@@ -37,7 +37,14 @@ impl MemSource {
     /// numbers, counted from 1.
     pub fn new(text: Vec<u8>, piece: usize, fails: Vec<u64>) -> MemSource
         requires { 1 ≤ piece }
-        ensures { result ≡ record { left = text.items; piece = piece; fails = fails.items; calls = 0; faults = 0 } }
+        ensures { result ≡ record {
+          left = text.items;
+          piece = piece;
+          fails = fails.items;
+          calls =
+              0;
+          faults = 0;
+        } }
     {
         MemSource {
             text,
@@ -60,7 +67,8 @@ impl Source for MemSource {
     fn read(&mut self, room: &mut [u8]) -> Result<usize, Failed>
         requires { 0 < length room.old }
         ensures within { IfOk result (λ n. n ≤ length room.new) }
-        ensures gives { IfOk result (λ n. Takes (Some self.old.left) (Some self.new.left) (take n room.new)) }
+        ensures gives { IfOk result (λ n. Takes (Some self.old.left) (Some self.new.left)
+            (take n room.new)) }
         ensures ends { IfOk result (ZeroAtEnd (Some self.old.left)) }
         ensures keeps { OnErr result (Some self.new.left ≡ Some self.old.left) }
         ensures failed_rose { OnErr result (Rose self.old.faults self.new.faults) }
@@ -69,7 +77,8 @@ impl Source for MemSource {
 
         ensures calls { self.new.calls ≡ count_up self.old.calls }
         ensures fails { IsErr result ↔ Contains self.old.fails (count_up self.old.calls) }
-        ensures count { IfOk result (λ n. n ≡ min (min self.old.piece (length room.old)) (length self.old.left)) }
+        ensures count { IfOk result (λ n. n ≡ min (min self.old.piece (length room.old))
+            (length self.old.left)) }
         ensures err { OnErr result (self.new.faults ≡ count_up self.old.faults) }
         ensures same { (self.new.piece ≡ self.old.piece) × (self.new.fails ≡ self.old.fails) }
     {
@@ -114,7 +123,15 @@ impl MemSink {
     /// calls with these numbers, counted from 1. It takes the memory for all its bytes here.
     pub fn new(alloc: Global, room: usize, piece: usize, fails: Vec<u64>) -> Result<MemSink, Memory>
         requires { 1 ≤ piece }
-        ensures { IfOk result (λ sink. sink ≡ record { taken = []; room = room; piece = piece; fails = fails.items; calls = 0; faults = 0 }) }
+        ensures { IfOk result (λ sink. sink ≡ record {
+          taken = [];
+          room = room;
+          piece = piece;
+          fails
+              = fails.items;
+          calls = 0;
+          faults = 0;
+        }) }
     {
         Ok(MemSink {
             taken: Vec::with_capacity(alloc, room)?,
@@ -145,17 +162,21 @@ impl Sink for MemSink {
         requires { 0 < length piece.now }
         ensures progress { IfOk result (λ n. 1 ≤ n) }
         ensures within { IfOk result (λ n. n ≤ length piece.now) }
-        ensures takes { IfOk result (λ n. Gains (Some self.old.taken) (Some self.new.taken) (take n piece.now)) }
+        ensures takes { IfOk result (λ n. Gains (Some self.old.taken) (Some self.new.taken)
+            (take n piece.now)) }
         ensures keeps { OnErr result (Some self.new.taken ≡ Some self.old.taken) }
         ensures failed_rose { OnErr result (Rose self.old.faults self.new.faults) }
         ensures no_fault { OnOk result (self.new.faults ≡ self.old.faults) }
         ensures never_falls { self.old.faults ≤ self.new.faults }
 
         ensures calls { self.new.calls ≡ count_up self.old.calls }
-        ensures fails { IsErr result ↔ (Contains self.old.fails (count_up self.old.calls) ⊎ (length self.old.taken ≡ self.old.room)) }
-        ensures count { IfOk result (λ n. n ≡ min (min self.old.piece (length piece.now)) (self.old.room - length self.old.taken)) }
+        ensures fails { IsErr result ↔ (Contains self.old.fails (count_up self.old.calls) ⊎
+            (length self.old.taken ≡ self.old.room)) }
+        ensures count { IfOk result (λ n. n ≡ min (min self.old.piece (length piece.now))
+            (self.old.room - length self.old.taken)) }
         ensures err { OnErr result (self.new.faults ≡ count_up self.old.faults) }
-        ensures same { (self.new.room ≡ self.old.room) × (self.new.piece ≡ self.old.piece) × (self.new.fails ≡ self.old.fails) }
+        ensures same { (self.new.room ≡ self.old.room) × (self.new.piece ≡ self.old.piece) ×
+            (self.new.fails ≡ self.old.fails) }
     {
         self.calls = self.calls.saturating_add(1);
         let free = self.room - self.taken.len();

@@ -19,7 +19,8 @@ pub trait Sink {
         requires { 0 < length piece.now }
         ensures progress { IfOk result (λ n. 1 ≤ n) }
         ensures within { IfOk result (λ n. n ≤ length piece.now) }
-        ensures takes { IfOk result (λ n. Gains (taken self.old) (taken self.new) (take n piece.now)) }
+        ensures takes { IfOk result (λ n. Gains (taken self.old) (taken self.new)
+            (take n piece.now)) }
         ensures keeps { OnErr result (taken self.new ≡ taken self.old) }
         ensures failed_rose { OnErr result (Rose (faults self.old) (faults self.new)) }
         ensures no_fault { OnOk result (faults self.new ≡ faults self.old) }

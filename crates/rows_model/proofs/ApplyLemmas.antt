@@ -1,3 +1,4 @@
+-- Changes in turn, from any place of a transaction on, and why they are refused.
 use Rattle.std.proofs.Common.{ℕ, ◌≡◌, ◌≤◌, List, [], ◌∷◌, length, All, Result, Ok, Err, IfErr, OnOk, OnErr, refl, arith}
 use Rattle.rows_model.specs.declared.changes.Change.{Change}
 use Rattle.rows_model.specs.declared.refusals.ApplyFault.{ApplyFault}

@@ -1,3 +1,4 @@
+-- A footprint has just the keys that are touched, in order and each once.
 use Rattle.std.proofs.Common.{ℕ, ◌≡◌, Bool, true, false, List, [], ◌∷◌, get_or, take, drop, fold, AllPairs, refl, sym, ap, ◌∙◌, arith, take-append-drop}
 use Rattle.std.specs.Prelude.{count_by, ◌||◌, if◌then◌else◌}
 use Rattle.std.specs.List.{list_any, flat_map, insert}

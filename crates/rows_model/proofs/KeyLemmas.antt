@@ -1,3 +1,4 @@
+-- A key and its text tell one another.
 use Rattle.std.proofs.Common.{Option, IfSome, IfNone, ◌^◌, ◌*◌, ℕ, ◌+◌, ◌-◌, ◌<◌, ◌≡◌, List, ◌∷◌, ◌++◌, length, take, drop, get_or, decimal, Some, None, position, arith, sym, refl, ap, ◌∙◌, rules, take-append-drop, take_at}
 use Rattle.std.specs.List.{position_from}
 use Rattle.std.proofs.lemmas.Iterator.Adapters.{position_from-zero}

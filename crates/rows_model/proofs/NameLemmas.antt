@@ -1,3 +1,4 @@
+-- Names, and their place at the front of 40 bytes.
 use Rattle.std.proofs.Common.{ℕ, ◌+◌, ◌-◌, ◌<◌, ◌≤◌, ◌^◌, ◌≡◌, List, ◌∷◌, ◌++◌, length, take, drop, replicate, decimal, All, arith, ap, ◌∙◌, add-one, take_at, drop_at, length-append}
 use Rattle.std.proofs.lemmas.List.{drop-replicate, length-replicate}
 use Rattle.std.proofs.lemmas.List.Elements.{All-cons, All-from_get_or}

@@ -1,3 +1,4 @@
+-- The digits of an id, and what parsing them answers.
 use Rattle.std.proofs.Common.{ℕ, zero, suc, ◌≡◌, ◌≢◌, ◌<◌, ◌≤◌, ◌^◌, List, [], ◌∷◌, length, get_or, decimal, Option, Some, None, MatchOption, IfSome, IfNone, Result, Ok, Err, arith, sym, ◌∙◌, ap}
 use Rattle.std.specs.Result.{result_ok}
 use Rattle.std.specs.Str.Parse.{AllDigits, ParsesUnsigned, digits_value}

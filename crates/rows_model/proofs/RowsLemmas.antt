@@ -1,3 +1,4 @@
+-- The rows at the start, member by member.
 use Rattle.std.proofs.Common.{zero, suc, Bool, true, false, eqb, Some, None, Result, Ok, Err, MatchResult, find, rules, tests, ℕ, ◌+◌, ◌-◌, ◌<◌, ◌≤◌, ◌≡◌, List, [], ◌∷◌, ◌++◌, length, get_or, map, decimal, arith, sym, refl, ap, ◌∙◌}
 use Rattle.std.specs.List.{range_with_len}
 use Rattle.std.proofs.lemmas.List.FromFn.{length-map-range_with_len, get_or-map-range_with_len, map-range_with_len_more}

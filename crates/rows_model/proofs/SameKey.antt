@@ -1,3 +1,4 @@
+-- The test of two keys tells whether they are one.
 use Rattle.std.proofs.Common.{◌≡◌, ℕ, zero, suc, true, ◌==◌, refl, sym, ap, ◌∙◌, subst, Decides}
 use Rattle.std.proofs.lemmas.Bool.{eqb-true, eq-eqb, and_parts, and_from}
 use Rattle.std.proofs.lemmas.Bool.Decides.{same_from_decides}

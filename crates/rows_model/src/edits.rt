@@ -86,7 +86,8 @@ fn make(members: &mut Vec<Member>, links: &mut Vec<Link>, change: &Change) -> Op
     requires room { vec_len links.old < vec_capacity links.old }
     ensures made { IfSome result (λ undo. IsMade change.now (tables_of members.old.items links.old.items)
         (tables_of members.new.items links.new.items) undo (vec_capacity links.new)) }
-    ensures none { IfNone result (applies change.now (tables_of members.old.items links.old.items) ≡ false) }
+    ensures none { IfNone result (applies change.now
+        (tables_of members.old.items links.old.items) ≡ false) }
     ensures members { IfNone result (members.new.items ≡ members.old.items) }
     ensures links { IfNone result (links.new.items ≡ links.old.items) }
     ensures room { vec_capacity links.new ≡ vec_capacity links.old }
@@ -102,7 +103,8 @@ fn make(members: &mut Vec<Member>, links: &mut Vec<Link>, change: &Change) -> Op
 
 // Undoes a change.
 fn undone(members: &mut Vec<Member>, links: &mut Vec<Link>, undo: Undo)
-    requires { CanUndo undo (length members.old.items) (vec_len links.old) (vec_capacity links.old) }
+    requires { CanUndo undo (length members.old.items) (vec_len links.old)
+        (vec_capacity links.old) }
     ensures members { members.new.items ≡ members_back undo members.old.items }
     ensures links { links.new.items ≡ links_back undo links.old.items }
     ensures room { vec_capacity links.new ≡ vec_capacity links.old }
@@ -154,7 +156,8 @@ fn place_of(links: &[Link], new: &Link) -> usize
 // Takes away the one link of these two, which stands at the place.
 fn take_at(links: &mut Vec<Link>, place: usize, a: u32, b: u32) -> Link
     requires at { IsAt (joins a b) links.old.items place }
-    requires one_link { AllPairs (λ link later. joins later.a later.b link ≡ false) links.old.items }
+    requires one_link { AllPairs (λ link later. joins later.a later.b link ≡ false)
+        links.old.items }
     ensures items { links.new.items ≡ without_link a b links.old.items }
     ensures back { insert links.new.items place result ≡ links.old.items }
     ensures len { vec_len links.new + 1 ≡ vec_len links.old }
@@ -165,7 +168,8 @@ fn take_at(links: &mut Vec<Link>, place: usize, a: u32, b: u32) -> Link
 
 // The place of the first invitation of `b` by `a`.
 fn first_invitation(links: &[Link], a: u32, b: u32) -> Option<usize>
-    ensures { result ≡ position (λ link. is_pending link.state && (link.a == a) && (link.b == b)) links.now }
+    ensures { result ≡ position (λ link. is_pending link.state && (link.a == a) && (link.b == b))
+        links.now }
 {
     links.iter().position(|link| link.invites_by(a, b))
 }
@@ -193,7 +197,8 @@ fn friendship_at(links: &[Link], a: u32, b: u32) -> Option<usize>
     ensures at { IfSome result (λ place. IsAt (joins a b) links.now place) }
     ensures found { IfSome result (λ _.
         list_any (λ link. is_friend link.state && joins a b link) links.now ≡ true) }
-    ensures none { IfNone result (list_any (λ link. is_friend link.state && joins a b link) links.now ≡ false) }
+    ensures none { IfNone result (list_any (λ link. is_friend link.state && joins a b link)
+        links.now ≡ false) }
 {
     first_friendship(links, a, b)
 }
@@ -241,7 +246,8 @@ fn invite(members: &[Member], links: &mut Vec<Link>, a: u32, b: u32) -> Option<U
     requires room { vec_len links.old < vec_capacity links.old }
     ensures made { IfSome result (λ undo. IsMade (Change.Invite a b) (tables_of members.now links.old.items)
         (tables_of members.now links.new.items) undo (vec_capacity links.new)) }
-    ensures none { IfNone result (applies (Change.Invite a b) (tables_of members.now links.old.items) ≡ false) }
+    ensures none { IfNone result (applies (Change.Invite a b)
+        (tables_of members.now links.old.items) ≡ false) }
     ensures links { IfNone result (links.new.items ≡ links.old.items) }
     ensures room { vec_capacity links.new ≡ vec_capacity links.old }
 {
@@ -260,7 +266,8 @@ fn invite(members: &[Member], links: &mut Vec<Link>, a: u32, b: u32) -> Option<U
 
 // Accepts an invitation.
 fn accept(links: &mut Vec<Link>, a: u32, b: u32) -> Option<Undo>
-    requires one_link { AllPairs (λ link later. joins later.a later.b link ≡ false) links.old.items }
+    requires one_link { AllPairs (λ link later. joins later.a later.b link ≡ false)
+        links.old.items }
     requires room { vec_len links.old < vec_capacity links.old }
     ensures made { (members : List Member) → IfSome result (λ undo. IsMade (Change.Accept a b)
         (tables_of members links.old.items) (tables_of members links.new.items) undo (vec_capacity links.new)) }
@@ -277,7 +284,8 @@ fn accept(links: &mut Vec<Link>, a: u32, b: u32) -> Option<Undo>
 
 // Rejects an invitation.
 fn reject(links: &mut Vec<Link>, a: u32, b: u32) -> Option<Undo>
-    requires one_link { AllPairs (λ link later. joins later.a later.b link ≡ false) links.old.items }
+    requires one_link { AllPairs (λ link later. joins later.a later.b link ≡ false)
+        links.old.items }
     requires room { vec_len links.old < vec_capacity links.old }
     ensures made { (members : List Member) → IfSome result (λ undo. IsMade (Change.Reject a b)
         (tables_of members links.old.items) (tables_of members links.new.items) undo (vec_capacity links.new)) }
@@ -293,7 +301,8 @@ fn reject(links: &mut Vec<Link>, a: u32, b: u32) -> Option<Undo>
 
 // Ends a friendship.
 fn thaw(links: &mut Vec<Link>, a: u32, b: u32) -> Option<Undo>
-    requires one_link { AllPairs (λ link later. joins later.a later.b link ≡ false) links.old.items }
+    requires one_link { AllPairs (λ link later. joins later.a later.b link ≡ false)
+        links.old.items }
     requires room { vec_len links.old < vec_capacity links.old }
     ensures made { (members : List Member) → IfSome result (λ undo. IsMade (Change.Thaw a b)
         (tables_of members links.old.items) (tables_of members links.new.items) undo (vec_capacity links.new)) }

@@ -109,7 +109,8 @@ impl Foot {
 
 // Whether the key is of this member and of one of these kinds.
 fn has_kind(key: &QKey, id: u32, kinds: &[Kind]) -> bool
-    ensures { result ≡ list_any (λ kind. same_key key.now (record { kind = kind; id = id })) kinds.now }
+    ensures { result ≡ list_any (λ kind. same_key key.now (record { kind = kind; id = id }))
+        kinds.now }
 {
     kinds
         .iter()

@@ -1,3 +1,4 @@
+-- What is kept of a run: log, histories, rows and counts.
 use Rattle.std.proofs.Common.{ℕ, ◌≡◌, ◌^◌, ◌-◌, ◌<◌, ◌≤◌, List, [], ◌∷◌, ◌++◌, length, map, reverse, arith, refl, sym, ap, ◌∙◌, subst, inl, inr}
 use Rattle.std.specs.Prelude.{Option, Some, None, IsSome, slice_get, option_map, count_by}
 use Rattle.std.specs.List.{AllByRecursion}

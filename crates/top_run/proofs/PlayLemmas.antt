@@ -1,3 +1,4 @@
+-- A core after acts and turns that were played.
 use Rattle.std.proofs.Common.{take, drop, get_or, take-append-drop, ℕ, zero, suc, ◌≡◌, ◌+◌, ◌-◌, ◌^◌, ◌<◌, List, [], ◌∷◌, ◌++◌, length, map, reverse, arith, refl, sym, ap, ◌∙◌, subst, inl, inr, append_assoc, append-nil}
 use Rattle.std.specs.Prelude.{Bool, true, false, ◌||◌, cond, ◌⊎◌, Option, Result, OnErr, Ok, Err, replicate, sum_by, count_by}
 use Rattle.std.proofs.lemmas.List.{take_more, drop_more, length-append, length-map, map-append, reverse-append, replicate-append-replicate}

@@ -1,3 +1,4 @@
+-- How far a run is, in the loops over acts and turns.
 use Rattle.std.proofs.Common.{ℕ, ◌≡◌, ◌-◌, List, [], ◌∷◌, ◌++◌, take, drop}
 use Rattle.std.specs.Prelude.{Option, replicate}
 use Rattle.session_client.specs.declared.plans.Turn.{Turn}

@@ -1,3 +1,4 @@
+-- What was printed, and how it is counted.
 use Rattle.std.proofs.Common.{ℕ, ◌≡◌, ◌+◌, ◌-◌, ◌*◌, ◌^◌, ◌<◌, ◌≤◌, min, List, [], ◌∷◌, ◌++◌, length, take, drop, decimal, arith, refl, sym, ap, ◌∙◌, append_assoc, append-nil, take-append-drop, reverse, flat_map}
 use Rattle.std.specs.Prelude.{Bool, Option, Some, codes, cond, count_by, slice_get}
 use Rattle.std.proofs.lemmas.List.{length-append, length-take-le, reverse-append, take_more}

@@ -1,3 +1,4 @@
+-- The ends of a run.
 use Rattle.std.proofs.Common.{get_or, ℕ, ◌≡◌, ◌+◌, ◌-◌, ◌^◌, ◌<◌, ◌≤◌, List, [], ◌∷◌, ◌++◌, length, map, arith, refl, sym, ap, ◌∙◌, subst, inl, inr, append_assoc, append-nil}
 use Rattle.std.specs.Prelude.{Bool, true, false, Option, Some, Result, OnErr, OnOk, Ok, Err, sum_by}
 use Rattle.iq_outside.specs.Outside.{Rose}
