@@ -1,116 +1,125 @@
--- The entries as they are kept, the most recent last, against the list that callers see.
-use Rattle.std.proofs.Common.{◌≡◌, ◌≢◌, ℕ, suc, ◌+◌, ◌<◌, ◌≤◌, Bool, true, false, cond, Some, None, List, [], ◌∷◌, ◌++◌, length, get_or, take, drop, set, map, refl, sym, ap, subst, ◌∙◌, arith, append_assoc}
-use Rattle.std.specs.List.{position, position_or_len, remove}
-use Rattle.std.specs.Prelude.{nat_lt, not}
-use Rattle.std.proofs.lemmas.Bool.{ltb-false}
-use Rattle.std.proofs.lemmas.List.{reverse-append, map-append, length-reverse, length-map, length-take, take-append-drop, get_or_default}
-use Rattle.std.proofs.lemmas.List.Quantifiers.{position-Some}
-use Rattle.std.proofs.Math.Seq.{drop-cons, set-append_seam}
+-- The pairs that the cache keeps against the list that callers see.
+use Rattle.std.proofs.Common.{◌≡◌, ℕ, Bool, true, false, cond, Option, Some, None, is_some, option_map, List, [], ◌∷◌, ◌++◌, length, refl, sym, ap, ◌∙◌, rules}
+use Rattle.std.specs.Option.{option_map_or}
+use Rattle.std.specs.Map as kept
+use Rattle.std.proofs.lemmas.List.{length-map, map-append}
+use Rattle.lru.specs.LruCache as lru
+use Rattle.lru.proofs.CallerLemmas.{Contains-lookup_entry}
 use Rattle.rows_model.specs.declared.keys.QKey.{QKey}
 use Rattle.rows_model.specs.Key.{same_key}
-use Rattle.entry_table.specs.declared.table.Entry.{Entry}
-use Rattle.entry_table.specs.Entries.{Item, lookup, without, replaced, DistinctKeys}
-use Rattle.entry_table.specs.Kept.{shown, shown_all}
-use Rattle.rows_model.proofs.SameKey.{same_key-true}
-use Rattle.entry_table.proofs.EntriesLemmas.{lookup-nil, lookup-cons, lookup-append, apart_from, lookup-split, without-split, replaced-split}
+use Rattle.rows_model.specs.contracts.keys.QKeyPartialEq.TheImpl.{eq-value}
+use Rattle.rows_model.proofs.SameKey.{same_key-true, same_key-swap}
+use Rattle.entry_table.specs.declared.table.Held.{Held}
+use Rattle.entry_table.specs.Entries.{Item, Table, DistinctKeys, lookup, without, replaced, promoted}
+use Rattle.entry_table.specs.Kept.{shown, shown_all, shown_table}
+use Rattle.entry_table.proofs.EntriesLemmas.{lookup-nil, lookup-cons, without-nil, without-cons, without-absent, replaced-nil, replaced-cons, replaced-absent, promoted-absent, promoted-found}
+
+-- the equality of keys by which the cache finds them
+abbrev pub eq : QKey → QKey → Bool
+eq = eq-value.it
+
+-- what a look-up finds of a pair
+abbrev pub value_of : QKey × Held → List ℕ × ℕ
+value_of e = (e.1.value, e.1.stamp)
+
+-- the cache tells keys apart as the list does
+pub eq-same_key : (k q : QKey) → eq k q ≡ same_key q k
+eq-same_key k q = by_parts ∙ same_key-swap k q
+  where
+    by_parts : eq k q ≡ same_key k q
+    by_parts = search rules
+
+pub eq-true : (k q : QKey) → eq k q ≡ true → q ≡ k
+eq-true k q h = same_key-true q k (sym (eq-same_key k q) ∙ h)
 
 pub shown_all-nil : shown_all [] ≡ []
 unfolding shown_all
 shown_all-nil = refl
 
-pub shown_all-append : (xs ys : List Entry) → shown_all (xs ++ ys) ≡ shown_all ys ++ shown_all xs
+pub shown_all-cons : (e : QKey × Held) (es : List (QKey × Held)) → shown_all (e ∷ es) ≡ shown e ∷ shown_all es
 unfolding shown_all
-shown_all-append xs ys = rw map-append (reverse-append (map shown xs) (map shown ys))
+shown_all-cons e es = refl
 
-pub shown_all-one : (e : Entry) → shown_all (e ∷ []) ≡ shown e ∷ []
+pub shown_all-append : (xs ys : List (QKey × Held)) → shown_all (xs ++ ys) ≡ shown_all xs ++ shown_all ys
 unfolding shown_all
-shown_all-one e = refl
+shown_all-append xs ys = rw map-append refl
 
--- the first that is kept is the last that is shown
-pub shown_all-cons : (e : Entry) (es : List Entry) → shown_all (e ∷ es) ≡ shown_all es ++ shown e ∷ []
-shown_all-cons e es = shown_all-append (e ∷ []) es ∙ ap (λ (l : List Item). shown_all es ++ l) (shown_all-one e)
-
--- the last that is kept is the first that is shown
-pub shown_all-push : (es : List Entry) (e : Entry) → shown_all (es ++ e ∷ []) ≡ shown e ∷ shown_all es
-shown_all-push es e = shown_all-append es (e ∷ []) ∙ ap (λ (l : List Item). l ++ shown_all es) (shown_all-one e)
-
-pub length-shown_all : (es : List Entry) → length (shown_all es) ≡ length es
+pub length-shown_all : (es : List (QKey × Held)) → length (shown_all es) ≡ length es
 unfolding shown_all
-length-shown_all es = length-reverse (map shown es) ∙ length-map es shown
+length-shown_all es = length-map es shown
 
-pub shown_all-split : (front : List Entry) (e : Entry) (back : List Entry) → shown_all (front ++ e ∷ back) ≡ shown_all back ++ shown e ∷ shown_all front
-shown_all-split front e back =
-    shown_all-append front (e ∷ back) ∙ (ap (λ (l : List Item). l ++ shown_all front) (shown_all-cons e back) ∙ append_assoc (shown_all back) (shown e ∷ []) (shown_all front))
-
--- a list at one of its places
-split_at : (es : List Entry) (i : ℕ) (x : Entry) → i < length es → x ≡ get_or es i x → es ≡ take i es ++ x ∷ drop (suc i) es
-split_at es i x within at =
-    sym (take-append-drop i es) ∙ ap (λ (l : List Entry). take i es ++ l) (drop-cons es i x within ∙ ap (λ (y : Entry). y ∷ drop (suc i) es) (sym at))
-
--- a list in which the entry at a place was written
-set_split : (es : List Entry) (i : ℕ) (x y : Entry) → i < length es → set es i y ≡ take i es ++ y ∷ drop (suc i) es
-set_split es i x y within =
-    let cut : length (take i es) ≡ i = omega (arith, length-take i es) in
-    ap (λ (l : List Entry). set l i y) (split_at es i (get_or es i x) within (get_or_default es i x (get_or es i x) within)) ∙ (ap (λ (n : ℕ). set (take i es ++ get_or es i x ∷ drop (suc i) es) n y) (sym cut) ∙ set-append_seam (take i es) (get_or es i x) (drop (suc i) es) y)
-
--- what is known of a list where x, at the place i, is the entry of a key
-pub record FoundAt (k : QKey) (es : List Entry) (i : ℕ) (x : Entry) : Type 0 where
-  pub within : i < length es
-  pub same : x.key ≡ k
-  pub looked_up : lookup k (shown_all es) ≡ Some (x.value, x.stamp)
-  pub taken_out : shown_all (remove es i) ≡ without k (shown_all es)
-  pub written : (v : List ℕ) (s : ℕ) → shown_all (set es i (record { key = x.key; value = v; stamp = s })) ≡ replaced k v s (shown_all es)
-
-pub found : (k : QKey) (slice es : List Entry) (i : ℕ) (x : Entry) → Some i ≡ position (λ (e : Entry). same_key e.key k) slice → slice ≡ es → x ≡ get_or es i x → DistinctKeys (shown_all es) → FoundAt k es i x
-found k slice es i x at is_slice item distinct =
-    let here = position-Some (λ (e : Entry). same_key e.key k) es i x (sym (at ∙ ap (position (λ (e : Entry). same_key e.key k)) is_slice)) in
-    let hit : same_key x.key k ≡ true = ap (λ (e : Entry). same_key e.key k) item ∙ here.1 in
-    let whole : es ≡ take i es ++ x ∷ drop (suc i) es = split_at es i x here.0 item in
-    let shape : shown_all es ≡ shown_all (drop (suc i) es) ++ shown x ∷ shown_all (take i es) = ap shown_all whole ∙ shown_all-split (take i es) x (drop (suc i) es) in
-    let round = apart_from (shown_all (drop (suc i) es)) (shown x) (shown_all (take i es)) k hit (subst DistinctKeys shape distinct) in
-    record {
-      within = here.0;
-      same = same_key-true x.key k hit;
-      looked_up = ap (lookup k) shape ∙ lookup-split k _ (shown x) _ round.0 hit;
-      taken_out = shown_all-append (take i es) (drop (suc i) es) ∙ sym (ap (without k) shape ∙ without-split k _ (shown x) _ round.0 round.1 hit);
-      written = λ v s. ap shown_all (set_split es i x (record { key = x.key; value = v; stamp = s }) here.0) ∙ (shown_all-split (take i es) (record { key = x.key; value = v; stamp = s }) (drop (suc i) es) ∙ sym (ap (replaced k v s) shape ∙ replaced-split k v s _ (shown x) _ round.0 round.1 hit));
-    }
-
-past_all : (n len : ℕ) (b : Bool) → suc len ≤ cond (not b) (1 + n) 0 → (b ≡ false) × (len ≤ n)
-past_all n len true h = absurd (omega (arith, h))
-past_all n len false h = (refl, omega (arith, h))
-
-none_from : (n len : ℕ) (b : Bool) → nat_lt n len ≡ b → cond b (Some n) None ≡ None → len ≤ n
-none_from n len true e h = absurd (cc)
-none_from n len false e h = ltb-false n len e
-
-nowhere_step : (k : QKey) (e : Entry) (es : List Entry) → same_key e.key k ≡ false → lookup k (shown_all es) ≡ None → lookup k (shown_all (e ∷ es)) ≡ None
-nowhere_step k e es miss rest =
-    rw (shown_all-cons, lookup-append k (shown_all es) (shown e ∷ []), rest, lookup-cons k (shown e) [], miss) (lookup-nil k)
-
-nowhere : (k : QKey) (es : List Entry) → length es ≤ position_or_len (λ (e : Entry). same_key e.key k) es → lookup k (shown_all es) ≡ None
-nowhere k [] h = rw shown_all-nil (lookup-nil k)
-nowhere k (e ∷ es) h =
-    let here = past_all (position_or_len (λ (x : Entry). same_key x.key k) es) (length es) (same_key e.key k) h in
-    nowhere_step k e es here.0 (nowhere k es here.1)
-
-pub missed : (k : QKey) (slice es : List Entry) → None ≡ position (λ (e : Entry). same_key e.key k) slice → slice ≡ es → lookup k (shown_all es) ≡ None
-missed k slice es at is_slice =
-    nowhere k es (none_from (position_or_len (λ (e : Entry). same_key e.key k) es) (length es) _ refl (sym (at ∙ ap (position (λ (e : Entry). same_key e.key k)) is_slice)))
-
-pub FoundAt-there : {k : QKey} {es : List Entry} {i : ℕ} {x : Entry} → FoundAt k es i x → lookup k (shown_all es) ≢ None
-FoundAt-there h e = apart (sym h.looked_up ∙ e)
+-- the value that the cache finds is that of the pair that it finds
+pub lookup-entry : (k : QKey) (es : List (QKey × Held)) → kept.lookup (eq k) es ≡ option_map (λ e. e.1) (kept.lookup_entry (eq k) es)
+lookup-entry k [] = refl
+lookup-entry k (e ∷ es) = by_test (eq k e.0) (lookup-entry k es)
   where
-    apart : {v : List ℕ × ℕ} → Some v ≡ None → ⊥
-    apart e = cc
+    by_test : (b : Bool) → kept.lookup (eq k) es ≡ option_map (λ e. e.1) (kept.lookup_entry (eq k) es) → cond b (Some e.1) (kept.lookup (eq k) es) ≡ option_map (λ (x : QKey × Held). x.1) (cond b (Some e) (kept.lookup_entry (eq k) es))
+    by_test true h = refl
+    by_test false h = h
 
--- the entry taken out, and one of that key put in front
-pub shown_all-put : {k : QKey} {es : List Entry} {i : ℕ} {x : Entry} → FoundAt k es i x → (y : Entry) → y.key ≡ k → shown_all (remove es i ++ y ∷ []) ≡ (k, y.value, y.stamp) ∷ without k (shown_all es)
-shown_all-put {k = k} {es = es} {i = i} h y same =
-    shown_all-push (remove es i) y ∙ (ap (λ (q : QKey). (q, y.value, y.stamp) ∷ shown_all (remove es i)) same ∙ ap (λ (l : List Item). (k, y.value, y.stamp) ∷ l) h.taken_out)
+-- a look-up in the list finds what the cache finds
+pub lookup-shown_all : (k : QKey) (es : List (QKey × Held)) → lookup k (shown_all es) ≡ option_map value_of (kept.lookup_entry (eq k) es)
+lookup-shown_all k [] = rw (shown_all-nil, lookup-nil) refl
+lookup-shown_all k (e ∷ es) =
+    rw (shown_all-cons, lookup-cons k (shown e) (shown_all es), ← eq-same_key k e.0) (by_test (eq k e.0) (lookup-shown_all k es))
+  where
+    by_test : (b : Bool) → lookup k (shown_all es) ≡ option_map value_of (kept.lookup_entry (eq k) es) → cond b (Some (e.1.value, e.1.stamp)) (lookup k (shown_all es)) ≡ option_map value_of (cond b (Some e) (kept.lookup_entry (eq k) es))
+    by_test true h = refl
+    by_test false h = h
 
--- the first that is kept, taken out, was the last that is shown
-pub shown_all-first : (es : List Entry) (x : Entry) → 0 < length es → x ≡ get_or es 0 x → shown_all es ≡ shown_all (remove es 0) ++ shown x ∷ []
-shown_all-first [] x some at = absurd (omega (arith, some))
-shown_all-first (e ∷ es) x some at =
-    shown_all-cons e es ∙ ap (λ (y : Entry). shown_all es ++ shown y ∷ []) (sym at)
+-- and its value alone
+pub lookup-value : (k : QKey) (es : List (QKey × Held)) → lookup k (shown_all es) ≡ option_map (λ h. (h.value, h.stamp)) (kept.lookup (eq k) es)
+lookup-value k es = lookup-shown_all k es ∙ (by_entry (kept.lookup_entry (eq k) es) ∙ ap (option_map (λ (h : Held). (h.value, h.stamp))) (sym (lookup-entry k es)))
+  where
+    by_entry : (o : Option (QKey × Held)) → option_map value_of o ≡ option_map (λ (h : Held). (h.value, h.stamp)) (option_map (λ (e : QKey × Held). e.1) o)
+    by_entry None = refl
+    by_entry (Some e) = refl
+
+pub is_some-map : {A B : Type 0} (f : A → B) (o : Option A) → is_some (option_map f o) ≡ is_some o
+is_some-map f None = refl
+is_some-map f (Some x) = refl
+
+-- what the cache finds has the key
+pub key-lookup_entry : (k : QKey) (es : List (QKey × Held)) (e : QKey × Held) → kept.lookup_entry (eq k) es ≡ Some e → e.0 ≡ k
+key-lookup_entry k es e h = eq-true k e.0 (Contains-lookup_entry (eq k) es e h).1
+
+-- what the cache shows once a key was removed
+pub without-shown_all : (k : QKey) (es : List (QKey × Held)) → DistinctKeys (shown_all es) → without k (shown_all es) ≡ shown_all (kept.remove_entry (eq k) es)
+without-shown_all k [] h = rw (shown_all-nil, without-nil) refl
+without-shown_all k (e ∷ es) h =
+    let apart = rw shown_all-cons at h in
+    rw (shown_all-cons e es, without-cons k (shown e) (shown_all es), ← eq-same_key k e.0) (by_test (eq k e.0) refl apart.0 (without-shown_all k es apart.1))
+  where
+    by_test : (b : Bool) → eq k e.0 ≡ b → lookup e.0 (shown_all es) ≡ None → without k (shown_all es) ≡ shown_all (kept.remove_entry (eq k) es) → cond b (without k (shown_all es)) (shown e ∷ without k (shown_all es)) ≡ shown_all (cond b es (e ∷ kept.remove_entry (eq k) es))
+    by_test true hit fresh rest = without-absent k (shown_all es) (ap (λ (x : QKey). lookup x (shown_all es)) (sym (eq-true k e.0 hit)) ∙ fresh)
+    by_test false miss fresh rest = ap (λ (l : List Item). shown e ∷ l) rest ∙ sym (shown_all-cons e (kept.remove_entry (eq k) es))
+
+-- and once the value of a key was written
+pub replaced-shown_all : (k : QKey) (w : Held) (es : List (QKey × Held)) → DistinctKeys (shown_all es) → replaced k w.value w.stamp (shown_all es) ≡ shown_all (kept.set_value (eq k) es w)
+replaced-shown_all k w [] h = rw (shown_all-nil, replaced-nil) refl
+replaced-shown_all k w (e ∷ es) h =
+    let apart = rw shown_all-cons at h in
+    rw (shown_all-cons e es, replaced-cons k w.value w.stamp (shown e) (shown_all es), ← eq-same_key k e.0) (by_test (eq k e.0) refl apart.0 (replaced-shown_all k w es apart.1))
+  where
+    by_test : (b : Bool) → eq k e.0 ≡ b → lookup e.0 (shown_all es) ≡ None → replaced k w.value w.stamp (shown_all es) ≡ shown_all (kept.set_value (eq k) es w) → cond b (e.0, w.value, w.stamp) (shown e) ∷ replaced k w.value w.stamp (shown_all es) ≡ shown_all (cond b ((e.0, w) ∷ es) (e ∷ kept.set_value (eq k) es w))
+    by_test true hit fresh rest =
+        ap (λ (l : List Item). (e.0, w.value, w.stamp) ∷ l) (replaced-absent k w.value w.stamp (shown_all es) (ap (λ (x : QKey). lookup x (shown_all es)) (sym (eq-true k e.0 hit)) ∙ fresh)) ∙ sym (shown_all-cons (e.0, w) es)
+    by_test false miss fresh rest = ap (λ (l : List Item). shown e ∷ l) rest ∙ sym (shown_all-cons e (kept.set_value (eq k) es w))
+
+-- a pair in front of the others, where it has the key and they haven't
+pub shown_all-front : (k : QKey) (e : QKey × Held) (es : List (QKey × Held)) → e.0 ≡ k → DistinctKeys (shown_all es) → shown_all (e ∷ kept.remove_entry (eq k) es) ≡ (k, e.1.value, e.1.stamp) ∷ without k (shown_all es)
+shown_all-front k e es same h =
+    shown_all-cons e (kept.remove_entry (eq k) es) ∙ (ap (λ (q : QKey). (q, e.1.value, e.1.stamp) ∷ shown_all (kept.remove_entry (eq k) es)) same ∙ ap (λ (l : List Item). (k, e.1.value, e.1.stamp) ∷ l) (sym (without-shown_all k es h)))
+
+-- a table of this room
+abbrev pub table_of : ℕ → List Item → Table
+table_of room list = record { room = room; list = list }
+
+-- what the cache shows once a key was brought to the front
+pub promoted-shown_all : (k : QKey) (room : ℕ) (es : List (QKey × Held)) → DistinctKeys (shown_all es) → shown_table (lru.lru_cache (lru.promoted (eq k) es) room) ≡ promoted k (table_of room (shown_all es))
+promoted-shown_all k room es h = by_entry (kept.lookup_entry (eq k) es) refl
+  where
+    by_entry : (o : Option (QKey × Held)) → kept.lookup_entry (eq k) es ≡ o → shown_table (lru.lru_cache (option_map_or (λ e. e ∷ kept.remove_entry (eq k) es) o es) room) ≡ promoted k (table_of room (shown_all es))
+    by_entry None at = sym (promoted-absent k (table_of room (shown_all es)) (lookup-shown_all k es ∙ ap (option_map value_of) at))
+    by_entry (Some e) at =
+        ap (table_of room) (shown_all-front k e es (key-lookup_entry k es e at) h) ∙ sym (promoted-found k (table_of room (shown_all es)) e.1.value e.1.stamp (lookup-shown_all k es ∙ ap (option_map value_of) at))

@@ -1,11 +1,23 @@
-use Rattle.std.specs.Prelude.{List, map, reverse}
-use Rattle.entry_table.specs.declared.table.Entry.{Entry}
-use Rattle.entry_table.specs.Entries.{Item}
+use Rattle.std.specs.Prelude.{List, map, Option, None, Some, if◌then◌else◌}
+use Rattle.lru.specs.LruCache.{LruCache}
+use Rattle.rows_model.specs.declared.keys.QKey.{QKey}
+use Rattle.rows_model.specs.Key.{same_key}
+use Rattle.entry_table.specs.declared.table.Held.{Held}
+use Rattle.entry_table.specs.Entries.{Item, Table}
 
--- an entry as callers see it
-abbrev pub shown : Entry → Item
-shown e = (e.key, e.value, e.stamp)
+-- an entry of the cache as callers see it
+abbrev pub shown : QKey × Held → Item
+shown e = (e.0, e.1.value, e.1.stamp)
 
--- the entries as callers see them, most recent first, of a list that keeps the most recent last
-unfoldable pub shown_all : List Entry → List Item
-shown_all entries = reverse (map shown entries)
+-- the entries of the cache as callers see them, in the same order
+unfoldable pub shown_all : List (QKey × Held) → List Item
+shown_all entries = map shown entries
+
+-- the cache as callers see it
+abbrev pub shown_table : LruCache QKey Held → Table
+shown_table cache = record { room = cache.cap; list = shown_all cache.entries }
+
+-- what a full cache dropped for a key, of what `push` answers: that may be the key's own entry too
+abbrev pub dropped_for : QKey → Option (QKey × Held) → Option Item
+dropped_for key None = None
+dropped_for key (Some e) = if same_key e.0 key then None else Some (shown e)

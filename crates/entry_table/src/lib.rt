@@ -3,6 +3,8 @@
 
 pub use table::Entries;
 
+#[cfg(test)]
+mod list_table;
 pub mod table;
 #[cfg(test)]
 mod tests;

@@ -1,60 +1,63 @@
-ghost use Rattle.std.specs.Prelude.{◌≡◌, ◌≤◌, ◌↔◌, ◌∷◌, ◌++◌, [], length, position, IsTrue, IfOk, IfErr, OnErr, IsSome, IsNone, IsOk, option_map};
+ghost use Rattle.std.specs.Prelude.{◌≡◌, ◌≤◌, ◌↔◌, ◌∷◌, ◌++◌, [], length, IsTrue, IfOk, IfErr, OnErr, IsSome, IsNone, IsOk, option_map};
 ghost use Rattle.std.specs.Option.{option_to_list};
 ghost use Rattle.std.specs.Borrow.{sem};
-ghost use Rattle.rows_model.specs.Key.{same_key};
+ghost use Rattle.entry_table.specs.Kept.{dropped_for};
 
+use lru::LruCache;
 use rows_model::{Memory, QKey, Value};
 use std::alloc::Global;
 use std::marker::Model;
 use std::mem;
+use std::num::NonZeroUsize;
 
 #[derive(Debug, Drop)]
-struct Entry {
-    key: QKey,
+struct Held {
     value: Value,
     stamp: u64,
 }
 
 /// Values by key, each with its stamp, in order of recency, and no more of them than there is room
 /// for. Contracts see that room, and the list of (key, bytes of the value, stamp), most recent
-/// first.
+/// first. A call looks at one key, which it finds by a hash with a fixed seed.
 #[derive(Debug, Drop)]
 pub struct Entries {
-    room: u32,
-
-    /// The most recent stands last.
-    entries: Vec<Entry>,
+    cache: LruCache<QKey, Held>,
 }
 
 impl Model for Entries {
     ghost use Rattle.entry_table.specs.Entries.{Table, IsSound};
-    ghost use Rattle.entry_table.specs.Kept.{shown_all};
+    ghost use Rattle.entry_table.specs.Kept.{shown_table};
 
     ghost Value = { Table };
 
-    ghost view = { λ t. record { room = t.room; list = shown_all t.entries.items } };
+    ghost view = { λ t. shown_table t.cache };
 
-    ghost invariant = { λ t. IsSound (record { room = t.room; list = shown_all t.entries.items }) };
+    ghost invariant = { λ t. IsSound (shown_table t.cache) };
 }
 
-fn place(entries: &[Entry], key: &QKey) -> Option<usize>
-    ensures { result ≡ position (λ e. same_key e.key key.now) entries.now }
+// What a full cache dropped for a key, of what `push` answers: that may be the key's own entry too.
+fn dropped_for(key: &QKey, pushed: Option<(QKey, Held)>) -> Option<(QKey, Value, u64)>
+    ensures { result ≡ dropped_for key.now pushed }
 {
-    entries.iter().position(|entry| entry.key == *key)
+    let (dropped, held) = pushed?;
+    if dropped == *key {
+        return None;
+    }
+    Some((dropped, held.value, held.stamp))
 }
 
 impl Entries {
     ghost use Rattle.entry_table.specs.Entries.{Table, IsSound, lookup, without, replaced, promoted};
     ghost use Rattle.entry_table.specs.Lends.{EndsAs};
 
-    /// An empty table with room for that many entries. It takes memory for the first one alone.
+    /// An empty table with room for that many entries. It takes memory for none of them yet.
     pub fn new(alloc: Global, room: u32) -> Result<Entries, Memory>
         requires { 1 ≤ room }
         ensures { IfOk result (λ table. table ≡ record { room = room; list = [] }) }
     {
+        let room = NonZeroUsize::new(room as usize).unwrap();
         Ok(Entries {
-            room,
-            entries: Vec::with_capacity(alloc, 1)?,
+            cache: LruCache::sparse(alloc, room)?,
         })
     }
 
@@ -63,8 +66,8 @@ impl Entries {
         ensures value { option_map (λ found. (found.0.now, found.1)) result ≡ lookup key.now self.now.list }
         ensures sound { IsSound self.now }
     {
-        let entry = &self.entries[place(&self.entries, key)?];
-        Some((&entry.value, entry.stamp))
+        let held = self.cache.peek(key)?;
+        Some((&held.value, held.stamp))
     }
 
     /// The value and the stamp of the key's entry, which comes to the front. Where the key has none,
@@ -74,18 +77,8 @@ impl Entries {
         ensures value { option_map (λ found. (found.0.now, found.1)) result ≡ lookup key.now self.old.list }
         ensures sound { IsSound self.old }
     {
-        self.promote(key);
-        self.peek(key)
-    }
-
-    fn promote(&mut self, key: &QKey)
-        ensures moved { self.new ≡ promoted key.now self.old }
-        ensures sound { IsSound self.old }
-    {
-        if let Some(place) = place(&self.entries, key) {
-            let entry = self.entries.remove(place);
-            self.entries.push_reserved(entry);
-        }
+        let held = self.cache.get(key)?;
+        Some((&held.value, held.stamp))
     }
 
     /// Puts an entry in front. It takes the place of the key's own, which wants no memory; a new key in
@@ -111,21 +104,10 @@ impl Entries {
         ensures room { self.new.room ≡ self.old.room }
         ensures sound { IsSound self.new }
     {
-        let entry = Entry { key, value, stamp };
-        if let Some(place) = place(&self.entries, &key) {
-            let _ = self.entries.remove(place);
-            self.entries.push_reserved(entry);
-            return Ok(None);
+        match self.cache.push(key, Held { value, stamp }) {
+            Ok(pushed) => Ok(dropped_for(&key, pushed)),
+            Err(failed) => Err(failed.value.1.value),
         }
-        if self.entries.len() == self.room as usize {
-            let last = self.entries.remove(0);
-            self.entries.push_reserved(entry);
-            return Ok(Some((last.key, last.value, last.stamp)));
-        }
-        if let Err(failed) = self.entries.push(entry) {
-            return Err(failed.value.value);
-        }
-        Ok(None)
     }
 
     /// Gives the key's entry another value and stamp, in its place, and returns the value that it
@@ -136,10 +118,9 @@ impl Entries {
         ensures room { self.new.room ≡ self.old.room }
         ensures sound { IsSound self.new }
     {
-        let place = place(&self.entries, key)?;
-        let entry = &mut self.entries[place];
-        entry.stamp = stamp;
-        Some(mem::replace(&mut entry.value, value))
+        let held = self.cache.peek_mut(key)?;
+        let had = mem::replace(held, Held { value, stamp });
+        Some(had.value)
     }
 
     /// Drops the key's entry, and says whether there was one. It takes no memory.
@@ -149,10 +130,6 @@ impl Entries {
         ensures room { self.new.room ≡ self.old.room }
         ensures sound { IsSound self.new }
     {
-        let Some(place) = place(&self.entries, key) else {
-            return false;
-        };
-        let _ = self.entries.remove(place);
-        true
+        self.cache.pop(key).is_some()
     }
 }

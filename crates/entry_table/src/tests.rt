@@ -1,6 +1,7 @@
-ghost use Rattle.std.specs.Prelude.{◌≤◌};
+ghost use Rattle.std.specs.Prelude.{◌<◌, ◌≤◌};
 
 use crate::Entries;
+use crate::list_table::ListTable;
 use rows_model::{Kind, Memory, QKey, Value};
 use std::alloc::{AllocError, Global};
 use std::process::Abort;
@@ -107,4 +108,90 @@ fn keeps_the_most_recent(rt: HostRuntime) -> Result<(), Fail> {
             (("peek", 2, "", 0), "c 2"),
         ],
     )
+}
+
+/// A small linear congruential generator.
+#[derive(Drop)]
+struct Draws {
+    state: u64,
+}
+
+impl Draws {
+    /// A number below `bound`.
+    fn below(&mut self, bound: u64) -> u64
+        requires { 0 < bound }
+        ensures { result < bound }
+    {
+        self.state = self
+            .state
+            .wrapping_mul(6_364_136_223_846_793_005)
+            .wrapping_add(1_442_695_040_888_963_407);
+        (self.state >> 33) % bound
+    }
+
+    /// One of eight keys.
+    fn key(&mut self) -> QKey {
+        let kind = match self.below(2) {
+            0 => Kind::Friends,
+            _ => Kind::Pending,
+        };
+        let id = self.below(4) as u32;
+        QKey { kind, id }
+    }
+}
+
+/// Makes a call that is drawn, of both tables, and compares their answers.
+fn agree(
+    rt: &impl Abort,
+    alloc: Global,
+    cache: &mut Entries,
+    list: &mut ListTable,
+    draws: &mut Draws,
+) -> Result<(), Fail> {
+    let key = draws.key();
+    let text = [draws.below(256) as u8];
+    let stamp = draws.below(1_000_000);
+    let (one, other) = (Value::of(alloc, &text)?, Value::of(alloc, &text)?);
+    match draws.below(7) {
+        0 => assert_eq!(rt; cache.find(&key), list.find(&key)),
+        1 => assert_eq!(rt; cache.peek(&key), list.peek(&key)),
+        2 => assert_eq!(rt; cache.drop_key(&key), list.drop_key(&key)),
+        3 => assert_eq!(rt;
+            cache.reput(&key, one, stamp),
+            list.reput(&key, other, stamp)
+        ),
+        _ => assert_eq!(rt; cache.put(key, one, stamp), list.put(key, other, stamp)),
+    }
+    Ok(())
+}
+
+/// Makes a hundred calls of both tables, and then puts new keys, which drop all that was there from
+/// the back, so that their answers read both lists out.
+fn run(rt: &impl Abort, alloc: Global, room: u32, draws: &mut Draws) -> Result<(), Fail>
+    requires { 1 ≤ room }
+{
+    let mut cache = Entries::new(alloc, room)?;
+    let mut list = ListTable::new(alloc, room)?;
+    for _ in 0..100 {
+        agree(rt, alloc, &mut cache, &mut list, draws)?;
+    }
+    for id in 0..room {
+        let key = QKey {
+            kind: Kind::Profile,
+            id,
+        };
+        let (one, other) = (value(alloc, "new")?, value(alloc, "new")?);
+        assert_eq!(rt; cache.put(key, one, 0), list.put(key, other, 0));
+    }
+    Ok(())
+}
+
+/// 100,000 calls over eight keys, with room for one to four entries.
+#[test]
+fn answers_as_the_list_does(rt: HostRuntime) -> Result<(), Fail> {
+    let mut draws = Draws { state: 1 };
+    for number in 0..1_000 {
+        run(&rt, rt.alloc(), 1 + number % 4, &mut draws)?;
+    }
+    Ok(())
 }

@@ -1,34 +1,33 @@
-use Rattle.std.proofs.Common.{refl, sym}
-use Rattle.entry_table.proofs.KeptLemmas.{found, missed}
+use Rattle.std.proofs.Common.{refl, sym, ap, ◌∙◌, option_map}
+use Rattle.entry_table.specs.declared.table.Held.{Held}
 use Rattle.entry_table.proofs.EntriesLemmas.{replaced-absent, IsSound-replaced}
+use Rattle.entry_table.proofs.KeptLemmas.{lookup-value, replaced-shown_all}
 use Rattle.entry_table.proofs.table.Entries.reput.Goals as goal
 
-pub returns-in_err-place-clause-list : goal.returns-in_err-place-clause-list
-returns-in_err-place-clause-list c =
-    let absent = missed c.args.key.now _ c.self.inside.entries.items c.in_err-place.ensures c.deref.ensures.value in
+pub returns-in_err-held-clause-list : goal.returns-in_err-held-clause-list
+returns-in_err-held-clause-list c =
+    let absent = lookup-value c.args.key.now c.self.inside.cache.entries ∙ ap (option_map (λ (h : Held). (h.value, h.stamp))) (sym c.in_err-held.ensures.value) in
     rw (← c.self.view_is) (sym (replaced-absent c.args.key.now c.args.value c.args.stamp _ absent))
 
-pub returns-in_err-place-clause-had : goal.returns-in_err-place-clause-had
-returns-in_err-place-clause-had c =
-    let absent = missed c.args.key.now _ c.self.inside.entries.items c.in_err-place.ensures c.deref.ensures.value in
-    rw (c.from_residual.ensures, ← c.self.view_is, absent) refl
+pub returns-in_err-held-clause-had : goal.returns-in_err-held-clause-had
+returns-in_err-held-clause-had c =
+    rw (c.from_residual.ensures, ← c.self.view_is, lookup-value c.args.key.now c.self.inside.cache.entries, ← c.in_err-held.ensures.value) refl
 
-pub invariant_of-self : goal.invariant_of-self
-invariant_of-self c =
-    let here = found c.args.key.now _ c.self.inside.entries.items c.in_ok-place.place c.index_mut-entry.result.now c.in_ok-place.ensures c.deref.ensures.value c.index_mut-entry.ensures.value c.self.invariant.distinct in
-    rw (c.replace.ensures.after, here.written c.args.value c.args.stamp) (IsSound-replaced c.args.key.now c.args.value c.args.stamp _ _ c.self.invariant)
+pub invariant_of-self-2 : goal.invariant_of-self-2
+invariant_of-self-2 c =
+    let held : Held = record { value = c.args.value; stamp = c.args.stamp } in
+    rw (c.replace-had.ensures.after, ← replaced-shown_all c.args.key.now held _ c.self.invariant.distinct) (IsSound-replaced c.args.key.now c.args.value c.args.stamp _ _ c.self.invariant)
 
 pub returns-clause-list : goal.returns-clause-list
 returns-clause-list c =
-    let here = found c.args.key.now _ c.self.inside.entries.items c.in_ok-place.place c.index_mut-entry.result.now c.in_ok-place.ensures c.deref.ensures.value c.index_mut-entry.ensures.value c.self.invariant.distinct in
-    rw (← c.self.view_is, c.replace.ensures.after) (here.written c.args.value c.args.stamp)
+    let held : Held = record { value = c.args.value; stamp = c.args.stamp } in
+    rw (← c.self.view_is, c.replace-had.ensures.after) (sym (replaced-shown_all c.args.key.now held _ c.self.invariant.distinct))
 
 pub returns-clause-had : goal.returns-clause-had
 returns-clause-had c =
-    let here = found c.args.key.now _ c.self.inside.entries.items c.in_ok-place.place c.index_mut-entry.result.now c.in_ok-place.ensures c.deref.ensures.value c.index_mut-entry.ensures.value c.self.invariant.distinct in
-    rw (← c.self.view_is, here.looked_up, c.replace.ensures.value) refl
+    rw (← c.self.view_is, lookup-value c.args.key.now c.self.inside.cache.entries, ← c.in_ok-held.ensures.value, c.replace-had.ensures.value) refl
 
 pub returns-clause-sound : goal.returns-clause-sound
 returns-clause-sound c =
-    let here = found c.args.key.now _ c.self.inside.entries.items c.in_ok-place.place c.index_mut-entry.result.now c.in_ok-place.ensures c.deref.ensures.value c.index_mut-entry.ensures.value c.self.invariant.distinct in
-    rw (c.replace.ensures.after, here.written c.args.value c.args.stamp) (IsSound-replaced c.args.key.now c.args.value c.args.stamp _ _ c.self.invariant)
+    let held : Held = record { value = c.args.value; stamp = c.args.stamp } in
+    rw (c.replace-had.ensures.after, ← replaced-shown_all c.args.key.now held _ c.self.invariant.distinct) (IsSound-replaced c.args.key.now c.args.value c.args.stamp _ _ c.self.invariant)
