@@ -1,6 +1,9 @@
 pub mod ChangeLemmas
-pub mod ExpiryLemmas
+pub mod DueLemmas
+pub mod IndexLemmas
+pub mod KeyLemmas
 pub mod ListLemmas
+pub mod MapLemmas
 pub mod RowLemmas
 pub mod TableLemmas
 pub mod VerdictLemmas

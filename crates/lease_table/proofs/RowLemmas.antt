@@ -2,11 +2,10 @@
 use Rattle.std.proofs.Common.{◌≡◌, ℕ, ◌+◌, ◌≤◌, subst, IfSome, Bool, true, not, Option, Some, None, List, [], ◌∷◌, map, sym, refl, ◌∙◌, ap, find, IsTrue, arith}
 use Rattle.std.specs.List.{list_all, AllPairs}
 use Rattle.rows_model.specs.declared.keys.Sid.{Sid}
-use Rattle.rows_model.specs.declared.keys.QKey.{QKey}
 use Rattle.case_tables.specs.Compatibility.{row_of, Way, invalidate, refresh, delta, is_invalidate, others_row, way_number}
 use Rattle.lease_table.specs.declared.records.Quar.{Quar}
-use Rattle.lease_table.specs.declared.records.Lease.{Lease}
-use Rattle.lease_table.specs.Leases.{first, is_of, way_of, StandBeside, IsTable, quars, own_in, others_in, holder_in, recorded, is_unexpired, holding}
+use Rattle.lease_table.specs.declared.records.ReadLease.{ReadLease}
+use Rattle.lease_table.specs.Leases.{first, is_of, way_of, StandBeside, own_in, others_in, holder_in, is_unexpired, holding_of}
 use Rattle.std.proofs.lemmas.List.Kept.{AllPairs-filter}
 use Rattle.std.proofs.lemmas.List.Elements.{All-weaker, All-cons}
 use Rattle.std.specs.List.{All}
@@ -49,16 +48,15 @@ others_row-found (r ∷ rs) q reading beside e =
     let same : r ≡ q = cc in
     others_row-first r rs reading beside ∙ ap (λ x. 2 + way_number (quar_way x)) same
 
--- the row of a key on which the asker holds none and others hold some
-pub row-others : (key : QKey) (who : Sid) (now : ℕ) (leases : List Lease) (q : Quar) → IsTable leases → own_in who (quars key leases) ≡ None → find (λ quar. not (is_of who quar)) (quars key leases) ≡ Some q → row_of (holding key who now leases) ≡ 2 + way_number (quar_way q)
-row-others key who now leases q table none found =
-    let beside = AllPairs-filter StandBeside (λ quar. not (is_of who quar)) (quars key leases) (table key).beside in
-    rw none (others_row-found (others_in who (quars key leases)) q _ beside (sym (find-first _ (quars key leases)) ∙ found))
+-- the row where the asker holds none and others hold some
+pub row-others : (who : Sid) (now : ℕ) (reader : Option ReadLease) (quars : List Quar) (q : Quar) → AllPairs StandBeside quars → own_in who quars ≡ None → find (λ quar. not (is_of who quar)) quars ≡ Some q → row_of (holding_of who now reader quars) ≡ 2 + way_number (quar_way q)
+row-others who now reader quars q beside none found =
+    rw none (others_row-found (others_in who quars) q _ (AllPairs-filter StandBeside (λ quar. not (is_of who quar)) quars beside) (sym (find-first _ quars) ∙ found))
 
--- the row of a key on which nobody holds a quarantine
-pub row-free : (key : QKey) (who : Sid) (now : ℕ) (leases : List Lease) → own_in who (quars key leases) ≡ None → find (λ quar. not (is_of who quar)) (quars key leases) ≡ None → row_of (holding key who now leases) ≡ others_row [] (is_unexpired now (recorded key leases))
-row-free key who now leases none no_other =
-    rw (none, first-none (others_in who (quars key leases)) (sym (find-first _ (quars key leases)) ∙ no_other)) refl
+-- the row where nobody holds a quarantine
+pub row-free : (who : Sid) (now : ℕ) (reader : Option ReadLease) (quars : List Quar) → own_in who quars ≡ None → find (λ quar. not (is_of who quar)) quars ≡ None → row_of (holding_of who now reader quars) ≡ others_row [] (is_unexpired now reader)
+row-free who now reader quars none no_other =
+    rw (none, first-none (others_in who quars) (sym (find-first _ quars) ∙ no_other)) refl
 
 -- the first of those that stand has the least token
 pub first-least : (qs : List Quar) (q : Quar) → AllPairs StandBeside qs → first qs ≡ Some q → All (λ other. q.token ≤ other.token) qs
@@ -68,7 +66,7 @@ first-least (r ∷ rs) q beside e =
     subst (λ x. All (λ other. x.token ≤ other.token) (r ∷ rs)) same (All-cons (λ other. r.token ≤ other.token) r rs (omega arith) (All-weaker (StandBeside r) (λ other. r.token ≤ other.token) (λ other h. let below = h.in_order in omega arith) rs (AllPairs-head StandBeside r rs beside)))
 
 -- who holds a key on which the asker holds nothing has the least token
-pub holder-least : (key : QKey) (who : Sid) (leases : List Lease) (o : Option Quar) → IsTable leases → own_in who (quars key leases) ≡ None → o ≡ holder_in who (quars key leases) → IfSome o (λ q. All (λ other. q.token ≤ other.token) (quars key leases))
-holder-least key who leases None table none e = tt
-holder-least key who leases (Some q) table none e =
-    first-least (quars key leases) q (table key).beside (sym (e ∙ rw none refl))
+pub holder-least : (who : Sid) (quars : List Quar) (o : Option Quar) → AllPairs StandBeside quars → own_in who quars ≡ None → o ≡ holder_in who quars → IfSome o (λ q. All (λ other. q.token ≤ other.token) quars)
+holder-least who quars None beside none e = tt
+holder-least who quars (Some q) beside none e =
+    first-least quars q beside (sym (e ∙ rw none refl))

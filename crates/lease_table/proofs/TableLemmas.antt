@@ -1,116 +1,34 @@
--- What recording or ending a lease leaves on each key.
-use Rattle.std.proofs.Common.{◌≡◌, ℕ, Bool, true, false, not, Option, Some, None, List, [], ◌∷◌, ◌++◌, sym, refl, ◌∙◌, ap, filter, arith, MatchOption}
-use Rattle.std.specs.Prelude.{if◌then◌else◌, is_some}
-use Rattle.std.specs.Bool.{⊤}
-use Rattle.std.specs.List.{filter_map, All}
-use Rattle.std.proofs.lemmas.List.Elements.{filter_map-append}
-use Rattle.std.proofs.lemmas.Bool.Decides.{nat_tests}
-use Rattle.std.proofs.Common.{append-nil}
+-- What a change of the map leaves on each key, and that the table stays one.
+use Rattle.std.proofs.Common.{◌≡◌, ℕ, Bool, true, false, not, Option, Some, None, List, [], ◌∷◌, ◌++◌, sym, refl, ◌∙◌, ap, filter, arith, IfSome, IsTrue, cond, subst}
+use Rattle.std.specs.Prelude.{length, ◌<◌}
+use Rattle.std.specs.List.{All, AllPairs}
+use Rattle.std.specs.BTreeMap.{BTreeMap, IsOrdered, WritesThrough, UpdatesBy, is_at}
 use Rattle.std.proofs.lemmas.List.Kept.{AllPairs-filter}
 use Rattle.std.proofs.lemmas.List.Quantifiers.{all_pairs_push}
+use Rattle.rows_model.specs.declared.keys.Sid.{Sid}
 use Rattle.rows_model.specs.declared.keys.QKey.{QKey}
-use Rattle.rows_model.specs.Key.{same_key, kind_number}
+use Rattle.rows_model.specs.Key.{same_key}
 use Rattle.lease_table.specs.declared.records.Quar.{Quar}
 use Rattle.lease_table.specs.declared.records.ReadLease.{ReadLease}
-use Rattle.lease_table.specs.declared.records.Held.{Held}
-use Rattle.lease_table.specs.declared.records.Held.TheVariants.{Read, Quarantine}
 use Rattle.lease_table.specs.declared.records.Lease.{Lease}
-use Rattle.lease_table.specs.Leases.{quar_of, read_of, quar_on, read_on, quars, reads, first, has_token, Leaves, IsTable, MayStand, StandBeside}
-use Rattle.lease_table.specs.Pieces.{some_has_token, without_read, without_quar}
-use Rattle.lease_table.proofs.ListLemmas.{filter_map-filter, filter-all, filter-none, filter_map-same, length-filter-le}
-
--- ---- keys
-
--- what two keys that are one have in common
-pub record SameKey (a b : QKey) : Type 0 where
-  pub kinds : kind_number a.kind ≡ kind_number b.kind
-  pub ids : a.id ≡ b.id
-
-pub SameKey-from_test : (a b : QKey) → same_key a b ≡ true → SameKey a b
-SameKey-from_test a b e = record { kinds = grind (arith, nat_tests); ids = grind (arith, nat_tests) }
-
-pub same_key-self : (a : QKey) → same_key a a ≡ true
-same_key-self a = grind (arith, nat_tests)
-
--- two keys that are one are the same to any other
-pub same_key-left : (a b x : QKey) → same_key a b ≡ true → same_key a x ≡ same_key b x
-same_key-left a b x e = let h = SameKey-from_test a b e in rw (h.kinds, h.ids) refl
-
-pub same_key-right : (a b x : QKey) → same_key a b ≡ true → same_key x a ≡ same_key x b
-same_key-right a b x e = let h = SameKey-from_test a b e in rw (h.kinds, h.ids) refl
-
--- ---- the table without the lease to read of a key
-
--- a quarantine isn't a lease to read
-quar_keeps : (on off : Bool) (held : Held) → MatchOption (if on then quar_of held else None) ⊤ (λ q. not (is_some (if off then read_of held else None)) ≡ true)
-quar_keeps false off held = tt
-quar_keeps true off (Read r) = tt
-quar_keeps true false (Quarantine q) = refl
-quar_keeps true true (Quarantine q) = refl
-
-pub quars-without_read : (k key : QKey) (leases : List Lease) → quars k (without_read key leases) ≡ quars k leases
-quars-without_read k key leases =
-    filter_map-filter (quar_on k) (λ lease. not (is_some (read_on key lease))) (λ _. true) (λ lease. quar_keeps (same_key k lease.key) (same_key key lease.key) lease.held) leases ∙ filter-all (quars k leases)
-
--- each lease to read the key is left out
-read_goes : (o : Option ReadLease) → MatchOption o ⊤ (λ r. not (is_some o) ≡ false)
-read_goes None = tt
-read_goes (Some r) = refl
-
-pub reads-without_read : (key : QKey) (leases : List Lease) → reads key (without_read key leases) ≡ []
-reads-without_read key leases =
-    filter_map-filter (read_on key) (λ lease. not (is_some (read_on key lease))) (λ _. false) (λ lease. read_goes (read_on key lease)) leases ∙ filter-none (reads key leases)
-
--- one on another key is kept
-other_read_keeps : (on off : Bool) (held : Held) → (on ≡ true → off ≡ false) → MatchOption (if on then read_of held else None) ⊤ (λ r. not (is_some (if off then read_of held else None)) ≡ true)
-other_read_keeps false off held apart = tt
-other_read_keeps true off (Quarantine q) apart = tt
-other_read_keeps true off (Read r) apart = rw (apart refl) refl
-
-pub reads-without_read-other : (key other : QKey) (leases : List Lease) → same_key key other ≡ false → reads other (without_read key leases) ≡ reads other leases
-reads-without_read-other key other leases apart =
-    filter_map-filter (read_on other) (λ lease. not (is_some (read_on key lease))) (λ _. true) (λ lease. other_read_keeps (same_key other lease.key) (same_key key lease.key) lease.held (λ e. sym (same_key-right other lease.key key e) ∙ apart)) leases ∙ filter-all (reads other leases)
-
--- ---- the table without a quarantine
-
--- a lease to read isn't a quarantine
-read_keeps : (token : ℕ) (on off : Bool) (held : Held) → MatchOption (if on then read_of held else None) ⊤ (λ r. not (some_has_token token (if off then quar_of held else None)) ≡ true)
-read_keeps token false off held = tt
-read_keeps token true off (Quarantine q) = tt
-read_keeps token true false (Read r) = refl
-read_keeps token true true (Read r) = refl
-
-pub reads-without_quar : (k key : QKey) (token : ℕ) (leases : List Lease) → reads k (without_quar key token leases) ≡ reads k leases
-reads-without_quar k key token leases =
-    filter_map-filter (read_on k) (λ lease. not (some_has_token token (quar_on key lease))) (λ _. true) (λ lease. read_keeps token (same_key k lease.key) (same_key key lease.key) lease.held) leases ∙ filter-all (reads k leases)
-
--- the one with the token is left out
-quar_goes : (token : ℕ) (o : Option Quar) → MatchOption o ⊤ (λ q. not (some_has_token token o) ≡ not (has_token token q))
-quar_goes token None = tt
-quar_goes token (Some q) = refl
-
-pub quars-without_quar : (key : QKey) (token : ℕ) (leases : List Lease) → quars key (without_quar key token leases) ≡ filter (λ q. not (has_token token q)) (quars key leases)
-quars-without_quar key token leases =
-    filter_map-filter (quar_on key) (λ lease. not (some_has_token token (quar_on key lease))) (λ q. not (has_token token q)) (λ lease. quar_goes token (quar_on key lease)) leases
-
--- one on another key is kept
-other_quar_keeps : (token : ℕ) (on off : Bool) (held : Held) → (on ≡ true → off ≡ false) → MatchOption (if on then quar_of held else None) ⊤ (λ q. not (some_has_token token (if off then quar_of held else None)) ≡ true)
-other_quar_keeps token false off held apart = tt
-other_quar_keeps token true off (Read r) apart = tt
-other_quar_keeps token true off (Quarantine q) apart = rw (apart refl) refl
-
-pub quars-without_quar-other : (key other : QKey) (token : ℕ) (leases : List Lease) → same_key key other ≡ false → quars other (without_quar key token leases) ≡ quars other leases
-quars-without_quar-other key other token leases apart =
-    filter_map-filter (quar_on other) (λ lease. not (some_has_token token (quar_on key lease))) (λ _. true) (λ lease. other_quar_keeps token (same_key other lease.key) (same_key key lease.key) lease.held (λ e. sym (same_key-right other lease.key key e) ∙ apart)) leases ∙ filter-all (quars other leases)
+use Rattle.lease_table.specs.declared.records.KeyLeases.{KeyLeases}
+use Rattle.lease_table.specs.declared.terms.Term.{Term}
+use Rattle.lease_table.specs.Leases.{quars, reads, recorded, first, quar_on, read_on, has_token, Leaves, IsTable, MayStand, StandBeside}
+use Rattle.lease_table.specs.Expiry.{quars_in}
+use Rattle.lease_table.specs.Terms.{IsIndex}
+use Rattle.lease_table.specs.Stands.{key_cmp, records, records_on, leases_on, quars_of, reads_of, has_any, NoneEmpty, IsKept, PutsOn, SameLeases, Stays}
+use Rattle.lease_table.proofs.KeyLemmas.{is_at-key, same_key-left}
+use Rattle.lease_table.proofs.ListLemmas.{filter_map-same, length-filter-le}
+use Rattle.lease_table.proofs.MapLemmas.{Gives, records-at, records-set_value, leases_on-same_key}
 
 -- ---- what a change leaves on each key
 
 -- on this key there are now these quarantines and these leases to read, and each other key is as before
 pub record SetsKey (key : QKey) (standing : List Quar) (readers : List ReadLease) (old new : List Lease) : Type 0 where
-  quars_there : quars key new ≡ standing
-  reads_there : reads key new ≡ readers
-  quars_elsewhere : (other : QKey) → same_key key other ≡ false → quars other new ≡ quars other old
-  reads_elsewhere : (other : QKey) → same_key key other ≡ false → reads other new ≡ reads other old
+  pub quars_there : quars key new ≡ standing
+  pub reads_there : reads key new ≡ readers
+  pub quars_elsewhere : (other : QKey) → same_key key other ≡ false → quars other new ≡ quars other old
+  pub reads_elsewhere : (other : QKey) → same_key key other ≡ false → reads other new ≡ reads other old
 
 pub Leaves-from : (key : QKey) (standing : List Quar) (readers : List ReadLease) (old new : List Lease) → SetsKey key standing readers old new → Leaves key (first readers) standing old new
 Leaves-from key standing readers old new sets = record {
@@ -120,11 +38,11 @@ Leaves-from key standing readers old new sets = record {
 }
 
 -- keys that are one have the same leases
-quars-same_key : (a b : QKey) (leases : List Lease) → same_key a b ≡ true → quars a leases ≡ quars b leases
+pub quars-same_key : (a b : QKey) (leases : List Lease) → same_key a b ≡ true → quars a leases ≡ quars b leases
 quars-same_key a b leases e =
     filter_map-same (quar_on a) (quar_on b) (λ lease. rw (same_key-left a b lease.key e) refl) leases
 
-reads-same_key : (a b : QKey) (leases : List Lease) → same_key a b ≡ true → reads a leases ≡ reads b leases
+pub reads-same_key : (a b : QKey) (leases : List Lease) → same_key a b ≡ true → reads a leases ≡ reads b leases
 reads-same_key a b leases e =
     filter_map-same (read_on a) (read_on b) (λ lease. rw (same_key-left a b lease.key e) refl) leases
 
@@ -139,67 +57,6 @@ MayStand-step key k standing readers old new false e sets may table =
 pub IsTable-from : (key : QKey) (standing : List Quar) (readers : List ReadLease) (old new : List Lease) → SetsKey key standing readers old new → MayStand standing readers → IsTable old → IsTable new
 IsTable-from key standing readers old new sets may table =
     λ k. MayStand-step key k standing readers old new _ refl sets may table
-
--- ---- the four changes
-
-pub SetsKey-drop_read : (key : QKey) (leases : List Lease) → SetsKey key (quars key leases) [] leases (without_read key leases)
-SetsKey-drop_read key leases = record {
-  quars_there = quars-without_read key key leases;
-  reads_there = reads-without_read key leases;
-  quars_elsewhere = λ other apart. quars-without_read other key leases;
-  reads_elsewhere = λ other apart. reads-without_read-other key other leases apart;
-}
-
-pub SetsKey-drop_quar : (key : QKey) (token : ℕ) (leases : List Lease) → SetsKey key (filter (λ q. not (has_token token q)) (quars key leases)) (reads key leases) leases (without_quar key token leases)
-SetsKey-drop_quar key token leases = record {
-  quars_there = quars-without_quar key token leases;
-  reads_there = reads-without_quar key key token leases;
-  quars_elsewhere = λ other apart. quars-without_quar-other key other token leases apart;
-  reads_elsewhere = λ other apart. reads-without_quar other key token leases;
-}
-
--- a lease on this key gives nothing on another
-on-other : {Y : Type 0} (key other : QKey) (o : Option Y) → same_key key other ≡ false → (if same_key other key then o else None) ≡ None
-on-other key other o apart = let off : same_key other key ≡ false = grind (arith, nat_tests) in rw off refl
-
--- a lease on this key gives what it is
-pub on-itself : {Y : Type 0} (key : QKey) (o : Option Y) → (if same_key key key then o else None) ≡ o
-on-itself key o = rw (same_key-self key) refl
-
--- a record that gives nothing adds nothing, and one that gives something adds it
-filter_map-push-none : {X Y : Type 0} (f : X → Option Y) (xs : List X) (x : X) → f x ≡ None → filter_map f (xs ++ x ∷ []) ≡ filter_map f xs
-filter_map-push-none f xs x e = rw (filter_map-append f xs (x ∷ []), e) (append-nil (filter_map f xs))
-
-filter_map-push-some : {X Y : Type 0} (f : X → Option Y) (xs : List X) (x : X) (y : Y) → f x ≡ Some y → filter_map f (xs ++ x ∷ []) ≡ filter_map f xs ++ y ∷ []
-filter_map-push-some f xs x y e = rw (filter_map-append f xs (x ∷ []), e) refl
-
--- a choice between nothing and nothing
-none-both : {Y : Type 0} (b : Bool) (n : Option Y) → (if b then n else n) ≡ n
-none-both true n = refl
-none-both false n = refl
-
--- the record of a lease to read, and of a quarantine
-abbrev pub read_lease : QKey → ReadLease → Lease
-read_lease key r = record { key = key; held = Read r }
-
-abbrev pub quar_lease : QKey → Quar → Lease
-quar_lease key q = record { key = key; held = Quarantine q }
-
-pub SetsKey-read : (key : QKey) (r : ReadLease) (leases : List Lease) → SetsKey key (quars key leases) (r ∷ []) leases (without_read key leases ++ read_lease key r ∷ [])
-SetsKey-read key r leases = record {
-  quars_there = filter_map-push-none (quar_on key) (without_read key leases) (read_lease key r) (none-both (same_key key key) None) ∙ quars-without_read key key leases;
-  reads_there = filter_map-push-some (read_on key) (without_read key leases) (read_lease key r) r (on-itself key (Some r)) ∙ ap (λ rs. rs ++ r ∷ []) (reads-without_read key leases);
-  quars_elsewhere = λ other apart. filter_map-push-none (quar_on other) (without_read key leases) (read_lease key r) (none-both (same_key other key) None) ∙ quars-without_read other key leases;
-  reads_elsewhere = λ other apart. filter_map-push-none (read_on other) (without_read key leases) (read_lease key r) (on-other key other (Some r) apart) ∙ reads-without_read-other key other leases apart;
-}
-
-pub SetsKey-quar : (key : QKey) (q : Quar) (leases : List Lease) → SetsKey key (quars key leases ++ q ∷ []) [] leases (without_read key leases ++ quar_lease key q ∷ [])
-SetsKey-quar key q leases = record {
-  quars_there = filter_map-push-some (quar_on key) (without_read key leases) (quar_lease key q) q (on-itself key (Some q)) ∙ ap (λ qs. qs ++ q ∷ []) (quars-without_read key key leases);
-  reads_there = filter_map-push-none (read_on key) (without_read key leases) (quar_lease key q) (none-both (same_key key key) None) ∙ reads-without_read key leases;
-  quars_elsewhere = λ other apart. filter_map-push-none (quar_on other) (without_read key leases) (quar_lease key q) (on-other key other (Some q) apart) ∙ quars-without_read other key leases;
-  reads_elsewhere = λ other apart. filter_map-push-none (read_on other) (without_read key leases) (quar_lease key q) (none-both (same_key other key) None) ∙ reads-without_read-other key other leases apart;
-}
 
 -- ---- what may stand after each
 
@@ -230,3 +87,60 @@ MayStand-quar standing readers q may each = record {
   one_reader = omega arith;
   apart = λ some. refl;
 }
+
+-- ---- the map
+
+-- what the map's change says of its records
+pub SetsKey-puts : (key : QKey) (standing : List Quar) (readers : List ReadLease) (old new : BTreeMap QKey KeyLeases) → IsOrdered key_cmp old → PutsOn key standing readers old new → SetsKey key standing readers (records old.entries) (records new.entries)
+SetsKey-puts key standing readers old new ordered puts =
+    let after = records-at key new puts.in_order in
+    record {
+      quars_there = after.quars_there ∙ puts.quars_there;
+      reads_there = after.reads_there ∙ puts.reads_there;
+      quars_elsewhere = λ other apart. (records-at other new puts.in_order).quars_there ∙ ap quars_of (puts.elsewhere other apart) ∙ sym (records-at other old ordered).quars_there;
+      reads_elsewhere = λ other apart. (records-at other new puts.in_order).reads_there ∙ ap reads_of (puts.elsewhere other apart) ∙ sym (records-at other old ordered).reads_there;
+    }
+
+-- no key without a lease comes in
+NoneEmpty-puts : (key : QKey) (standing : List Quar) (readers : List ReadLease) (old new : BTreeMap QKey KeyLeases) → PutsOn key standing readers old new → NoneEmpty old → NoneEmpty new
+NoneEmpty-puts key standing readers old new puts none = λ k. by_key k (same_key key k) refl
+  where
+    by_key : (k : QKey) (b : Bool) → same_key key k ≡ b → IfSome (leases_on k new) (λ there. IsTrue (has_any there))
+    by_key k true same = rw (← leases_on-same_key key k new same) puts.any_there
+    by_key k false apart = rw (puts.elsewhere k apart) (none k)
+
+-- a change of the map that leaves on its key what may stand, with an index of what stands then
+pub IsKept-puts : (key : QKey) (standing : List Quar) (readers : List ReadLease) (old new : BTreeMap QKey KeyLeases) (terms next : BTreeMap Term Sid) → IsKept old terms → PutsOn key standing readers old new → MayStand standing readers → IsIndex (quars_in (records new.entries)) next → IsKept new next
+IsKept-puts key standing readers old new terms next kept puts may indexed = record {
+  in_order = puts.in_order;
+  table = IsTable-from key standing readers (records old.entries) (records new.entries) (SetsKey-puts key standing readers old new kept.in_order puts) may kept.table;
+  none_empty = NoneEmpty-puts key standing readers old new puts kept.none_empty;
+  indexed = indexed;
+}
+
+-- a map with the records that it had
+pub IsKept-stays : (old new : BTreeMap QKey KeyLeases) (terms next : BTreeMap Term Sid) → IsKept old terms → Stays old new → IsIndex (quars_in (records old.entries)) next → IsKept new next
+IsKept-stays old new terms next kept stays indexed = record {
+  in_order = stays.in_order;
+  table = rw stays.same_records kept.table;
+  none_empty = stays.none_empty kept.none_empty;
+  indexed = rw stays.same_records indexed;
+}
+
+-- what is written over the leases of a key leaves the map's, where it leaves these
+pub Stays-through : (key : QKey) (old new : BTreeMap QKey KeyLeases) (there next : KeyLeases) → leases_on key old ≡ Some there → SameLeases there next → WritesThrough key_cmp (key_cmp key) old next new → Stays old new
+Stays-through key old new there next found same writes = record {
+  same_records = ap records writes.0 ∙ records-set_value (is_at (key_cmp key)) old.entries there next found same.same_records;
+  none_empty = λ none k. by_key none k (is_at (key_cmp key) k) refl;
+  in_order = writes.4;
+}
+  where
+    some_there : IfSome (leases_on key old) (λ t. IsTrue (has_any t)) → IsTrue (has_any next)
+    some_there any = rw same.same_any (rw found at any)
+    updates : UpdatesBy key_cmp (key_cmp key) old new (Some next)
+    updates = writes.3 (rw found refl)
+    by_key : NoneEmpty old → (k : QKey) (b : Bool) → is_at (key_cmp key) k ≡ b → IfSome (leases_on k new) (λ t. IsTrue (has_any t))
+    by_key none k true e =
+        subst (λ o. IfSome o (λ t. IsTrue (has_any t))) (sym (updates.0 k ∙ ap (λ b. cond b (Some next) (leases_on k old)) e)) (some_there (none key))
+    by_key none k false e =
+        subst (λ o. IfSome o (λ t. IsTrue (has_any t))) (sym (updates.0 k ∙ ap (λ b. cond b (Some next) (leases_on k old)) e)) (none k)

@@ -1,33 +1,99 @@
-ghost use Rattle.std.specs.Prelude.{◌≡◌, [], ◌∷◌, ◌++◌, OnOk, OnErr, vec_len, vec_capacity, ◌≤◌};
-ghost use Rattle.lease_table.specs.Pieces.{without_read, without_quar};
+ghost use Rattle.std.specs.Prelude.{◌≡◌, [], ◌∷◌, ◌++◌, Some, OnOk, OnErr, IfOk, IsTrue, filter, not};
+ghost use Rattle.lease_table.specs.Leases.{has_token};
+ghost use Rattle.lease_table.specs.Stands.{quars_of, reads_of, leases_on, has_any, PutsOn, Stays, SameLeases};
 
-use crate::lookups::{quar_at, read_at};
-use crate::records::Lease;
+use crate::records::{KeyLeases, LeaseMap, Quar, ReadLease};
 use rows_model::{Memory, QKey};
+use std::alloc::Global;
+
+/// Records a lease to read the key, in the place of what was recorded there.
+pub fn put_read(leases: &mut LeaseMap, key: QKey, read: ReadLease) -> Result<(), Memory>
+    ensures ok { OnOk result (PutsOn key [] (read ∷ []) leases.old leases.new) }
+    ensures err { OnErr result (Stays leases.old leases.new) }
+{
+    leases.insert(key, KeyLeases::Read(read))?;
+    Ok(())
+}
+
+/// Records a quarantine behind those of the key, and ends any lease to read that is recorded.
+pub fn put_quar(
+    leases: &mut LeaseMap,
+    alloc: Global,
+    key: QKey,
+    quar: Quar,
+) -> Result<(), Memory>
+    ensures ok { OnOk result
+        (PutsOn key (quars_of (leases_on key leases.old) ++ quar ∷ []) [] leases.old leases.new) }
+    ensures err { OnErr result (Stays leases.old leases.new) }
+{
+    match leases.get_mut(&key) {
+        Some(there) => add_quar(there, alloc, quar),
+        None => {
+            leases.insert(key, only_quar(alloc, quar)?)?;
+            Ok(())
+        }
+    }
+}
 
 /// Ends the lease to read that is recorded on the key.
-pub fn drop_read(leases: &mut Vec<Lease>, key: &QKey)
-    ensures items { leases.new.items ≡ without_read key.now leases.old.items }
-    ensures room { vec_capacity leases.new ≡ vec_capacity leases.old }
-    ensures shorter { vec_len leases.new ≤ vec_len leases.old }
+pub fn drop_read(leases: &mut LeaseMap, key: &QKey)
+    ensures { PutsOn key.now [] [] leases.old leases.new }
 {
-    leases.retain(|lease| read_at(lease, key).is_none());
+    leases.remove(key);
 }
 
 /// Ends the quarantine on the key that has the token.
-pub fn drop_quar(leases: &mut Vec<Lease>, key: &QKey, token: u64)
-    ensures { leases.new.items ≡ without_quar key.now token leases.old.items }
+pub fn drop_quar(leases: &mut LeaseMap, key: &QKey, token: u64)
+    ensures { PutsOn key.now
+        (filter (λ q. not (has_token token q)) (quars_of (leases_on key.now leases.old)))
+        (reads_of (leases_on key.now leases.old)) leases.old leases.new }
 {
-    leases.retain(|lease| !quar_at(lease, key).is_some_and(|quar| quar.token == token));
+    let Some(there) = leases.get_mut(key) else {
+        return;
+    };
+    if !keeps_any_without(there, token) {
+        leases.remove(key);
+    }
 }
 
-/// Records a lease, in the place of the lease to read that is recorded on its key.
-pub fn record_lease(leases: &mut Vec<Lease>, lease: Lease) -> Result<(), Memory>
-    ensures ok { OnOk result (leases.new.items ≡ without_read lease.key leases.old.items ++ lease ∷ []) }
-    ensures err { OnErr result (leases.new.items ≡ leases.old.items) }
+/// The leases of a key that has only this quarantine.
+fn only_quar(alloc: Global, quar: Quar) -> Result<KeyLeases, Memory>
+    ensures quars { IfOk result (λ leases. quars_of (Some leases) ≡ quar ∷ []) }
+    ensures reads { IfOk result (λ leases. reads_of (Some leases) ≡ []) }
+    ensures any { IfOk result (λ leases. IsTrue (has_any leases)) }
 {
-    leases.reserve(1)?;
-    drop_read(leases, &lease.key);
-    leases.push_reserved(lease);
+    let mut quars = Vec::new(alloc);
+    quars.push(quar)?;
+    Ok(KeyLeases::Quarantines(quars))
+}
+
+/// Adds a quarantine behind those that are there, and ends a lease to read.
+fn add_quar(there: &mut KeyLeases, alloc: Global, quar: Quar) -> Result<(), Memory>
+    ensures quars { OnOk result
+        (quars_of (Some there.new) ≡ quars_of (Some there.old) ++ quar ∷ []) }
+    ensures reads { OnOk result (reads_of (Some there.new) ≡ []) }
+    ensures any { OnOk result (IsTrue (has_any there.new)) }
+    ensures err { OnErr result (SameLeases there.old there.new) }
+{
+    match there {
+        KeyLeases::Quarantines(quars) => quars.push(quar)?,
+        KeyLeases::Read(_) => *there = only_quar(alloc, quar)?,
+    }
     Ok(())
+}
+
+/// Ends the quarantine that has the token, and says whether any lease is left.
+fn keeps_any_without(there: &mut KeyLeases, token: u64) -> bool
+    ensures quars { quars_of (Some there.new)
+        ≡ filter (λ q. not (has_token token q)) (quars_of (Some there.old)) }
+    ensures reads { reads_of (Some there.new) ≡ reads_of (Some there.old) }
+    ensures any { result ≡ has_any there.new }
+{
+    match there {
+        KeyLeases::Quarantines(quars) => {
+            quars.retain(|quar| quar.token != token);
+            !quars.is_empty()
+        }
+        KeyLeases::Read(_) => true,
+    }
 }

@@ -9,3 +9,4 @@ mod edits;
 mod lookups;
 pub mod records;
 pub mod table;
+mod terms;

@@ -1,9 +1,9 @@
-ghost use Rattle.std.specs.Prelude.{◌≡◌, ◌<◌, [], not, find};
+ghost use Rattle.std.specs.Prelude.{◌≡◌, ◌<◌, [], not, find, AllPairs};
 ghost use Rattle.case_tables.specs.Compatibility.{verdict, row_of, others_row, read, quarantine};
-ghost use Rattle.rows_model.specs.Key.{same_key};
-ghost use Rattle.lease_table.specs.Leases.{quar_on, read_on, quars, own_in, holder_in, recorded, is_of, has_token, is_unexpired, is_current, way_of, holding, IsTable};
+ghost use Rattle.lease_table.specs.Leases.{first, own_in, holder_in, is_of, has_token, is_unexpired, is_current, way_of, holding_of, StandBeside};
+ghost use Rattle.lease_table.specs.Stands.{leases_on, quars_of, reads_of};
 
-use crate::records::{Held, Lease, Mode, Quar, ReadLease};
+use crate::records::{KeyLeases, LeaseMap, Mode, Quar, ReadLease};
 use case_tables::{Verdict, lease_grid};
 use rows_model::{QKey, Sid};
 
@@ -21,80 +21,66 @@ const READ_COLUMN: usize = 0;
 
 const QUAR_COLUMNS: usize = 1;
 
-/// Whether two keys are one.
-pub fn is_same(a: &QKey, b: &QKey) -> bool
-    ensures { result ≡ same_key a.now b.now }
-{
-    a == b
+/// What stands on a key: the lease to read that is recorded, and the quarantines in order of token.
+#[derive(Clone, Copy)]
+pub struct OnKey<'a> {
+    pub reader: Option<ReadLease>,
+    pub quars: &'a [Quar],
 }
 
-/// The quarantine on the key, if the record is one.
-pub fn quar_at(lease: &Lease, key: &QKey) -> Option<Quar>
-    ensures { result ≡ quar_on key.now lease.now }
+/// What stands on the key.
+pub fn on_key<'a>(leases: &'a LeaseMap, key: &QKey) -> OnKey<'a>
+    ensures reader { result.reader ≡ first (reads_of (leases_on key.now leases.now)) }
+    ensures quars { result.quars.now ≡ quars_of (leases_on key.now leases.now) }
 {
-    match lease.held {
-        Held::Quarantine(quar) if is_same(key, &lease.key) => Some(quar),
-        _ => None,
+    match leases.get(key) {
+        Some(KeyLeases::Read(read)) => OnKey {
+            reader: Some(*read),
+            quars: &[],
+        },
+        Some(KeyLeases::Quarantines(quars)) => OnKey {
+            reader: None,
+            quars: quars.as_slice(),
+        },
+        None => OnKey {
+            reader: None,
+            quars: &[],
+        },
     }
 }
 
-/// The lease to read the key, if the record is one.
-pub fn read_at(lease: &Lease, key: &QKey) -> Option<ReadLease>
-    ensures { result ≡ read_on key.now lease.now }
+/// The session's own quarantine.
+pub fn own_quar(quars: &[Quar], who: Sid) -> Option<Quar>
+    ensures { result ≡ own_in who quars.now }
 {
-    match lease.held {
-        Held::Read(read) if is_same(key, &lease.key) => Some(read),
-        _ => None,
-    }
-}
-
-/// The session's own quarantine on the key.
-pub fn own_quar_on(leases: &[Lease], key: &QKey, who: Sid) -> Option<Quar>
-    ensures { result ≡ own_in who (quars key.now leases.now) }
-{
-    leases
+    quars
         .iter()
-        .filter_map(|lease| quar_at(lease, key))
+        .copied()
         .find(|quar| quar.sid.number == who.number)
 }
 
-/// The first quarantine of another session on the key.
-pub fn other_quar_on(leases: &[Lease], key: &QKey, who: Sid) -> Option<Quar>
-    ensures { result ≡ find (λ quar. not (is_of who quar)) (quars key.now leases.now) }
+/// The first quarantine of another session.
+pub fn other_quar(quars: &[Quar], who: Sid) -> Option<Quar>
+    ensures { result ≡ find (λ quar. not (is_of who quar)) quars.now }
 {
-    leases
+    quars
         .iter()
-        .filter_map(|lease| quar_at(lease, key))
+        .copied()
         .find(|quar| quar.sid.number != who.number)
 }
 
-/// The session's own quarantine on the key, else the first of another session.
-pub fn holder_on(leases: &[Lease], key: &QKey, who: Sid) -> Option<Quar>
-    ensures { result ≡ holder_in who (quars key.now leases.now) }
+/// The session's own quarantine, else the first of another session.
+pub fn holder_of(quars: &[Quar], who: Sid) -> Option<Quar>
+    ensures { result ≡ holder_in who quars.now }
 {
-    own_quar_on(leases, key, who).or(other_quar_on(leases, key, who))
+    own_quar(quars, who).or(other_quar(quars, who))
 }
 
-/// The quarantine on the key that has the token.
-pub fn quar_with(leases: &[Lease], key: &QKey, token: u64) -> Option<Quar>
-    ensures { result ≡ find (has_token token) (quars key.now leases.now) }
+/// The quarantine that has the token.
+pub fn quar_with(quars: &[Quar], token: u64) -> Option<Quar>
+    ensures { result ≡ find (has_token token) quars.now }
 {
-    leases
-        .iter()
-        .filter_map(|lease| quar_at(lease, key))
-        .find(|quar| quar.token == token)
-}
-
-/// The lease to read that is recorded on the key.
-pub fn recorded_on(leases: &[Lease], key: &QKey) -> Option<ReadLease>
-    ensures { result ≡ recorded key.now leases.now }
-{
-    for lease in leases {
-        if let Some(read) = read_at(lease, key) {
-            return Some(read);
-        }
-    }
-    None
+    quars.iter().copied().find(|quar| quar.token == token)
 }
 
 /// Whether there is a lease to read and its deadline lies ahead.
@@ -111,45 +97,46 @@ pub fn is_current_at(lease: Option<ReadLease>, token: u64, now: u64) -> bool
     lease.is_some_and(|lease| lease.token == token && now < lease.deadline)
 }
 
-/// The row of the grid for the key, as the session sees it.
-pub fn row_on(leases: &[Lease], key: &QKey, who: Sid, now: u64) -> usize
-    requires { IsTable leases.now }
-    ensures row { result ≡ row_of (holding key.now who now leases.now) }
-    ensures within { result < 8 }
-{
-    let own = own_quar_on(leases, key, who);
-    let other = other_quar_on(leases, key, who);
-    match (own, other) {
-        (Some(own), None) | (Some(own), Some(_)) => OWN_ROWS + own.mode.place(),
-        (None, Some(other)) => OTHERS_ROWS + other.mode.place(),
-        (None, None) => free_row_on(leases, key, now),
+impl OnKey<'_> {
+    /// The row of the grid, as the session sees it.
+    pub fn row(&self, who: Sid, now: u64) -> usize
+        requires { AllPairs StandBeside self.now.quars.now }
+        ensures row { result ≡ row_of (holding_of who now self.now.reader self.now.quars.now) }
+        ensures within { result < 8 }
+    {
+        match (own_quar(self.quars, who), other_quar(self.quars, who)) {
+            (Some(own), None) | (Some(own), Some(_)) => OWN_ROWS + own.mode.place(),
+            (None, Some(other)) => OTHERS_ROWS + other.mode.place(),
+            (None, None) => free_row(self.reader, now),
+        }
+    }
+
+    /// The grid's verdict on a request for a lease to read.
+    pub fn read_verdict(&self, who: Sid, now: u64) -> Verdict
+        requires { AllPairs StandBeside self.now.quars.now }
+        ensures { result ≡ verdict (holding_of who now self.now.reader self.now.quars.now) read }
+    {
+        lease_grid().at(self.row(who, now), READ_COLUMN)
+    }
+
+    /// The grid's verdict on a request for a quarantine in a mode.
+    pub fn quar_verdict(&self, who: Sid, mode: Mode, now: u64) -> Verdict
+        requires { AllPairs StandBeside self.now.quars.now }
+        ensures { result ≡ verdict (holding_of who now self.now.reader self.now.quars.now)
+            (quarantine (way_of mode)) }
+    {
+        lease_grid().at(self.row(who, now), QUAR_COLUMNS + mode.place())
     }
 }
 
 /// The row of the grid for a key on which nobody holds a quarantine.
-fn free_row_on(leases: &[Lease], key: &QKey, now: u64) -> usize
-    ensures row { result ≡ others_row [] (is_unexpired now (recorded key.now leases.now)) }
+fn free_row(reader: Option<ReadLease>, now: u64) -> usize
+    ensures row { result ≡ others_row [] (is_unexpired now reader) }
     ensures within { result < 2 }
 {
-    if is_unexpired_at(recorded_on(leases, key), now) {
+    if is_unexpired_at(reader, now) {
         READ_ROW
     } else {
         NOTHING_ROW
     }
-}
-
-/// The grid's verdict on a request for a lease to read the key.
-pub fn read_verdict(leases: &[Lease], key: &QKey, who: Sid, now: u64) -> Verdict
-    requires { IsTable leases.now }
-    ensures { result ≡ verdict (holding key.now who now leases.now) read }
-{
-    lease_grid().at(row_on(leases, key, who, now), READ_COLUMN)
-}
-
-/// The grid's verdict on a request for a quarantine of the key in a mode.
-pub fn quar_verdict(leases: &[Lease], key: &QKey, who: Sid, mode: Mode, now: u64) -> Verdict
-    requires { IsTable leases.now }
-    ensures { result ≡ verdict (holding key.now who now leases.now) (quarantine (way_of mode)) }
-{
-    lease_grid().at(row_on(leases, key, who, now), QUAR_COLUMNS + mode.place())
 }

@@ -2,6 +2,7 @@ ghost use Rattle.std.specs.Prelude.{◌≡◌};
 ghost use Rattle.case_tables.specs.Compatibility.{way_number};
 
 use rows_model::{QKey, Sid};
+use std::collections::BTreeMap;
 
 /// What a session means to do with a key that it quarantines.
 #[derive(Clone, Copy, Debug, PartialEq, Eq)]
@@ -50,19 +51,31 @@ pub struct ReadLease {
     pub deadline: u64,
 }
 
-/// What a lease is.
+/// What a lease is, as contracts see it.
 #[derive(Clone, Copy, Debug, PartialEq, Eq)]
 pub enum Held {
     Read(ReadLease),
     Quarantine(Quar),
 }
 
-/// A lease that is recorded on a key.
+/// A lease that is recorded on a key, as contracts see it.
 #[derive(Clone, Copy, Debug, PartialEq, Eq)]
 pub struct Lease {
     pub key: QKey,
     pub held: Held,
 }
+
+/// The leases of one key.
+#[derive(Debug, Drop)]
+pub enum KeyLeases {
+    /// One to read.
+    Read(ReadLease),
+    /// Quarantines, in order of token.
+    Quarantines(Vec<Quar>),
+}
+
+/// The leases of each key that has any, in order of the keys.
+pub type LeaseMap = BTreeMap<QKey, KeyLeases>;
 
 /// A quarantine that is past its deadline.
 #[derive(Clone, Copy, Debug, PartialEq, Eq)]

@@ -1,37 +1,39 @@
 ghost use Rattle.std.specs.Prelude.{◌≡◌, ◌<◌, ◌≤◌, [], ◌∷◌, ◌++◌, Some, None, not, filter, find, MatchBool, IfOk, IfSome, IfNone, IsTrue, OnSome, OnErr};
-ghost use Rattle.std.specs.List.{All};
+ghost use Rattle.std.specs.List.{All, AllPairs};
 ghost use Rattle.case_tables.specs.Compatibility.{verdict, is_given, row_of, read, quarantine};
 ghost use Rattle.lease_table.specs.Expiry.{NoneDue, NoneDueBefore, quars_in, StandsDue};
-ghost use Rattle.lease_table.specs.Leases.{quars, recorded, own_quar, holder_in, has_token, is_current, way_of, holding, IsTable, Leaves};
+ghost use Rattle.lease_table.specs.Leases.{quars, recorded, own_quar, holder_in, has_token, is_current, way_of, holding, IsTable, Leaves, StandBeside};
 
-use crate::dues::least_due;
-use crate::edits::{drop_quar, drop_read, record_lease};
-use crate::lookups::{
-    holder_on, is_current_at, quar_verdict, quar_with, read_verdict, recorded_on, row_on,
-};
-use crate::records::{Due, Held, Lease, Mode, Quar, ReadLease};
+use crate::dues::first_due;
+use crate::edits::{drop_quar, drop_read, put_quar, put_read};
+use crate::lookups::{OnKey, holder_of, is_current_at, on_key, quar_with};
+use crate::records::{Due, LeaseMap, Mode, Quar, ReadLease};
+use crate::terms::{TermMap, list, unlist};
 use case_tables::Verdict;
 use rows_model::{Memory, QKey, Sid};
 use std::alloc::Global;
+use std::collections::BTreeMap;
 use std::marker::Model;
 
 /// The leases of each key: at most one lease to read, or quarantines in order of token. Contracts see
 /// the list of their records.
 #[derive(Debug, Drop)]
 pub struct Leases {
-    leases: Vec<Lease>,
+    leases: LeaseMap,
+    terms: TermMap,
+    alloc: Global,
 }
 
 impl Model for Leases {
     ghost use Rattle.std.specs.Prelude.{List};
     ghost use Rattle.lease_table.specs.declared.records.Lease.{Lease};
-    ghost use Rattle.lease_table.specs.Leases.{IsTable};
+    ghost use Rattle.lease_table.specs.Stands.{records, IsKept};
 
     ghost Value = { List Lease };
 
-    ghost view = { λ table. table.leases.items };
+    ghost view = { λ table. records table.leases.entries };
 
-    ghost invariant = { λ table. IsTable table.leases.items };
+    ghost invariant = { λ table. IsKept table.leases table.terms };
 }
 
 impl Leases {
@@ -40,8 +42,20 @@ impl Leases {
         ensures { result ≡ [] }
     {
         Leases {
-            leases: Vec::new(alloc),
+            leases: BTreeMap::new(alloc),
+            terms: BTreeMap::new(alloc),
+            alloc,
         }
+    }
+
+    // What stands on the key.
+    fn on_key(&self, key: &QKey) -> OnKey<'_>
+        ensures reader { result.reader ≡ recorded key.now self.now }
+        ensures quars { result.quars.now ≡ quars key.now self.now }
+        ensures beside { AllPairs StandBeside result.quars.now }
+        ensures table { IsTable self.now }
+    {
+        on_key(&self.leases, key)
     }
 
     /// The row of the grid for the key, as the session sees it. Its own quarantine comes before those of
@@ -51,7 +65,7 @@ impl Leases {
         ensures within { result < 8 }
         ensures table { IsTable self.now }
     {
-        row_on(self.leases.as_slice(), key, who, now)
+        self.on_key(key).row(who, now)
     }
 
     /// Asks for a lease to read the key, and answers the grid's verdict. `Give` puts it in the place of
@@ -74,16 +88,16 @@ impl Leases {
             (verdict (holding key sid now self.old) read))) }
         ensures err { OnErr result (self.new ≡ self.old) }
     {
-        let verdict = read_verdict(self.leases.as_slice(), &key, sid, now);
+        let verdict = self.on_key(&key).read_verdict(sid, now);
         match verdict {
             Verdict::Wait | Verdict::Same | Verdict::Own | Verdict::Refuse => {}
             Verdict::Give | Verdict::Void | Verdict::Join => {
-                let held = Held::Read(ReadLease {
+                let read = ReadLease {
                     sid,
                     token,
                     deadline,
-                });
-                record_lease(&mut self.leases, Lease { key, held })?;
+                };
+                put_read(&mut self.leases, key, read)?;
             }
         }
         Ok(verdict)
@@ -103,12 +117,15 @@ impl Leases {
             (verdict (holding key q.sid now self.old) (quarantine (way_of q.mode))))) }
         ensures err { OnErr result (self.new ≡ self.old) }
     {
-        let verdict = quar_verdict(self.leases.as_slice(), &key, q.sid, q.mode, now);
+        let verdict = self.on_key(&key).quar_verdict(q.sid, q.mode, now);
         match verdict {
             Verdict::Wait | Verdict::Same | Verdict::Own | Verdict::Refuse => {}
             Verdict::Give | Verdict::Void | Verdict::Join => {
-                let held = Held::Quarantine(q);
-                record_lease(&mut self.leases, Lease { key, held })?;
+                list(&mut self.terms, key, &q)?;
+                if let Err(memory) = put_quar(&mut self.leases, self.alloc, key, q) {
+                    unlist(&mut self.terms, &key, &q);
+                    return Err(memory);
+                }
             }
         }
         Ok(verdict)
@@ -118,14 +135,14 @@ impl Leases {
     pub fn judge_q(&self, key: &QKey, who: Sid, mode: Mode, now: u64) -> Verdict
         ensures { result ≡ verdict (holding key.now who now self.now) (quarantine (way_of mode)) }
     {
-        quar_verdict(self.leases.as_slice(), key, who, mode, now)
+        self.on_key(key).quar_verdict(who, mode, now)
     }
 
     /// The quarantine on the key that has this token.
     pub fn quar(&self, key: &QKey, token: u64) -> Option<Quar>
         ensures { result ≡ find (has_token token) (quars key.now self.now) }
     {
-        quar_with(self.leases.as_slice(), key, token)
+        quar_with(self.on_key(key).quars, token)
     }
 
     /// The session's own quarantine on the key, else the one of least token, else none.
@@ -134,7 +151,7 @@ impl Leases {
         ensures least { own_quar key.now who self.now ≡ None
             → IfSome result (λ q. All (λ other. q.token ≤ other.token) (quars key.now self.now)) }
     {
-        holder_on(self.leases.as_slice(), key, who)
+        holder_of(self.on_key(key).quars, who)
     }
 
     /// Whether the lease to read the key that has this token is recorded and its deadline lies ahead, so
@@ -142,7 +159,7 @@ impl Leases {
     pub fn can_take_i(&self, key: &QKey, token: u64, now: u64) -> bool
         ensures { result ≡ is_current token now (recorded key.now self.now) }
     {
-        is_current_at(recorded_on(self.leases.as_slice(), key), token, now)
+        is_current_at(self.on_key(key).reader, token, now)
     }
 
     /// Uses up the lease to read the key that has this token, and says whether it did: exactly where that
@@ -153,7 +170,7 @@ impl Leases {
             (Leaves key.now None (quars key.now self.old) self.old self.new)
             (self.new ≡ self.old) }
     {
-        if !is_current_at(recorded_on(self.leases.as_slice(), key), token, now) {
+        if !is_current_at(self.on_key(key).reader, token, now) {
             return false;
         }
         drop_read(&mut self.leases, key);
@@ -167,8 +184,9 @@ impl Leases {
             (filter (λ q. not (has_token token q)) (quars key.now self.old)) self.old self.new) }
         ensures none { IfNone result (self.new ≡ self.old) }
     {
-        let quar = quar_with(self.leases.as_slice(), key, token)?;
+        let quar = quar_with(self.on_key(key).quars, token)?;
         drop_quar(&mut self.leases, key, token);
+        unlist(&mut self.terms, key, &quar);
         Some(quar)
     }
 
@@ -179,7 +197,7 @@ impl Leases {
         ensures least { IfSome result (NoneDueBefore now (quars_in self.now)) }
         ensures none { IfNone result (NoneDue now (quars_in self.now)) }
     {
-        least_due(self.leases.as_slice(), now)
+        first_due(&self.terms, now)
     }
 }
 

@@ -1,9 +1,16 @@
-use Rattle.lease_table.proofs.ChangeLemmas.{IsTable-drop_read, Leaves-drop_read}
+use Rattle.std.proofs.Common.{sym, ap, ◌∙◌}
+use Rattle.lease_table.specs.Leases.{is_current}
+use Rattle.lease_table.proofs.ChangeLemmas.{IsKept-take, Leaves-take}
 use Rattle.lease_table.proofs.table.Leases.take_i.Goals as goal
 
 pub invariant_of-self : goal.invariant_of-self
-invariant_of-self c = IsTable-drop_read c.args.key.now _ _ c.self.invariant c.drop_read.ensures.items
+invariant_of-self c =
+    let reader = rw (← c.self.view_is) at c.on_key.ensures.reader in
+    let current = ap (is_current c.args.token c.args.now) (sym reader) ∙ sym c.is_current_at.ensures ∙ c.if-not-is_current_at.false in
+    IsKept-take c.args.key.now c.args.token c.args.now c.self.inside.leases c.drop_read.new.leases c.self.inside.terms c.self.invariant current c.drop_read.ensures
 
 pub returns-clause-after : goal.returns-clause-after
 returns-clause-after c =
-    rw (← c.self.view_is) (Leaves-drop_read c.args.key.now _ _ c.drop_read.ensures.items)
+    let reader = rw (← c.self.view_is) at c.on_key.ensures.reader in
+    let current = ap (is_current c.args.token c.args.now) (sym reader) ∙ sym c.is_current_at.ensures ∙ c.if-not-is_current_at.false in
+    rw (← c.self.view_is) (Leaves-take c.args.key.now c.args.token c.args.now c.self.inside.leases c.drop_read.new.leases c.self.inside.terms c.self.invariant current c.drop_read.ensures)
