@@ -118,7 +118,7 @@ pub found-own_token : (quars : List Quar) → AllOfOwnToken quars → AllByRecur
 found-own_token [] h = tt
 found-own_token (one ∷ quars) h =
     let itself : find (has_token one.token) (one ∷ quars) ≡ Some one =
-        ap (λ b. cond b (Some one) (find (has_token one.token) quars)) (eq-eqb one.token one.token refl) in
+    ap (λ b. cond b (Some one) (find (has_token one.token) quars)) (eq-eqb one.token one.token refl) in
     let P : Quar → Type 0 = λ quar. one.token ≢ quar.token in
     let Q : Quar → Type 0 = λ quar. find (has_token quar.token) quars ≡ Some quar in
     (itself, every-weaker (λ quar. P quar × Q quar) (λ quar. find (has_token quar.token) (one ∷ quars) ≡ Some quar) quars behind (every-both P Q quars h.0 (found-own_token quars h.1)))
@@ -325,7 +325,7 @@ told-there now key due (one ∷ quars) (inr there) =
 none-stands : (now : ℕ) (stands : QKey → List Quar) (due : Due) → NoneDue now stands → StandsDue now stands due → ⊥
 none-stands now stands due none there =
     let one =
-        one-has (λ quar. now < quar.deadline) (IsToldOf now due.key due) (stands due.key) (recursion_from_All (λ quar. now < quar.deadline) (stands due.key) (none due.key)) (any-one (IsToldOf now due.key due) (stands due.key) there) in
+    one-has (λ quar. now < quar.deadline) (IsToldOf now due.key due) (stands due.key) (recursion_from_All (λ quar. now < quar.deadline) (stands due.key) (none due.key)) (any-one (IsToldOf now due.key due) (stands due.key) there) in
     let ahead = one.1 in
     let late = one.2.0 in
     omega (arith, ahead, late)

@@ -137,8 +137,10 @@ Stays-through key old new there next found same writes = record {
   where
     some_there : IfSome (leases_on key old) (λ t. IsTrue (has_any t)) → IsTrue (has_any next)
     some_there any = rw same.same_any (rw found at any)
+
     updates : UpdatesBy key_cmp (key_cmp key) old new (Some next)
     updates = writes.3 (rw found refl)
+
     by_key : NoneEmpty old → (k : QKey) (b : Bool) → is_at (key_cmp key) k ≡ b → IfSome (leases_on k new) (λ t. IsTrue (has_any t))
     by_key none k true e =
         subst (λ o. IfSome o (λ t. IsTrue (has_any t))) (sym (updates.0 k ∙ ap (λ b. cond b (Some next) (leases_on k old)) e)) (some_there (none key))

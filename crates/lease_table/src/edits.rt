@@ -16,12 +16,7 @@ pub fn put_read(leases: &mut LeaseMap, key: QKey, read: ReadLease) -> Result<(),
 }
 
 /// Records a quarantine behind those of the key, and ends any lease to read that is recorded.
-pub fn put_quar(
-    leases: &mut LeaseMap,
-    alloc: Global,
-    key: QKey,
-    quar: Quar,
-) -> Result<(), Memory>
+pub fn put_quar(leases: &mut LeaseMap, alloc: Global, key: QKey, quar: Quar) -> Result<(), Memory>
     ensures ok { OnOk result
         (PutsOn key (quars_of (leases_on key leases.old) ++ quar ∷ []) [] leases.old leases.new) }
     ensures err { OnErr result (Stays leases.old leases.new) }
