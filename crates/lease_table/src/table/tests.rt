@@ -3,7 +3,6 @@ ghost use Rattle.std.specs.List.{list_all};
 ghost use Rattle.lease_table.specs.Leases.{quars};
 
 use super::*;
-use crate::lookups::quar_at;
 use crate::records::Mode;
 use rows_model::Kind;
 use std::process::Abort;
@@ -25,12 +24,13 @@ fn quar(sid: u64, mode: Mode, token: u64, deadline: u64) -> Quar {
 }
 
 /// Whether the token is above that of each quarantine on the key.
-fn is_above(leases: &[Lease], key: &QKey, token: u64) -> bool
+fn is_above(leases: &Leases, key: &QKey, token: u64) -> bool
     ensures { result ≡ list_all (λ other. nat_lt other.token token) (quars key.now leases.now) }
 {
     leases
+        .on_key(key)
+        .quars
         .iter()
-        .filter_map(|lease| quar_at(lease, key))
         .all(|other| other.token < token)
 }
 
@@ -42,7 +42,7 @@ fn ask_q(
     q: Quar,
     now: u64,
 ) -> Result<Verdict, Memory> {
-    assert!(rt; is_above(leases.leases.as_slice(), &key, q.token));
+    assert!(rt; is_above(leases, &key, q.token));
     leases.ask_q(key, q, now)
 }
 
