@@ -1,6 +1,6 @@
 -- The sweeper's drops in a run are final.
-use Rattle.std.proofs.Common.{◌≡◌, ℕ, ◌+◌, ◌<◌, ◌⊎◌, ◌==◌, Bool, true, false, inl, inr, List, [], ◌∷◌, ◌++◌, length, reverse, Option, Some, None, IsSome, slice_get, eq-eqb, refl, sym, ap, subst, ◌∙◌, arith}
-use Rattle.std.specs.Prelude.{if◌then◌else◌, flat_map, All}
+use Rattle.std.proofs.Common.{◌≡◌, ℕ, ◌<◌, ◌⊎◌, Bool, inl, inr, List, [], ◌∷◌, ◌++◌, length, reverse, Option, Some, None, IsSome, slice_get, eq-eqb, refl, sym, ap, subst, ◌∙◌, arith}
+use Rattle.std.specs.Prelude.{if◌then◌else◌, All}
 use Rattle.std.specs.List.{AllByRecursion}
 use Rattle.std.proofs.lemmas.List.{reverse-reverse}
 use Rattle.std.proofs.lemmas.List.Concat.{flat_map-append}
@@ -22,13 +22,13 @@ use Rattle.session_client.specs.declared.plans.Turn.{Turn}
 use Rattle.session_client.specs.declared.plans.Turn.TheVariants as turn
 use Rattle.session_client.specs.declared.replies.Wanted.{Wanted}
 use Rattle.session_client.specs.declared.replies.Wanted.TheVariants as wanted
-use Rattle.core_history.specs.Events.{Event, Stepped, Called, Ticked, Swept, steps_in, steps_of, swept_in, log_of}
+use Rattle.core_history.specs.Events.{Event, Swept, steps_in, steps_of, swept_in, log_of}
 use Rattle.core_history.specs.Freshness.{IsCommitOf, histories_of}
 use Rattle.core_history.specs.Machine.{World, Move, Begin, Take, Said, event_of, wanted_of, sweep_of, swept_next, turn_event, world_of}
 use Rattle.core_history.specs.Sweeps.{IsHitSince, SweepsAreFinal}
 use Rattle.top_run.specs.declared.runs.Status.{Status}
 use Rattle.top_run.specs.Runs.{past_of, Held, Tells, Left, IsNotStarted, Ended}
-use Rattle.callers.specs.Drops.{IsFinalDrop, DropsAreFinal, IsSweptRun}
+use Rattle.callers.specs.Drops.{DropsAreFinal, IsSweptRun}
 use Rattle.callers.proofs.RunLemmas.{Began, began-or-not, reverse-middle}
 use Rattle.callers.proofs.WriteLemmas.{all-turned}
 

@@ -1,6 +1,6 @@
 -- A session that quits gives up, and leaves each entry.
-use Rattle.std.proofs.Common.{◌≡◌, ℕ, Bool, true, false, List, [], ◌∷◌, ◌++◌, length, reverse, Option, Some, None, slice_get, refl, sym, ap, subst, ◌∙◌}
-use Rattle.std.specs.Prelude.{nat_lt, if◌then◌else◌, count_by, Result, Ok, Err, IsTrue, OnOk, OnErr, IfOk}
+use Rattle.std.proofs.Common.{◌≡◌, ℕ, Bool, true, false, List, [], ◌∷◌, length, Option, Some, None, slice_get, refl, sym, ap, subst, ◌∙◌}
+use Rattle.std.specs.Prelude.{ℤ, if◌then◌else◌, count_by, Result, Ok, Err, IsTrue, OnOk, OnErr, IfOk}
 use Rattle.std.specs.Bool.{IsFalse}
 use Rattle.std.proofs.lemmas.Bool.{lt-ltb}
 use Rattle.std.proofs.lemmas.List.{reverse-append}
@@ -11,8 +11,14 @@ use Rattle.rows_model.specs.declared.changes.Change.{Change}
 use Rattle.rows_model.specs.Changes.{footprint}
 use Rattle.rows_model.specs.Key.{same_key}
 use Rattle.rows_model.proofs.SameKey.{same_key-true}
+use Rattle.case_tables.specs.Compatibility.{verdict}
+use Rattle.case_tables.specs.Compatibility.{quarantine as to_quarantine}
+use Rattle.case_tables.specs.declared.grids.Verdict.{Verdict}
+use Rattle.case_tables.specs.declared.grids.Verdict.TheVariants as verdicts
 use Rattle.lease_table.specs.declared.records.Mode.{Mode}
 use Rattle.lease_table.specs.declared.records.Mode.TheVariants as mode
+use Rattle.lease_table.specs.declared.records.Quar.{Quar}
+use Rattle.lease_table.specs.Leases.{way_of}
 use Rattle.key_shard.specs.declared.replies.QAnswer.{QAnswer}
 use Rattle.key_shard.specs.declared.replies.QAnswer.TheVariants as quarantine
 use Rattle.key_shard.specs.declared.replies.Rel.{Rel}
@@ -20,21 +26,24 @@ use Rattle.key_shard.specs.declared.replies.Rel.TheVariants as rel
 use Rattle.key_shard.specs.declared.steps.Step.{Step}
 use Rattle.key_shard.specs.declared.steps.Step.TheVariants as step
 use Rattle.key_shard.specs.Permit.{Permit}
-use Rattle.key_shard.specs.Past.{entry}
-use Rattle.key_shard.specs.Replies.{ShowsQuarantine}
+use Rattle.key_shard.specs.Past.{Terms, seen_by, holder_of, entry}
+use Rattle.key_shard.specs.Answers.{granted_step, refused_step, quarantine_by, quarantine_step}
+use Rattle.key_shard.specs.Replies.{ShowsQuarantine, old_value}
 use Rattle.key_shard.specs.Shards.{ShardView, past_of, is_out, stepped}
 use Rattle.write_ops.specs.Releases.{LeavesValue}
 use Rattle.session_client.specs.declared.plans.Plan.{Plan}
-use Rattle.session_client.specs.declared.plans.Plan.TheVariants.{Read, Write, Look, Quit, Skip}
+use Rattle.session_client.specs.declared.plans.Plan.TheVariants.{Quit}
 use Rattle.session_client.specs.declared.replies.Fault.{Fault}
 use Rattle.session_client.specs.declared.replies.Reply.{Reply}
 use Rattle.session_client.specs.declared.replies.Reply.TheVariants as reply
 use Rattle.session_client.specs.declared.replies.Wanted.{Wanted}
 use Rattle.session_client.specs.declared.replies.Wanted.TheVariants as wanted
-use Rattle.session_client.specs.Belongs.{Belongs}
+use Rattle.session_client.specs.declared.sessions.Session.{Session}
+use Rattle.session_client.specs.Belongs.{Belongs, FitsOld, IsQuarantineOf}
+use Rattle.session_client.specs.Follows.{plan_of, sid_of, IsReady, Follows, IsRefreshing}
 use Rattle.session_client.specs.Plans.{mode_on}
-use Rattle.session_client.specs.Wants.{Writing, Given, Release, Keeps, Drops, Finishes, is_had, given, released, number_of, has_all, quarantine_as, quarantine_or_then, quarantine_next, after_fault, finish, release_after, release_of, release_by, release_next, writing_of, write_wants, wants}
-use Rattle.callers.specs.Quits.{IsQuit, IsGivingUp, AreReplies, HasSameEntries}
+use Rattle.session_client.specs.Wants.{Given, Release, Keeps, Drops, Finishes, is_had, given, released, number_of, has_all, quarantine_as, quarantine_or_then, after_fault, finish, release_after, release_of, release_by, writing_of, wants}
+use Rattle.callers.specs.Quits.{IsQuit, IsGivingUp, AreReplies, IsUnderWay, IsQuarantineReply, HasSameEntries}
 
 -- ---- what a session that quits wants
 
@@ -185,9 +194,93 @@ up-after who m txn (told ∷ heard) h =
     after who m txn told heard (may-come who (wants (Quit m txn) false heard) told before.up h.0) h.0 before
 
 -- a session that quits gives up, after whatever replies to what it wanted
-pub gives-up : (who : Sid) (plan : Plan) (heard : List Reply) → IsQuit plan → AreReplies who plan heard → IsGivingUp (wants plan false heard)
+gives-up : (who : Sid) (plan : Plan) (heard : List Reply) → IsQuit plan → AreReplies who plan heard → IsGivingUp (wants plan false heard)
 gives-up who (Quit m txn) heard quit h = (up-after who m txn heard h).up
 gives-up who other heard quit h = absurd quit
+
+-- so does one that is under way
+pub wants-up : (session : Session) (request : Wanted) → IsQuit (plan_of session) → (way : IsUnderWay session) → request ≡ wants (plan_of session) false way.heard → IsGivingUp request
+wants-up session request quit way is =
+    subst IsGivingUp (sym is) (gives-up (sid_of session) (plan_of session) way.heard quit way.replies)
+
+-- such a session goes on under way
+pub goes-on : (old wanting new : Session) (request : Wanted) (told : Reply) → (way : IsUnderWay old) → plan_of wanting ≡ plan_of old → sid_of wanting ≡ sid_of old
+    → request ≡ wants (plan_of old) false way.heard → Follows wanting false way.heard
+    → plan_of new ≡ plan_of wanting → sid_of new ≡ sid_of wanting → IsReady new
+    → (Follows wanting false way.heard → Follows new false (told ∷ way.heard)) → Belongs (sid_of old) request told → IsUnderWay new
+goes-on old wanting new request told way plan sid is follows plan' sid' ready on b =
+    let plans : plan_of old ≡ plan_of new = sym (plan' ∙ plan) in
+    let sids : sid_of old ≡ sid_of new = sym (sid' ∙ sid) in
+    let R : Plan → Type 0 = λ p. AreReplies (sid_of new) p (told ∷ way.heard) in
+    let S : Sid → Type 0 = λ s. AreReplies s (plan_of old) (told ∷ way.heard) in
+    record {
+      ready = ready;
+      heard = told ∷ way.heard;
+      replies = subst R plans (subst S sids (subst (λ (w : Wanted). Belongs (sid_of old) w told) is b, way.replies));
+      follows = on follows;
+    }
+
+-- no reply to such a request tells of a commit
+may-refresh : (told : Reply) → MayCome told → IsRefreshing told → ⊥
+unfolding MayCome
+may-refresh (reply.Committed number txn grants) may h = may
+may-refresh other may h = h
+
+pub not-refreshing : (who : Sid) (request : Wanted) (told : Reply) → IsGivingUp request → Belongs who request told → IsRefreshing told → ⊥
+not-refreshing who request told up b h = may-refresh told (may-come who request told up b) h
+
+-- ---- the reply to a quarantine
+
+fits-old : (m : Mode) (found : Option (List ℕ × ℕ)) → FitsOld m (old_value m found)
+fits-old mode.Invalidate found = refl
+fits-old mode.Refresh found = tt
+fits-old mode.Delta found = refl
+
+shown-granted : (terms : Terms) (past : List Step) (key : QKey) (who : Sid) (m : Mode) (shift : ℤ) (now : ℕ) (told : QAnswer)
+    → ShowsQuarantine terms past (granted_step terms past key who m shift now) told → IsQuarantineOf who key m told
+shown-granted terms past key who m shift now told shows =
+    subst (IsQuarantineOf who key m) (sym shows) (record { of_key = refl; of_session = refl; in_mode = refl }, fits-old m (entry key past))
+
+shown-held : (who : Sid) (key : QKey) (m : Mode) (told : QAnswer) → told ≡ quarantine.Held → IsQuarantineOf who key m told
+shown-held who key m told is = subst (IsQuarantineOf who key m) (sym is) tt
+
+shown-refused : (terms : Terms) (past : List Step) (key : QKey) (who : Sid) (m : Mode) (o : Option Quar) (told : QAnswer)
+    → ShowsQuarantine terms past (refused_step key who m o) told → IsQuarantineOf who key m told
+shown-refused terms past key who m None told shows = shown-held who key m told shows
+shown-refused terms past key who m (Some q) told shows = subst (IsQuarantineOf who key m) (sym shows) tt
+
+shown-by : (terms : Terms) (past : List Step) (key : QKey) (who : Sid) (m : Mode) (shift : ℤ) (now : ℕ) (v : Verdict) (told : QAnswer)
+    → ShowsQuarantine terms past (quarantine_by terms past key who m shift now v) told → IsQuarantineOf who key m told
+shown-by terms past key who m shift now verdicts.Give told shows = shown-granted terms past key who m shift now told shows
+shown-by terms past key who m shift now verdicts.Void told shows = shown-granted terms past key who m shift now told shows
+shown-by terms past key who m shift now verdicts.Join told shows = shown-granted terms past key who m shift now told shows
+shown-by terms past key who m shift now verdicts.Same told shows = shown-held who key m told shows
+shown-by terms past key who m shift now verdicts.Refuse told shows = shown-refused terms past key who m (holder_of key who past) told shows
+shown-by terms past key who m shift now verdicts.Wait told shows = shown-held who key m told shows
+shown-by terms past key who m shift now verdicts.Own told shows = shown-held who key m told shows
+
+-- an answer that shows the step of a quarantine answers it
+pub shown-answer : {E : Type 0} (terms : Terms) (past : List Step) (key : QKey) (who : Sid) (m : Mode) (shift : ℤ) (now : ℕ) (result : Result QAnswer E)
+    → IfOk result (ShowsQuarantine terms past (quarantine_step terms past key who m shift now)) → IfOk result (IsQuarantineOf who key m)
+shown-answer terms past key who m shift now (Err fault) shows = tt
+shown-answer terms past key who m shift now (Ok told) shows =
+    shown-by terms past key who m shift now (verdict (seen_by key who now past) (to_quarantine (way_of m))) told shows
+
+-- a reply to a quarantine belongs to the request for it
+pub belongs-reg : (who : Sid) (key : QKey) (told : Reply) → IsQuarantineReply who key mode.Invalidate told → Belongs who (wanted.QaReg key) told
+belongs-reg who key (reply.Quar answer) h = h
+belongs-reg who key (reply.Fault fault) h = h
+belongs-reg who key other h = absurd h
+
+pub belongs-read : (who : Sid) (key : QKey) (told : Reply) → IsQuarantineReply who key mode.Refresh told → Belongs who (wanted.QaRead key) told
+belongs-read who key (reply.Quar answer) h = h
+belongs-read who key (reply.Fault fault) h = h
+belongs-read who key other h = absurd h
+
+pub belongs-delta : (who : Sid) (key : QKey) (by : ℤ) (told : Reply) → IsQuarantineReply who key mode.Delta told → Belongs who (wanted.Delta key by) told
+belongs-delta who key by (reply.Quar answer) h = h
+belongs-delta who key by (reply.Fault fault) h = h
+belongs-delta who key by other h = absurd h
 
 -- ---- what such a request leaves of a shard
 

@@ -1,23 +1,21 @@
 -- A get behind a writer's release hits what that left.
-use Rattle.std.proofs.Common.{◌≡◌, ℕ, ◌≤◌, ◌⊎◌, ◌||◌, Bool, true, false, cond, inl, inr, List, [], ◌∷◌, ◌++◌, length, reverse, Option, Some, None, IsSome, slice_get, option_map, refl, sym, ap, subst, ◌∙◌}
+use Rattle.std.proofs.Common.{◌≡◌, ℕ, ◌≤◌, ◌⊎◌, ◌||◌, Bool, true, false, inl, inr, List, [], ◌∷◌, ◌++◌, reverse, Option, Some, None, IsSome, option_map, refl, sym, ap, subst, ◌∙◌}
 use Rattle.std.specs.Prelude.{ℤ, nat_le, not, ◌&&◌, if◌then◌else◌, is_some, All, IfSome}
 use Rattle.std.specs.List.{AllByRecursion}
-use Rattle.std.proofs.lemmas.Bool.{leb-true, le-leb}
-use Rattle.std.proofs.lemmas.List.{reverse-reverse}
+use Rattle.std.proofs.lemmas.Bool.{le-leb}
 use Rattle.std.proofs.lemmas.List.Elements.{All-head, All-tail}
 use Rattle.std.proofs.lemmas.List.Sorted.{All-permutation, IsPermutation-reverse}
 use Rattle.rows_model.specs.declared.keys.QKey.{QKey}
 use Rattle.rows_model.specs.declared.keys.Sid.{Sid}
 use Rattle.rows_model.specs.Key.{same_key}
 use Rattle.rows_model.specs.Rows.{Tables}
-use Rattle.rows_model.specs.Query.{answer}
 use Rattle.rows_model.proofs.SameKey.{same_key-refl}
 use Rattle.case_tables.specs.Compatibility.{Way, verdict, read, quarantine, is_any}
 use Rattle.case_tables.specs.declared.grids.Verdict.{Verdict}
 use Rattle.case_tables.specs.declared.grids.Verdict.TheVariants as verdicts
 use Rattle.lease_table.specs.declared.records.Mode.{Mode}
 use Rattle.lease_table.specs.declared.records.Quar.{Quar}
-use Rattle.lease_table.specs.Leases.{way_of, is_current, is_unexpired, others_in}
+use Rattle.lease_table.specs.Leases.{way_of, is_current, is_unexpired}
 use Rattle.key_shard.specs.declared.replies.How.{How}
 use Rattle.key_shard.specs.declared.steps.Ended as ends
 use Rattle.key_shard.specs.declared.steps.Ended.TheVariants.{Keep, Drop, Put, Shift}
@@ -25,16 +23,15 @@ use Rattle.key_shard.specs.declared.steps.Step.{Step}
 use Rattle.key_shard.specs.declared.steps.Step.TheVariants as step
 use Rattle.key_shard.specs.Permit.{Permit}
 use Rattle.key_shard.specs.Past.{Terms, own_of, seen_by, holder_of, quar_of, standing, recorded, entry, entry_ended, evicted_by, evicts, is_evicted}
-use Rattle.key_shard.specs.Answers.{Request, Get, Set, Quarantine, Release, Replace, Answers, IsLegalPast, found_step, get_by, get_step, miss_by, miss_step, quarantine_by, refused_step, release_by, replace_by, step_of}
+use Rattle.key_shard.specs.Answers.{Request, Get, Set, Quarantine, Release, Replace, IsLegalPast, found_step, get_by, get_step, miss_by, miss_step, quarantine_by, refused_step, release_by, replace_by, step_of}
 use Rattle.sql_keeper.specs.declared.stores.Commit.{Commit}
 use Rattle.sql_keeper.specs.Fresh.{Fresh, IsFreshPast, IsFreshStep}
-use Rattle.sql_keeper.specs.Log.{state}
 use Rattle.session_client.specs.declared.plans.Shape.{Shape}
 use Rattle.core_history.specs.Freshness.{IsCommitOf, IsNumbered}
 use Rattle.core_history.specs.Machine.{Move, terms_of}
 use Rattle.top_run.specs.declared.runs.Status.{Status}
 use Rattle.top_run.specs.Runs.{Held, Tells, Left, Keeps, IsNotStarted, Ended}
-use Rattle.callers.specs.Writes.{LeavesValue, is_keep, leaves_entry, IsGetOf, IsGetBehindWrite, IsServed, HitsAfterWrites}
+use Rattle.callers.specs.Writes.{LeavesValue, is_keep, leaves_entry, IsGetOf, HitsAfterWrites}
 use Rattle.callers.proofs.RunLemmas.{Began, began-or-not, some-at, at-place, reverse-middle, turned, fresh-later}
 
 -- ---- an entry that each of some steps leaves is the one before them

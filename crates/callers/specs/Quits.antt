@@ -2,15 +2,17 @@
 use Rattle.std.specs.Prelude.{◌≡◌, false, List, [], ◌∷◌}
 use Rattle.rows_model.specs.declared.keys.QKey.{QKey}
 use Rattle.rows_model.specs.declared.keys.Sid.{Sid}
+use Rattle.lease_table.specs.declared.records.Mode.{Mode}
 use Rattle.key_shard.specs.declared.steps.Step.{Step}
 use Rattle.key_shard.specs.Past.{entry}
 use Rattle.session_client.specs.declared.plans.Plan.{Plan}
 use Rattle.session_client.specs.declared.plans.Plan.TheVariants.{Quit}
 use Rattle.session_client.specs.declared.replies.Reply.{Reply}
+use Rattle.session_client.specs.declared.replies.Reply.TheVariants as reply
 use Rattle.session_client.specs.declared.replies.Wanted.{Wanted}
 use Rattle.session_client.specs.declared.replies.Wanted.TheVariants as wanted
 use Rattle.session_client.specs.declared.sessions.Session.{Session}
-use Rattle.session_client.specs.Belongs.{Belongs}
+use Rattle.session_client.specs.Belongs.{Belongs, IsShardFault, IsQuarantineOf}
 use Rattle.session_client.specs.Follows.{plan_of, sid_of, IsReady, Follows}
 use Rattle.session_client.specs.Wants.{wants}
 
@@ -40,6 +42,12 @@ pub record IsUnderWay (session : Session) : Type 0 where
   pub heard : List Reply
   pub replies : AreReplies (sid_of session) (plan_of session) heard
   pub follows : Follows session false heard
+
+-- The reply to a quarantine of the key by this session in this mode: its answer, or a fault of a shard.
+abbrev pub IsQuarantineReply : Sid → QKey → Mode → Reply → Type 0
+IsQuarantineReply who key mode (reply.Quar told) = IsQuarantineOf who key mode told
+IsQuarantineReply who key mode (reply.Fault fault) = IsShardFault fault
+IsQuarantineReply who key mode other = ⊥
 
 -- Each entry is as before.
 abbrev pub HasSameEntries : List Step → List Step → Type 0

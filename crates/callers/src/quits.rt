@@ -1,8 +1,11 @@
 // What a session that quits leaves of a shard.
-ghost use Rattle.std.specs.Prelude.{◌≡◌};
+ghost use Rattle.std.specs.Prelude.{◌≡◌, None, IfOk, IfErr, IfSome};
+ghost use Rattle.lease_table.specs.declared.records.Mode.{Mode};
+ghost use Rattle.rows_model.specs.declared.keys.QKey.{QKey};
 ghost use Rattle.key_shard.specs.Shards.{past_of};
+ghost use Rattle.session_client.specs.Belongs.{Belongs, IsQuarantineOf};
 ghost use Rattle.session_client.specs.Follows.{plan_of};
-ghost use Rattle.callers.specs.Quits.{IsQuit, IsGivingUp, IsUnderWay, HasSameEntries};
+ghost use Rattle.callers.specs.Quits.{IsQuit, IsGivingUp, IsUnderWay, IsQuarantineReply, HasSameEntries};
 
 use key_shard::{QAnswer, Shard, ShardFault};
 use rows_model::Sid;
@@ -19,41 +22,62 @@ pub fn wants_to_quit(session: &mut Session) -> Wanted
     session.wants()
 }
 
-/// A session that quits leaves every entry of a shard as it is. Its next request is made there, and what
-/// it is to be told of it comes back: `None` where it is no request on a shard, or one on a key that
-/// isn't this shard's or can't be shifted.
-pub fn quit_on(session: &mut Session, shard: &mut Shard, now: u64) -> Option<Reply>
+/// A session that quits leaves every entry of a shard as it is. Its next request is made there, and it is
+/// told what came of it. A request that isn't the shard's comes back and is out: to be ended at the
+/// store, nothing, or a quarantine of a key that is another shard's or can't be shifted.
+pub fn quit_on(session: &mut Session, shard: &mut Shard, now: u64) -> Option<Wanted>
     requires quits { IsQuit (plan_of session.old) }
     requires under_way { IsUnderWay session.old }
-    ensures { HasSameEntries (past_of shard.old) (past_of shard.new) }
+    ensures entries { HasSameEntries (past_of shard.old) (past_of shard.new) }
+    ensures plan { plan_of session.new ≡ plan_of session.old }
+    ensures goes_on { result ≡ None → IsUnderWay session.new }
+    ensures back { IfSome result IsGivingUp }
 {
     let sid = session.sid();
-    let request = wants_to_quit(session);
-    give_up_on(shard, sid, request, now)
+    let request = session.wants();
+    match give_up_on(shard, sid, request, now) {
+        Ok(reply) => {
+            let Ok(()) = session.told(reply) else {
+                unreachable!()
+            };
+            None
+        }
+        Err(request) => Some(request),
+    }
 }
 
-/// Makes the request of one that gives up, where it is one on a shard.
-fn give_up_on(shard: &mut Shard, sid: Sid, request: Wanted, now: u64) -> Option<Reply>
+/// Makes the request of one that gives up, where it is one on this shard, or gives it back.
+fn give_up_on(shard: &mut Shard, sid: Sid, request: Wanted, now: u64) -> Result<Reply, Wanted>
     requires { IsGivingUp request }
-    ensures { HasSameEntries (past_of shard.old) (past_of shard.new) }
+    ensures entries { HasSameEntries (past_of shard.old) (past_of shard.new) }
+    ensures belongs { IfOk result (Belongs sid request) }
+    ensures back { IfErr result (λ back. back ≡ request) }
 {
     match request {
-        Wanted::QaReg { key } => told_of(qa_reg(shard, key, sid, now)),
-        Wanted::QaRead { key } => told_of(qa_read(shard, key, sid, now)),
-        Wanted::Delta { key, by } => told_of_delta(iq_delta(shard, key, sid, by, now)),
-        Wanted::Abort { grant } => Some(Reply::Rel {
+        Wanted::QaReg { key } => match told_of(qa_reg(shard, key, sid, now)) {
+            Some(reply) => Ok(reply),
+            None => Err(Wanted::QaReg { key }),
+        },
+        Wanted::QaRead { key } => match told_of(qa_read(shard, key, sid, now)) {
+            Some(reply) => Ok(reply),
+            None => Err(Wanted::QaRead { key }),
+        },
+        Wanted::Delta { key, by } => match told_of_delta(iq_delta(shard, key, sid, by, now)) {
+            Some(reply) => Ok(reply),
+            None => Err(Wanted::Delta { key, by }),
+        },
+        Wanted::Abort { grant } => Ok(Reply::Rel {
             told: abort(shard, grant),
         }),
-        Wanted::End | Wanted::Nothing => None,
-        other => {
-            other.let_go();
-            unreachable!()
-        }
+        other => Err(other),
     }
 }
 
 /// What a session is told of a quarantine, where the key is this shard's.
-fn told_of(answer: Result<QAnswer, ShardFault>) -> Option<Reply> {
+fn told_of(answer: Result<QAnswer, ShardFault>) -> Option<Reply>
+    ensures { (who : Sid) (key : QKey) (mode : Mode) → IfOk answer (IsQuarantineOf who key mode) →
+        IfSome result (IsQuarantineReply who key mode) }
+{
     match answer {
         Ok(told) => Some(Reply::Quar { told }),
         Err(ShardFault::Spent { next: _ }) => Some(Reply::Fault {
@@ -67,9 +91,12 @@ fn told_of(answer: Result<QAnswer, ShardFault>) -> Option<Reply> {
 }
 
 /// So it is of one to shift, where the key is a count.
-fn told_of_delta(answer: Result<QAnswer, DeltaFault>) -> Option<Reply> {
+fn told_of_delta(answer: Result<QAnswer, DeltaFault>) -> Option<Reply>
+    ensures { (who : Sid) (key : QKey) (mode : Mode) → IfOk answer (IsQuarantineOf who key mode) →
+        IfSome result (IsQuarantineReply who key mode) }
+{
     match answer {
-        Ok(told) => told_of(Ok(told)),
+        Ok(told) => Some(Reply::Quar { told }),
         Err(DeltaFault::Shard { fault }) => told_of(Err(fault)),
         Err(DeltaFault::NotCount) => None,
     }

@@ -1,7 +1,9 @@
-use crate::{runs, shards, stores};
+use crate::{quits, runs, shards, stores};
 use iq_outside::{MemSink, MemSource};
 use key_shard::{Got, SetAnswer, Shard};
-use rows_model::{Change, Kind, QKey, Sid, Txn, Value};
+use lease_table::Mode;
+use rows_model::{Change, Kind, Name, QKey, Sid, Txn, Value};
+use session_client::{Plan, Session, Wanted};
 use sql_keeper::{CommitFault, MapKeeper, Place, Store};
 use std::alloc::Global;
 use std::process::Abort;
@@ -11,6 +13,14 @@ use top_run::Status;
 /// A reader that stores, a writer, and a reader behind it.
 const SCRIPT: &[u8] =
     b"members 3\nread 1 profile:2\nwrite 2 invalidate rename 2 bob\nread 3 profile:2\nturn 1 3\nturn 2 3\nturn 3 3\nend\n";
+
+/// A writer that refreshes a list, and a reader behind it.
+const REFRESH: &[u8] =
+    b"members 3\nwrite 1 invalidate invite 1 2\nread 2 friends:1\nwrite 3 refresh accept 1 2\nread 4 friends:1\nturn 1 7\nturn 2 3\nturn 3 17\nturn 4\nend\n";
+
+/// A writer that commits and is swept, and a reader behind the sweep.
+const SWEPT: &[u8] =
+    b"members 3\nlife 10\nwrite 1 invalidate rename 2 bob\nread 2 profile:2\nturn 1 2\ntick 10\nsweep 3\nturn 2 3\nend\n";
 
 const PROFILE: QKey = QKey {
     kind: Kind::Profile,
@@ -47,6 +57,57 @@ fn runs_are_fresh_hold_commits_and_meet_floors(rt: HostRuntime) -> Result<(), Fa
     let keeper = MapKeeper::new(Vec::new(alloc));
     let end = runs::run_no_command(alloc, &[], &mut source, &mut sink, keeper);
     assert_eq!(rt; end.status, Status::Usage);
+    Ok(())
+}
+
+#[test]
+fn a_reader_hits_what_a_writer_left(rt: HostRuntime) -> Result<(), Fail> {
+    let alloc = rt.alloc();
+    let words = words(alloc)?;
+    let text = Vec::from_slice(alloc, REFRESH)?;
+    let mut source = MemSource::new(text, 64, Vec::new(alloc));
+    let mut sink = MemSink::new(alloc, 4096, 64, Vec::new(alloc))?;
+    let keeper = MapKeeper::new(Vec::new(alloc));
+    let end = runs::run_serving_writes(alloc, words.as_slice(), &mut source, &mut sink, keeper);
+    assert_eq!(rt; (end.status, end.log.len()), (Status::Done, 2));
+    Ok(())
+}
+
+#[test]
+fn a_swept_writer_has_its_commit(rt: HostRuntime) -> Result<(), Fail> {
+    let alloc = rt.alloc();
+    let words = words(alloc)?;
+    let text = Vec::from_slice(alloc, SWEPT)?;
+    let mut source = MemSource::new(text, 64, Vec::new(alloc));
+    let mut sink = MemSink::new(alloc, 4096, 64, Vec::new(alloc))?;
+    let keeper = MapKeeper::new(Vec::new(alloc));
+    let end = runs::run_swept(alloc, words.as_slice(), &mut source, &mut sink, keeper);
+    assert_eq!(rt; (end.status, end.log.len()), (Status::Done, 1));
+    Ok(())
+}
+
+#[test]
+fn a_session_that_quits_is_ended_behind_its_quarantines(rt: HostRuntime) -> Result<(), Fail> {
+    let alloc = rt.alloc();
+    let mut shard = Shard::new(alloc, 0, 1, 8, 8, 1)?;
+    let name = Name::of(b"bob").expect(&rt, "a name");
+    let txn = Txn::of(alloc, &[Change::Rename { a: 2, name }])?;
+    let plan = Plan::Quit {
+        mode: Mode::Refresh,
+        txn,
+    };
+    let mut session = Session::new(alloc, Sid { number: 1 }, plan)?;
+    // The one key that it touches is quarantined, and it is told so.
+    if let Some(request) = quits::quit_on(&mut session, &mut shard, 0) {
+        request.let_go();
+        session.let_go();
+        panic!(rt; "no quarantine");
+    }
+    assert_eq!(rt; shard.history().len(), 1);
+    let request = quits::wants_to_quit(&mut session);
+    assert_eq!(rt; matches!(&request, Wanted::End), true);
+    request.let_go();
+    session.let_go();
     Ok(())
 }
 
