@@ -202,4 +202,6 @@ impl Leases {
 }
 
 #[cfg(test)]
+mod draws;
+#[cfg(test)]
 mod tests;

@@ -35,7 +35,7 @@ fn is_above(leases: &Leases, key: &QKey, token: u64) -> bool
 }
 
 /// `ask_q`, with its condition tested.
-fn ask_q(
+pub fn ask_q(
     rt: &impl Abort,
     leases: &mut Leases,
     key: QKey,
