@@ -141,43 +141,50 @@ const NO_SCRIPTS: [(&str, &[u8], u64, ScriptKind); 7] = [
     ),
 ];
 
-/// Scripts whose keeper fails at some calls, counted from 1 and with its start, and what they print.
-const FAULTS: [(&str, &[u8], &[u64], &[u8]); 6] = [
+/// Scripts whose keeper fails at some calls, counted from 1 and with its start, what they print, and
+/// how many commits there are.
+const FAULTS: [(&str, &[u8], &[u64], &[u8], usize); 6] = [
     (
         "a commit that the keeper fails leaves the entry",
         b"members 3\nread 1 profile:2\nwrite 2 invalidate rename 2 bob\nread 3 profile:2\nturn 1 3\nturn 2 4\nturn 3\nend\n",
         &[3],
         b"1 get profile:2 LEASE 1\n1 ask profile:2 0 m2 0 0\n1 set profile:2 STORED\n2 qareg profile:2 GRANTED 2\n2 commit FAULT\n2 end YES\n2 abort profile:2 RELEASED\n3 get profile:2 HIT 0 m2 0 0\nend commits 0 hits 1 stores 1 agains 0\n",
+        0,
     ),
     (
         "a keeper that fails comes before a transaction that doesn't apply",
         b"members 3\nwrite 1 invalidate reject 1 2\nturn 1 4\nend\n",
         &[2],
         b"1 qareg profile:2 GRANTED 1\n1 qareg pending:2 GRANTED 2\n1 qareg npending:2 GRANTED 3\n1 commit FAULT\nend commits 0 hits 0 stores 0 agains 0\n",
+        0,
     ),
     (
         "a reader whose keeper fails is done, and its lease stands",
         b"members 3\nread 1 profile:2\nread 2 profile:2\nturn 1 3\nturn 2\nend\n",
         &[2],
         b"1 get profile:2 LEASE 1\n1 ask profile:2 FAULT\n1 done\n2 get profile:2 AGAIN I\nend commits 0 hits 0 stores 0 agains 1\n",
+        0,
     ),
     (
         "the run goes on after two faults",
         b"members 3\nread 1 profile:1\nread 2 profile:2\nread 3 profile:3\nturn 1 2\nturn 2 2\nturn 3 2\nend\n",
         &[2, 3],
         b"1 get profile:1 LEASE 1\n1 ask profile:1 FAULT\n2 get profile:2 LEASE 2\n2 ask profile:2 FAULT\n3 get profile:3 LEASE 3\n3 ask profile:3 0 m3 0 0\nend commits 0 hits 0 stores 0 agains 0\n",
+        0,
     ),
     (
         "a session that looks and is told of a fault commits all the same",
         b"members 3\nread 1 profile:2\nlook 2 refresh profile:2 rename 2 bob\nread 3 profile:2\nturn 1 3\nturn 2 5\nturn 3\nend\n",
         &[3],
         b"1 get profile:2 LEASE 1\n1 ask profile:2 0 m2 0 0\n1 set profile:2 STORED\n2 qaread profile:2 GRANTED 2 0 m2 0 0\n2 get profile:2 OWN\n2 staged profile:2 FAULT\n2 commit COMMITTED 1\n2 sar profile:2 RELEASED\n3 get profile:2 HIT 1 bob 0 0\nend commits 1 hits 1 stores 1 agains 0\n",
+        1,
     ),
     (
         "a commit that the keeper fails leaves the value that was to be refreshed",
         b"members 3\nread 1 profile:2\nlook 2 refresh profile:2 rename 2 bob\nread 3 profile:2\nturn 1 3\nturn 2 5\nturn 3\nend\n",
         &[4],
         b"1 get profile:2 LEASE 1\n1 ask profile:2 0 m2 0 0\n1 set profile:2 STORED\n2 qaread profile:2 GRANTED 2 0 m2 0 0\n2 get profile:2 OWN\n2 staged profile:2 bob 0 0\n2 commit FAULT\n2 end YES\n3 get profile:2 HIT 0 m2 0 0\nend commits 0 hits 1 stores 1 agains 0\n",
+        0,
     ),
 ];
 
@@ -314,13 +321,13 @@ fn a_run_keeps_its_log(rt: HostRuntime) -> Result<(), Fail> {
 
 #[test]
 fn a_keepers_fault_is_printed_and_the_run_goes_on(rt: HostRuntime) -> Result<(), Fail> {
-    for (name, text, fails, out) in FAULTS {
+    for (name, text, fails, out, commits) in FAULTS {
         let ran = run_over(rt.alloc(), &["replay"], text, 5, &[], &[], fails, 4096)?;
         assert_eq!(rt; ran.status, Status::KeepFault, "{name}");
         assert_eq!(rt; ran.printed.as_slice(), out, "{name}");
         assert_eq!(rt;
             (ran.started, ran.commits, ran.histories),
-            (true, 0, 1),
+            (true, commits, 1),
             "{name}"
         );
     }
