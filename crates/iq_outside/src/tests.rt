@@ -1,13 +1,14 @@
 ghost use Rattle.std.specs.Prelude.{◌≤◌};
 
 use crate::{
-    Failed, MemSink, MemSource, ReadStop, ReaderSource, Short, Sink, Source, WriterSink,
-    read_up_to, write_all,
+    Clock, Failed, ListClock, MemSink, MemSource, ReadStop, ReaderSource, RuntimeClock, Short,
+    Sink, Source, WriterSink, read_up_to, write_all,
 };
 use rows_model::Memory;
 use std::alloc::Global;
 use std::io::{self, ErrorKind, Read, Write};
 use std::test::Fail;
+use std::time::{self, Duration};
 
 const TEXT: &[u8] = b"1 get profile:2";
 
@@ -32,6 +33,19 @@ struct BrokenReader;
 
 impl Read for BrokenReader {
     fn read(&mut self, _buf: &mut [u8]) -> io::Result<usize> {
+        Err(io::Error::from(ErrorKind::Other))
+    }
+}
+
+// Can't be read.
+struct BrokenClock;
+
+impl time::Clock for BrokenClock {
+    fn monotonic(&self) -> io::Result<Duration> {
+        Err(io::Error::from(ErrorKind::Other))
+    }
+
+    fn since_1970(&self) -> io::Result<Duration> {
         Err(io::Error::from(ErrorKind::Other))
     }
 }
@@ -174,5 +188,27 @@ fn adapters_count_faults(rt: HostRuntime) -> Result<(), Fail> {
     assert_eq!(rt; sink.faults(), 1);
     assert_eq!(rt; sink.write(TEXT), Err(Failed));
     assert_eq!(rt; sink.faults(), 2);
+    Ok(())
+}
+
+#[test]
+fn a_list_clock_tells_its_times_and_then_the_last(rt: HostRuntime) -> Result<(), Fail> {
+    let clock = ListClock::new(vec![in rt.alloc(); 5, 3, 7]?);
+    for want in [5, 3, 7, 7, 7] {
+        assert_eq!(rt; clock.now(), want);
+    }
+    let still = ListClock::new(vec![in rt.alloc(); 9]?);
+    for _ in 0..3 {
+        assert_eq!(rt; still.now(), 9);
+    }
+    Ok(())
+}
+
+#[test]
+fn a_runtime_clock_is_read_and_one_that_cannot_be_is_at_0(rt: HostRuntime) -> Result<(), Fail> {
+    let clock = RuntimeClock::new(&rt);
+    let first = clock.now();
+    assert!(rt; 0 < first && first <= clock.now());
+    assert_eq!(rt; RuntimeClock::new(&BrokenClock).now(), 0);
     Ok(())
 }

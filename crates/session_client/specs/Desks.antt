@@ -1,9 +1,10 @@
 -- What a desk tells: lists that only grow, by one member at a time. The latest member is in front.
-use Rattle.std.specs.Prelude.{ℕ, zero, suc, ◌≡◌, ◌≢◌, true, List, [], ◌∷◌, All, Option, Some, None}
+use Rattle.std.specs.Prelude.{ℕ, zero, suc, ◌≡◌, ◌≢◌, Bool, true, List, [], ◌∷◌, All, Option, Some, None}
 use Rattle.std.specs.Option.{ForSome}
 use Rattle.rows_model.specs.declared.keys.Sid.{Sid}
 use Rattle.rows_model.specs.Delta.{is_count}
 use Rattle.lease_table.specs.declared.records.Mode.TheVariants as mode
+use Rattle.session_client.specs.declared.replies.Reply.{Reply}
 use Rattle.session_client.specs.declared.replies.Wanted.{Wanted}
 use Rattle.session_client.specs.declared.replies.Wanted.TheVariants as wanted
 
@@ -27,3 +28,8 @@ IsProper (wanted.Delta key by) = is_count key ≡ true
 IsProper (wanted.Sar grant (Some value) stamp) = grant.mode ≡ mode.Refresh
 IsProper (wanted.Apply grant stamp) = grant.mode ≡ mode.Delta
 IsProper other = Unit {0}
+
+-- A call that a desk answered: a session began, to write or to read, with this number; or a session's request was given this reply.
+pub data Call : Type 0 where
+  Began : (writes : Bool) (who : Sid) → Call
+  Asked : (who : Sid) (request : Wanted) (told : Reply) → Call

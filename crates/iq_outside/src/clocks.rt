@@ -1,0 +1,85 @@
+ghost use Rattle.std.specs.Prelude.{◌≡◌, ◌<◌, length, Contains};
+
+use std::marker::Model;
+use std::sync::atomic::{AtomicU64, Ordering};
+use std::time;
+
+/// Tells the time. Nothing is known of two answers: a clock may stand still, and it may go back.
+pub trait Clock: Sync {
+    /// The time now, in milliseconds. It can't fail, and takes no memory.
+    fn now(&self) -> u64;
+}
+
+/// A clock in memory, which tells its times in turn and then the last one for ever. Contracts see
+/// the times.
+#[derive(Drop)]
+pub struct ListClock {
+    times: Vec<u64>,
+    /// How many times were told, or more where all were.
+    told: AtomicU64,
+}
+
+impl Model for ListClock {
+    ghost use Rattle.std.specs.Prelude.{ℕ, List, ◌<◌, length};
+
+    ghost Value = { List ℕ };
+
+    ghost view = { λ clock. clock.times.items };
+
+    ghost invariant = { λ clock. 0 < length clock.times.items };
+}
+
+impl ListClock {
+    /// A clock that tells these times. It takes no memory.
+    pub fn new(times: Vec<u64>) -> ListClock
+        requires { 0 < length times.items }
+        ensures { result ≡ times.items }
+    {
+        ListClock {
+            times,
+            told: AtomicU64::new(0),
+        }
+    }
+}
+
+impl Clock for ListClock {
+    /// The next of its times, and the last one where all were told.
+    fn now(&self) -> u64
+        ensures one_of_them { Contains self.now result }
+    {
+        let last = self.times.len() - 1;
+        let told = self.told.load(Ordering::SeqCst);
+        if told >= last as u64 {
+            return self.times[last];
+        }
+        let place = self.told.fetch_add(1, Ordering::SeqCst);
+        self.times[(place as usize).min(last)]
+    }
+}
+
+/// A clock over that of a runtime, which never goes back where the system's doesn't. Where it can't
+/// be read the time is 0.
+#[derive(Drop)]
+pub struct RuntimeClock<'a, R: time::Clock + Sync> {
+    rt: &'a R,
+}
+
+impl<'a, R: time::Clock + Sync> RuntimeClock<'a, R> {
+    /// The clock of this runtime.
+    pub fn new(rt: &'a R) -> RuntimeClock<'a, R> {
+        RuntimeClock { rt }
+    }
+}
+
+impl<'a, R: time::Clock + Sync> Clock for RuntimeClock<'a, R> {
+    /// The milliseconds since some start, which stop at 2^64 - 1.
+    fn now(&self) -> u64 {
+        match self.rt.monotonic() {
+            Ok(since) => since
+                .as_secs()
+                .saturating_mul(1000)
+                .saturating_add(u64::from(since.subsec_millis())),
+            Err(_) => 0,
+        }
+    }
+}
