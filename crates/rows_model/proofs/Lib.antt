@@ -12,6 +12,7 @@ pub mod RefreshLawLemmas
 pub mod DeltaLemmas
 pub mod NameLemmas
 pub mod NumberLemmas
+pub mod PlacementLemmas
 pub mod RowsLemmas
 pub mod SameKey
 pub mod ShiftLemmas
