@@ -30,5 +30,5 @@ tells_quarantine old new key step told home refuses is shows = (
   is,
   shows,
   unspent (shard_of key old.terms.count == old.terms.no) (is_spent old step) (next_token old.terms (past_of old))
-  (shard_of key old.terms.count) told (eq-eqb _ _ home) refuses,
+      (shard_of key old.terms.count) told (eq-eqb _ _ home) refuses,
 )

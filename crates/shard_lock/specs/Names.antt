@@ -20,3 +20,7 @@ pub record AreAll (terms : ℕ → Terms) (shards : List ShardView) : Type 0 whe
   pub named : All (IsNamed terms) shards
   pub counted : All (λ shard. shard.terms.count ≡ length shards) shards
   pub placed : (place : ℕ) (shard : ShardView) → slice_get shards place ≡ Some shard → shard.terms.no ≡ place
+
+-- What the shard of this number is made with, one of so many with this room, whose leases live so long. The first token is 1.
+abbrev pub terms_at : ℕ → ℕ → ℕ → ℕ → Terms
+terms_at count room life place = record { no = place; count = count; room = room; life = life; first = 1 }

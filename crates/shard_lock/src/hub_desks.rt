@@ -83,7 +83,8 @@ impl<'a, K: Keeper, H: HubName, C: Clock, G: Gate, R: Wait> Desk for HubDesk<'a,
         match key_of(&request) {
             Some(key) => {
                 let mut kept = self.hub.lock_of(self.rt, &key);
-                self.gate.at(self.worker, Point::Inside { shard: kept.no() });
+                self.gate
+                    .at(self.worker, Point::Inside { shard: kept.no() });
                 kept.make(who, request, self.clock.now())
             }
             None => {
@@ -109,7 +110,8 @@ impl<'a, K: Keeper, H: HubName, C: Clock, G: Gate, R: Wait> Desk for HubDesk<'a,
             }
             SweepWanted::Drop { key, token } => {
                 let mut kept = self.hub.lock_of(self.rt, &key);
-                self.gate.at(self.worker, Point::Inside { shard: kept.no() });
+                self.gate
+                    .at(self.worker, Point::Inside { shard: kept.no() });
                 SweepReply::Dropped {
                     told: kept.sweep_drop(key, token),
                 }

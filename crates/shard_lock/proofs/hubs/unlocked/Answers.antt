@@ -7,8 +7,7 @@ pub loop-lock-preserved : goal.loop-lock-preserved
 loop-lock-preserved g c =
     let P = IsNamed g.H.HubName.terms in
     let new = c.into_shard.result in
-    let all = All-append P c.loop-lock.shards.items (new ∷ []) c.loop-lock.invariant.0 (All-cons P new [] c.into_shard.ensures.named (All-nil P)) in
-    (
+    let all = All-append P c.loop-lock.shards.items (new ∷ []) c.loop-lock.invariant.0 (All-cons P new [] c.into_shard.ensures.named (All-nil P)) in (
       subst (All P) (sym c.push_reserved.ensures.items) all,
       grind (arith, c.loop-lock.invariant.1, c.push_reserved.ensures.len, c.in-Some.ensures.cases),
       grind (arith, c.loop-lock.invariant.2, c.push_reserved.ensures.capacity),

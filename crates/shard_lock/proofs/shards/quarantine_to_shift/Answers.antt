@@ -14,8 +14,8 @@ returns-in-Ok-clause-makes c =
     let old = c.args.shard.now in
     let told = c.in-Ok.told in
     subst (λ by. TellsQuarantine old (delta_step old c.args.key c.args.who by c.args.now) c.delta_on.new.shard (reply.Quar told))
-      (to_z-of_z w32 c.args.by c.ranges.by)
-      (tells_quarantine old c.delta_on.new.shard c.args.key _ told c.requires.home c.in-Ok.ensures.refusal c.in-Ok.ensures.step c.in-Ok.ensures.shows)
+    (to_z-of_z w32 c.args.by c.ranges.by)
+    (tells_quarantine old c.delta_on.new.shard c.args.key _ told c.requires.home c.in-Ok.ensures.refusal c.in-Ok.ensures.step c.in-Ok.ensures.shows)
 
 pub returns-in-Ok-clause-belongs : goal.returns-in-Ok-clause-belongs
 returns-in-Ok-clause-belongs c =
