@@ -8,8 +8,8 @@ use crate::cuts::number_of;
 use crate::loads::WorkSpec;
 
 /// The load that the words ask for, or `None` exactly where they aren't the word `work` and five
-/// numbers in decimal, each within its range: members 1 to 100,000, sessions 0 to 500,000, workers 1
-/// to 64, shards 1 to 64, and a seed below 2^64.
+/// numbers in decimal, each within its range: members 1 to 100,000, sessions 0 to 500,000, workers
+/// 1 to 64, shards 1 to 64, and a seed below 2^64.
 pub fn work_words(words: &[Vec<u8>]) -> Option<WorkSpec>
     ensures found { IfSome result (λ spec. AreWork (map (λ word. word.items) words.now) spec) }
     ensures told { (spec : WorkSpec) →
@@ -24,7 +24,7 @@ pub fn work_words(words: &[Vec<u8>]) -> Option<WorkSpec>
     spec_of(members, sessions, workers, shards, seed)
 }
 
-/// The load of which the words are the five numbers.
+// The load of which the words are the five numbers.
 fn spec_of(
     members: &[u8],
     sessions: &[u8],
@@ -46,7 +46,7 @@ fn spec_of(
     })
 }
 
-/// The number that the word is in decimal, if it is at least and at most so great.
+// The number that the word is in decimal, if it is at least and at most so great.
 fn number_within(word: &[u8], least: u32, most: u32) -> Option<u32>
     ensures found { IfSome result (λ number. IsNumberWithin word.now least most number) }
     ensures none { IfNone result

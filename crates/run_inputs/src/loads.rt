@@ -11,7 +11,7 @@ use rows_model::{Change, Memory, Name, QKey, Txn, TxnFault};
 use session_client::Plan;
 use std::alloc::Global;
 
-/// The stream of the generator.
+// The stream of the generator.
 const STREAM: u64 = 1;
 
 /// What a load is drawn from, and on how many workers and shards it is run.
@@ -38,7 +38,8 @@ pub fn make_plans(alloc: Global, spec: &WorkSpec) -> Result<Vec<Vec<Plan>>, Memo
     requires { IsWork spec.now }
     ensures load { IfOk result (λ workers.
         map (λ plans. plans.items) workers.items ≡ load spec.now) }
-    ensures are_plans { IfOk result (λ workers. All (λ plans. All IsPlan plans.items) workers.items) }
+    ensures are_plans { IfOk result (λ workers.
+        All (λ plans. All IsPlan plans.items) workers.items) }
 {
     let mut workers = empty_lists(alloc, spec.workers)?;
     let mut generator = Lcg64Xsh32::new(spec.seed, STREAM);
@@ -50,7 +51,7 @@ pub fn make_plans(alloc: Global, spec: &WorkSpec) -> Result<Vec<Vec<Plan>>, Memo
     Ok(workers)
 }
 
-/// So many lists without a plan.
+// So many lists without a plan.
 fn empty_lists(alloc: Global, count: u32) -> Result<Vec<Vec<Plan>>, Memory>
     ensures { IfOk result (λ lists. map (λ plans. plans.items) lists.items ≡ replicate count []) }
 {
@@ -61,7 +62,7 @@ fn empty_lists(alloc: Global, count: u32) -> Result<Vec<Vec<Plan>>, Memory>
     Ok(lists)
 }
 
-/// The plan of a session with these draws, among so many members.
+// The plan of a session with these draws, among so many members.
 fn plan_of(alloc: Global, members: u32, draws: Draws) -> Result<Plan, Memory>
     requires some { 1 ≤ members }
     requires few { members ≤ 100000 }
@@ -85,7 +86,7 @@ fn plan_of(alloc: Global, members: u32, draws: Draws) -> Result<Plan, Memory>
     })
 }
 
-/// The change of a writer with this share of a hundred.
+// The change of a writer with this share of a hundred.
 fn change_of(share: u32, a: u32, b: u32) -> Change
     ensures { result ≡ change_drawn share a b }
 {
@@ -101,7 +102,7 @@ fn change_of(share: u32, a: u32, b: u32) -> Change
     }
 }
 
-/// The name of `n` and the number in decimal.
+// The name of `n` and the number in decimal.
 fn name_of(number: u32) -> Name
     ensures { result ≡ codes "n" ++ decimal number }
 {
@@ -115,7 +116,7 @@ fn name_of(number: u32) -> Name
     }
 }
 
-/// The transaction of one change.
+// The transaction of one change.
 fn txn_of(alloc: Global, change: Change) -> Result<Txn, Memory>
     requires { HasIds change }
     ensures { IfOk result (λ txn. txn ≡ change ∷ []) }
