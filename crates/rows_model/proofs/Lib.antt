@@ -18,5 +18,3 @@ pub mod ShiftLemmas
 pub mod UntouchedLemmas
 pub mod FootprintLemmas
 pub mod StayFitLemmas
-pub mod EditLemmas
-pub mod MadeLemmas

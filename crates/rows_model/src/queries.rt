@@ -61,7 +61,7 @@ pub(crate) fn profile_of(
 fn friend_ids(alloc: Global, rows: &Rows, id: u32) -> Result<Vec<u32>, AllocError>
     ensures { IfOk result (λ ids. ids.items ≡ friend_ids id rows.now) }
 {
-    rows.links()
+    rows.links_of(id)
         .iter()
         .filter(|link| link.befriends(id))
         .map(|link| link.other_end(id))
@@ -72,7 +72,7 @@ fn friend_ids(alloc: Global, rows: &Rows, id: u32) -> Result<Vec<u32>, AllocErro
 fn inviter_ids(alloc: Global, rows: &Rows, id: u32) -> Result<Vec<u32>, AllocError>
     ensures { IfOk result (λ ids. ids.items ≡ inviter_ids id rows.now) }
 {
-    rows.links()
+    rows.links_of(id)
         .iter()
         .filter(|link| link.invites(id))
         .map(|link| link.a)
