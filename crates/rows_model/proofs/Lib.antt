@@ -18,3 +18,7 @@ pub mod ShiftLemmas
 pub mod UntouchedLemmas
 pub mod FootprintLemmas
 pub mod StayFitLemmas
+pub mod IndexLemmas
+pub mod NearLemmas
+pub mod JudgeLemmas
+pub mod KeptLemmas

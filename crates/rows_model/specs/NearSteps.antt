@@ -1,5 +1,5 @@
 -- What a call leaves of each list of the index.
-use Rattle.std.specs.Prelude.{ℕ, ◌+◌, ◌≤◌, ◌≡◌, Bool, true, ◌==◌, ◌&&◌, if◌then◌else◌, List, length, fold, vec_capacity}
+use Rattle.std.specs.Prelude.{ℕ, ◌+◌, ◌≤◌, ◌≡◌, Bool, true, ◌==◌, ◌&&◌, ◌||◌, if◌then◌else◌, List, length, fold, vec_capacity}
 use Rattle.std.specs.List.{list_any}
 use Rattle.rows_model.specs.declared.near.Near.{Near}
 use Rattle.rows_model.specs.declared.changes.Change.{Change}
@@ -20,18 +20,29 @@ pub record IsGrown (one other : Near) : Type 0 where
 abbrev pub HasRoomAt : ℕ → ℕ → Near → Type 0
 HasRoomAt id more one = one.id ≡ id → length one.links.items + more ≤ vec_capacity one.links
 
--- whether one of the changes puts a link of this member
-abbrev pub gains : ℕ → List Change → Bool
-gains id changes = list_any (λ change. puts change && names id change) changes
+-- the list has room for so many more links, if it is that of one of these two
+abbrev pub HasRoomAtBoth : ℕ → ℕ → ℕ → Near → Type 0
+HasRoomAtBoth a b more one = ((a == one.id) || (b == one.id)) ≡ true → length one.links.items + more ≤ vec_capacity one.links
+
+-- the list has room for so many more links, if the change puts one there
+abbrev pub HasRoomOf : Change → ℕ → Near → Type 0
+HasRoomOf change more one = (puts change && names one.id change) ≡ true → length one.links.items + more ≤ vec_capacity one.links
 
 -- the list has room for so many more links, if one of the changes puts one there
 abbrev pub HasRoomFor : List Change → ℕ → Near → Type 0
-HasRoomFor changes more one = gains one.id changes ≡ true → length one.links.items + more ≤ vec_capacity one.links
+HasRoomFor changes more one =
+    list_any (λ change. puts change && names one.id change) changes ≡ true → length one.links.items + more ≤ vec_capacity one.links
 
 -- a list after a change was made in that of this member
 pub record IsMadeAt (member : ℕ) (change : Change) (one other : Near) : Type 0 where
   pub id : other.id ≡ one.id
   pub links : other.links.items ≡ (if one.id == member then links_after one.links.items change else one.links.items)
+  pub room : vec_capacity other.links ≡ vec_capacity one.links
+
+-- a list after a change was made in those of these two
+pub record IsMadeAtBoth (a b : ℕ) (change : Change) (one other : Near) : Type 0 where
+  pub id : other.id ≡ one.id
+  pub links : other.links.items ≡ (if (a == one.id) || (b == one.id) then links_after one.links.items change else one.links.items)
   pub room : vec_capacity other.links ≡ vec_capacity one.links
 
 -- a list after a change

@@ -1,9 +1,9 @@
 // The index of the links: beside each member those of which it is an end.
-ghost use Rattle.std.specs.Prelude.{◌≡◌, ◌≤◌, ◌<◌, ◌+◌, true, false, map, length, fold, count_by, All, AllPairs, IfOk, IfSome, IfNone, OnOk, vec_len, vec_capacity};
+ghost use Rattle.std.specs.Prelude.{◌≡◌, ◌≤◌, ◌<◌, ◌+◌, ◌==◌, ◌≢◌, true, false, map, length, fold, count_by, All, AllPairs, IfOk, IfSome, IfNone, OnOk, vec_len, vec_capacity};
 ghost use Rattle.std.specs.List.{list_any, insert, AllZip};
 ghost use Rattle.rows_model.specs.Changes.{is_before, with_link, without_link, renamed};
 ghost use Rattle.rows_model.specs.Near.{IsAt, NearAscend, puts, AreTwo, links_after, members_after};
-ghost use Rattle.rows_model.specs.NearSteps.{IsSame, IsGrown, HasRoomAt, HasRoomFor, IsMadeAt, IsMade, IsMadeAll};
+ghost use Rattle.rows_model.specs.NearSteps.{IsSame, IsGrown, HasRoomAt, HasRoomAtBoth, HasRoomOf, HasRoomFor, IsMadeAt, IsMadeAtBoth, IsMade, IsMadeAll};
 
 use crate::changes::Change;
 use crate::names::Name;
@@ -41,7 +41,7 @@ pub(crate) fn copied(alloc: Global, near: &[Near]) -> Result<Vec<Near>, AllocErr
     for one in near {
         copy.push(Near {
             id: one.id,
-            links: one.links.clone()?,
+            links: Vec::from_slice(alloc, one.links.as_slice())?,
         })?;
     }
     Ok(copy)
@@ -70,11 +70,30 @@ pub(crate) fn make_room(
     let Some((change, rest)) = changes.split_first() else {
         return Ok(());
     };
-    if let Change::Invite { a, b } | Change::Accept { a, b } = *change {
-        reserve(near, a, more)?;
-        reserve(near, b, more)?;
-    }
+    make_room_of(near, change, more)?;
     make_room(near, rest, more)
+}
+
+// Makes room for so many more links where this change puts one.
+fn make_room_of(near: &mut [Near], change: &Change, more: usize) -> Result<(), AllocError>
+    requires ascend { NearAscend near.old }
+    ensures grown { AllZip IsGrown near.old near.new }
+    ensures room { OnOk result (All (HasRoomOf change.now more) near.new) }
+{
+    match *change {
+        Change::Invite { a, b } | Change::Accept { a, b } => reserve_both(near, a, b, more),
+        Change::Reject { .. } | Change::Thaw { .. } | Change::Rename { .. } => Ok(()),
+    }
+}
+
+// Makes room for so many more links in the lists of these two members.
+fn reserve_both(near: &mut [Near], a: u32, b: u32, more: usize) -> Result<(), AllocError>
+    requires ascend { NearAscend near.old }
+    ensures grown { AllZip IsGrown near.old near.new }
+    ensures room { OnOk result (All (HasRoomAtBoth a b more) near.new) }
+{
+    reserve(near, a, more)?;
+    reserve(near, b, more)
 }
 
 // Makes room for so many more links in the list of this member.
@@ -109,7 +128,7 @@ fn make(members: &mut [Member], near: &mut [Near], change: &Change)
     requires members_ascend { AllPairs (λ member later. member.id < later.id) members.old }
     requires ascend { NearAscend near.old }
     requires two { AreTwo change.now }
-    requires room { All (λ one. HasRoomFor (change.now ∷ []) 1 one) near.old }
+    requires room { All (HasRoomOf change.now 1) near.old }
     ensures members { members.new ≡ members_after members.old change.now }
     ensures near { AllZip (IsMade change.now) near.old near.new }
 {
@@ -117,12 +136,20 @@ fn make(members: &mut [Member], near: &mut [Near], change: &Change)
         Change::Invite { a, b }
         | Change::Accept { a, b }
         | Change::Reject { a, b }
-        | Change::Thaw { a, b } => {
-            make_at(near, a, change);
-            make_at(near, b, change);
-        }
+        | Change::Thaw { a, b } => make_at_both(near, a, b, change),
         Change::Rename { a, name } => rename(members, a, name),
     }
+}
+
+// Makes a change in the lists of its two members.
+fn make_at_both(near: &mut [Near], a: u32, b: u32, change: &Change)
+    requires ascend { NearAscend near.old }
+    requires two { a ≢ b }
+    requires room { puts change.now ≡ true → All (HasRoomAtBoth a b 1) near.old }
+    ensures { AllZip (IsMadeAtBoth a b change.now) near.old near.new }
+{
+    make_at(near, a, change);
+    make_at(near, b, change);
 }
 
 // Gives the member of this id the name, if there is one.

@@ -162,9 +162,10 @@ impl Rows {
     pub fn copy(&self) -> Result<Rows, Memory>
         ensures { IfOk result (λ rows. rows ≡ self.now) }
     {
+        let alloc = *self.members.allocator();
         Ok(Rows {
-            members: self.members.clone()?,
-            near: copied(*self.near.allocator(), self.near.as_slice())?,
+            members: Vec::from_slice(alloc, self.members.as_slice())?,
+            near: copied(alloc, self.near.as_slice())?,
             count: self.count,
         })
     }
