@@ -45,9 +45,7 @@ impl Bond {
     fn holds_after(self, a: u32, b: u32, stood: bool, changes: &[Change]) -> bool
         ensures { result ≡ fold (still_bonds self a b) stood changes.now }
     {
-        changes
-            .iter()
-            .fold(stood, |stood, change| self.still_holds(a, b, stood, change))
+        changes.iter().fold(stood, |stood, change| self.still_holds(a, b, stood, change))
     }
 
     // Whether such a bond of the two stands after the change, where it stood or didn't before.

@@ -23,7 +23,7 @@ pub(crate) fn no_links(alloc: Global, members: &[Member]) -> Result<Vec<Near>, A
         ≡ map (λ member. member.id) members.now) }
     ensures none { IfOk result (λ near. All (λ one. length one.links.items ≡ 0) near.items) }
 {
-    let mut near = Vec::new(alloc);
+    let mut near = Vec::with_capacity(alloc, members.len())?;
     for member in members {
         near.push(Near {
             id: member.id,
@@ -37,7 +37,7 @@ pub(crate) fn no_links(alloc: Global, members: &[Member]) -> Result<Vec<Near>, A
 pub(crate) fn copied(alloc: Global, near: &[Near]) -> Result<Vec<Near>, AllocError>
     ensures { IfOk result (λ copy. AllZip IsSame near.now copy.items) }
 {
-    let mut copy = Vec::new(alloc);
+    let mut copy = Vec::with_capacity(alloc, near.len())?;
     for one in near {
         copy.push(Near {
             id: one.id,

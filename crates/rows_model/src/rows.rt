@@ -186,8 +186,8 @@ impl Rows {
         self.count
     }
 
-    /// The links of which this member is an end, by their two ids.
-    pub fn links_of(&self, id: u32) -> &[Link]
+    // The links of which this member is an end, by their two ids.
+    pub(crate) fn links_of(&self, id: u32) -> &[Link]
         ensures { result.now ≡ filter (is_end id) self.now.links }
     {
         match place_of(self.near.as_slice(), id) {
@@ -210,14 +210,20 @@ impl Rows {
     pub fn friend_count(&self, id: u32) -> u64
         ensures { result ≡ friend_count id self.now }
     {
-        self.links_of(id).iter().filter(|link| link.befriends(id)).count() as u64
+        self.links_of(id)
+            .iter()
+            .filter(|link| link.befriends(id))
+            .count() as u64
     }
 
     /// How many invitations to a member are pending.
     pub fn pending_count(&self, id: u32) -> u64
         ensures { result ≡ pending_count id self.now }
     {
-        self.links_of(id).iter().filter(|link| link.invites(id)).count() as u64
+        self.links_of(id)
+            .iter()
+            .filter(|link| link.invites(id))
+            .count() as u64
     }
 
     /// Makes the changes of the transaction in turn, all or none. `Rejected` comes exactly where a
@@ -235,7 +241,11 @@ impl Rows {
             return Err(ApplyFault::Rejected { index });
         }
         make_room(self.near.as_mut_slice(), changes, changes.len())?;
-        make_all(self.members.as_mut_slice(), self.near.as_mut_slice(), changes);
+        make_all(
+            self.members.as_mut_slice(),
+            self.near.as_mut_slice(),
+            changes,
+        );
         self.count = self.count + adding(changes) - ending(changes);
         Ok(())
     }

@@ -13,11 +13,16 @@ make_all-requires t c =
     let n : length c.in-Some.rest.now + 1 ≡ length c.args.changes.now = search rules in
     let change = c.in-Some.change.now in
     let rest = c.in-Some.rest.now in
-    let two = All-tail AreTwo change rest (All-same AreTwo _ _ (sym parts) c.requires.two) in
-    (omega (arith, n),
-      (members_ascend_after change c.args.members.now c.make.new.members c.make.ensures.members c.requires.members_ascend,
-        (ascend_after (IsMade change) (λ x y h. h.id) c.args.near.now c.make.new.near c.make.ensures.near c.requires.ascend,
-          (two, zip_all (IsMade change) (HasRoomFor c.args.changes.now (length c.args.changes.now)) (HasRoomFor rest (length rest)) (rest_of_room change rest c.args.changes.now parts) c.args.near.now c.make.new.near c.make.ensures.near c.requires.room))))
+    let two = All-tail AreTwo change rest (All-same AreTwo _ _ (sym parts) c.requires.two) in (
+      omega (arith, n),
+      (
+        members_ascend_after change c.args.members.now c.make.new.members c.make.ensures.members c.requires.members_ascend,
+        (
+          ascend_after (IsMade change) (λ x y h. h.id) c.args.near.now c.make.new.near c.make.ensures.near c.requires.ascend,
+          (two, zip_all (IsMade change) (HasRoomFor c.args.changes.now (length c.args.changes.now)) (HasRoomFor rest (length rest)) (rest_of_room change rest c.args.changes.now parts) c.args.near.now c.make.new.near c.make.ensures.near c.requires.room),
+        ),
+      ),
+    )
 
 pub returns-in-Some-clause-near : goal.returns-in-Some-clause-near
 returns-in-Some-clause-near t c =
