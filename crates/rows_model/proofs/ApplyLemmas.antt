@@ -1,5 +1,5 @@
 -- Changes in turn, from the first of a transaction on.
-use Rattle.std.proofs.Common.{ℕ, ◌≡◌, List, refl}
+use Rattle.std.proofs.Common.{◌≡◌, List, refl}
 use Rattle.rows_model.specs.declared.changes.Change.{Change}
 use Rattle.rows_model.specs.Rows.{Tables}
 use Rattle.rows_model.specs.Changes.{apply_from, apply_all}

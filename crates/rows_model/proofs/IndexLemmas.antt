@@ -1,6 +1,6 @@
 -- Each member's list against the list of all links: what it keeps, and that all lists make the whole.
-use Rattle.std.proofs.Common.{ℕ, suc, ◌+◌, ◌<◌, ◌≤◌, ◌≡◌, Bool, true, false, not, List, [], ◌∷◌, ◌++◌, length, get_or, map, filter, All, AllPairs, refl, sym, ap, inl, inr, ◌∙◌, arith}
-use Rattle.std.specs.Prelude.{count_by, ◌==◌, ◌&&◌, ◌||◌, nat_lt, cond, if◌then◌else◌}
+use Rattle.std.proofs.Common.{ℕ, suc, ◌+◌, ◌<◌, ◌≤◌, ◌≡◌, Bool, true, false, not, List, [], ◌∷◌, ◌++◌, length, get_or, filter, All, AllPairs, refl, sym, ap, inl, inr, ◌∙◌, arith}
+use Rattle.std.specs.Prelude.{count_by, ◌==◌, ◌||◌, nat_lt, cond, if◌then◌else◌}
 use Rattle.std.specs.List.{list_any, insert, flat_map}
 use Rattle.std.proofs.lemmas.Bool.{false≢true, and_parts, or_parts, or_right, false_from_ne_true, cases_eq}
 use Rattle.std.proofs.lemmas.Bool.Decides.{nat_tests}
@@ -20,7 +20,7 @@ use Rattle.rows_model.specs.Rows.{IsBefore, joins, is_pending, is_friend}
 use Rattle.rows_model.specs.Query.{befriends, invites}
 use Rattle.rows_model.specs.Judge.{bonds}
 use Rattle.rows_model.specs.Changes.{is_before, with_link, without_link, invitation, friendship}
-use Rattle.rows_model.specs.Near.{is_end, firsts, whole, NearAscend, IsIndex, names, links_after, near_after}
+use Rattle.rows_model.specs.Near.{is_end, firsts, whole, NearAscend, IsIndex, links_after, near_after}
 use Rattle.rows_model.proofs.FitLemmas.{pairs_head, pairs_tail, count_cons, count_none}
 use Rattle.rows_model.proofs.UntouchedLemmas.{filter_with, filter_both, filter_without, pending_joins}
 

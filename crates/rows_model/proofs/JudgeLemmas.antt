@@ -1,15 +1,15 @@
 -- Changes in turn, told one by one: what stands after them, and whether the next applies.
-use Rattle.std.proofs.Common.{ℕ, zero, suc, ◌+◌, ◌<◌, ◌≤◌, ◌≡◌, ◌≢◌, Bool, true, false, not, List, [], ◌∷◌, ◌++◌, length, get_or, take, drop, map, take-append-drop, drop-cons, length-take, filter, find, fold, All, AllPairs, IsSome, Option, Some, None, Result, Ok, Err, Bor, inl, inr, refl, sym, ap, subst, ◌∙◌, arith}
+use Rattle.std.proofs.Common.{ℕ, suc, ◌+◌, ◌<◌, ◌≡◌, ◌≢◌, Bool, true, false, not, List, [], ◌∷◌, ◌++◌, length, get_or, take, drop, map, take-append-drop, drop-cons, length-take, filter, find, fold, All, AllPairs, Option, Some, None, Result, Ok, Err, Bor, inl, inr, refl, sym, ap, subst, ◌∙◌, arith}
 use Rattle.std.specs.Prelude.{count_by, ◌==◌, ◌&&◌, ◌||◌, nat_lt, cond, if◌then◌else◌, ◌⊎◌}
 use Rattle.std.specs.List.{list_any}
 use Rattle.std.specs.Option.{is_some, option_copied}
-use Rattle.std.proofs.lemmas.Bool.{false≢true, and_parts, or_right, eqb-true, eq-eqb}
+use Rattle.std.proofs.lemmas.Bool.{false≢true, and_parts, eq-eqb}
 use Rattle.std.proofs.lemmas.Bool.Decides.{nat_tests}
 use Rattle.std.proofs.lemmas.List.{take_more}
 use Rattle.std.proofs.lemmas.List.Elements.{All-nil, All-cons, All-head, All-tail}
 use Rattle.std.proofs.lemmas.List.Edits.{length-insert}
 use Rattle.std.proofs.lemmas.List.Folds.{fold_stays, Any-from_list_any}
-use Rattle.std.proofs.lemmas.List.Sums.{count_by-le-length, length-filter}
+use Rattle.std.proofs.lemmas.List.Sums.{count_by-le-length}
 use Rattle.std.proofs.lemmas.Map.Views.{any-filter_same}
 use Rattle.rows_model.specs.declared.rows.Link.{Link}
 use Rattle.rows_model.specs.declared.rows.Member.{Member}
@@ -17,11 +17,11 @@ use Rattle.rows_model.specs.declared.judging.Bond.{Bond}
 use Rattle.rows_model.specs.declared.judging.Bond.TheVariants.{Any, Invitation, Friendship}
 use Rattle.rows_model.specs.declared.changes.Change.{Change}
 use Rattle.rows_model.specs.declared.changes.Change.TheVariants.{Invite, Accept, Reject, Thaw, Rename}
-use Rattle.rows_model.specs.Rows.{Tables, Fit, IsMember, IsLink, joins, is_pending, is_friend}
-use Rattle.rows_model.specs.Changes.{HasIds, is_before, with_link, without_link, invitation, friendship, renamed, is_member, is_linked, is_invited, are_friends, applies, changed, apply_from, apply_all}
+use Rattle.rows_model.specs.Rows.{Tables, Fit, IsLink, joins}
+use Rattle.rows_model.specs.Changes.{HasIds, is_before, with_link, without_link, invitation, friendship, renamed, is_member, is_linked, is_invited, applies, changed, apply_from, apply_all}
 use Rattle.rows_model.specs.Near.{AreTwo, links_after, members_after}
 use Rattle.rows_model.specs.Judge.{bonds, still_bonds, adds, ends}
-use Rattle.rows_model.proofs.FitLemmas.{pairs_head, pairs_tail, count_cons, invited_parts, same_id}
+use Rattle.rows_model.proofs.FitLemmas.{pairs_head, pairs_tail, count_cons, same_id}
 use Rattle.rows_model.proofs.FootprintLemmas.{any-insert}
 use Rattle.rows_model.proofs.IndexLemmas.{bond_joins}
 use Rattle.rows_model.proofs.RefreshStepLemmas.{any_implied}

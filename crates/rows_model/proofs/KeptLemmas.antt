@@ -1,7 +1,7 @@
 -- The rows as they are kept: the start, a copy, and after changes that apply in turn.
-use Rattle.std.proofs.Common.{ℕ, ◌+◌, ◌-◌, ◌≡◌, ◌≤◌, Bool, true, false, List, [], ◌∷◌, ◌++◌, length, get_or, take, drop, map, filter, find, fold, All, AllPairs, IsSome, Option, Some, None, Result, Ok, Err, OnOk, OnErr, inl, inr, refl, sym, ap, subst, ◌∙◌, arith}
+use Rattle.std.proofs.Common.{ℕ, ◌+◌, ◌≡◌, ◌≤◌, Bool, true, false, List, [], ◌∷◌, ◌++◌, length, get_or, take, drop, map, filter, find, fold, All, IsSome, Option, Some, None, Result, Ok, Err, OnErr, inl, inr, refl, sym, ap, subst, ◌∙◌, arith}
 use Rattle.std.specs.Prelude.{count_by, ◌==◌, ◌||◌}
-use Rattle.std.specs.List.{list_any, AllZip, flat_map}
+use Rattle.std.specs.List.{list_any, AllZip}
 use Rattle.std.specs.Option.{is_some}
 use Rattle.std.proofs.lemmas.Bool.{false≢true, false_from_ne_true, or_cases, eqb-true}
 use Rattle.std.proofs.Math.ListN.{drop_of_length-le}

@@ -1,5 +1,5 @@
 -- What a call leaves of each list of the index.
-use Rattle.std.specs.Prelude.{ℕ, ◌+◌, ◌≤◌, ◌≡◌, Bool, true, ◌==◌, ◌&&◌, ◌||◌, if◌then◌else◌, List, length, fold, vec_capacity}
+use Rattle.std.specs.Prelude.{ℕ, ◌+◌, ◌≤◌, ◌≡◌, true, ◌==◌, ◌&&◌, ◌||◌, if◌then◌else◌, List, length, fold, vec_capacity}
 use Rattle.std.specs.List.{list_any}
 use Rattle.rows_model.specs.declared.near.Near.{Near}
 use Rattle.rows_model.specs.declared.changes.Change.{Change}

@@ -1,6 +1,5 @@
-use Rattle.std.proofs.Common.{ap, ◌∙◌, sym, ◌≡◌}
+use Rattle.std.proofs.Common.{◌∙◌, sym, ◌≡◌}
 use Rattle.rows_model.specs.declared.judging.Bond.TheVariants.{Invitation, Friendship}
-use Rattle.rows_model.specs.declared.changes.Change.{Change}
 use Rattle.rows_model.specs.Changes.{applies, is_invited}
 use Rattle.rows_model.proofs.JudgeLemmas.{invite_judged, bond_judged, rename_judged, accept_or_reject}
 use Rattle.rows_model.proofs.judging.applies_after.Goals.{in-Accept, in-Accept-2}

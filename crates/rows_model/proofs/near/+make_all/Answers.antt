@@ -1,10 +1,8 @@
-use Rattle.std.proofs.Common.{◌≡◌, ◌+◌, ◌∷◌, List, All, length, fold, sym, ap, ◌∙◌, arith, rules}
-use Rattle.std.proofs.lemmas.List.Elements.{All-head, All-tail, All-same}
-use Rattle.rows_model.specs.declared.changes.Change.{Change}
-use Rattle.rows_model.specs.declared.rows.Member.{Member}
-use Rattle.rows_model.specs.Near.{AreTwo, members_after}
-use Rattle.rows_model.specs.NearSteps.{IsMade, IsMadeAll, HasRoomOf, HasRoomFor}
-use Rattle.rows_model.proofs.NearLemmas.{zip_all, zip_chain, ascend_after, first_of_room, rest_of_room, made_all_on, none_made, members_ascend_after}
+use Rattle.std.proofs.Common.{◌≡◌, ◌+◌, ◌∷◌, length, sym, arith, rules}
+use Rattle.std.proofs.lemmas.List.Elements.{All-tail, All-same}
+use Rattle.rows_model.specs.Near.{AreTwo}
+use Rattle.rows_model.specs.NearSteps.{IsMade, IsMadeAll, HasRoomFor}
+use Rattle.rows_model.proofs.NearLemmas.{zip_all, zip_chain, ascend_after, rest_of_room, made_all_on, none_made, members_ascend_after}
 use Rattle.rows_model.proofs.near.+make_all.Goals as goal
 
 pub make_all-requires : goal.make_all-requires

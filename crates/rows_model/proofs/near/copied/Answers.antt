@@ -1,6 +1,5 @@
-use Rattle.std.proofs.Common.{◌≡◌, ◌<◌, length, get_or, refl, arith, rules}
+use Rattle.std.proofs.Common.{◌≡◌, refl, rules}
 use Rattle.std.proofs.lemmas.List.Elements.{all_zip_more}
-use Rattle.std.proofs.lemmas.List.{take_all}
 use Rattle.rows_model.specs.NearSteps.{IsSame}
 use Rattle.rows_model.proofs.near.copied.Goals as goal
 

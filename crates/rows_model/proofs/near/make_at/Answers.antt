@@ -1,7 +1,4 @@
-use Rattle.std.proofs.Common.{◌≡◌, ◌==◌, true, refl, sym, ap, ◌∙◌, if◌then◌else◌}
-use Rattle.std.proofs.lemmas.Bool.{ne_eqb}
-use Rattle.rows_model.specs.declared.near.Near.{Near}
-use Rattle.rows_model.specs.Near.{links_after}
+use Rattle.std.proofs.Common.{refl}
 use Rattle.rows_model.specs.NearSteps.{IsMadeAt}
 use Rattle.rows_model.proofs.NearLemmas.{zip_at, zip_none, made_here, made_elsewhere}
 use Rattle.rows_model.proofs.near.make_at.Goals as goal

@@ -1,6 +1,5 @@
-use Rattle.std.proofs.lemmas.List.Elements.{All-weaker}
 use Rattle.rows_model.specs.NearSteps.{HasRoomAt, HasRoomAtBoth, IsMadeAt, IsMadeAtBoth}
-use Rattle.rows_model.proofs.NearLemmas.{zip_chain, zip_all, ascend_after, made_both, first_room, second_room}
+use Rattle.rows_model.proofs.NearLemmas.{zip_chain, zip_all, ascend_after, made_both, second_room}
 use Rattle.rows_model.proofs.near.make_at_both.Goals as goal
 
 pub make_at-requires-2-clause-ascend : goal.make_at-requires-2-clause-ascend

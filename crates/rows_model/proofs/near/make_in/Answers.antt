@@ -1,7 +1,6 @@
-use Rattle.std.proofs.Common.{◌≡◌, List, sym, ap, ◌∙◌, rules}
+use Rattle.std.proofs.Common.{List, ap, ◌∙◌}
 use Rattle.rows_model.specs.declared.rows.Link.{Link}
 use Rattle.rows_model.specs.Changes.{with_link, friendship}
-use Rattle.rows_model.specs.Near.{links_after}
 use Rattle.rows_model.proofs.near.make_in.Goals as goal
 
 pub returns-in-Invite-clause-items : goal.returns-in-Invite-clause-items

@@ -1,5 +1,4 @@
-use Rattle.std.proofs.Common.{◌≡◌, ◌+◌, ◌≤◌, ◌==◌, length, get_or, set, true, refl, sym, ap, ◌∙◌, arith, rules, vec_len, vec_capacity}
-use Rattle.rows_model.specs.declared.near.Near.{Near}
+use Rattle.std.proofs.Common.{◌+◌, ◌≤◌, refl, arith, vec_len, vec_capacity}
 use Rattle.rows_model.specs.NearSteps.{IsGrown, HasRoomAt}
 use Rattle.rows_model.proofs.NearLemmas.{zip_at, zip_none, zip_right, on_ok}
 use Rattle.rows_model.proofs.near.reserve.Goals as goal

@@ -1,4 +1,4 @@
-use Rattle.std.proofs.Common.{map, filter, ap, ◌∙◌}
+use Rattle.std.proofs.Common.{filter, ap, ◌∙◌}
 use Rattle.rows_model.specs.Query.{befriends}
 use Rattle.rows_model.proofs.IndexLemmas.{kept_in_list, friend_is_end}
 use Rattle.rows_model.proofs.queries.friend_ids.Goals as goal

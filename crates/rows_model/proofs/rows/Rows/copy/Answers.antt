@@ -1,7 +1,7 @@
-use Rattle.std.proofs.Common.{◌≡◌, List, sym, ap, subst, ◌∙◌, rules}
+use Rattle.std.proofs.Common.{◌≡◌, List, ap, ◌∙◌, rules}
 use Rattle.rows_model.specs.declared.rows.Link.{Link}
 use Rattle.rows_model.specs.declared.rows.Member.{Member}
-use Rattle.rows_model.specs.Near.{tables_of, whole, AreKept}
+use Rattle.rows_model.specs.Near.{tables_of, whole}
 use Rattle.rows_model.proofs.KeptLemmas.{copy_kept, copy_whole}
 use Rattle.rows_model.proofs.rows.Rows.copy.Goals as goal
 

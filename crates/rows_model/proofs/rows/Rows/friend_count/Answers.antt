@@ -1,4 +1,4 @@
-use Rattle.std.proofs.Common.{◌≡◌, count_by, sym, ap, ◌∙◌, rules}
+use Rattle.std.proofs.Common.{◌≡◌, count_by, ap, ◌∙◌, rules}
 use Rattle.rows_model.specs.Query.{befriends}
 use Rattle.rows_model.proofs.IndexLemmas.{counted_in_list, friend_is_end}
 use Rattle.rows_model.proofs.rows.Rows.friend_count.Goals as goal

@@ -1,8 +1,5 @@
-use Rattle.std.proofs.Common.{ℕ, List, filter, sym, ap, ◌∙◌}
-use Rattle.std.proofs.lemmas.Bool.{eqb-true}
+use Rattle.std.proofs.Common.{ap, ◌∙◌}
 use Rattle.rows_model.specs.declared.near.Near.{Near}
-use Rattle.rows_model.specs.declared.rows.Link.{Link}
-use Rattle.rows_model.specs.Near.{is_end, whole, NearAscend}
 use Rattle.rows_model.proofs.KeptLemmas.{kept_ascend, no_list, list_at}
 use Rattle.rows_model.proofs.rows.Rows.links_of.Goals as goal
 
