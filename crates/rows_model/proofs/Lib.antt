@@ -19,5 +19,7 @@ pub mod ShiftLemmas
 pub mod UntouchedLemmas
 pub mod FootprintLemmas
 pub mod StayFitLemmas
-pub mod EditLemmas
-pub mod MadeLemmas
+pub mod IndexLemmas
+pub mod NearLemmas
+pub mod JudgeLemmas
+pub mod KeptLemmas
