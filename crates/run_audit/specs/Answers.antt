@@ -1,23 +1,19 @@
 -- The versions of a key's answer: what it is after each number of commits.
 use Rattle.std.specs.Prelude.{ℕ, ◌≡◌, ◌≤◌, Bool, true, List, [], ◌∷◌, ◌++◌, length, nat_le, if◌then◌else◌, All, AllPairs, Option, Some, None, is_some, option_map, IsTrue, IfSome}
+use Rattle.std.specs.List.Sorted.{IsNonDecreasingBy}
 use Rattle.std.specs.Option.{option_or}
-use Rattle.std.specs.declared.cmp.Ordering.{Ordering}
 use Rattle.std.specs.BTreeMap.{BTreeMap, get}
 use Rattle.std.specs.Global.{Vec}
 use Rattle.rows_model.specs.declared.keys.QKey.{QKey}
-use Rattle.rows_model.specs.contracts.keys.QKeyOrd.TheImpl as key_order
 use Rattle.rows_model.specs.Rows.{Tables}
 use Rattle.rows_model.specs.Query.{answer}
 use Rattle.rows_model.specs.Changes.{is_key_before}
+use Rattle.lease_table.specs.Stands.{key_cmp}
 use Rattle.key_shard.specs.declared.steps.Step.{Step}
 use Rattle.key_shard.specs.declared.steps.Step.TheVariants.{Hit}
 use Rattle.sql_keeper.specs.declared.stores.Commit.{Commit}
 use Rattle.sql_keeper.specs.Log.{state}
 use Rattle.run_audit.specs.declared.answers.Version.{Version}
-
--- The order of keys.
-abbrev pub key_cmp : QKey → QKey → Ordering
-key_cmp = (key_order.ghosts).cmp
 
 -- The versions that are noted of a key, if it is noted.
 abbrev pub noted : QKey → BTreeMap QKey (Vec Version) → Option (List Version)
@@ -39,7 +35,7 @@ value_at count (one ∷ later) =
 
 -- Versions in order of what they are from.
 abbrev pub InTurn : List Version → Type 0
-InTurn versions = AllPairs (λ one later. one.from ≤ later.from) versions
+InTurn versions = IsNonDecreasingBy (λ one. one.from) versions
 
 -- These versions tell a value after each number of commits up to this one: they stand in order, and none is from more commits on.
 pub record AreVersions (value : ℕ → List ℕ) (count : ℕ) (versions : List Version) : Type 0 where
@@ -63,7 +59,7 @@ Knows answers other = Unit {0}
 
 -- Each key that was noted is noted.
 abbrev pub Keeps : BTreeMap QKey (Vec Version) → BTreeMap QKey (Vec Version) → Type 0
-Keeps old new = (key : QKey) → is_some (noted key old) ≡ true → is_some (noted key new) ≡ true
+Keeps old new = (key : QKey) → IsTrue (is_some (noted key old)) → IsTrue (is_some (noted key new))
 
 -- The same keys are noted.
 abbrev pub KnowsTheSame : BTreeMap QKey (Vec Version) → BTreeMap QKey (Vec Version) → Type 0

@@ -1,5 +1,5 @@
 -- The number of the last commit of a kind in a log, counted from 1.
-use Rattle.std.specs.Prelude.{ℕ, ◌≡◌, ◌+◌, ◌==◌, ◌&&◌, Bool, true, List, [], ◌∷◌, if◌then◌else◌, Option}
+use Rattle.std.specs.Prelude.{ℕ, zero, suc, ◌≡◌, ◌==◌, ◌&&◌, Bool, true, List, [], ◌∷◌, if◌then◌else◌, Option}
 use Rattle.std.specs.List.{list_any}
 use Rattle.std.specs.Option.{unwrap_or}
 use Rattle.std.specs.BTreeMap.{BTreeMap, get}
@@ -12,13 +12,17 @@ use Rattle.sql_keeper.specs.declared.stores.Commit.{Commit}
 use Rattle.sql_keeper.specs.Fresh.{releases}
 use Rattle.run_audit.specs.declared.holds.Hold.{Hold}
 use Rattle.run_audit.specs.Grants.{hold_cmp}
-use Rattle.run_audit.specs.Answers.{key_cmp}
+use Rattle.lease_table.specs.Stands.{key_cmp}
+
+-- A number behind one commit more; where there is none, that of the commit itself, if it passes.
+abbrev pub one_further : Bool → ℕ → ℕ
+one_further passes zero = if passes then 1 else 0
+one_further passes (suc number) = suc (suc number)
 
 -- The number of the last commit that passes the test, or 0 where none does.
 abbrev pub last_number : (Commit → Bool) → List Commit → ℕ
 last_number test [] = 0
-last_number test (commit ∷ log) =
-    if list_any test log then last_number test log + 1 else (if test commit then 1 else 0)
+last_number test (commit ∷ log) = one_further (test commit) (last_number test log)
 
 -- Whether a commit is of this session, and touches this key.
 abbrev pub is_on : Hold → Commit → Bool

@@ -4,7 +4,7 @@ ghost use Rattle.sql_keeper.specs.declared.stores.Commit.{Commit};
 ghost use Rattle.sql_keeper.specs.Log.{after_commit, rows_after};
 ghost use Rattle.run_audit.specs.Findings.{histories_in};
 ghost use Rattle.run_audit.specs.Answers.{Knows, KnowsTheSame};
-ghost use Rattle.run_audit.specs.Notes.{AreNotes};
+ghost use Rattle.run_audit.specs.Notes.{AreNotes, LeavesUntouched};
 
 use crate::answers::{Answers, note_keys, opening_answers};
 use crate::numbers::{Numbers, note_number};
@@ -49,8 +49,11 @@ pub fn notes_of(
 
 /// Makes the commit, where it applies.
 fn make(rows: &mut Rows, commit: &Commit) -> Result<(), Memory>
-    ensures { OnOk result (rows.new ≡ after_commit rows.old commit.now) }
+    ensures made { OnOk result (rows.new ≡ after_commit rows.old commit.now) }
+    ensures untouched { OnOk result (LeavesUntouched commit.now rows.old rows.new) }
 {
+    // That the rows are fit is a clause of their reader.
+    let _members = rows.members();
     match rows.apply(&commit.txn) {
         Ok(()) | Err(ApplyFault::Rejected { .. }) => Ok(()),
         Err(ApplyFault::Memory) => Err(Memory),
@@ -63,6 +66,7 @@ impl Notes {
         requires { self.old.count + 1 < 2 ^ 64 }
         ensures notes { (opening : Tables) (log : List Commit) → AreNotes opening log self.old
             → rows.now ≡ rows_after opening (log ++ commit.now ∷ [])
+            → LeavesUntouched commit.now (rows_after opening log) rows.now
             → OnOk result (AreNotes opening (log ++ commit.now ∷ []) self.new) }
         ensures count { OnOk result (self.new.count ≡ self.old.count + 1) }
         ensures knows { OnOk result (KnowsTheSame self.old.answers self.new.answers) }

@@ -1,0 +1,6 @@
+pub mod ListLemmas
+pub mod NumberLemmas
+pub mod VersionLemmas
+pub mod StateLemmas
+pub mod FootLemmas
+pub mod NoteLemmas
