@@ -4,3 +4,7 @@ pub mod VersionLemmas
 pub mod StateLemmas
 pub mod FootLemmas
 pub mod NoteLemmas
+pub mod KnownLemmas
+pub mod GapLemmas
+pub mod StaleLemmas
+pub mod FloorLemmas

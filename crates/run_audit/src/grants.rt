@@ -1,4 +1,5 @@
-ghost use Rattle.std.specs.Prelude.{◌≡◌, ◌||◌, OnOk, IfOk};
+ghost use Rattle.std.specs.Prelude.{◌≡◌, ◌||◌, OnOk, IfOk, All};
+ghost use Rattle.key_shard.specs.Answers.{Legal};
 ghost use Rattle.sql_keeper.specs.Fresh.{quarantines};
 ghost use Rattle.run_audit.specs.declared.holds.Hold.{Hold};
 ghost use Rattle.run_audit.specs.Findings.{histories_in};
@@ -13,9 +14,10 @@ use std::collections::BTreeSet;
 /// Who was granted a quarantine, and on which key.
 pub type Grants = BTreeSet<Hold>;
 
-/// What was granted in the histories of these shards.
+/// What was granted in the histories of these shards, each of which is legal.
 pub fn grants_in(alloc: Global, shards: &[Shard]) -> Result<Grants, Memory>
-    ensures { IfOk result (λ grants. HasGrants (histories_in shards.now) grants) }
+    ensures grants { IfOk result (λ grants. HasGrants (histories_in shards.now) grants) }
+    ensures legal { OnOk result (All (λ shard. Legal shard.terms shard.history) shards.now) }
 {
     let mut grants = BTreeSet::new(alloc);
     for shard in shards {

@@ -1,11 +1,11 @@
-ghost use Rattle.std.specs.Prelude.{◌≡◌, ◌↔◌, List, IfOk, IfSome, Some, IsTrue, MatchOption, All, reverse};
+ghost use Rattle.std.specs.Prelude.{◌≡◌, ◌↔◌, ◌&&◌, nat_le, List, IfOk, IfSome, Some, IsTrue, MatchOption, All, reverse};
 ghost use Rattle.rows_model.specs.Rows.{Tables};
 ghost use Rattle.key_shard.specs.declared.steps.Step.{Step};
 ghost use Rattle.sql_keeper.specs.declared.stores.Commit.{Commit};
 ghost use Rattle.sql_keeper.specs.Fresh.{IsFreshStep, IsFreshPast};
 ghost use Rattle.run_audit.specs.Answers.{Knows, InTurn, noted, value_at};
 ghost use Rattle.run_audit.specs.Notes.{AreNotes};
-ghost use Rattle.run_audit.specs.Numbers.{AreFloors};
+ghost use Rattle.run_audit.specs.Numbers.{AreFloors, floor_of};
 ghost use Rattle.run_audit.specs.Findings.{IsFirstStaleIn};
 
 use crate::answers::value_after;
@@ -42,13 +42,17 @@ fn is_fresh(notes: &Notes, floors: &Floors, step: &Step) -> bool
     match step {
         Step::Hit {
             key, value, stamp, ..
-        } => {
-            *stamp <= notes.count
-                && floor_at(floors, key) <= *stamp
-                && answers_so(notes, key, *stamp, value)
-        }
+        } => is_current(notes, floors, key, *stamp) && answers_so(notes, key, *stamp, value),
         _ => true,
     }
+}
+
+/// Whether there are so many commits, and no fewer than the key's floor.
+fn is_current(notes: &Notes, floors: &Floors, key: &QKey, stamp: u64) -> bool
+    ensures { result ≡ (nat_le stamp notes.now.count
+        && nat_le (floor_of key.now floors.now) stamp) }
+{
+    stamp <= notes.count && floor_at(floors, key) <= stamp
 }
 
 /// Whether this is what the key is answered after so many commits.
