@@ -6,5 +6,6 @@ pub mod FootLemmas
 pub mod NoteLemmas
 pub mod KnownLemmas
 pub mod GapLemmas
+pub mod CoverLemmas
 pub mod StaleLemmas
 pub mod FloorLemmas

@@ -13,6 +13,12 @@ and_comm true false = refl
 and_comm false true = refl
 and_comm false false = refl
 
+pub or_comm : (a b : Bool) → (a || b) ≡ (b || a)
+or_comm true true = refl
+or_comm true false = refl
+or_comm false true = refl
+or_comm false false = refl
+
 pub and_none : (a : Bool) → (a && false) ≡ false
 and_none true = refl
 and_none false = refl

@@ -10,7 +10,7 @@ use Rattle.std.specs.List.Sorted.{IsPartitionPoint}
 use Rattle.run_audit.specs.declared.answers.Version.{Version}
 use Rattle.run_audit.specs.Answers.{version, value_at, InTurn, AreVersions}
 
-within : (a n : ℕ) → a ≤ n → nat_le a n ≡ true
+pub within : (a n : ℕ) → a ≤ n → nat_le a n ≡ true
 within a n h = grind (arith, nat_tests)
 
 past : (a n : ℕ) → n < a → nat_le a n ≡ false
@@ -61,7 +61,7 @@ value_at-some n (suc i) (one ∷ later) d in' front back =
 abbrev pub IsPoint : ℕ → List Version → ℕ → Type 0
 IsPoint n versions i = IsPartitionPoint (λ one. nat_le one.from n ≡ true) (λ one. nat_le one.from n ≡ false) versions i
 
-from-within : (a n : ℕ) → nat_le a n ≡ true → a ≤ n
+pub from-within : (a n : ℕ) → nat_le a n ≡ true → a ≤ n
 from-within a n h = grind (arith, nat_tests)
 
 from-past : (a n : ℕ) → nat_le a n ≡ false → n < a
