@@ -1,5 +1,5 @@
 -- What was granted in the histories of the shards, and what that covers.
-use Rattle.std.proofs.Common.{◌≡◌, ℕ, ◌+◌, ◌<◌, ◌≤◌, ◌||◌, ◌&&◌, ◌==◌, Bool, true, false, List, [], ◌∷◌, ◌++◌, length, take, get_or, slice_get, Option, Some, None, option_map, reverse, map, All, IsTrue, refl, sym, ap, subst, ◌∙◌, arith}
+use Rattle.std.proofs.Common.{◌≡◌, ℕ, ◌+◌, ◌<◌, ◌||◌, ◌==◌, Bool, true, false, List, [], ◌∷◌, ◌++◌, length, take, get_or, slice_get, Option, Some, None, option_map, reverse, All, refl, sym, ap, subst, ◌∙◌}
 use Rattle.std.specs.List.{list_any}
 use Rattle.std.specs.BTreeSet.{BTreeSet}
 use Rattle.std.proofs.lemmas.List.{take_more, map_push, length-map}
@@ -9,11 +9,9 @@ use Rattle.std.proofs.lemmas.Option.{slice_get-map, slice_get_within, get_or_fro
 use Rattle.rows_model.specs.declared.keys.QKey.{QKey}
 use Rattle.rows_model.specs.declared.keys.Sid.{Sid}
 use Rattle.rows_model.specs.Key.{same_key}
-use Rattle.rows_model.specs.Changes.{touches}
 use Rattle.rows_model.specs.Placement.{shard_of}
 use Rattle.rows_model.proofs.SameKey.{same_key-true}
 use Rattle.key_shard.specs.declared.steps.Step.{Step}
-use Rattle.key_shard.specs.declared.steps.Step.TheVariants as step
 use Rattle.key_shard.specs.Past.{Terms}
 use Rattle.key_shard.specs.Shards.{ShardView}
 use Rattle.key_shard.specs.Answers.{Request, Get, Set, Quarantine, Release, Replace, Answers, IsAtHome, IsLegalPast, Legal, step_of, key_of}
@@ -22,7 +20,7 @@ use Rattle.sql_keeper.specs.declared.stores.Commit.{Commit}
 use Rattle.sql_keeper.specs.Fresh.{quarantines, Covered}
 use Rattle.run_audit.specs.declared.holds.Hold.{Hold}
 use Rattle.run_audit.specs.Findings.{histories_in, AreNumbered, IsGranted, IsFirstUncovered}
-use Rattle.run_audit.specs.Grants.{has_hold, holds, grants_it, AddsGrants, HasGrants, AreCovered, IsFirstGap}
+use Rattle.run_audit.specs.Grants.{holds, grants_it, AddsGrants, HasGrants, AreCovered, IsFirstGap}
 use Rattle.run_audit.proofs.ListLemmas.{clash, or_comm, and_elim, place-of, any-at, any-push}
 
 -- ---- what is granted, with one history more
@@ -108,7 +106,7 @@ granted-there shards grants are who key held =
     let some : list_any (quarantines key who) at.0.history ≡ true = ap (list_any (quarantines key who)) at.2 ∙ found.3 in
     let home : shard_of key at.0.terms.count ≡ at.0.terms.no = legal-at_home at.0.terms key who at.0.history legal some in
     let number : shard_of key (length (histories_in shards)) ≡ found.0 =
-        ap (shard_of key) (length-map shards (λ (one : ShardView). one.history) ∙ sym numbered.count) ∙ home ∙ numbered.no in
+    ap (shard_of key) (length-map shards (λ (one : ShardView). one.history) ∙ sym numbered.count) ∙ home ∙ numbered.no in
     (found.1, ap (slice_get (histories_in shards)) number ∙ found.2, found.3)
 
 pub there-granted : (shards : List ShardView) (grants : BTreeSet Hold) → AreShards shards grants → (who : Sid) (key : QKey) → IsGranted (histories_in shards) key who → holds grants who key ≡ true

@@ -1,6 +1,5 @@
 -- The floors of keys, after one step more, and what makes a hit fresh.
-use Rattle.std.proofs.Common.{◌≡◌, ℕ, zero, ◌+◌, ◌<◌, ◌≤◌, ◌||◌, ◌&&◌, ◌==◌, ◌↔◌, max, Bool, true, false, cond, List, [], ◌∷◌, length, slice_get, Option, Some, None, is_some, IfSome, IsTrue, refl, sym, ap, ◌∙◌, arith}
-use Rattle.std.specs.Prelude.{nat_le}
+use Rattle.std.proofs.Common.{◌≡◌, ℕ, ◌<◌, ◌≤◌, ◌||◌, ◌&&◌, ◌==◌, ◌↔◌, max, Bool, true, false, cond, List, [], ◌∷◌, length, slice_get, Option, Some, None, is_some, IfSome, IsTrue, refl, sym, ap, ◌∙◌, arith}
 use Rattle.std.specs.List.{list_any}
 use Rattle.std.specs.Option.{unwrap_or}
 use Rattle.std.specs.BTreeMap.{BTreeMap, get, is_at}
@@ -11,7 +10,7 @@ use Rattle.rows_model.specs.Key.{same_key}
 use Rattle.rows_model.specs.Rows.{Tables}
 use Rattle.rows_model.specs.Query.{answer}
 use Rattle.rows_model.specs.Changes.{touches}
-use Rattle.rows_model.proofs.SameKey.{same_key-true, same_key-refl, same_key-swap}
+use Rattle.rows_model.proofs.SameKey.{same_key-true, same_key-swap}
 use Rattle.lease_table.specs.Stands.{key_cmp}
 use Rattle.lease_table.proofs.KeyLemmas.{is_at-key}
 use Rattle.key_shard.specs.declared.steps.Ended.{Ended}
@@ -23,10 +22,10 @@ use Rattle.sql_keeper.specs.Fresh.{releases, IsFreshHit}
 use Rattle.run_audit.specs.declared.holds.Hold.{Hold}
 use Rattle.run_audit.specs.declared.answers.Version.{Version}
 use Rattle.run_audit.specs.declared.notes.Notes.{Notes}
-use Rattle.run_audit.specs.Answers.{noted, value_at, InTurn, AreVersions, AreAnswers}
+use Rattle.run_audit.specs.Answers.{noted, value_at, InTurn, AreVersions}
 use Rattle.run_audit.specs.Numbers.{last_number, is_on, is_released, number_of, AreNumbers, floor_of, released_number, AreFloors}
 use Rattle.run_audit.specs.Notes.{AreNotes}
-use Rattle.run_audit.proofs.ListLemmas.{clash, and_none, and_or, and_elim}
+use Rattle.run_audit.proofs.ListLemmas.{and_none, and_or, and_elim}
 use Rattle.run_audit.proofs.NumberLemmas.{last-none, last-agree, last-or, last-above, last-below}
 
 -- ---- the floor of a key whose quarantine ends
@@ -95,7 +94,7 @@ ended-number log numbers key are (step.Released on sid token how) = by (same_key
         let found : released_number numbers key (step.Released on sid token how) ≡ number_of (record { sid = sid; key = key }) numbers = rw same refl in
         found ∙ are (record { sid = sid; key = key })
         ∙ last-agree (is_on (record { sid = sid; key = key })) (is_ended key (step.Released on sid token how)) log
-            (λ commit. ap (λ b. touches commit.txn key && b) (eqb-swap commit.sid.number sid.number ∙ rw same refl))
+        (λ commit. ap (λ b. touches commit.txn key && b) (eqb-swap commit.sid.number sid.number ∙ rw same refl))
     by false apart =
         let none : released_number numbers key (step.Released on sid token how) ≡ 0 = rw apart refl in
         none ∙ none-ended log key (step.Released on sid token how) (λ who. rw apart refl)
@@ -115,7 +114,7 @@ pub floors-more : (log : List Commit) (past : List Step) (made : Step) (numbers 
     → ((key : QKey) → floor_of key new ≡ max (floor_of key old) (released_number numbers key made)) → AreFloors log (made ∷ past) new
 floors-more log past made numbers old new are were raised key =
     let both = last-agree (is_released key (made ∷ past)) (λ commit. is_ended key made commit || is_released key past commit) log
-        (λ commit. and_or (touches commit.txn key) (releases key commit.sid made) (list_any (releases key commit.sid) past)) in
+    (λ commit. and_or (touches commit.txn key) (releases key commit.sid made) (list_any (releases key commit.sid) past)) in
     let greater = last-or (is_ended key made) (is_released key past) log in
     let here = ended-number log numbers key are made in
     let before = were key in
@@ -149,10 +148,9 @@ hit-fresh opening log past notes floors key value stamp says are floor_is known 
     by None some were so = cc
     by (Some versions) some were so =
         let right = were.right stamp in_log in
-        let both = so were.in_turn in
-        (
+        let both = so were.in_turn in (
           λ yes. (let there = both.0 yes in let same : Some value ≡ Some (answer key (state opening log stamp)) = sym there ∙ right in
-            record { known = in_log; right = cc; current = current }),
+              record { known = in_log; right = cc; current = current }),
           λ fresh. both.1 (right ∙ ap (λ v. Some v) (sym fresh.right)),
         )
 
@@ -164,6 +162,6 @@ hit-within opening log past notes floors key value stamp are floor_is fresh =
     let count = are.count in
     let known = fresh.known in
     let below = last-below (is_released key past) log stamp (λ place commit there passes.
-        (let parts = and_elim (touches commit.txn key) (list_any (releases key commit.sid) past) passes in fresh.current place commit there parts.0 parts.1)) in
+    (let parts = and_elim (touches commit.txn key) (list_any (releases key commit.sid) past) passes in fresh.current place commit there parts.0 parts.1)) in
     let floor = floor_is key in
     (omega (arith, count, known), omega (arith, below, floor))

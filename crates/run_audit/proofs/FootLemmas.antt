@@ -1,14 +1,12 @@
 -- The keys that a commit touches, in order.
-use Rattle.std.proofs.Common.{◌≡◌, ℕ, zero, suc, ◌+◌, ◌<◌, ◌≤◌, ◌||◌, ◌&&◌, ◌==◌, nat_lt, Bool, true, false, List, [], ◌∷◌, ◌++◌, length, take, get_or, refl, sym, ap, ◌∙◌, arith}
-use Rattle.std.specs.List.{list_any}
+use Rattle.std.proofs.Common.{◌≡◌, ℕ, zero, suc, ◌+◌, ◌<◌, ◌≤◌, ◌||◌, true, false, List, [], ◌∷◌, ◌++◌, length, take, get_or, refl, ap, ◌∙◌, arith}
 use Rattle.std.proofs.lemmas.Bool.Decides.{nat_tests}
 use Rattle.std.proofs.lemmas.List.{take_more}
 use Rattle.rows_model.specs.declared.keys.QKey.{QKey}
 use Rattle.rows_model.specs.declared.changes.Change.{Change}
-use Rattle.rows_model.specs.Key.{same_key, kind_number}
+use Rattle.rows_model.specs.Key.{same_key}
 use Rattle.rows_model.specs.Changes.{touches, footprint, has_key, is_key_before}
 use Rattle.rows_model.proofs.FootprintLemmas.{footprints_are_exact_is}
-use Rattle.rows_model.proofs.SameKey.{same_key-true, same_key-refl}
 use Rattle.run_audit.specs.Answers.{InOrder}
 use Rattle.run_audit.proofs.ListLemmas.{any-push}
 

@@ -1,13 +1,11 @@
 -- The first commit that isn't covered, and the least of its keys.
-use Rattle.std.proofs.Common.{◌≡◌, ℕ, zero, suc, ◌+◌, ◌<◌, ◌≤◌, ◌⊎◌, ⊎_elim, ◌||◌, ◌&&◌, ◌==◌, not, find, Bool, true, false, cond, List, [], ◌∷◌, ◌++◌, length, take, get_or, slice_get, Option, Some, None, refl, sym, ap, subst, ◌∙◌, arith}
-use Rattle.std.specs.Prelude.{nat_lt}
-use Rattle.std.specs.List.{list_any}
+use Rattle.std.proofs.Common.{◌≡◌, ℕ, suc, ◌+◌, ◌<◌, ⊎_elim, ◌||◌, not, find, Bool, true, false, List, [], ◌∷◌, ◌++◌, length, take, get_or, Option, Some, None, refl, sym, ap, subst, ◌∙◌, arith}
 use Rattle.std.proofs.lemmas.Bool.Decides.{nat_tests}
 use Rattle.std.proofs.lemmas.List.{take_more}
 use Rattle.std.proofs.lemmas.Option.{get_or_from_slice_get, slice_get_within, slice_get_read}
 use Rattle.rows_model.specs.declared.keys.QKey.{QKey}
 use Rattle.rows_model.specs.declared.keys.Sid.{Sid}
-use Rattle.rows_model.specs.Key.{same_key, kind_number}
+use Rattle.rows_model.specs.Key.{same_key}
 use Rattle.rows_model.specs.Changes.{touches, footprint, has_key, is_key_before}
 use Rattle.rows_model.proofs.SameKey.{same_key-true, same_key-refl}
 use Rattle.sql_keeper.specs.declared.stores.Commit.{Commit}
@@ -98,7 +96,7 @@ covered-more test log i commit in' is covered none place one key there touched =
     ⊎_elim
     (λ old. covered place one key old touched)
     (λ same. subst (λ (made : Commit). touches made.txn key ≡ true → test made.sid key ≡ true) same
-        (λ here. found-none (test commit.sid) (footprint commit.txn) none key (foot-exact commit.txn key ∙ here)) touched)
+    (λ here. found-none (test commit.sid) (footprint commit.txn) none key (foot-exact commit.txn key ∙ here)) touched)
     (push-place (take i log) commit place one (rw more at there))
   where
     more : take (i + 1) log ≡ take i log ++ commit ∷ []

@@ -1,5 +1,5 @@
 -- The keys of hits, as more keys are noted.
-use Rattle.std.proofs.Common.{◌≡◌, ℕ, ◌+◌, ◌<◌, List, length, take, get_or, All, is_some, IsTrue, refl, sym, ap, subst, ◌∙◌}
+use Rattle.std.proofs.Common.{◌≡◌, ℕ, ◌+◌, ◌<◌, List, length, take, get_or, All, subst, ◌∙◌}
 use Rattle.std.specs.BTreeMap.{BTreeMap}
 use Rattle.std.specs.Global.{Vec}
 use Rattle.std.proofs.lemmas.List.Elements.{All-more, All-weaker}
@@ -7,7 +7,7 @@ use Rattle.rows_model.specs.declared.keys.QKey.{QKey}
 use Rattle.key_shard.specs.declared.steps.Step.{Step}
 use Rattle.key_shard.specs.declared.steps.Step.TheVariants as step
 use Rattle.run_audit.specs.declared.answers.Version.{Version}
-use Rattle.run_audit.specs.Answers.{noted, Keeps, Knows, KnowsTheSame}
+use Rattle.run_audit.specs.Answers.{Keeps, Knows, KnowsTheSame}
 
 pub keeps-on : (a b c : BTreeMap QKey (Vec Version)) → Keeps a b → Keeps b c → Keeps a c
 keeps-on a b c first second key known = second key (first key known)

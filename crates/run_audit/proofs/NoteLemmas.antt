@@ -1,5 +1,5 @@
 -- What is noted of a log, with one commit more.
-use Rattle.std.proofs.Common.{◌≡◌, ℕ, ◌+◌, ◌<◌, ◌≤◌, ◌||◌, ◌&&◌, ◌==◌, Bool, true, false, cond, List, [], ◌∷◌, ◌++◌, length, take, get_or, Option, Some, None, IfSome, is_some, refl, sym, ap, subst, ◌∙◌, arith}
+use Rattle.std.proofs.Common.{◌≡◌, ℕ, ◌+◌, ◌<◌, ◌≤◌, ◌||◌, ◌&&◌, ◌==◌, Bool, true, false, cond, List, [], ◌∷◌, ◌++◌, length, take, get_or, Option, Some, None, IfSome, refl, sym, ap, ◌∙◌, arith}
 use Rattle.std.specs.BTreeMap.{BTreeMap}
 use Rattle.std.specs.Global.{Vec}
 use Rattle.std.proofs.lemmas.List.{length_push}
@@ -14,7 +14,7 @@ use Rattle.sql_keeper.specs.Log.{rows_after, state}
 use Rattle.run_audit.specs.declared.answers.Version.{Version}
 use Rattle.run_audit.specs.declared.holds.Hold.{Hold}
 use Rattle.run_audit.specs.Answers.{noted, pushed, InOrder, AreVersions, AreAnswers}
-use Rattle.run_audit.specs.Numbers.{number_of, is_on, last_number, AreNumbers}
+use Rattle.run_audit.specs.Numbers.{number_of, is_on, AreNumbers}
 use Rattle.run_audit.specs.Notes.{LeavesUntouched}
 use Rattle.run_audit.proofs.ListLemmas.{and_comm}
 use Rattle.run_audit.proofs.NumberLemmas.{last-push}
@@ -58,7 +58,7 @@ pub numbers-more : (log : List Commit) (commit : Commit) (old new : BTreeMap Hol
 numbers-more log commit old new are notes hold =
     let touched = foot-exact commit.txn hold.key in
     let test : ((commit.sid.number == hold.sid.number) && has_key hold.key (footprint commit.txn)) ≡ is_on hold commit =
-        ap (λ b. (commit.sid.number == hold.sid.number) && b) touched ∙ and_comm (commit.sid.number == hold.sid.number) (touches commit.txn hold.key) in
+    ap (λ b. (commit.sid.number == hold.sid.number) && b) touched ∙ and_comm (commit.sid.number == hold.sid.number) (touches commit.txn hold.key) in
     notes hold ∙ (λ i. cond (test i) (length log + 1) (are hold i)) ∙ sym (last-push (is_on hold) log commit)
 
 -- the versions of each key, where one key of some in order is noted more

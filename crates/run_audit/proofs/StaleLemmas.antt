@@ -1,5 +1,5 @@
 -- The first hit that isn't fresh, in a history and among histories.
-use Rattle.std.proofs.Common.{◌≡◌, ℕ, ◌+◌, ◌<◌, ◌≤◌, List, [], ◌∷◌, ◌++◌, ◌↔◌, length, take, drop, get_or, slice_get, Some, option_map, reverse, map, All, refl, sym, ap, subst, ◌∙◌, arith}
+use Rattle.std.proofs.Common.{◌≡◌, ℕ, ◌+◌, ◌<◌, List, [], ◌∷◌, ◌++◌, ◌↔◌, length, take, drop, get_or, slice_get, Some, option_map, reverse, All, refl, sym, ap, subst, ◌∙◌, arith}
 use Rattle.std.proofs.lemmas.List.{take-map, take-append-drop, length-map, get_or-map, reverse-append}
 use Rattle.std.proofs.lemmas.Option.{slice_get_read, slice_get_within, slice_get-map, get_or_from_slice_get}
 use Rattle.std.proofs.lemmas.List.Elements.{All-push, All-get_or}
@@ -69,7 +69,7 @@ fresh-at opening log history place one there fresh =
     let in' = slice_get_within history place one there in
     let at : get_or history place one ≡ one = get_or_from_slice_get history place one one there in
     let parts : reverse history ≡ reverse (drop (place + 1) history) ++ reverse (take (place + 1) history) =
-        ap reverse (sym (take-append-drop (place + 1) history)) ∙ reverse-append (take (place + 1) history) (drop (place + 1) history) in
+    ap reverse (sym (take-append-drop (place + 1) history)) ∙ reverse-append (take (place + 1) history) (drop (place + 1) history) in
     let last : reverse (take (place + 1) history) ≡ one ∷ reverse (take place history) = reverse-more history place one in' ∙ ap (λ (x : Step). x ∷ reverse (take place history)) at in
     let behind = fresh-behind opening log (reverse (drop (place + 1) history)) (reverse (take (place + 1) history)) (rw parts at fresh) in
     let here : IsFreshPast opening log (one ∷ reverse (take place history)) = rw last at behind in
@@ -79,13 +79,16 @@ pub found-clean : (opening : Tables) (log : List Commit) (histories : List (List
     → (finding ≡ Clean) ↔ (Covered log histories × Fresh opening log histories)
 found-clean opening log histories Clean found = (λ same. found, λ all. refl)
 found-clean opening log histories (Uncovered commit key) found = (λ same. cc, λ all. absurd (found.not_granted (all.0 found.place found.commit key found.there found.touched)))
-found-clean opening log histories (Stale shard place) found = (λ same. cc, λ all. absurd (found.1.first_in.stale (
-    let in' = slice_get_within histories shard found.1.history found.1.there in
-    let at : get_or histories shard found.1.history ≡ found.1.history = get_or_from_slice_get histories shard found.1.history found.1.history found.1.there in
-    let whole : IsFreshPast opening log (reverse found.1.history) = subst (λ (history : List Step). IsFreshPast opening log (reverse history)) at
-        (All-get_or (λ (history : List Step). IsFreshPast opening log (reverse history)) histories shard found.1.history in' all.1) in
-    fresh-at opening log found.1.history place found.1.first_in.step found.1.first_in.there whole
-  )))
+found-clean opening log histories (Stale shard place) found = (
+  λ same. cc,
+  λ all. absurd (found.1.first_in.stale (
+      let in' = slice_get_within histories shard found.1.history found.1.there in
+      let at : get_or histories shard found.1.history ≡ found.1.history = get_or_from_slice_get histories shard found.1.history found.1.history found.1.there in
+      let whole : IsFreshPast opening log (reverse found.1.history) = subst (λ (history : List Step). IsFreshPast opening log (reverse history)) at
+      (All-get_or (λ (history : List Step). IsFreshPast opening log (reverse history)) histories shard found.1.history in' all.1) in
+      fresh-at opening log found.1.history place found.1.first_in.step found.1.first_in.there whole
+      )),
+)
 
 -- and it is right where each commit is covered and what is found among the hits is
 pub found-covered : (opening : Tables) (log : List Commit) (histories : List (List Step)) → Covered log histories → (finding : Finding) → IsFoundIn opening log histories finding → IsFinding opening log histories finding

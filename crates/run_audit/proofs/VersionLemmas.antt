@@ -8,7 +8,7 @@ use Rattle.std.proofs.lemmas.List.Elements.{All-head, All-tail, All-weaker, All-
 use Rattle.std.proofs.lemmas.List.Sorted.{IsNonDecreasingBy-push, IsNonDecreasingBy-short}
 use Rattle.std.specs.List.Sorted.{IsPartitionPoint}
 use Rattle.run_audit.specs.declared.answers.Version.{Version}
-use Rattle.run_audit.specs.Answers.{version, value_at, InTurn, AreVersions}
+use Rattle.run_audit.specs.Answers.{version, value_at, AreVersions}
 
 pub within : (a n : ℕ) → a ≤ n → nat_le a n ≡ true
 within a n h = grind (arith, nat_tests)
@@ -98,7 +98,7 @@ pub versions-push : (old new : ℕ → List ℕ) (count : ℕ) (versions : List 
 versions-push old new count versions same are = record {
   right = λ n le. value_at-push n versions (version (count + 1) (new (count + 1))) ∙ by n le (cases_lt n (count + 1));
   in_turn = IsNonDecreasingBy-push (λ (one : Version). one.from) versions (version (count + 1) (new (count + 1))) are.in_turn
-    (λ d some. let le = All-get_or (λ (one : Version). one.from ≤ count) versions (length versions - 1) d (omega arith) are.few in omega (arith, le));
+      (λ d some. let le = All-get_or (λ (one : Version). one.from ≤ count) versions (length versions - 1) d (omega arith) are.few in omega (arith, le));
   few = All-push (λ (one : Version). one.from ≤ count + 1) versions (version (count + 1) (new (count + 1))) (raised count versions are.few) (omega arith);
 }
   where
@@ -120,4 +120,4 @@ versions-stay old new count versions same last are = record {
     by n le = ⊎_elim
         (λ lt. are.right n (omega arith) ∙ ap (λ v. Some v) (sym (same n (omega arith))))
         (λ ge. let at : count + 1 ≡ n = omega arith in
-            value_at-later count n versions are.few (omega arith) ∙ are.right count (omega arith) ∙ ap (λ v. Some v) (sym last) ∙ ap (λ m. Some (new m)) at)
+        value_at-later count n versions are.few (omega arith) ∙ are.right count (omega arith) ∙ ap (λ v. Some v) (sym last) ∙ ap (λ m. Some (new m)) at)

@@ -54,12 +54,7 @@ fn note_hits(
 }
 
 /// Notes the opening answer of the key that is hit, unless it is noted.
-fn note_hit(
-    alloc: Global,
-    opening: &Rows,
-    step: &Step,
-    answers: &mut Answers,
-) -> Result<(), Memory>
+fn note_hit(alloc: Global, opening: &Rows, step: &Step, answers: &mut Answers) -> Result<(), Memory>
     requires { AreOpening opening.now answers.old }
     ensures opening { OnOk result (AreOpening opening.now answers.new) }
     ensures keeps { OnOk result (Keeps answers.old answers.new) }

@@ -36,12 +36,7 @@ pub fn note_number(
 }
 
 /// Notes that the session's commit on this key has this number.
-fn put_number(
-    numbers: &mut Numbers,
-    sid: Sid,
-    key: &QKey,
-    number: u64,
-) -> Result<(), Memory>
+fn put_number(numbers: &mut Numbers, sid: Sid, key: &QKey, number: u64) -> Result<(), Memory>
     ensures { OnOk result ((hold : Hold) → number_of hold numbers.new ≡
         (if (sid.number == hold.sid.number) && same_key hold.key key.now then number
         else number_of hold numbers.old)) }

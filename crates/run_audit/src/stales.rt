@@ -41,7 +41,10 @@ fn is_fresh(notes: &Notes, floors: &Floors, step: &Step) -> bool
 {
     match step {
         Step::Hit {
-            key, value, stamp, ..
+            key,
+            value,
+            stamp,
+            ..
         } => is_current(notes, floors, key, *stamp) && answers_so(notes, key, *stamp, value),
         _ => true,
     }

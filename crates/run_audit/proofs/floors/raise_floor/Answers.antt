@@ -1,4 +1,4 @@
-use Rattle.std.proofs.Common.{rules, arith}
+use Rattle.std.proofs.Common.{arith}
 use Rattle.run_audit.proofs.FloorLemmas.{floor-raised, floor-stays}
 use Rattle.run_audit.proofs.floors.raise_floor.Goals as goal
 

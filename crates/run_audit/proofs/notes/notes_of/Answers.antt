@@ -1,4 +1,4 @@
-use Rattle.std.proofs.Common.{◌≡◌, ℕ, ◌+◌, List, take, ◌++◌, ◌∷◌, [], rules, arith, sym, ap, subst, ◌∙◌}
+use Rattle.std.proofs.Common.{◌≡◌, ◌+◌, take, ◌++◌, ◌∷◌, [], arith, sym, ap, subst, ◌∙◌}
 use Rattle.std.proofs.lemmas.List.{take_more}
 use Rattle.sql_keeper.specs.declared.stores.Commit.{Commit}
 use Rattle.sql_keeper.specs.Log.{rows_after, after_commit}
@@ -14,11 +14,11 @@ loop-commit-preserved c =
     let opening = c.args.opening.now in
     let was = c.loop-commit.invariant in
     let more : take (c.loop-commit.commit-index + 1) c.args.log.now ≡ log ++ commit ∷ [] =
-        take_more c.args.log.now c.loop-commit.commit-index commit (omega arith) ∙ ap (λ (x : Commit). log ++ x ∷ []) (sym c.commit-item.is) in
+    take_more c.args.log.now c.loop-commit.commit-index commit (omega arith) ∙ ap (λ (x : Commit). log ++ x ∷ []) (sym c.commit-item.is) in
     let led : c.make.new.rows ≡ rows_after opening (log ++ commit ∷ []) =
-        c.in_ok-make.ensures.made ∙ ap (λ (rows : Tables). after_commit rows commit) was.rows_are ∙ sym (rows-push opening log commit) in
+    c.in_ok-make.ensures.made ∙ ap (λ (rows : Tables). after_commit rows commit) was.rows_are ∙ sym (rows-push opening log commit) in
     let leaves : LeavesUntouched commit (rows_after opening log) c.make.new.rows =
-        subst (λ (rows : Tables). LeavesUntouched commit rows c.make.new.rows) was.rows_are c.in_ok-make.ensures.untouched in
+    subst (λ (rows : Tables). LeavesUntouched commit rows c.make.new.rows) was.rows_are c.in_ok-make.ensures.untouched in
     record {
       rows_are = rw more led;
       notes_are = rw more (c.in_ok-add.ensures.notes opening log was.notes_are led leaves);

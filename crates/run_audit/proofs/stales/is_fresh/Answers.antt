@@ -1,4 +1,4 @@
-use Rattle.std.proofs.Common.{◌≡◌, ◌&&◌, Bool, true, false, IsTrue, is_some, refl, arith, sym, ap, ◌∙◌}
+use Rattle.std.proofs.Common.{◌≡◌, true, IsTrue, is_some, refl, sym, ◌∙◌}
 use Rattle.std.specs.Prelude.{nat_le}
 use Rattle.run_audit.specs.Answers.{noted}
 use Rattle.run_audit.specs.Numbers.{floor_of}
@@ -15,7 +15,7 @@ returns-then-is_current c = λ opening log past are floors.
     let tests = and_elim (nat_le stamp notes.count) (nat_le (floor_of key c.args.floors.now) stamp) (sym c.is_current.ensures ∙ c.if-is_current.true) in
     let known : IsTrue (is_some (noted key notes.answers)) = rw c.in-Hit.is at c.requires in
     rw c.in-Hit.is (hit-fresh opening log past notes c.args.floors.now key c.in-Hit.value stamp c.answers_so.result are floors known
-      (from-within stamp notes.count tests.0) (from-within (floor_of key c.args.floors.now) stamp tests.1) c.answers_so.ensures)
+    (from-within stamp notes.count tests.0) (from-within (floor_of key c.args.floors.now) stamp tests.1) c.answers_so.ensures)
 
 pub returns-else-is_current : goal.returns-else-is_current
 returns-else-is_current c = λ opening log past are floors.
@@ -25,8 +25,8 @@ returns-else-is_current c = λ opening log past are floors.
     rw c.in-Hit.is (
       λ yes. clash yes c.if-is_current.false,
       λ fresh. (
-        let both = hit-within opening log past notes c.args.floors.now key c.in-Hit.value stamp are floors fresh in
-        let passes : c.is_current.result ≡ true = c.is_current.ensures ∙ rw (within stamp notes.count both.0, within (floor_of key c.args.floors.now) stamp both.1) refl in
-        clash passes c.if-is_current.false
-      ),
+          let both = hit-within opening log past notes c.args.floors.now key c.in-Hit.value stamp are floors fresh in
+          let passes : c.is_current.result ≡ true = c.is_current.ensures ∙ rw (within stamp notes.count both.0, within (floor_of key c.args.floors.now) stamp both.1) refl in
+          clash passes c.if-is_current.false
+          ),
     )

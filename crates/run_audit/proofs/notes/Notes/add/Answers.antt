@@ -1,7 +1,6 @@
-use Rattle.std.proofs.Common.{◌≡◌, ℕ, ◌+◌, ◌==◌, ◌&&◌, cond, List, length, rules, arith, sym, ap, ◌∙◌}
+use Rattle.std.proofs.Common.{◌≡◌, ◌+◌, ◌==◌, ◌&&◌, cond, length, sym, ap, ◌∙◌}
 use Rattle.std.proofs.lemmas.List.{length_push}
 use Rattle.std.proofs.lemmas.Result.{on_ok_weaker}
-use Rattle.rows_model.specs.declared.keys.QKey.{QKey}
 use Rattle.rows_model.specs.Changes.{footprint, has_key}
 use Rattle.rows_model.specs.Query.{answer}
 use Rattle.run_audit.specs.Answers.{noted, pushed}
@@ -25,10 +24,10 @@ returns-clause-notes c = λ opening log are led leaves.
     (λ numbers. record {
       answers = answers-more opening log c.args.commit.now c.args.rows.now c.args.self.now.answers c.note_keys.new.answers led leaves are.answers
           (λ key. c.in_ok-note_keys.ensures key
-            ∙ (λ i. cond (has_key key (keys i)) (pushed (number i) (answer key c.args.rows.now) (noted key c.args.self.now.answers)) (noted key c.args.self.now.answers)));
+          ∙ (λ i. cond (has_key key (keys i)) (pushed (number i) (answer key c.args.rows.now) (noted key c.args.self.now.answers)) (noted key c.args.self.now.answers)));
       numbers = numbers-more log c.args.commit.now c.args.self.now.numbers c.note_number.new.numbers are.numbers
           (λ hold. numbers hold
-            ∙ (λ i. cond ((c.args.commit.now.sid.number == hold.sid.number) && has_key hold.key (keys' i)) (number i) (number_of hold c.args.self.now.numbers)));
+          ∙ (λ i. cond ((c.args.commit.now.sid.number == hold.sid.number) && has_key hold.key (keys' i)) (number i) (number_of hold c.args.self.now.numbers)));
       count = number ∙ sym (length_push log c.args.commit.now);
     })
     c.note_number.ensures
