@@ -3,6 +3,7 @@ pub mod NumberLemmas
 pub mod VersionLemmas
 pub mod StateLemmas
 pub mod FootLemmas
+pub mod ThroughLemmas
 pub mod NoteLemmas
 pub mod KnownLemmas
 pub mod GapLemmas

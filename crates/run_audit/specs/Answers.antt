@@ -1,11 +1,13 @@
 -- The versions of a key's answer: what it is after each number of commits.
-use Rattle.std.specs.Prelude.{ℕ, ◌≡◌, ◌≤◌, true, List, [], ◌∷◌, ◌++◌, length, nat_le, if◌then◌else◌, All, AllPairs, Option, Some, None, is_some, option_map, IsTrue, IfSome}
+use Rattle.std.specs.Prelude.{ℕ, ◌≡◌, ◌≤◌, true, List, [], ◌∷◌, ◌++◌, length, nat_le, if◌then◌else◌, All, AllPairs, Option, Some, None, is_some, option_map, option_and_then, slice_get, ◌-◌, IsTrue, IfSome}
 use Rattle.std.specs.List.Sorted.{IsNonDecreasingBy}
-use Rattle.std.specs.Option.{option_or}
+use Rattle.std.specs.Option.{option_or, unwrap_or}
 use Rattle.std.specs.BTreeMap.{BTreeMap, get}
 use Rattle.std.specs.Global.{Vec}
 use Rattle.rows_model.specs.declared.keys.QKey.{QKey}
+use Rattle.rows_model.specs.declared.changes.Change.{Change}
 use Rattle.rows_model.specs.Rows.{Tables}
+use Rattle.rows_model.specs.Refresh.{refreshed}
 use Rattle.rows_model.specs.Query.{answer}
 use Rattle.rows_model.specs.Changes.{is_key_before}
 use Rattle.lease_table.specs.Stands.{key_cmp}
@@ -23,9 +25,17 @@ noted key answers = option_map (λ versions. versions.items) (get key_cmp answer
 abbrev pub version : ℕ → List ℕ → Version
 version from value = record { from = from; value = value }
 
+-- The value of the last version.
+abbrev pub last_value : List Version → Option (List ℕ)
+last_value versions = option_map (λ one. one.value) (slice_get versions (length versions - 1))
+
+-- What a key is answered once a transaction led to these rows: its last value, refreshed by the transaction; where that gives none, what the rows answer.
+abbrev pub renewed : QKey → List Change → Tables → List Version → List ℕ
+renewed key txn rows versions = unwrap_or (option_and_then (λ value. refreshed key value txn) (last_value versions)) (answer key rows)
+
 -- The versions of a key, if it is noted, with one more.
-abbrev pub pushed : ℕ → List ℕ → Option (List Version) → Option (List Version)
-pushed from value found = option_map (λ versions. versions ++ version from value ∷ []) found
+abbrev pub pushed : ℕ → (List Version → List ℕ) → Option (List Version) → Option (List Version)
+pushed from value found = option_map (λ versions. versions ++ version from (value versions) ∷ []) found
 
 -- The value after so many commits: that of the last version from at most so many on.
 abbrev pub value_at : ℕ → List Version → Option (List ℕ)

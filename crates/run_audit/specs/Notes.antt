@@ -1,17 +1,20 @@
 -- What an audit knows of a log.
-use Rattle.std.specs.Prelude.{◌≡◌, false, List, length}
-use Rattle.rows_model.specs.declared.keys.QKey.{QKey}
-use Rattle.rows_model.specs.Rows.{Tables}
-use Rattle.rows_model.specs.Query.{answer}
-use Rattle.rows_model.specs.Changes.{touches}
+use Rattle.std.specs.Prelude.{◌≡◌, Bool, true, false, List, length, All, Ok}
+use Rattle.rows_model.specs.Rows.{Tables, Fit}
+use Rattle.rows_model.specs.Changes.{HasIds, apply_all}
 use Rattle.sql_keeper.specs.declared.stores.Commit.{Commit}
+use Rattle.sql_keeper.specs.Log.{after_commit}
 use Rattle.run_audit.specs.declared.notes.Notes.{Notes}
 use Rattle.run_audit.specs.Answers.{AreAnswers}
 use Rattle.run_audit.specs.Numbers.{AreNumbers}
 
--- What a key answers is the same before and after a commit that doesn't touch it.
-abbrev pub LeavesUntouched : Commit → Tables → Tables → Type 0
-LeavesUntouched commit before after = (key : QKey) → touches commit.txn key ≡ false → answer key after ≡ answer key before
+-- A commit led from these rows to those: its transaction was made, or it doesn't apply and they are the same.
+pub record IsLed (is_made : Bool) (commit : Commit) (before after : Tables) : Type 0 where
+  pub led : after ≡ after_commit before commit
+  pub fit : Fit before
+  pub ids : All HasIds commit.txn
+  pub made : is_made ≡ true → apply_all commit.txn before ≡ Ok after
+  pub same : is_made ≡ false → after ≡ before
 
 -- The notes are those of this log over these opening rows.
 pub record AreNotes (opening : Tables) (log : List Commit) (notes : Notes) : Type 0 where

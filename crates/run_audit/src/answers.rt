@@ -2,13 +2,12 @@ ghost use Rattle.std.specs.Prelude.{◌≡◌, ◌≤◌, ℕ, List, OnOk, IfOk,
 ghost use Rattle.std.specs.Option.{option_copied};
 ghost use Rattle.rows_model.specs.declared.keys.QKey.{QKey};
 ghost use Rattle.rows_model.specs.Key.{same_key};
-ghost use Rattle.rows_model.specs.Query.{answer};
 ghost use Rattle.rows_model.specs.Changes.{has_key, is_key_before};
 ghost use Rattle.run_audit.specs.Findings.{histories_in};
-ghost use Rattle.run_audit.specs.Answers.{noted, pushed, value_at, AreOpening, Keeps, Knows, InOrder, InTurn};
+ghost use Rattle.run_audit.specs.Answers.{noted, pushed, renewed, value_at, AreOpening, Keeps, Knows, InOrder, InTurn};
 
 use key_shard::{Shard, Step};
-use rows_model::{Memory, QKey, Rows, Value, ask};
+use rows_model::{Memory, QKey, Rows, Txn, Value, ask, refresh};
 use std::alloc::Global;
 use std::collections::BTreeMap;
 
@@ -69,42 +68,65 @@ fn note_hit(alloc: Global, opening: &Rows, step: &Step, answers: &mut Answers) -
     Ok(())
 }
 
-/// Notes what these rows answer to the keys, from so many commits on. Keys that aren't noted stay so.
+/// Notes what the keys are answered from so many commits on, where this transaction led to these
+/// rows. Keys that aren't noted stay so.
 pub fn note_keys(
     alloc: Global,
     rows: &Rows,
+    txn: &Txn,
     keys: &[QKey],
     from: u64,
     answers: &mut Answers,
 ) -> Result<(), Memory>
     requires { InOrder keys.now }
-    ensures { OnOk result ((key : QKey) → noted key answers.new ≡
-        (if has_key key keys.now then pushed from (answer key rows.now) (noted key answers.old)
+    ensures { OnOk result ((key : QKey) → noted key answers.new ≡ (if has_key key keys.now
+        then pushed from (renewed key txn.now rows.now) (noted key answers.old)
         else noted key answers.old)) }
 {
     for key in keys {
-        note_key(alloc, rows, key, from, answers)?;
+        note_key(alloc, rows, txn, key, from, answers)?;
     }
     Ok(())
 }
 
-/// Notes what these rows answer to the key, from so many commits on, if the key is noted.
+/// Notes what the key is answered from so many commits on, if it is noted.
 fn note_key(
     alloc: Global,
     rows: &Rows,
+    txn: &Txn,
     key: &QKey,
     from: u64,
     answers: &mut Answers,
 ) -> Result<(), Memory>
-    ensures { OnOk result ((other : QKey) → noted other answers.new ≡
-        (if same_key other key.now then pushed from (answer other rows.now) (noted other answers.old)
+    ensures { OnOk result ((other : QKey) → noted other answers.new ≡ (if same_key other key.now
+        then pushed from (renewed other txn.now rows.now) (noted other answers.old)
         else noted other answers.old)) }
 {
     if let Some(versions) = answers.get_mut(key) {
-        let value = ask(alloc, rows, key)?;
+        let value = renewed(alloc, rows, txn, key, versions.as_slice())?;
         versions.push(Version { from, value })?;
     }
     Ok(())
+}
+
+/// The last value of the key, refreshed by the transaction, which takes no look at the rows. They
+/// are asked only where that gives none.
+fn renewed(
+    alloc: Global,
+    rows: &Rows,
+    txn: &Txn,
+    key: &QKey,
+    versions: &[Version],
+) -> Result<Value, Memory>
+    ensures { IfOk result (λ value. value ≡ renewed key.now txn.now rows.now versions.now) }
+{
+    let Some(last) = versions.last() else {
+        return ask(alloc, rows, key);
+    };
+    match refresh(alloc, key, &last.value, txn)? {
+        Some(value) => Ok(value),
+        None => ask(alloc, rows, key),
+    }
 }
 
 /// The value of the last version from at most so many commits on, of versions in order.

@@ -1,10 +1,10 @@
 ghost use Rattle.std.specs.Prelude.{◌≡◌, ◌^◌, ◌<◌, ◌+◌, ◌++◌, ◌∷◌, [], List, OnOk, IfOk, All, length};
 ghost use Rattle.rows_model.specs.Rows.{Tables};
 ghost use Rattle.sql_keeper.specs.declared.stores.Commit.{Commit};
-ghost use Rattle.sql_keeper.specs.Log.{after_commit, rows_after};
+ghost use Rattle.sql_keeper.specs.Log.{rows_after};
 ghost use Rattle.run_audit.specs.Findings.{histories_in};
 ghost use Rattle.run_audit.specs.Answers.{Knows, KnowsTheSame};
-ghost use Rattle.run_audit.specs.Notes.{AreNotes, LeavesUntouched};
+ghost use Rattle.run_audit.specs.Notes.{AreNotes, IsLed};
 
 use crate::answers::{Answers, note_keys, opening_answers};
 use crate::numbers::{Numbers, note_number};
@@ -41,39 +41,55 @@ pub fn notes_of(
     };
     let mut rows = opening.copy()?;
     for commit in log {
-        make(&mut rows, commit)?;
-        notes.add(alloc, &rows, commit)?;
+        let is_made = make(&mut rows, commit)?;
+        notes.add(alloc, &rows, commit, is_made)?;
     }
     Ok(notes)
 }
 
-/// Makes the commit, where it applies.
-fn make(rows: &mut Rows, commit: &Commit) -> Result<(), Memory>
-    ensures made { OnOk result (rows.new ≡ after_commit rows.old commit.now) }
-    ensures untouched { OnOk result (LeavesUntouched commit.now rows.old rows.new) }
+/// Makes the commit, and says whether it applies.
+fn make(rows: &mut Rows, commit: &Commit) -> Result<bool, Memory>
+    ensures { IfOk result (λ is_made. IsLed is_made commit.now rows.old rows.new) }
 {
-    // That the rows are fit is a clause of their reader.
+    // That the rows are fit, and the ids of the changes, are clauses of their readers.
     let _members = rows.members();
+    let _changes = commit.txn.changes();
     match rows.apply(&commit.txn) {
-        Ok(()) | Err(ApplyFault::Rejected { .. }) => Ok(()),
+        Ok(()) => Ok(true),
+        Err(ApplyFault::Rejected { .. }) => Ok(false),
         Err(ApplyFault::Memory) => Err(Memory),
     }
 }
 
 impl Notes {
-    /// Notes one commit more, which led to these rows.
-    fn add(&mut self, alloc: Global, rows: &Rows, commit: &Commit) -> Result<(), Memory>
+    /// Notes one commit more, which led to these rows, and whether it was made.
+    fn add(
+        &mut self,
+        alloc: Global,
+        rows: &Rows,
+        commit: &Commit,
+        is_made: bool,
+    ) -> Result<(), Memory>
         requires { self.old.count + 1 < 2 ^ 64 }
         ensures notes { (opening : Tables) (log : List Commit) → AreNotes opening log self.old
-            → rows.now ≡ rows_after opening (log ++ commit.now ∷ [])
-            → LeavesUntouched commit.now (rows_after opening log) rows.now
+            → IsLed is_made commit.now (rows_after opening log) rows.now
             → OnOk result (AreNotes opening (log ++ commit.now ∷ []) self.new) }
         ensures count { OnOk result (self.new.count ≡ self.old.count + 1) }
         ensures knows { OnOk result (KnowsTheSame self.old.answers self.new.answers) }
     {
         let keys = footprint(alloc, &commit.txn)?;
         self.count += 1;
-        note_keys(alloc, rows, keys.as_slice(), self.count, &mut self.answers)?;
-        note_number(&mut self.numbers, commit.sid, keys.as_slice(), self.count)
+        note_number(&mut self.numbers, commit.sid, keys.as_slice(), self.count)?;
+        if !is_made {
+            return Ok(());
+        }
+        note_keys(
+            alloc,
+            rows,
+            &commit.txn,
+            keys.as_slice(),
+            self.count,
+            &mut self.answers,
+        )
     }
 }

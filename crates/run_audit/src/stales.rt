@@ -36,8 +36,9 @@ pub fn first_stale(alloc: Global, notes: &Notes, history: &[Step]) -> Result<Opt
 /// Whether a step is fresh, with these floors after the steps before it.
 fn is_fresh(notes: &Notes, floors: &Floors, step: &Step) -> bool
     requires { Knows notes.now.answers step.now }
-    ensures { (opening : Tables) (log : List Commit) (past : List Step) → AreNotes opening log notes.now
-        → AreFloors log past floors.now → IsTrue result ↔ IsFreshStep opening log past step.now }
+    ensures { (opening : Tables) (log : List Commit) (past : List Step)
+        → AreNotes opening log notes.now → AreFloors log past floors.now
+        → IsTrue result ↔ IsFreshStep opening log past step.now }
 {
     match step {
         Step::Hit {
