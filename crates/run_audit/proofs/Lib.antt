@@ -1,0 +1,12 @@
+pub mod ListLemmas
+pub mod NumberLemmas
+pub mod VersionLemmas
+pub mod StateLemmas
+pub mod FootLemmas
+pub mod ThroughLemmas
+pub mod NoteLemmas
+pub mod KnownLemmas
+pub mod GapLemmas
+pub mod CoverLemmas
+pub mod StaleLemmas
+pub mod FloorLemmas
