@@ -1,0 +1,2 @@
+pub mod OnShard
+pub mod OnStore
