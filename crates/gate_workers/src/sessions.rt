@@ -1,11 +1,10 @@
 ghost use Rattle.std.specs.Prelude.{◌≡◌, Bool, List, Option, IfOk, OnOk};
 ghost use Rattle.rows_model.specs.declared.keys.Sid.{Sid};
 ghost use Rattle.session_client.specs.Desks.{Call};
-ghost use Rattle.session_client.specs.Follows.{Follows, IsReady, plan_of, sid_of};
+ghost use Rattle.session_client.specs.Follows.{IsReady};
 ghost use Rattle.session_client.specs.Plans.{IsPlan, writes};
 ghost use Rattle.session_client.specs.declared.plans.Plan.{Plan};
-ghost use Rattle.session_client.specs.declared.replies.Reply.{Reply};
-ghost use Rattle.gate_workers.specs.Notes.{IsUnderWay, HasEnded};
+ghost use Rattle.gate_workers.specs.Notes.{IsGoing, IsUnderWay, HasEnded};
 ghost use Rattle.gate_workers.specs.Rows.{IsRow, with_calls};
 
 use crate::marks::{Mark, Request, Response};
@@ -112,7 +111,7 @@ fn drive<R: Wait, D: Desk, G: Gate>(
     gate: &G,
 ) -> Outcome
     requires ready { IsReady session.old }
-    requires follows { (short : Bool) × (heard : List Reply) × Follows session.old short heard }
+    requires going { IsGoing session.old }
     ensures { (who : Sid) (plan : Plan) (before : Option (List Call)) →
         IsUnderWay who plan session.old before (D.record_of desk.old) notes.old →
         HasEnded who plan result before (D.record_of desk.new) notes.new }
@@ -135,8 +134,9 @@ fn step<D: Desk, G: Gate>(
     gate: &G,
 )
     requires ready { IsReady session.old }
-    requires follows { (short : Bool) × (heard : List Reply) × Follows session.old short heard }
+    requires going { IsGoing session.old }
     ensures ready { IsReady session.new }
+    ensures going { IsGoing session.new }
     ensures goes_on { (who : Sid) (plan : Plan) (before : Option (List Call)) →
         IsUnderWay who plan session.old before (D.record_of desk.old) notes.old →
         IsUnderWay who plan session.new before (D.record_of desk.new) notes.new }

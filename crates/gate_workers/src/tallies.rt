@@ -1,5 +1,5 @@
-ghost use Rattle.std.specs.Prelude.{◌≡◌, ◌-◌, ◌^◌, sum_by, count_by, min};
-ghost use Rattle.gate_workers.specs.Tallies.{is_again, agains_in, is_hit, is_stored, is_void, is_bypass, is_committed, is_rejected, is_refused};
+ghost use Rattle.std.specs.Prelude.{◌≡◌, ◌-◌, ◌^◌, sum_by, min};
+ghost use Rattle.gate_workers.specs.Tallies.{count_of, is_again, agains_in, is_hit, is_stored, is_void, is_bypass, is_committed, is_rejected, is_refused};
 
 use crate::marks::{Mark, Response};
 use crate::transcripts::{Row, Transcript};
@@ -36,73 +36,119 @@ impl Transcript {
     {
         let rows = self.rows();
         Tally {
-            hits: rows.iter().filter(|row| is_hit(row.outcome())).count() as u64,
-            stores: rows.iter().filter(|row| is_stored(row.outcome())).count() as u64,
-            voids: rows.iter().filter(|row| is_void(row.outcome())).count() as u64,
-            agains: agains_of(rows),
-            bypasses: rows.iter().filter(|row| is_bypass(row.outcome())).count() as u64,
-            commits: rows
-                .iter()
-                .filter(|row| is_committed(row.outcome()))
-                .count() as u64,
-            rejected: rows.iter().filter(|row| is_rejected(row.outcome())).count() as u64,
-            refused: rows.iter().filter(|row| is_refused(row.outcome())).count() as u64,
+            hits: hits(rows),
+            stores: stores(rows),
+            voids: voids(rows),
+            agains: agains(rows),
+            bypasses: bypasses(rows),
+            commits: commits(rows),
+            rejected: rejected(rows),
+            refused: refused(rows),
         }
     }
 }
 
 /// Whether a reader got an entry.
-fn is_hit(outcome: Outcome) -> bool
-    ensures { result ≡ is_hit outcome }
+fn is_hit(row: &Row) -> bool
+    ensures { result ≡ is_hit row.now.outcome }
 {
-    matches!(outcome, Outcome::Hit)
+    matches!(row.outcome(), Outcome::Hit)
+}
+
+/// How many readers got an entry.
+fn hits(rows: &[Row]) -> u64
+    ensures { result ≡ count_of is_hit rows.now }
+{
+    rows.iter().filter(|row| is_hit(row)).count() as u64
 }
 
 /// Whether a reader stored its answer.
-fn is_stored(outcome: Outcome) -> bool
-    ensures { result ≡ is_stored outcome }
+fn is_stored(row: &Row) -> bool
+    ensures { result ≡ is_stored row.now.outcome }
 {
-    matches!(outcome, Outcome::Stored)
+    matches!(row.outcome(), Outcome::Stored)
+}
+
+/// How many readers stored their answers.
+fn stores(rows: &[Row]) -> u64
+    ensures { result ≡ count_of is_stored rows.now }
+{
+    rows.iter().filter(|row| is_stored(row)).count() as u64
 }
 
 /// Whether a reader's lease stood no longer.
-fn is_void(outcome: Outcome) -> bool
-    ensures { result ≡ is_void outcome }
+fn is_void(row: &Row) -> bool
+    ensures { result ≡ is_void row.now.outcome }
 {
-    matches!(outcome, Outcome::Void)
+    matches!(row.outcome(), Outcome::Void)
+}
+
+/// How many readers' leases stood no longer.
+fn voids(rows: &[Row]) -> u64
+    ensures { result ≡ count_of is_void rows.now }
+{
+    rows.iter().filter(|row| is_void(row)).count() as u64
 }
 
 /// Whether a reader had no lease.
-fn is_bypass(outcome: Outcome) -> bool
-    ensures { result ≡ is_bypass outcome }
+fn is_bypass(row: &Row) -> bool
+    ensures { result ≡ is_bypass row.now.outcome }
 {
-    matches!(outcome, Outcome::Bypass)
+    matches!(row.outcome(), Outcome::Bypass)
+}
+
+/// How many readers had no lease.
+fn bypasses(rows: &[Row]) -> u64
+    ensures { result ≡ count_of is_bypass rows.now }
+{
+    rows.iter().filter(|row| is_bypass(row)).count() as u64
 }
 
 /// Whether a writer committed.
-fn is_committed(outcome: Outcome) -> bool
-    ensures { result ≡ is_committed outcome }
+fn is_committed(row: &Row) -> bool
+    ensures { result ≡ is_committed row.now.outcome }
 {
-    matches!(outcome, Outcome::Committed { number: _ })
+    matches!(row.outcome(), Outcome::Committed { number: _ })
+}
+
+/// How many writers committed.
+fn commits(rows: &[Row]) -> u64
+    ensures { result ≡ count_of is_committed rows.now }
+{
+    rows.iter().filter(|row| is_committed(row)).count() as u64
 }
 
 /// Whether a writer had a change that doesn't apply.
-fn is_rejected(outcome: Outcome) -> bool
-    ensures { result ≡ is_rejected outcome }
+fn is_rejected(row: &Row) -> bool
+    ensures { result ≡ is_rejected row.now.outcome }
 {
     matches!(
-        outcome,
+        row.outcome(),
         Outcome::NotCommitted {
-            fault: CommitFault::Rejected { index: _ },
+            fault: CommitFault::Rejected { index: _ }
         }
     )
 }
 
-/// Whether a writer was refused a quarantine.
-fn is_refused(outcome: Outcome) -> bool
-    ensures { result ≡ is_refused outcome }
+/// How many writers had a change that doesn't apply.
+fn rejected(rows: &[Row]) -> u64
+    ensures { result ≡ count_of is_rejected rows.now }
 {
-    matches!(outcome, Outcome::Refused { holder: _, mode: _ })
+    rows.iter().filter(|row| is_rejected(row)).count() as u64
+}
+
+/// Whether a writer was refused a quarantine.
+fn is_refused(row: &Row) -> bool
+    ensures { result ≡ is_refused row.now.outcome }
+{
+    matches!(row.outcome(), Outcome::Refused { holder: _, mode: _ })
+}
+
+/// How many writers were refused a quarantine.
+fn refused(rows: &[Row]) -> u64
+    ensures { result ≡ count_of is_refused rows.now }
+{
+    rows.iter().filter(|row| is_refused(row)).count() as u64
 }
 
 /// Whether a session was told to try again.
@@ -120,7 +166,7 @@ fn agains_in(row: &Row) -> u64
 }
 
 /// How often the sessions were told so. It stands still at its type's end.
-fn agains_of(rows: &[Row]) -> u64
+fn agains(rows: &[Row]) -> u64
     ensures { result ≡ min (sum_by agains_in rows.now) (2 ^ 64 - 1) }
 {
     let mut agains = 0u64;

@@ -30,7 +30,7 @@ pub fn work_all<R: Threads + Wait + Sync, D: Desk + Send, G: Gate>(
     gate: &G,
 ) -> Result<Vec<Transcript>, Memory>
     requires as_many { length plans.now ≡ length desks.old }
-    requires plans { All (λ (list : Vec Plan). All IsPlan list.items) plans.now }
+    requires plans { All (λ list. All IsPlan list.items) plans.now }
     ensures work { IfOk result (λ transcripts. AllWork (map (λ list. list.items) plans.now)
         (map D.record_of desks.old) (map D.record_of desks.new) transcripts.items) }
 {
@@ -47,7 +47,7 @@ fn work_from<R: Threads + Wait + Sync, D: Desk + Send, G: Gate>(
     gate: &G,
 ) -> Result<Vec<Transcript>, Memory>
     requires as_many { length plans.now ≡ length desks.old }
-    requires plans { All (λ (list : Vec Plan). All IsPlan list.items) plans.now }
+    requires plans { All (λ list. All IsPlan list.items) plans.now }
     ensures work { IfOk result (λ transcripts. AllWork (map (λ list. list.items) plans.now)
         (map D.record_of desks.old) (map D.record_of desks.new) transcripts.items) }
 {
@@ -58,15 +58,26 @@ fn work_from<R: Threads + Wait + Sync, D: Desk + Send, G: Gate>(
     let Some((list, lists)) = plans.split_first() else {
         return Ok(transcripts);
     };
+    let list = list.as_slice();
     if others.is_empty() {
-        transcripts.push(run_plans(rt, alloc, worker, desk, list.as_slice(), gate)?)?;
+        transcripts.push(run_plans(rt, alloc, worker, desk, list, gate)?)?;
         return Ok(transcripts);
     }
     let next = worker.saturating_add(1);
     let (first, rest) = join_mut(
         rt,
-        &mut || run_plans(rt, alloc, worker, desk, list.as_slice(), gate),
-        &mut || work_from(rt, alloc, next, others, lists, gate),
+        &mut ||
+            requires { All IsPlan list.now }
+            ensures { IfOk result (λ rows. IsWork list.entry.now
+                (D.record_of desk.entry.now) (D.record_of desk.exit.now) rows) }
+        { run_plans(rt, alloc, worker, desk, list, gate) },
+        &mut ||
+            requires { IsSync R.row × (length lists.now ≡ length others.now)
+                × All (λ list. All IsPlan list.items) lists.now }
+            ensures { IfOk result (λ transcripts. AllWork
+                (map (λ list. list.items) lists.entry.now) (map D.record_of others.entry.now)
+                (map D.record_of others.exit.now) transcripts.items) }
+        { work_from(rt, alloc, next, others, lists, gate) },
     );
     let mut rest = rest?;
     rest.insert(0, first?)?;
