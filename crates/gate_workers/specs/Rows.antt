@@ -1,6 +1,7 @@
 -- What a transcript tells of the sessions of its plans.
-use Rattle.std.specs.Prelude.{◌≡◌, ◌⊎◌, Bool, true, false, List, [], ◌∷◌, ◌++◌, Option, Some, None}
+use Rattle.std.specs.Prelude.{Vec, Result, Ok, ◌≡◌, ◌⊎◌, Bool, true, false, List, [], ◌∷◌, ◌++◌, Option, Some, None}
 use Rattle.rows_model.specs.declared.keys.Sid.{Sid}
+use Rattle.rows_model.specs.declared.refusals.Memory.{Memory}
 use Rattle.session_client.specs.Plans.{writes}
 use Rattle.session_client.specs.Wants.{wants, done_by}
 use Rattle.session_client.specs.Follows.{IsRefreshing}
@@ -65,3 +66,8 @@ AllWork [] [] [] [] = Unit {0}
 AllWork (plans ∷ lists) (before ∷ befores) (after ∷ afters) (rows ∷ transcripts) =
     IsWork plans before after rows × AllWork lists befores afters transcripts
 AllWork lists befores afters transcripts = ⊥
+
+-- Both were given, and these are all, the first of them in front.
+abbrev pub AreJoined : {A : Type 0} → List (List RowView) → Result (Vec (List RowView) A) Memory → Result (Vec (List RowView) A) Memory → Type 0
+AreJoined {A} all (Ok some) (Ok others) = all ≡ some.items ++ others.items
+AreJoined {A} all first rest = ⊥

@@ -1,5 +1,5 @@
 ghost use Rattle.std.specs.Prelude.{◌≡◌, ◌-◌, ◌^◌, sum_by, min};
-ghost use Rattle.gate_workers.specs.Tallies.{count_of, is_again, agains_in, is_hit, is_stored, is_void, is_bypass, is_committed, is_rejected, is_refused};
+ghost use Rattle.gate_workers.specs.Tallies.{is_again, is_one, agains_in, count_of};
 
 use crate::marks::{Mark, Response};
 use crate::transcripts::{Row, Transcript};
@@ -36,119 +36,62 @@ impl Transcript {
     {
         let rows = self.rows();
         Tally {
-            hits: hits(rows),
-            stores: stores(rows),
-            voids: voids(rows),
+            hits: count(rows, Counted::Hit),
+            stores: count(rows, Counted::Stored),
+            voids: count(rows, Counted::Void),
             agains: agains(rows),
-            bypasses: bypasses(rows),
-            commits: commits(rows),
-            rejected: rejected(rows),
-            refused: refused(rows),
+            bypasses: count(rows, Counted::Bypass),
+            commits: count(rows, Counted::Committed),
+            rejected: count(rows, Counted::Rejected),
+            refused: count(rows, Counted::Refused),
         }
     }
 }
 
-/// Whether a reader got an entry.
-fn is_hit(row: &Row) -> bool
-    ensures { result ≡ is_hit row.now.outcome }
-{
-    matches!(row.outcome(), Outcome::Hit)
+/// An outcome that is counted.
+#[derive(Clone, Copy)]
+enum Counted {
+    Hit,
+    Stored,
+    Void,
+    Bypass,
+    Committed,
+    Rejected,
+    Refused,
 }
 
-/// How many readers got an entry.
-fn hits(rows: &[Row]) -> u64
-    ensures { result ≡ count_of is_hit rows.now }
-{
-    rows.iter().filter(|row| is_hit(row)).count() as u64
-}
-
-/// Whether a reader stored its answer.
-fn is_stored(row: &Row) -> bool
-    ensures { result ≡ is_stored row.now.outcome }
-{
-    matches!(row.outcome(), Outcome::Stored)
-}
-
-/// How many readers stored their answers.
-fn stores(rows: &[Row]) -> u64
-    ensures { result ≡ count_of is_stored rows.now }
-{
-    rows.iter().filter(|row| is_stored(row)).count() as u64
-}
-
-/// Whether a reader's lease stood no longer.
-fn is_void(row: &Row) -> bool
-    ensures { result ≡ is_void row.now.outcome }
-{
-    matches!(row.outcome(), Outcome::Void)
-}
-
-/// How many readers' leases stood no longer.
-fn voids(rows: &[Row]) -> u64
-    ensures { result ≡ count_of is_void rows.now }
-{
-    rows.iter().filter(|row| is_void(row)).count() as u64
-}
-
-/// Whether a reader had no lease.
-fn is_bypass(row: &Row) -> bool
-    ensures { result ≡ is_bypass row.now.outcome }
-{
-    matches!(row.outcome(), Outcome::Bypass)
-}
-
-/// How many readers had no lease.
-fn bypasses(rows: &[Row]) -> u64
-    ensures { result ≡ count_of is_bypass rows.now }
-{
-    rows.iter().filter(|row| is_bypass(row)).count() as u64
-}
-
-/// Whether a writer committed.
-fn is_committed(row: &Row) -> bool
-    ensures { result ≡ is_committed row.now.outcome }
-{
-    matches!(row.outcome(), Outcome::Committed { number: _ })
-}
-
-/// How many writers committed.
-fn commits(rows: &[Row]) -> u64
-    ensures { result ≡ count_of is_committed rows.now }
-{
-    rows.iter().filter(|row| is_committed(row)).count() as u64
-}
-
-/// Whether a writer had a change that doesn't apply.
-fn is_rejected(row: &Row) -> bool
-    ensures { result ≡ is_rejected row.now.outcome }
+/// Whether the session of the row has this outcome.
+fn is_one(counted: Counted, row: &Row) -> bool
+    ensures { result ≡ is_one counted row.now.outcome }
 {
     matches!(
-        row.outcome(),
-        Outcome::NotCommitted {
-            fault: CommitFault::Rejected { index: _ }
-        }
+        (counted, row.outcome()),
+        (Counted::Hit, Outcome::Hit)
+            | (Counted::Stored, Outcome::Stored)
+            | (Counted::Void, Outcome::Void)
+            | (Counted::Bypass, Outcome::Bypass)
+            | (Counted::Committed, Outcome::Committed { number: _ })
+            | (
+                Counted::Rejected,
+                Outcome::NotCommitted {
+                    fault: CommitFault::Rejected { index: _ },
+                },
+            )
+            | (Counted::Refused, Outcome::Refused { holder: _, mode: _ })
     )
 }
 
-/// How many writers had a change that doesn't apply.
-fn rejected(rows: &[Row]) -> u64
-    ensures { result ≡ count_of is_rejected rows.now }
+/// How many rows have this outcome.
+fn count(rows: &[Row], counted: Counted) -> u64
+    ensures { result ≡ count_of counted rows.now }
 {
-    rows.iter().filter(|row| is_rejected(row)).count() as u64
-}
-
-/// Whether a writer was refused a quarantine.
-fn is_refused(row: &Row) -> bool
-    ensures { result ≡ is_refused row.now.outcome }
-{
-    matches!(row.outcome(), Outcome::Refused { holder: _, mode: _ })
-}
-
-/// How many writers were refused a quarantine.
-fn refused(rows: &[Row]) -> u64
-    ensures { result ≡ count_of is_refused rows.now }
-{
-    rows.iter().filter(|row| is_refused(row)).count() as u64
+    let mut count = 0u64;
+    for row in rows {
+        if is_one(counted, row) {
+            count += 1;
+        }
+    }
+    count
 }
 
 /// Whether a session was told to try again.
