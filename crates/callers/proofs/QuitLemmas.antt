@@ -39,7 +39,8 @@ use Rattle.session_client.specs.declared.replies.Reply.TheVariants as reply
 use Rattle.session_client.specs.declared.replies.Wanted.{Wanted}
 use Rattle.session_client.specs.declared.replies.Wanted.TheVariants as wanted
 use Rattle.session_client.specs.declared.sessions.Session.{Session}
-use Rattle.session_client.specs.Belongs.{Belongs, FitsOld, IsQuarantineOf}
+use Rattle.session_client.specs.Belongs.{Belongs, IsQuarantineOf}
+use Rattle.session_client.proofs.QuarantineLemmas.{quarantine_belongs}
 use Rattle.session_client.specs.Follows.{plan_of, sid_of, IsReady, Follows, IsRefreshing}
 use Rattle.session_client.specs.Plans.{mode_on}
 use Rattle.session_client.specs.Wants.{Given, Release, Keeps, Drops, Finishes, is_had, given, released, number_of, has_all, quarantine_as, quarantine_or_then, after_fault, finish, release_after, release_of, release_by, writing_of, wants}
@@ -231,40 +232,12 @@ not-refreshing who request told up b h = may-refresh told (may-come who request 
 
 -- ---- the reply to a quarantine
 
-fits-old : (m : Mode) (found : Option (List ℕ × ℕ)) → FitsOld m (old_value m found)
-fits-old mode.Invalidate found = refl
-fits-old mode.Refresh found = tt
-fits-old mode.Delta found = refl
-
-shown-granted : (terms : Terms) (past : List Step) (key : QKey) (who : Sid) (m : Mode) (shift : ℤ) (now : ℕ) (told : QAnswer)
-    → ShowsQuarantine terms past (granted_step terms past key who m shift now) told → IsQuarantineOf who key m told
-shown-granted terms past key who m shift now told shows =
-    subst (IsQuarantineOf who key m) (sym shows) (record { of_key = refl; of_session = refl; in_mode = refl }, fits-old m (entry key past))
-
-shown-held : (who : Sid) (key : QKey) (m : Mode) (told : QAnswer) → told ≡ quarantine.Held → IsQuarantineOf who key m told
-shown-held who key m told is = subst (IsQuarantineOf who key m) (sym is) tt
-
-shown-refused : (terms : Terms) (past : List Step) (key : QKey) (who : Sid) (m : Mode) (o : Option Quar) (told : QAnswer)
-    → ShowsQuarantine terms past (refused_step key who m o) told → IsQuarantineOf who key m told
-shown-refused terms past key who m None told shows = shown-held who key m told shows
-shown-refused terms past key who m (Some q) told shows = subst (IsQuarantineOf who key m) (sym shows) tt
-
-shown-by : (terms : Terms) (past : List Step) (key : QKey) (who : Sid) (m : Mode) (shift : ℤ) (now : ℕ) (v : Verdict) (told : QAnswer)
-    → ShowsQuarantine terms past (quarantine_by terms past key who m shift now v) told → IsQuarantineOf who key m told
-shown-by terms past key who m shift now verdicts.Give told shows = shown-granted terms past key who m shift now told shows
-shown-by terms past key who m shift now verdicts.Void told shows = shown-granted terms past key who m shift now told shows
-shown-by terms past key who m shift now verdicts.Join told shows = shown-granted terms past key who m shift now told shows
-shown-by terms past key who m shift now verdicts.Same told shows = shown-held who key m told shows
-shown-by terms past key who m shift now verdicts.Refuse told shows = shown-refused terms past key who m (holder_of key who past) told shows
-shown-by terms past key who m shift now verdicts.Wait told shows = shown-held who key m told shows
-shown-by terms past key who m shift now verdicts.Own told shows = shown-held who key m told shows
-
 -- an answer that shows the step of a quarantine answers it
 pub shown-answer : {E : Type 0} (terms : Terms) (past : List Step) (key : QKey) (who : Sid) (m : Mode) (shift : ℤ) (now : ℕ) (result : Result QAnswer E)
     → IfOk result (ShowsQuarantine terms past (quarantine_step terms past key who m shift now)) → IfOk result (IsQuarantineOf who key m)
 shown-answer terms past key who m shift now (Err fault) shows = tt
 shown-answer terms past key who m shift now (Ok told) shows =
-    shown-by terms past key who m shift now (verdict (seen_by key who now past) (to_quarantine (way_of m))) told shows
+    quarantine_belongs terms past key who m shift now told shows
 
 -- a reply to a quarantine belongs to the request for it
 pub belongs-reg : (who : Sid) (key : QKey) (told : Reply) → IsQuarantineReply who key mode.Invalidate told → Belongs who (wanted.QaReg key) told

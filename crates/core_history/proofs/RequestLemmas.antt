@@ -4,13 +4,8 @@ use Rattle.std.proofs.lemmas.List.{reverse-reverse}
 use Rattle.rows_model.specs.declared.keys.QKey.{QKey}
 use Rattle.rows_model.specs.declared.keys.Sid.{Sid}
 use Rattle.rows_model.specs.Placement.{shard_of}
-use Rattle.case_tables.specs.Compatibility.{verdict, quarantine}
-use Rattle.case_tables.specs.declared.grids.Verdict.{Verdict}
-use Rattle.case_tables.specs.declared.grids.Verdict.TheVariants as verdicts
 use Rattle.lease_table.specs.declared.records.Mode.{Mode}
 use Rattle.lease_table.specs.declared.records.Mode.TheVariants.{Invalidate, Refresh, Delta}
-use Rattle.lease_table.specs.declared.records.Quar.{Quar}
-use Rattle.lease_table.specs.Leases.{way_of}
 use Rattle.key_shard.specs.Permit.{Permit}
 use Rattle.key_shard.specs.declared.steps.Step.{Step}
 use Rattle.key_shard.specs.declared.steps.Step.TheVariants as step
@@ -21,11 +16,12 @@ use Rattle.key_shard.specs.declared.replies.QAnswer.TheVariants as told
 use Rattle.key_shard.specs.declared.replies.Rel.{Rel}
 use Rattle.key_shard.specs.declared.replies.How.{How}
 use Rattle.key_shard.specs.declared.replies.How.TheVariants as how
-use Rattle.key_shard.specs.Past.{Terms, entry, seen_by, holder_of}
-use Rattle.key_shard.specs.Answers.{FitsShift, get_step, set_step, refused_step, quarantine_by, quarantine_step, release_step}
-use Rattle.key_shard.specs.Replies.{old_value, ShowsGot, ShowsSet, ShowsQuarantine, ShowsRelease}
+use Rattle.key_shard.specs.Past.{Terms}
+use Rattle.key_shard.specs.Answers.{FitsShift, get_step, set_step, quarantine_step, release_step}
+use Rattle.key_shard.specs.Replies.{ShowsGot, ShowsSet, ShowsQuarantine, ShowsRelease}
 use Rattle.key_shard.specs.Shards.{ShardView, past_of, stepped, returned}
-use Rattle.session_client.specs.Belongs.{FitsOld, IsQuarantineOf, Belongs}
+use Rattle.session_client.specs.Belongs.{Belongs}
+use Rattle.session_client.proofs.QuarantineLemmas.{quarantine_belongs as quarantine_answers}
 use Rattle.session_client.specs.declared.plans.Shape.{Shape}
 use Rattle.session_client.specs.declared.replies.Reply.{Reply}
 use Rattle.session_client.specs.declared.replies.Reply.TheVariants as reply
@@ -158,36 +154,8 @@ sar_made shape world who grant value stamp shards place shard new answer has is 
     step_made shape world who (wanted.Sar grant value stamp) grant.key (λ terms steps. put_step terms steps grant value stamp) shards place shard new (reply.Rel answer) refl has is grew
     (tells_release shard.terms (past_of shard) _ answer shows)
 
-fits_old : (mode : Mode) (found : Option (List ℕ × ℕ)) → FitsOld mode (old_value mode found)
-fits_old Invalidate found = refl
-fits_old Refresh found = tt
-fits_old Delta found = refl
-
--- what is told of a quarantine in a mode is an answer to one in that mode
-quarantine_of : (terms : Terms) (past : List Step) (key : QKey) (who : Sid) (mode : Mode) (by : ℤ) (now : ℕ) (answer : QAnswer) → ShowsQuarantine terms past (quarantine_step terms past key who mode by now) answer → IsQuarantineOf who key mode answer
-quarantine_of terms past key who mode by now answer = by_verdict (verdict (seen_by key who now past) (quarantine (way_of mode)))
-  where
-    P : QAnswer → Type 0
-    P a = IsQuarantineOf who key mode a
-
-    granted : (token : ℕ) → answer ≡ told.Granted (record { shard = terms.no; key = key; sid = who; mode = mode; token = token }) (old_value mode (entry key past)) → IsQuarantineOf who key mode answer
-    granted token is = subst P (sym is) (record { of_key = refl; of_session = refl; in_mode = refl }, fits_old mode (entry key past))
-
-    refused : (o : Option Quar) → ShowsQuarantine terms past (refused_step key who mode o) answer → IsQuarantineOf who key mode answer
-    refused (Some holder) h = subst P (sym h) tt
-    refused None h = subst P (sym h) tt
-
-    by_verdict : (v : Verdict) → ShowsQuarantine terms past (quarantine_by terms past key who mode by now v) answer → IsQuarantineOf who key mode answer
-    by_verdict verdicts.Same h = subst P (sym h) tt
-    by_verdict verdicts.Refuse h = refused (holder_of key who past) h
-    by_verdict verdicts.Wait h = subst P (sym h) tt
-    by_verdict verdicts.Give h = granted _ h
-    by_verdict verdicts.Void h = granted _ h
-    by_verdict verdicts.Join h = granted _ h
-    by_verdict verdicts.Own h = subst P (sym h) tt
-
 -- and so it belongs to that request
 pub quarantine_belongs : (terms : Terms) (past : List Step) (key : QKey) (who : Sid) (mode : Mode) (by : ℤ) (now : ℕ) (answer : QAnswer) → ShowsQuarantine terms past (quarantine_step terms past key who mode by now) answer → Belongs who (quarantined_as mode key by) (reply.Quar answer)
-quarantine_belongs terms past key who Invalidate by now answer shows = quarantine_of terms past key who Invalidate by now answer shows
-quarantine_belongs terms past key who Refresh by now answer shows = quarantine_of terms past key who Refresh by now answer shows
-quarantine_belongs terms past key who Delta by now answer shows = quarantine_of terms past key who Delta by now answer shows
+quarantine_belongs terms past key who Invalidate by now answer shows = quarantine_answers terms past key who Invalidate by now answer shows
+quarantine_belongs terms past key who Refresh by now answer shows = quarantine_answers terms past key who Refresh by now answer shows
+quarantine_belongs terms past key who Delta by now answer shows = quarantine_answers terms past key who Delta by now answer shows

@@ -178,6 +178,13 @@ impl Shard {
         self.body.replace(grant, value, stamp)
     }
 
+    /// Its number, from 0. It takes no memory.
+    pub fn no(&self) -> u32
+        ensures { result ≡ self.now.terms.no }
+    {
+        self.body.no
+    }
+
     /// Whether the key is this shard's, by its hash. It takes no memory.
     pub fn is_home(&self, key: &QKey) -> bool
         ensures { IsTrue result ↔ IsAtHome self.now.terms key.now }

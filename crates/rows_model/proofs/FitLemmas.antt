@@ -29,10 +29,10 @@ pairs_head R x xs h = λ k d l. h 0 (suc k) d (omega arith) (omega arith)
 pub pairs_tail : {X : Type 0} (R : X → X → Type 0) (x : X) (xs : List X) → AllPairs R (x ∷ xs) → AllPairs R xs
 pairs_tail R x xs h = λ i j d low l. h (suc i) (suc j) d (omega arith) (omega arith)
 
-count_cons : {X : Type 0} (p : X → Bool) (x : X) (xs : List X) → count_by p (x ∷ xs) ≡ cond (p x) 1 0 + count_by p xs
+pub count_cons : {X : Type 0} (p : X → Bool) (x : X) (xs : List X) → count_by p (x ∷ xs) ≡ cond (p x) 1 0 + count_by p xs
 count_cons p x xs = sum_by-cons (λ y. cond (p y) 1 0) x xs
 
-count_none : {X : Type 0} (p : X → Bool) (xs : List X) → All (λ x. p x ≡ false) xs → count_by p xs ≡ 0
+pub count_none : {X : Type 0} (p : X → Bool) (xs : List X) → All (λ x. p x ≡ false) xs → count_by p xs ≡ 0
 count_none p [] all = refl
 count_none p (x ∷ xs) all =
     let e : p x ≡ false = All-head (λ y. p y ≡ false) x xs all in
@@ -179,7 +179,7 @@ pub friend_free : (a b : ℕ) (first : Bool) (link : Link) → joins a b link �
 friend_free a b true link e = e
 friend_free a b false link e = joins_swap a b link e
 
-cond_le : (b : Bool) → cond b 1 0 ≤ 1
+pub cond_le : (b : Bool) → cond b 1 0 ≤ 1
 cond_le true = omega arith
 cond_le false = omega arith
 
@@ -197,7 +197,7 @@ count_less p (x ∷ xs) (suc k) d l e =
 pub record IsInvited (t : Tables) (a b : ℕ) : Type 0 where
   pub from : IsMember a t
   pub to : IsMember b t
-  differ : a ≢ b
+  pub differ : a ≢ b
   fewer : count_by (λ link. not (joins a b link)) t.links < length t.links
 
 pub invited_parts : (t : Tables) (a b : ℕ) → Fit t → is_invited a b t ≡ true → IsInvited t a b

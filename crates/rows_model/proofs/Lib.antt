@@ -12,11 +12,14 @@ pub mod RefreshLawLemmas
 pub mod DeltaLemmas
 pub mod NameLemmas
 pub mod NumberLemmas
+pub mod PlacementLemmas
 pub mod RowsLemmas
 pub mod SameKey
 pub mod ShiftLemmas
 pub mod UntouchedLemmas
 pub mod FootprintLemmas
 pub mod StayFitLemmas
-pub mod EditLemmas
-pub mod MadeLemmas
+pub mod IndexLemmas
+pub mod NearLemmas
+pub mod JudgeLemmas
+pub mod KeptLemmas

@@ -77,7 +77,7 @@ any_implied_go p q x xs true false ep eq h e rest = absurd (false≢true (sym eq
 any_implied_go p q x xs false false ep eq h e rest = rest e
 
 -- what is found by one test is found by a wider one
-any_implied : {X : Type 0} (p q : X → Bool) (xs : List X) → ((x : X) → p x ≡ true → q x ≡ true) → list_any p xs ≡ true → list_any q xs ≡ true
+pub any_implied : {X : Type 0} (p q : X → Bool) (xs : List X) → ((x : X) → p x ≡ true → q x ≡ true) → list_any p xs ≡ true → list_any q xs ≡ true
 any_implied p q [] h e = absurd (false≢true e)
 any_implied p q (x ∷ xs) h e = any_implied_go p q x xs (p x) (q x) refl refl (h x) e (any_implied p q xs h)
 

@@ -37,21 +37,21 @@ both_go p q x xs false true eq ep h rest = absurd (false≢true (sym (h eq) ∙ 
 both_go p q x xs false false eq ep h rest = rest
 
 -- nor does taking out links that don't pass
-filter_both : (p q : Link → Bool) (xs : List Link) → All (λ x. q x ≡ false → p x ≡ false) xs → filter p (filter q xs) ≡ filter p xs
+pub filter_both : (p q : Link → Bool) (xs : List Link) → All (λ x. q x ≡ false → p x ≡ false) xs → filter p (filter q xs) ≡ filter p xs
 filter_both p q [] all = refl
 filter_both p q (x ∷ xs) all =
     both_go p q x xs (q x) (p x) refl refl (All-head (λ y. q y ≡ false → p y ≡ false) x xs all) (filter_both p q xs (All-tail (λ y. q y ≡ false → p y ≡ false) x xs all))
 
-not_false : (b : Bool) → not b ≡ false → b ≡ true
+pub not_false : (b : Bool) → not b ≡ false → b ≡ true
 not_false true e = refl
 not_false false e = absurd (false≢true (sym e))
 
-filter_without : (p : Link → Bool) (a b : ℕ) (links : List Link) → All (λ link. joins a b link ≡ true → p link ≡ false) links → filter p (without_link a b links) ≡ filter p links
+pub filter_without : (p : Link → Bool) (a b : ℕ) (links : List Link) → All (λ link. joins a b link ≡ true → p link ≡ false) links → filter p (without_link a b links) ≡ filter p links
 filter_without p a b links all =
     filter_both p (λ link. not (joins a b link)) links (λ k d l e. all k d l (not_false (joins a b (get_or links k d)) e))
 
 -- two links that join the same members
-clash : (a b : ℕ) (link later : Link) → joins a b link ≡ true → joins a b later ≡ true → joins later.a later.b link ≡ true
+pub clash : (a b : ℕ) (link later : Link) → joins a b link ≡ true → joins a b later ≡ true → joins later.a later.b link ≡ true
 clash a b link later e f = grind (arith, nat_tests)
 
 -- only one link joins two members

@@ -1,9 +1,9 @@
-use Rattle.std.specs.Prelude.{ℕ, ◌≡◌, List, Ok, Err}
+use Rattle.std.specs.Prelude.{◌≡◌, List, Ok, Err}
 use Rattle.rows_model.specs.declared.changes.Change.{Change}
 use Rattle.rows_model.specs.declared.refusals.ApplyFault.{ApplyFault}
 use Rattle.rows_model.specs.declared.refusals.ApplyFault.TheVariants.{Rejected, Memory}
 use Rattle.rows_model.specs.Rows.{Tables}
-use Rattle.rows_model.specs.Changes.{apply_from, apply_all}
+use Rattle.rows_model.specs.Changes.{apply_all}
 
 -- a fault that names a place names that of the first change that doesn't apply
 abbrev pub IsRejection : List Change → Tables → ApplyFault → Type 0
@@ -13,8 +13,3 @@ IsRejection changes tables Memory = Unit {0}
 -- each of these changes applies in its turn
 abbrev pub AllApply : List Change → Tables → Type 0
 AllApply changes tables = (after : Tables) × (apply_all changes tables ≡ Ok after)
-
--- changes, the first of which stands at this place, weren't made for this cause: memory is wanted only where all apply
-abbrev pub IsFaultFrom : ℕ → List Change → Tables → ApplyFault → Type 0
-IsFaultFrom place changes tables (Rejected index) = apply_from place changes tables ≡ Err index
-IsFaultFrom place changes tables Memory = (after : Tables) × (apply_from place changes tables ≡ Ok after)

@@ -11,7 +11,9 @@ pub mod ApplyFaults
 pub mod Untouched
 pub mod Footprint
 pub mod RowsStayFit
-pub mod Undo
+pub mod Near
+pub mod NearSteps
+pub mod Judge
 pub mod Refresh
 pub mod RefreshIsAnswer
 pub mod Delta

@@ -1,4 +1,4 @@
-use Rattle.std.specs.Prelude.{ℕ, Bool, true, false, ◌==◌, ◌&&◌, ◌||◌, ◌≡◌, ◌≢◌, ◌+◌, ◌<◌, ◌≤◌, List, [], ◌∷◌, length, map, Option, IsSome, find, All, AllPairs, decimal}
+use Rattle.std.specs.Prelude.{ℕ, Bool, true, false, ◌==◌, ◌&&◌, ◌||◌, ◌≡◌, ◌≢◌, ◌<◌, ◌≤◌, List, [], ◌∷◌, length, map, Option, IsSome, find, All, AllPairs, decimal}
 use Rattle.std.specs.List.{range_with_len}
 use Rattle.rows_model.specs.declared.rows.LinkState.{LinkState}
 use Rattle.rows_model.specs.declared.rows.LinkState.TheVariants.{Pending, Friend}
@@ -53,10 +53,6 @@ pub record Fit (tables : Tables) : Type 0 where
   pub links_ascend : AllPairs IsBefore tables.links
   pub one_link : AllPairs (λ link later. joins later.a later.b link ≡ false) tables.links
   pub few_links : length tables.links ≤ 1000000
-
--- there is room for the links of a whole transaction beside so many links
-abbrev pub HasRoom : ℕ → ℕ → Type 0
-HasRoom links room = links + 8 ≤ room
 
 -- the member with this id at the start, named `m` and the id
 abbrev pub start_member : ℕ → Member

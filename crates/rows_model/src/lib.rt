@@ -20,10 +20,11 @@ pub mod changes;
 #[cfg(test)]
 mod delta_tests;
 pub mod deltas;
-mod edits;
 pub mod footprints;
+mod judging;
 pub mod keys;
 pub mod names;
+mod near;
 mod numbers;
 pub mod placement;
 pub mod queries;

@@ -1,12 +1,12 @@
-ghost use Rattle.std.specs.Prelude.{◌≡◌, ◌∷◌, ◌++◌, IfOk, decimal};
+ghost use Rattle.std.specs.Prelude.{◌≡◌, ◌∷◌, ◌++◌, map, filter, IfOk, decimal};
 ghost use Rattle.rows_model.specs.declared.keys.Kind.TheVariants.{Profile};
-ghost use Rattle.rows_model.specs.Query.{answer, answer_of, friend_ids, inviter_ids, id_list, AnswersAscend};
+ghost use Rattle.rows_model.specs.Query.{answer, answer_of, befriends, invites, other_end, friend_ids, inviter_ids, id_list, AnswersAscend};
 
 use crate::keys::{Kind, QKey};
 use crate::names::Name;
 use crate::numbers::push_decimal;
 use crate::refusals::Memory;
-use crate::rows::Rows;
+use crate::rows::{Link, Rows};
 use crate::values::Value;
 use std::alloc::{AllocError, Global};
 
@@ -61,7 +61,15 @@ pub(crate) fn profile_of(
 fn friend_ids(alloc: Global, rows: &Rows, id: u32) -> Result<Vec<u32>, AllocError>
     ensures { IfOk result (λ ids. ids.items ≡ friend_ids id rows.now) }
 {
-    rows.links()
+    friends_among(alloc, rows.links_of(id), id)
+}
+
+// The ids of the member's friends by these links.
+fn friends_among(alloc: Global, links: &[Link], id: u32) -> Result<Vec<u32>, AllocError>
+    ensures { IfOk result (λ ids. ids.items
+        ≡ map (other_end id) (filter (befriends id) links.now)) }
+{
+    links
         .iter()
         .filter(|link| link.befriends(id))
         .map(|link| link.other_end(id))
@@ -72,7 +80,15 @@ fn friend_ids(alloc: Global, rows: &Rows, id: u32) -> Result<Vec<u32>, AllocErro
 fn inviter_ids(alloc: Global, rows: &Rows, id: u32) -> Result<Vec<u32>, AllocError>
     ensures { IfOk result (λ ids. ids.items ≡ inviter_ids id rows.now) }
 {
-    rows.links()
+    inviters_among(alloc, rows.links_of(id), id)
+}
+
+// The ids of those who invited the member by these links.
+fn inviters_among(alloc: Global, links: &[Link], id: u32) -> Result<Vec<u32>, AllocError>
+    ensures { IfOk result (λ ids. ids.items
+        ≡ map (λ link. link.a) (filter (invites id) links.now)) }
+{
+    links
         .iter()
         .filter(|link| link.invites(id))
         .map(|link| link.a)

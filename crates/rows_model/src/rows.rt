@@ -1,13 +1,15 @@
-ghost use Rattle.std.specs.Prelude.{◌≡◌, ◌≤◌, ◌&&◌, ◌==◌, Err, IfOk, IfErr, OnOk, OnErr};
+ghost use Rattle.std.specs.Prelude.{◌≡◌, ◌≤◌, ◌&&◌, ◌==◌, Ok, Err, length, filter, IfOk, IfErr, OnOk, OnErr};
 ghost use Rattle.std.specs.Option.{option_copied};
 ghost use Rattle.rows_model.specs.Rows.{Fit, start_tables, member_of, joins, is_pending, is_friend};
-ghost use Rattle.rows_model.specs.Changes.{is_before, friendship, apply_all};
+ghost use Rattle.rows_model.specs.Changes.{is_before, invitation, friendship, apply_all};
 ghost use Rattle.rows_model.specs.ApplyFaults.{IsRejection, AllApply};
 ghost use Rattle.rows_model.specs.Query.{invites, befriends, other_end, friend_count, pending_count};
+ghost use Rattle.rows_model.specs.Near.{is_end};
 
 use crate::changes::Txn;
-use crate::edits::{MOST_CHANGES, make_all};
+use crate::judging::{adding, ending, first_refused};
 use crate::names::Name;
+use crate::near::{Near, copied, make_all, make_room, no_links, place_of};
 use crate::refusals::{ApplyFault, Memory};
 use std::alloc::Global;
 use std::marker::Model;
@@ -89,6 +91,17 @@ impl Link {
         self.a < later.a || self.a == later.a && self.b < later.b
     }
 
+    // The invitation of `b` by `a`.
+    pub(crate) fn invitation(a: u32, b: u32) -> Link
+        ensures { result ≡ invitation a b }
+    {
+        Link {
+            a,
+            b,
+            state: LinkState::Pending,
+        }
+    }
+
     // The friendship of the two.
     pub(crate) fn friendship(a: u32, b: u32) -> Link
         ensures { result ≡ friendship a b }
@@ -104,23 +117,24 @@ impl Link {
 /// The rows of the store. Contracts see the two lists: the members by id, and the links by their
 /// two ids.
 ///
-/// They keep room for the links of one more transaction, so that it can be judged without memory.
+/// The links are kept twice, in the lists of their two members, so that an answer about a member walks
+/// its links alone.
 #[derive(Debug, Drop)]
 pub struct Rows {
     members: Vec<Member>,
-    links: Vec<Link>,
+    near: Vec<Near>,
+    count: usize,
 }
 
 impl Model for Rows {
-    ghost use Rattle.std.specs.Prelude.{length, vec_capacity};
-    ghost use Rattle.rows_model.specs.Rows.{Tables, Fit, HasRoom};
+    ghost use Rattle.rows_model.specs.Rows.{Tables};
+    ghost use Rattle.rows_model.specs.Near.{whole, AreKept};
 
     ghost Value = { Tables };
 
-    ghost view = { λ r. record { members = r.members.items; links = r.links.items } };
+    ghost view = { λ r. record { members = r.members.items; links = whole r.near.items } };
 
-    ghost invariant = { λ r. Fit (record { members = r.members.items; links = r.links.items })
-        × HasRoom (length r.links.items) (vec_capacity r.links) };
+    ghost invariant = { λ r. AreKept r.members.items r.near.items r.count };
 }
 
 impl Rows {
@@ -138,8 +152,9 @@ impl Rows {
             })?;
         }
         Ok(Rows {
+            near: no_links(alloc, rows.as_slice())?,
             members: rows,
-            links: Vec::with_capacity(alloc, MOST_CHANGES)?,
+            count: 0,
         })
     }
 
@@ -147,12 +162,11 @@ impl Rows {
     pub fn copy(&self) -> Result<Rows, Memory>
         ensures { IfOk result (λ rows. rows ≡ self.now) }
     {
-        let room = self.links.len() + MOST_CHANGES;
-        let mut links = Vec::with_capacity(*self.links.allocator(), room)?;
-        links.extend_from_slice(self.links.as_slice())?;
+        let alloc = *self.members.allocator();
         Ok(Rows {
-            members: self.members.clone()?,
-            links,
+            members: Vec::from_slice(alloc, self.members.as_slice())?,
+            near: copied(alloc, self.near.as_slice())?,
+            count: self.count,
         })
     }
 
@@ -164,12 +178,22 @@ impl Rows {
         self.members.as_slice()
     }
 
-    /// The links, by their two ids.
-    pub fn links(&self) -> &[Link]
-        ensures items { result.now ≡ self.now.links }
+    /// How many links there are.
+    pub fn link_count(&self) -> usize
+        ensures count { result ≡ length self.now.links }
         ensures fit { Fit self.now }
     {
-        self.links.as_slice()
+        self.count
+    }
+
+    // The links of which this member is an end, by their two ids.
+    pub(crate) fn links_of(&self, id: u32) -> &[Link]
+        ensures { result.now ≡ filter (is_end id) self.now.links }
+    {
+        match place_of(self.near.as_slice(), id) {
+            Some(place) => self.near[place].links.as_slice(),
+            None => &[],
+        }
     }
 
     /// The member with this id.
@@ -186,26 +210,43 @@ impl Rows {
     pub fn friend_count(&self, id: u32) -> u64
         ensures { result ≡ friend_count id self.now }
     {
-        self.links.iter().filter(|link| link.befriends(id)).count() as u64
+        self.links_of(id)
+            .iter()
+            .filter(|link| link.befriends(id))
+            .count() as u64
     }
 
     /// How many invitations to a member are pending.
     pub fn pending_count(&self, id: u32) -> u64
         ensures { result ≡ pending_count id self.now }
     {
-        self.links.iter().filter(|link| link.invites(id)).count() as u64
+        self.links_of(id)
+            .iter()
+            .filter(|link| link.invites(id))
+            .count() as u64
     }
 
     /// Makes the changes of the transaction in turn, all or none. `Rejected` comes exactly where a
-    /// change doesn't apply, with the place of the first. Memory is asked for only once all are made,
-    /// where links were added, so `Memory` comes only where the transaction applies. After a fault the
-    /// rows are as before. No row is copied to undo but those that the changes alter.
+    /// change doesn't apply, with the place of the first. Memory is asked for only once all are judged,
+    /// where links are added, so `Memory` comes only where the transaction applies. After a fault the
+    /// rows are as before. No row is written but those that the changes alter.
     pub fn apply(&mut self, txn: &Txn) -> Result<(), ApplyFault>
         ensures made { OnOk result (apply_all txn.now self.old ≡ Ok self.new) }
         ensures fault { IfErr result (λ fault. IsRejection txn.now self.old fault) }
         ensures memory { result ≡ Err ApplyFault.Memory → AllApply txn.now self.old }
         ensures kept { OnErr result (self.new ≡ self.old) }
     {
-        make_all(&mut self.members, &mut self.links, txn.changes(), 0)
+        let changes = txn.changes();
+        if let Some(index) = first_refused(self, changes) {
+            return Err(ApplyFault::Rejected { index });
+        }
+        make_room(self.near.as_mut_slice(), changes, changes.len())?;
+        make_all(
+            self.members.as_mut_slice(),
+            self.near.as_mut_slice(),
+            changes,
+        );
+        self.count = self.count + adding(changes) - ending(changes);
+        Ok(())
     }
 }

@@ -1,4 +1,5 @@
 use super::*;
+use std::alloc::Global;
 use std::test::Fail;
 
 fn key(kind: Kind, id: u32) -> Option<QKey> {
@@ -187,6 +188,147 @@ fn makes_changes_and_answers(rt: HostRuntime) -> Result<(), Fail> {
             let value = ask(rt.alloc(), &rows, key)?;
             assert_eq!(rt; value.bytes(), text.as_bytes(), "at {key:?}");
         }
+    }
+    Ok(())
+}
+
+// Whether the members from 1 on give these answers of all kinds, which `/` parts.
+fn answers_are(alloc: Global, rows: &Rows, want: &[&str]) -> Result<bool, Fail> {
+    for (id, texts) in (1..).zip(want.iter()) {
+        let mut all = Vec::new(alloc);
+        for key in kinds_of(id).iter() {
+            all.extend_from_slice(ask(alloc, rows, key)?.bytes())?;
+            all.push(b'/')?;
+        }
+        if all.as_slice() != texts.as_bytes() {
+            return Ok(false);
+        }
+    }
+    Ok(true)
+}
+
+#[test]
+fn each_member_answers_by_its_own_links(rt: HostRuntime) -> Result<(), Fail> {
+    let mut rows = Rows::start(rt.alloc(), 4)?;
+    let name = Name::of(b"ann").ok_or("a name")?;
+    for (changes, want, links) in [
+        (
+            [
+                Change::Invite { a: 3, b: 1 },
+                Change::Invite { a: 2, b: 1 },
+                Change::Invite { a: 1, b: 4 },
+            ]
+            .as_slice(),
+            [
+                "m1 0 2//2,3/0/2/",
+                "m2 0 0///0/0/",
+                "m3 0 0///0/0/",
+                "m4 0 1//1/0/1/",
+            ],
+            3,
+        ),
+        (
+            [Change::Accept { a: 3, b: 1 }, Change::Invite { a: 4, b: 2 }].as_slice(),
+            [
+                "m1 1 1/3/2/1/1/",
+                "m2 0 1//4/0/1/",
+                "m3 1 0/1//1/0/",
+                "m4 0 1//1/0/1/",
+            ],
+            4,
+        ),
+        (
+            [
+                Change::Accept { a: 2, b: 1 },
+                Change::Accept { a: 1, b: 4 },
+                Change::Reject { a: 4, b: 2 },
+            ]
+            .as_slice(),
+            [
+                "m1 3 0/2,3,4//3/0/",
+                "m2 1 0/1//1/0/",
+                "m3 1 0/1//1/0/",
+                "m4 1 0/1//1/0/",
+            ],
+            3,
+        ),
+        (
+            [
+                Change::Thaw { a: 1, b: 3 },
+                Change::Invite { a: 1, b: 3 },
+                Change::Accept { a: 1, b: 3 },
+                Change::Thaw { a: 3, b: 1 },
+                Change::Invite { a: 3, b: 1 },
+                Change::Rename { a: 4, name },
+                Change::Invite { a: 2, b: 4 },
+            ]
+            .as_slice(),
+            [
+                "m1 2 1/2,4/3/2/1/",
+                "m2 1 0/1//1/0/",
+                "m3 0 0///0/0/",
+                "ann 1 1/1/2/1/1/",
+            ],
+            4,
+        ),
+    ] {
+        let txn = Txn::of(rt.alloc(), changes)?;
+        assert_eq!(rt; rows.apply(&txn), Ok(()));
+        assert!(rt; answers_are(rt.alloc(), &rows, &want)?);
+        let copy = rows.copy()?;
+        assert!(rt; answers_are(rt.alloc(), &copy, &want)?);
+        assert_eq!(rt; rows.link_count(), links);
+    }
+    assert_eq!(rt; rows.links_of(1).len(), 3);
+    assert!(rt; rows.links_of(5).is_empty());
+    Ok(())
+}
+
+#[test]
+fn judges_each_change_after_the_earlier_ones(rt: HostRuntime) -> Result<(), Fail> {
+    let mut rows = Rows::start(rt.alloc(), 3)?;
+    let name = Name::of(b"ann").ok_or("a name")?;
+    let friends = [Change::Invite { a: 1, b: 2 }, Change::Accept { a: 1, b: 2 }];
+    let txn = Txn::of(rt.alloc(), &friends)?;
+    assert_eq!(rt; rows.apply(&txn), Ok(()));
+    let thaw = Change::Thaw { a: 1, b: 2 };
+    for (changes, index) in [
+        ([Change::Invite { a: 2, b: 1 }].as_slice(), 0),
+        ([Change::Accept { a: 1, b: 2 }].as_slice(), 0),
+        ([thaw, Change::Thaw { a: 2, b: 1 }].as_slice(), 1),
+        (
+            [
+                thaw,
+                Change::Invite { a: 2, b: 1 },
+                Change::Accept { a: 1, b: 2 },
+            ]
+            .as_slice(),
+            2,
+        ),
+        (
+            [
+                thaw,
+                Change::Invite { a: 2, b: 1 },
+                Change::Reject { a: 2, b: 1 },
+                Change::Invite { a: 1, b: 3 },
+                Change::Invite { a: 3, b: 1 },
+            ]
+            .as_slice(),
+            4,
+        ),
+        (
+            [Change::Invite { a: 1, b: 3 }, Change::Thaw { a: 1, b: 3 }].as_slice(),
+            1,
+        ),
+        (
+            [Change::Rename { a: 1, name }, Change::Rename { a: 4, name }].as_slice(),
+            1,
+        ),
+    ] {
+        let txn = Txn::of(rt.alloc(), changes)?;
+        assert_eq!(rt; rows.apply(&txn), Err(ApplyFault::Rejected { index }));
+        let want = ["m1 1 0/2//1/0/", "m2 1 0/1//1/0/", "m3 0 0///0/0/"];
+        assert!(rt; answers_are(rt.alloc(), &rows, &want)?);
     }
     Ok(())
 }

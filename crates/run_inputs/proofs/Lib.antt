@@ -6,3 +6,6 @@ pub mod ScriptLemmas
 pub mod FitLemmas
 pub mod OnceLemmas
 pub mod TellLemmas
+pub mod DrawLemmas
+pub mod LoadLemmas
+pub mod WorkLemmas

@@ -1,5 +1,5 @@
 -- What the parts of the parser answer.
-use Rattle.std.specs.Prelude.{ℕ, ◌≡◌, ◌≤◌, List, [], ◌∷◌, Option, Some, None, codes}
+use Rattle.std.specs.Prelude.{ℕ, ◌≡◌, ◌≤◌, ◌<◌, ◌^◌, List, [], ◌∷◌, Option, Some, None, codes, decimal}
 use Rattle.rows_model.specs.declared.changes.Change.{Change}
 use Rattle.rows_model.specs.declared.changes.Change.TheVariants.{Invite, Accept, Reject, Thaw, Rename}
 use Rattle.run_inputs.specs.declared.lines.Task.{Task}
@@ -8,6 +8,7 @@ use Rattle.run_inputs.specs.declared.lines.Job.{Job}
 use Rattle.run_inputs.specs.declared.lines.Line.{Line}
 use Rattle.run_inputs.specs.declared.lines.Line.TheVariants.{Head}
 use Rattle.run_inputs.specs.declared.stages.Progress.{Progress}
+use Rattle.run_inputs.specs.declared.loads.WorkSpec.{WorkSpec}
 use Rattle.run_inputs.specs.declared.lines.LineFault.{LineFault}
 use Rattle.run_inputs.specs.declared.lines.LineFault.TheVariants.{Bad, Memory}
 use Rattle.run_inputs.specs.Texts.{parts_at}
@@ -69,3 +70,18 @@ IsWithin line = Unit {0}
 abbrev pub IsLineFault : Progress → List ℕ → LineFault → Type 0
 IsLineFault progress line (Bad kind) = IsFaulty progress line kind
 IsLineFault progress line Memory = Unit {0}
+
+-- The word is this number in decimal, which is at least and at most so great.
+pub record IsNumberWithin (word : List ℕ) (least most number : ℕ) : Type 0 where
+  pub written : word ≡ decimal number
+  pub from : least ≤ number
+  pub to : number ≤ most
+
+-- The five words are the numbers of this load.
+pub record AreNumbers (members sessions workers shards seed : List ℕ) (spec : WorkSpec) : Type 0 where
+  pub members_are : IsNumberWithin members 1 100000 spec.members
+  pub sessions_are : IsNumberWithin sessions 0 500000 spec.sessions
+  pub workers_are : IsNumberWithin workers 1 64 spec.workers
+  pub shards_are : IsNumberWithin shards 1 64 spec.shards
+  pub seed_is : seed ≡ decimal spec.seed
+  pub seed_below : spec.seed < 2 ^ 64

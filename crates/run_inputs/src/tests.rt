@@ -271,7 +271,7 @@ fn key_told(alloc: Global, key: &QKey) -> Result<String, AllocError> {
     format!(in alloc; "{:?}:{}", key.kind, key.id)
 }
 
-fn plan_told(alloc: Global, plan: &Plan) -> Result<String, AllocError> {
+pub(crate) fn plan_told(alloc: Global, plan: &Plan) -> Result<String, AllocError> {
     match plan {
         Plan::Read { key, floor } => {
             format!(in alloc; "read {} floor {floor}", key_told(alloc, key)?)

@@ -1,27 +1,12 @@
 -- What a desk over a store and shards begins and answers.
 use Rattle.std.proofs.Common.{◌≡◌, ◌≢◌, ◌-◌, ◌<◌, ℕ, zero, suc, Bool, true, false, if◌then◌else◌, List, [], ◌∷◌, length, All, Some, None, refl, ap, sym, subst, ◌∙◌, length-append, arith}
 use Rattle.std.proofs.lemmas.List.{length-set}
-use Rattle.std.specs.Prelude.{ℤ, Option, unwrap_or, Result, Ok, Err, OnOk, IfOk}
+use Rattle.std.specs.Prelude.{Option, unwrap_or, Result, Ok, Err, OnOk, IfOk}
 use Rattle.rows_model.specs.declared.keys.Sid.{Sid}
 use Rattle.sql_keeper.specs.declared.stores.Phase.{Phase}
 use Rattle.sql_keeper.specs.Sessions.{begun, first_phase, is_open, with_phase, ended}
 use Rattle.rows_model.specs.declared.refusals.Memory.{Memory}
 use Rattle.sql_keeper.specs.Stores.{Ledger, with_call, with_session}
-use Rattle.rows_model.specs.declared.keys.QKey.{QKey}
-use Rattle.case_tables.specs.declared.grids.Verdict.{Verdict}
-use Rattle.case_tables.specs.declared.grids.Verdict.TheVariants as verdicts
-use Rattle.case_tables.specs.Compatibility.{verdict, quarantine}
-use Rattle.lease_table.specs.declared.records.Mode.{Mode}
-use Rattle.lease_table.specs.declared.records.Mode.TheVariants.{Invalidate, Refresh, Delta}
-use Rattle.lease_table.specs.declared.records.Quar.{Quar}
-use Rattle.lease_table.specs.Leases.{way_of}
-use Rattle.key_shard.specs.declared.steps.Step.{Step}
-use Rattle.key_shard.specs.declared.replies.QAnswer.{QAnswer}
-use Rattle.key_shard.specs.declared.replies.QAnswer.TheVariants as told
-use Rattle.key_shard.specs.Past.{Terms, seen_by, holder_of, entry}
-use Rattle.key_shard.specs.Answers.{quarantine_step, quarantine_by, refused_step}
-use Rattle.key_shard.specs.Replies.{ShowsQuarantine, old_value}
-use Rattle.session_client.specs.Belongs.{FitsOld, IsQuarantineOf}
 use Rattle.session_client.specs.Desks.{sids_to, with_member, IsNew}
 use Rattle.std.proofs.lemmas.List.Elements.{All-nil, All-cons}
 use Rattle.sql_keeper.specs.declared.stores.Phase.TheVariants.{Committed, Ended}
@@ -74,39 +59,3 @@ as_many_committed who phases = length-set phases (who.number - 1) Committed
 pub as_many_called : (b : Bool) (ledger : Ledger) → length (with_call b ledger).sessions ≡ length ledger.sessions
 as_many_called true ledger = refl
 as_many_called false ledger = refl
-
--- an old value comes along with a grant to refresh alone
-fits : (m : Mode) (found : Option (List ℕ × ℕ)) → FitsOld m (old_value m found)
-fits Invalidate found = refl
-fits Refresh found = tt
-fits Delta found = refl
-
--- a quarantine in a mode brings a grant of the key to the session in that mode, and an old value to refresh alone
-quarantine_belongs : (terms : Terms) (past : List Step) (key : QKey) (who : Sid) (mode : Mode) (shift : ℤ) (answer : QAnswer)
-    → ShowsQuarantine terms past (quarantine_step terms past key who mode shift 0) answer → IsQuarantineOf who key mode answer
-quarantine_belongs terms past key who mode shift answer = by (verdict (seen_by key who 0 past) (quarantine (way_of mode)))
-  where
-    P : QAnswer → Type 0
-    P a = IsQuarantineOf who key mode a
-
-    granted : (token : ℕ) → answer ≡ told.Granted (record { shard = terms.no; key = key; sid = who; mode = mode; token = token }) (old_value mode (entry key past)) → IsQuarantineOf who key mode answer
-    granted token is = subst P (sym is) (record { of_key = refl; of_session = refl; in_mode = refl }, fits mode (entry key past))
-
-    refused : (o : Option Quar) → ShowsQuarantine terms past (refused_step key who mode o) answer → IsQuarantineOf who key mode answer
-    refused (Some holder) h = subst P (sym h) tt
-    refused None h = subst P (sym h) tt
-
-    by : (v : Verdict) → ShowsQuarantine terms past (quarantine_by terms past key who mode shift 0 v) answer → IsQuarantineOf who key mode answer
-    by verdicts.Same h = subst P (sym h) tt
-    by verdicts.Refuse h = refused (holder_of key who past) h
-    by verdicts.Wait h = subst P (sym h) tt
-    by verdicts.Give h = granted _ h
-    by verdicts.Void h = granted _ h
-    by verdicts.Join h = granted _ h
-    by verdicts.Own h = subst P (sym h) tt
-
--- and so in a mode that is known
-pub quarantine_belongs_in : (terms : Terms) (past : List Step) (key : QKey) (who : Sid) (mode known : Mode) (shift : ℤ) (answer : QAnswer)
-    → ShowsQuarantine terms past (quarantine_step terms past key who mode shift 0) answer → mode ≡ known → IsQuarantineOf who key known answer
-quarantine_belongs_in terms past key who mode known shift answer shows is =
-    subst (λ m. IsQuarantineOf who key m answer) is (quarantine_belongs terms past key who mode shift answer shows)

@@ -1,4 +1,5 @@
 pub mod DeskLemmas
+pub mod QuarantineLemmas
 pub mod HandLemmas
 pub mod HeardLemmas
 pub mod RoomLemmas

@@ -1,2 +1,3 @@
+pub mod Names
 pub mod OnShard
 pub mod OnStore

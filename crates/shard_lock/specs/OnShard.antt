@@ -13,6 +13,9 @@ use Rattle.key_shard.specs.declared.replies.Rel.TheVariants as rels
 use Rattle.key_shard.specs.declared.replies.ShardFault.{ShardFault}
 use Rattle.key_shard.specs.declared.replies.ShardFault.TheVariants as causes
 use Rattle.key_shard.specs.declared.steps.Step.{Step}
+use Rattle.lease_table.specs.declared.records.Due.{Due}
+use Rattle.expiry_sweeper.specs.declared.replies.SweepReply.{SweepReply}
+use Rattle.expiry_sweeper.specs.declared.replies.SweepReply.TheVariants as sweeps
 use Rattle.session_client.specs.declared.replies.Fault.{Fault}
 use Rattle.session_client.specs.declared.replies.Fault.TheVariants as faults
 use Rattle.session_client.specs.declared.replies.Reply.{Reply}
@@ -106,3 +109,8 @@ MakesOnShard old who (wanted.Apply grant stamp) now new told =
 MakesOnShard old who (wanted.Abort grant) now new told =
     TellsRelease old grant (abort_step old grant) new told
 MakesOnShard old who other now new told = ⊥
+
+-- What a sweeper is told of a shard that it scans: the first quarantine that is due, or that there is none.
+abbrev pub scanned : Option Due → SweepReply
+scanned (Some due) = sweeps.Found due
+scanned None = sweeps.NoneFound

@@ -1,8 +1,9 @@
 // Requests on a shard that is lent, each one step of its history or none.
-ghost use Rattle.std.specs.Prelude.{ℕ, ◌≡◌, ◌≢◌, Some, None, IsTrue};
+ghost use Rattle.std.specs.Prelude.{ℕ, ◌≡◌, ◌≢◌, Some, None, IsTrue, IfOk, OnOk, OnErr};
 ghost use Rattle.rows_model.specs.Delta.{is_count};
 ghost use Rattle.key_shard.specs.Answers.{IsAtHome, get_step, set_step};
-ghost use Rattle.key_shard.specs.Shards.{past_of};
+ghost use Rattle.key_shard.specs.Replies.{ShowsQuarantine};
+ghost use Rattle.key_shard.specs.Shards.{past_of, stepped, refusal, Refuses};
 ghost use Rattle.session_client.specs.Belongs.{Belongs, IsShardFault};
 ghost use Rattle.session_client.specs.Desks.{IsProper};
 ghost use Rattle.session_client.specs.declared.replies.Reply.TheVariants as reply;
@@ -10,7 +11,7 @@ ghost use Rattle.session_client.specs.declared.replies.Wanted.TheVariants as wan
 ghost use Rattle.write_ops.specs.Releases.{qa_step, read_step, delta_step, dar_step, abort_step, sar_step, apply_step};
 ghost use Rattle.shard_lock.specs.OnShard.{IsFor, fault_of, MakesOnShard, TellsGot, TellsSet, TellsQuarantine, TellsRelease, TellsPut};
 
-use key_shard::{Back, Grant, Shard, ShardFault};
+use key_shard::{Back, Grant, QAnswer, Shard, ShardFault};
 use lease_table::Mode;
 use rows_model::{QKey, Sid, Value};
 use session_client::{Fault, Reply, Wanted};
@@ -42,16 +43,9 @@ pub fn on_shard(shard: &mut Shard, who: Sid, request: Wanted, now: u64) -> Reply
         },
         Wanted::Sar {
             grant,
-            value: None,
-            stamp: _,
-        } => Reply::Rel {
-            told: dar(shard, grant),
-        },
-        Wanted::Sar {
-            grant,
-            value: Some(value),
+            value,
             stamp,
-        } => put(shard, grant, value, stamp),
+        } => put_or_drop(shard, grant, value, stamp),
         Wanted::Apply { grant, stamp } => Reply::Rel {
             told: commit_delta(shard, grant, stamp),
         },
@@ -120,10 +114,45 @@ fn quarantine_to_shift(shard: &mut Shard, who: Sid, key: QKey, by: i32, now: u64
     ensures makes { TellsQuarantine shard.old (delta_step shard.old key who by now) shard.new result }
     ensures belongs { Belongs who (wanted.Delta key by) result }
 {
-    match iq_delta(shard, key, who, by, now) {
+    match delta_on(shard, who, key, by, now) {
         Ok(told) => Reply::Quar { told },
-        Err(DeltaFault::Shard { fault }) => refused(fault),
+        Err(fault) => refused(fault),
+    }
+}
+
+/// Quarantines a count, to be shifted by this much.
+fn delta_on(
+    shard: &mut Shard,
+    who: Sid,
+    key: QKey,
+    by: i32,
+    now: u64,
+) -> Result<QAnswer, ShardFault>
+    requires { IsTrue (is_count key) }
+    ensures refusal { Refuses (refusal shard.old key (delta_step shard.old key who by now)) result }
+    ensures step { OnOk result (shard.new ≡ stepped shard.old (delta_step shard.old key who by now)) }
+    ensures shows { IfOk result (ShowsQuarantine shard.old.terms (past_of shard.old)
+        (delta_step shard.old key who by now)) }
+    ensures err { OnErr result (shard.new ≡ shard.old) }
+{
+    match iq_delta(shard, key, who, by, now) {
+        Ok(told) => Ok(told),
+        Err(DeltaFault::Shard { fault }) => Err(fault),
         Err(DeltaFault::NotCount) => unreachable!(),
+    }
+}
+
+fn put_or_drop(shard: &mut Shard, grant: Grant, value: Option<Value>, stamp: u64) -> Reply
+    requires { IsProper (wanted.Sar grant value stamp) }
+    ensures makes { (who : Sid) (now : ℕ) →
+        MakesOnShard shard.old who (wanted.Sar grant value stamp) now shard.new result }
+    ensures belongs { (who : Sid) → Belongs who (wanted.Sar grant value stamp) result }
+{
+    match value {
+        Some(value) => put(shard, grant, value, stamp),
+        None => Reply::Rel {
+            told: dar(shard, grant),
+        },
     }
 }
 

@@ -62,12 +62,7 @@ fn ask_staged<K: Keeper, N: Start>(store: &mut Store<K, N>, key: QKey, txn: Txn)
 
 /// Commits a copy of the transaction. Where there is no memory for one, a session that isn't open is
 /// told that first.
-fn commit<K: Keeper, N: Start>(
-    store: &mut Store<K, N>,
-    who: Sid,
-    txn: Txn,
-    grants: Grants,
-) -> Reply
+fn commit<K: Keeper, N: Start>(store: &mut Store<K, N>, who: Sid, txn: Txn, grants: Grants) -> Reply
     ensures makes { TellsCommit who txn grants.items store.old store.new result }
     ensures belongs { Belongs who (wanted.Commit txn grants) result }
 {

@@ -183,7 +183,7 @@ fn tells_what_the_keeper_did_not_do(rt: HostRuntime) -> Result<(), Fail> {
     assert!(rt; store.is_open(one));
     assert_eq!(rt; store.failed(), 2);
     let (_, opening, log) = store.into_parts();
-    assert_eq!(rt; opening.links().len(), 0);
+    assert_eq!(rt; opening.link_count(), 0);
     assert!(rt; log.is_empty());
     Ok(())
 }

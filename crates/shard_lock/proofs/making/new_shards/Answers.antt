@@ -1,0 +1,31 @@
+use Rattle.std.proofs.Common.{ℕ, ◌≡◌, ◌≤◌, ◌+◌, All, List, [], ◌∷◌, ◌++◌, length, length-append, Some, slice_get, vec_capacity, sym, ap, subst, ◌∙◌, arith}
+use Rattle.std.proofs.lemmas.List.Elements.{All-append, All-cons, All-nil}
+use Rattle.key_shard.specs.Past.{Terms}
+use Rattle.key_shard.specs.Shards.{ShardView}
+use Rattle.shard_lock.specs.Names.{IsNamed, terms_at}
+use Rattle.shard_lock.proofs.PlaceLemmas.{placed_next}
+use Rattle.shard_lock.proofs.making.new_shards.Goals as goal
+
+pub loop-no-preserved : goal.loop-no-preserved
+loop-no-preserved c =
+    let shards = c.loop-no.shards.items in
+    let new = c.in_ok-new.field-0 in
+    let all : (P : ShardView → Type 0) → All P shards → P new → All P (shards ++ new ∷ []) = λ P before here.
+    All-append P shards (new ∷ []) before (All-cons P new [] here (All-nil P)) in
+    let named : IsNamed (terms_at c.args.count c.args.room c.args.life) new =
+    let is = ap (λ (s : ShardView). s.terms) c.in_ok-new.ensures in
+    is ∙ ap (terms_at c.args.count c.args.room c.args.life) (sym (ap (λ (t : Terms). t.no) is)) in
+    let Named : ShardView → Type 0 = IsNamed (terms_at c.args.count c.args.room c.args.life) in
+    let Counted : ShardView → Type 0 = λ s. s.terms.count ≡ c.args.count in
+    let New : ShardView → Type 0 = λ s. s.history ≡ [] in
+    let P : List ShardView → Type 0 = λ xs. (length xs ≡ c.loop-no.no + 1) × (c.args.count ≤ vec_capacity c.push_reserved.new.self)
+    × All Named xs × All Counted xs × All New xs
+    × ((place : ℕ) (shard : ShardView) → slice_get xs place ≡ Some shard → shard.terms.no ≡ place) in
+    subst P (sym c.push_reserved.ensures.items) (
+      omega (arith, length-append shards (new ∷ []), c.loop-no.invariant.0),
+      grind (arith, c.loop-no.invariant.1, c.push_reserved.ensures.capacity),
+      all Named c.loop-no.invariant.2 named,
+      all Counted c.loop-no.invariant.3 (ap (λ (s : ShardView). s.terms.count) c.in_ok-new.ensures),
+      all New c.loop-no.invariant.4 (ap (λ (s : ShardView). s.history) c.in_ok-new.ensures),
+      placed_next shards new c.loop-no.invariant.5 (let is = ap (λ (s : ShardView). s.terms.no) c.in_ok-new.ensures in omega (arith, is, c.loop-no.invariant.0)),
+    )

@@ -1,0 +1,12 @@
+use Rattle.std.proofs.Common.{Some}
+use Rattle.shard_lock.specs.Names.{terms_at}
+use Rattle.shard_lock.proofs.tests.a_desk_tends_what_is_due.Given as goal
+
+-- what the shards are made with, and the store as it is handed in
+abbrev pub ghosts-sweep_on : goal.ghosts-sweep_on
+ghosts-sweep_on g a = record {
+  terms = terms_at 1 4 10;
+  opening = a.store.ledger.opening;
+  cap = a.store.ledger.cap;
+  start = Some a.store.faults;
+}

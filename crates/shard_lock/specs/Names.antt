@@ -1,0 +1,26 @@
+-- What the locks of a hub keep of what was handed in.
+use Rattle.std.specs.Prelude.{ℕ, ◌≡◌, ◌≤◌, List, length, Option, Some, slice_get, All}
+use Rattle.rows_model.specs.Rows.{Tables}
+use Rattle.key_shard.specs.Past.{Terms}
+use Rattle.key_shard.specs.Shards.{ShardView}
+use Rattle.sql_keeper.specs.Stores.{StoreView}
+
+-- A shard with the terms that are named for its number.
+abbrev pub IsNamed : (ℕ → Terms) → ShardView → Type 0
+IsNamed terms shard = shard.terms ≡ terms shard.terms.no
+
+-- A store with the opening rows and the cap that are named.
+pub record IsNamedStore (opening : Tables) (cap : ℕ) (store : StoreView) : Type 0 where
+  pub opening_is : store.ledger.opening ≡ opening
+  pub cap_is : store.ledger.cap ≡ cap
+
+-- At least one shard: each has its place for its number, their number for its count, and the terms that are named for it.
+pub record AreAll (terms : ℕ → Terms) (shards : List ShardView) : Type 0 where
+  pub some : 1 ≤ length shards
+  pub named : All (IsNamed terms) shards
+  pub counted : All (λ shard. shard.terms.count ≡ length shards) shards
+  pub placed : (place : ℕ) (shard : ShardView) → slice_get shards place ≡ Some shard → shard.terms.no ≡ place
+
+-- What the shard of this number is made with, one of so many with this room, whose leases live so long. The first token is 1.
+abbrev pub terms_at : ℕ → ℕ → ℕ → ℕ → Terms
+terms_at count room life place = record { no = place; count = count; room = room; life = life; first = 1 }

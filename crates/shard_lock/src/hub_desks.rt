@@ -1,0 +1,145 @@
+ghost use Rattle.std.specs.Prelude.{◌≡◌, ◌≢◌, IfSome, IfNone};
+ghost use Rattle.key_shard.specs.Answers.{IsAtHome};
+ghost use Rattle.key_shard.specs.Past.{Terms};
+ghost use Rattle.expiry_sweeper.specs.Follows.{shards_of};
+ghost use Rattle.session_client.specs.declared.replies.Wanted.TheVariants as wanted;
+ghost use Rattle.shard_lock.specs.OnShard.{IsFor};
+ghost use Rattle.shard_lock.specs.OnStore.{IsAtStore};
+
+use crate::hubs::Hub;
+use crate::names::HubName;
+use expiry_sweeper::{SweepReply, SweepWanted, Sweeper};
+use iq_outside::{Clock, Gate, Point};
+use rows_model::{Memory, QKey, Sid};
+use session_client::{Desk, Reply, Wanted};
+use sql_keeper::Keeper;
+use std::marker::Model;
+use std::sync::Wait;
+
+/// A worker's desk over a hub: each call takes the lock of the key's shard or that of the store, calls
+/// the gate while it is held, makes one request there and lets go. It has a sweeper of its own. It tells
+/// neither the sessions that it began nor a record.
+#[derive(Drop)]
+pub struct HubDesk<'a, K: Keeper, H: HubName, C: Clock, G: Gate, R: Wait> {
+    rt: &'a R,
+    hub: &'a Hub<K, H>,
+    worker: u32,
+    clock: &'a C,
+    gate: &'a G,
+    sweeper: Sweeper,
+}
+
+impl<'a, K: Keeper, H: HubName, C: Clock, G: Gate, R: Wait> Model for HubDesk<'a, K, H, C, G, R> {
+    ghost use Rattle.std.specs.Prelude.{◌≡◌};
+    ghost use Rattle.expiry_sweeper.specs.Follows.{shards_of};
+
+    ghost Value = { Unit {0} };
+
+    ghost view = { λ desk. tt };
+
+    ghost invariant = { λ desk. shards_of desk.sweeper ≡ desk.hub.now };
+}
+
+impl<'a, K: Keeper, H: HubName, C: Clock, G: Gate, R: Wait> HubDesk<'a, K, H, C, G, R> {
+    pub(crate) fn new(
+        rt: &'a R,
+        hub: &'a Hub<K, H>,
+        worker: u32,
+        clock: &'a C,
+        gate: &'a G,
+        sweeper: Sweeper,
+    ) -> HubDesk<'a, K, H, C, G, R>
+        requires { shards_of sweeper ≡ hub.now }
+    {
+        HubDesk {
+            rt,
+            hub,
+            worker,
+            clock,
+            gate,
+            sweeper,
+        }
+    }
+}
+
+impl<'a, K: Keeper, H: HubName, C: Clock, G: Gate, R: Wait> Desk for HubDesk<'a, K, H, C, G, R> {
+    ghost use Rattle.std.specs.Prelude.{None};
+
+    ghost begun = { λ desk. None };
+
+    ghost record_of = { λ desk. None };
+
+    fn begin(&mut self, writes: bool) -> Result<Sid, Memory> {
+        let mut kept = self.hub.lock_store(self.rt);
+        self.gate.at(self.worker, Point::AtStore);
+        kept.begin(writes)
+    }
+
+    fn call(&mut self, who: Sid, request: Wanted) -> Reply {
+        if matches!(&request, Wanted::Nothing) {
+            request.let_go();
+            return Reply::Nothing;
+        }
+        match key_of(&request) {
+            Some(key) => {
+                let mut kept = self.hub.lock_of(self.rt, &key);
+                self.gate
+                    .at(self.worker, Point::Inside { shard: kept.no() });
+                kept.make(who, request, self.clock.now())
+            }
+            None => {
+                let mut kept = self.hub.lock_store(self.rt);
+                self.gate.at(self.worker, Point::AtStore);
+                kept.make(who, request)
+            }
+        }
+    }
+
+    /// One step of the worker's own sweeper, under one lock.
+    fn tend(&mut self) {
+        let told = match self.sweeper.wants() {
+            SweepWanted::Scan { shard } => {
+                let kept = self.hub.lock_at(self.rt, shard);
+                self.gate.at(self.worker, Point::Inside { shard });
+                kept.scan(self.clock.now())
+            }
+            SweepWanted::End { sid } => {
+                let mut kept = self.hub.lock_store(self.rt);
+                self.gate.at(self.worker, Point::AtStore);
+                SweepReply::Ended { was: kept.end(sid) }
+            }
+            SweepWanted::Drop { key, token } => {
+                let mut kept = self.hub.lock_of(self.rt, &key);
+                self.gate
+                    .at(self.worker, Point::Inside { shard: kept.no() });
+                SweepReply::Dropped {
+                    told: kept.sweep_drop(key, token),
+                }
+            }
+        };
+        self.sweeper.told(told);
+    }
+}
+
+/// The key of a request on a shard, or none for one at the store.
+fn key_of(request: &Wanted) -> Option<QKey>
+    ensures on_shard { IfSome result (λ key. (terms : Terms) → IsAtHome terms key →
+        IsFor terms request.now) }
+    ensures at_store { IfNone result (request.now ≢ wanted.Nothing → IsAtStore request.now) }
+{
+    match request {
+        Wanted::Get { key, floor: _ } => Some(*key),
+        Wanted::Set { key, .. } => Some(*key),
+        Wanted::QaReg { key } | Wanted::QaRead { key } => Some(*key),
+        Wanted::Delta { key, by: _ } => Some(*key),
+        Wanted::Dar { grant } => Some(grant.key()),
+        Wanted::Sar { grant, .. } => Some(grant.key()),
+        Wanted::Apply { grant, stamp: _ } => Some(grant.key()),
+        Wanted::Abort { grant } => Some(grant.key()),
+        Wanted::Ask { .. }
+        | Wanted::Staged { .. }
+        | Wanted::Commit { .. }
+        | Wanted::End
+        | Wanted::Nothing => None,
+    }
+}

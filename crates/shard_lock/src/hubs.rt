@@ -1,0 +1,183 @@
+ghost use Rattle.std.specs.Prelude.{◌≡◌, ◌<◌, ◌≤◌, All, MatchResult, length, vec_len, vec_capacity};
+ghost use Rattle.std.specs.Sync.Mutex.{mutex_guard_value};
+ghost use Rattle.rows_model.specs.Placement.{shard_of};
+ghost use Rattle.key_shard.specs.Answers.{IsAtHome};
+ghost use Rattle.shard_lock.specs.Names.{AreAll, IsNamed, IsNamedStore};
+
+use crate::hub_desks::HubDesk;
+use crate::kept::{KeptShard, KeptStore};
+use crate::names::{HubName, StartOf};
+use expiry_sweeper::Sweeper;
+use iq_outside::{Clock, Gate};
+use key_shard::Shard;
+use rows_model::{QKey, shard_number};
+use sql_keeper::{Keeper, Store};
+use std::alloc::Global;
+use std::marker::Model;
+use std::sync::{Mutex, MutexGuard, Wait};
+
+/// A cache that threads share: a lock round each of its shards, and one round its store. Contracts see
+/// how many shards there are.
+///
+/// Each time the lock of a shard is free, there is a shard under it with what is named for its number,
+/// whose history is legal. Each time the store's lock is free, there is a store under it with the
+/// opening rows and the cap that are named.
+#[derive(Drop)]
+pub struct Hub<K: Keeper, H: HubName> {
+    shards: Vec<Mutex<KeptShard<H>>>,
+    store: Mutex<KeptStore<K, H>>,
+    count: u32,
+    /// No shards, and room for all.
+    room: Vec<Shard>,
+}
+
+impl<K: Keeper, H: HubName> Model for Hub<K, H> {
+    ghost use Rattle.std.specs.Prelude.{ℕ, ◌≡◌, ◌≤◌, vec_len, vec_capacity};
+
+    ghost Value = { ℕ };
+
+    ghost view = { λ hub. hub.count };
+
+    ghost invariant = { λ hub. (1 ≤ hub.count) × (vec_len hub.shards ≡ hub.count)
+        × (vec_len hub.room ≡ 0) × (hub.count ≤ vec_capacity hub.room) };
+}
+
+impl<K: Keeper, H: HubName> Hub<K, H> {
+    /// A hub of this store and these shards, of which each has its place for its number. For want of
+    /// memory both come back as they were.
+    pub fn new(
+        alloc: Global,
+        store: Store<K, StartOf<H>>,
+        shards: Vec<Shard>,
+    ) -> Result<Hub<K, H>, (Store<K, StartOf<H>>, Vec<Shard>)>
+        requires store { IsNamedStore H.opening H.cap store }
+        requires shards { AreAll H.terms shards.items }
+        requires few { length shards.items ≤ 64 }
+        ensures { MatchResult result
+            (λ hub. hub ≡ length shards.items)
+            (λ back. (back.0 ≡ store) × (back.1.items ≡ shards.items)) }
+    {
+        let Ok(locks) = Vec::with_capacity(alloc, shards.len()) else {
+            return Err((store, shards));
+        };
+        let count = shards.len() as u32;
+        let (locks, room) = locked(locks, shards);
+        Ok(Hub {
+            shards: locks,
+            store: Mutex::new(KeptStore::new(store)),
+            count,
+            room,
+        })
+    }
+
+    /// How many shards there are. It takes no lock and no memory.
+    pub fn shards(&self) -> u32
+        ensures { result ≡ self.now }
+    {
+        self.count
+    }
+
+    /// The number of the key's shard. It takes no lock and no memory.
+    pub fn shard_of(&self, key: &QKey) -> u32
+        ensures { result ≡ shard_of key.now self.now }
+    {
+        shard_number(key, self.count)
+    }
+
+    /// A desk of this worker over the hub. Each of its calls takes one lock.
+    pub fn desk<'a, C: Clock, G: Gate, R: Wait>(
+        &'a self,
+        rt: &'a R,
+        worker: u32,
+        clock: &'a C,
+        gate: &'a G,
+    ) -> HubDesk<'a, K, H, C, G, R> {
+        HubDesk::new(rt, self, worker, clock, gate, Sweeper::new(self.count))
+    }
+
+    /// The store and the shards, after the threads have ended. It takes no lock and no memory.
+    pub fn into_parts(self) -> (Store<K, StartOf<H>>, Vec<Shard>)
+        ensures store { IsNamedStore H.opening H.cap result.0 }
+        ensures as_many { length result.1.items ≡ self }
+        ensures named { All (IsNamed H.terms) result.1.items }
+    {
+        let Hub {
+            shards,
+            store,
+            count: _,
+            room,
+        } = self;
+        (store.into_inner().into_store(), unlocked(shards, room))
+    }
+
+    /// The lock of the store.
+    pub(crate) fn lock_store<R: Wait>(&self, rt: &R) -> MutexGuard<'_, KeptStore<K, H>> {
+        self.store.lock(rt)
+    }
+
+    /// The lock of the shard at this place.
+    pub(crate) fn lock_at<R: Wait>(&self, rt: &R, place: u32) -> MutexGuard<'_, KeptShard<H>>
+        requires { place < self.now }
+    {
+        self.shards[place as usize].lock(rt)
+    }
+
+    /// The lock of the key's shard. No type says that this lock has it: where another shard lies under
+    /// it, the call waits for ever.
+    pub(crate) fn lock_of<R: Wait>(&self, rt: &R, key: &QKey) -> MutexGuard<'_, KeptShard<H>>
+        ensures { IsAtHome (mutex_guard_value result).terms key.now }
+    {
+        let place = shard_number(key, self.count);
+        let kept = self.lock_at(rt, place);
+        if !kept.is_home(key) {
+            wait_for_ever(rt);
+        }
+        kept
+    }
+}
+
+/// Never returns.
+fn wait_for_ever<R: Wait>(rt: &R)
+    ensures { ⊥ }
+{
+    for _ in rt.forever() {}
+    unreachable!()
+}
+
+/// Puts each shard under a lock of its own, in their order. The list that they leave has the room that
+/// it had.
+fn locked<H: HubName>(
+    locks: Vec<Mutex<KeptShard<H>>>,
+    shards: Vec<Shard>,
+) -> (Vec<Mutex<KeptShard<H>>>, Vec<Shard>)
+    requires none { vec_len locks ≡ 0 }
+    requires room { vec_len shards ≤ vec_capacity locks }
+    requires named { All (IsNamed H.terms) shards.items }
+    ensures all { vec_len result.0 ≡ vec_len shards }
+    ensures left { vec_len result.1 ≡ 0 }
+    ensures room { vec_capacity result.1 ≡ vec_capacity shards }
+{
+    let mut locks = locks;
+    let mut shards = shards;
+    while let Some(shard) = shards.pop() {
+        locks.push_reserved(Mutex::new(KeptShard::new(shard)));
+    }
+    locks.reverse();
+    (locks, shards)
+}
+
+/// Takes each shard from under its lock, in their order.
+fn unlocked<H: HubName>(locks: Vec<Mutex<KeptShard<H>>>, room: Vec<Shard>) -> Vec<Shard>
+    requires none { vec_len room ≡ 0 }
+    requires room { vec_len locks ≤ vec_capacity room }
+    ensures as_many { length result.items ≡ vec_len locks }
+    ensures named { All (IsNamed H.terms) result.items }
+{
+    let mut locks = locks;
+    let mut shards = room;
+    while let Some(lock) = locks.pop() {
+        shards.push_reserved(lock.into_inner().into_shard());
+    }
+    shards.reverse();
+    shards
+}

@@ -1,0 +1,166 @@
+// What lies under the locks: a shard and the store, each with what is named of it.
+ghost use Rattle.std.specs.Prelude.{◌≡◌, ◌↔◌, IfOk, OnOk, OnErr, IsTrue, length};
+ghost use Rattle.key_shard.specs.Answers.{IsAtHome, sweep_step};
+ghost use Rattle.key_shard.specs.Dues.{first_due};
+ghost use Rattle.key_shard.specs.Replies.{sweep_told};
+ghost use Rattle.key_shard.specs.Shards.{past_of, swept};
+ghost use Rattle.session_client.specs.Belongs.{Belongs};
+ghost use Rattle.session_client.specs.Desks.{IsProper};
+ghost use Rattle.sql_keeper.specs.Sessions.{is_open};
+ghost use Rattle.sql_keeper.specs.Stores.{with_session, with_end};
+ghost use Rattle.shard_lock.specs.Names.{IsNamed, IsNamedStore};
+ghost use Rattle.shard_lock.specs.OnShard.{IsFor, MakesOnShard, scanned};
+ghost use Rattle.shard_lock.specs.OnStore.{IsAtStore, MakesAtStore};
+
+use crate::names::{HubName, StartOf};
+use crate::shards::on_shard;
+use crate::stores::on_store;
+use expiry_sweeper::SweepReply;
+use key_shard::{Rel, Shard};
+use rows_model::{Memory, QKey, Sid};
+use session_client::{Reply, Wanted};
+use sql_keeper::{Keeper, Store};
+use std::marker::{Model, PhantomData};
+
+/// A shard of a hub, with what is named for its number. Contracts see the shard.
+#[derive(Drop)]
+pub struct KeptShard<H: HubName> {
+    shard: Shard,
+    of: PhantomData<H>,
+}
+
+impl<H: HubName> Model for KeptShard<H> {
+    ghost use Rattle.key_shard.specs.Shards.{ShardView};
+    ghost use Rattle.shard_lock.specs.Names.{IsNamed};
+
+    ghost Value = { ShardView };
+
+    ghost view = { λ kept. kept.shard };
+
+    ghost invariant = { λ kept. IsNamed H.terms kept.shard };
+}
+
+impl<H: HubName> KeptShard<H> {
+    pub fn new(shard: Shard) -> KeptShard<H>
+        requires { IsNamed H.terms shard }
+        ensures { result ≡ shard }
+    {
+        KeptShard {
+            shard,
+            of: PhantomData,
+        }
+    }
+
+    /// Makes a session's request on the shard, as `on_shard` does.
+    pub fn make(&mut self, who: Sid, request: Wanted, now: u64) -> Reply
+        requires home { IsFor self.old.terms request }
+        requires proper { IsProper request }
+        ensures makes { MakesOnShard self.old who request now self.new result }
+        ensures belongs { Belongs who request result }
+    {
+        on_shard(&mut self.shard, who, request, now)
+    }
+
+    /// The shard's number.
+    pub fn no(&self) -> u32
+        ensures { result ≡ self.now.terms.no }
+    {
+        self.shard.no()
+    }
+
+    /// Whether the key is the shard's.
+    pub fn is_home(&self, key: &QKey) -> bool
+        ensures { IsTrue result ↔ IsAtHome self.now.terms key.now }
+    {
+        self.shard.is_home(key)
+    }
+
+    /// Looks for the first quarantine, by key and then by token, whose deadline has come.
+    pub fn scan(&self, now: u64) -> SweepReply
+        ensures { result ≡ scanned (first_due now (past_of self.now)) }
+    {
+        match self.shard.expired(now) {
+            Some(due) => SweepReply::Found { due },
+            None => SweepReply::NoneFound,
+        }
+    }
+
+    /// Ends the quarantine of this token, and drops the key's entry.
+    pub fn sweep_drop(&mut self, key: QKey, token: u64) -> Rel
+        requires { IsAtHome self.old.terms key }
+        ensures step { self.new ≡ swept self.old (sweep_step (past_of self.old) key token) }
+        ensures told { result ≡ sweep_told (sweep_step (past_of self.old) key token) }
+    {
+        self.shard.sweep_drop(key, token)
+    }
+
+    /// The shard alone.
+    pub fn into_shard(self) -> Shard
+        ensures same { result ≡ self }
+        ensures named { IsNamed H.terms result }
+    {
+        let KeptShard { shard, of: _ } = self;
+        shard
+    }
+}
+
+/// The store of a hub, with what is named of it. Contracts see the store.
+#[derive(Drop)]
+pub struct KeptStore<K: Keeper, H: HubName> {
+    store: Store<K, StartOf<H>>,
+}
+
+impl<K: Keeper, H: HubName> Model for KeptStore<K, H> {
+    ghost use Rattle.sql_keeper.specs.Stores.{StoreView};
+    ghost use Rattle.shard_lock.specs.Names.{IsNamedStore};
+
+    ghost Value = { StoreView };
+
+    ghost view = { λ kept. kept.store };
+
+    ghost invariant = { λ kept. IsNamedStore H.opening H.cap kept.store };
+}
+
+impl<K: Keeper, H: HubName> KeptStore<K, H> {
+    pub fn new(store: Store<K, StartOf<H>>) -> KeptStore<K, H>
+        requires { IsNamedStore H.opening H.cap store }
+        ensures { result ≡ store }
+    {
+        KeptStore { store }
+    }
+
+    /// Begins a session, as the store does.
+    pub fn begin(&mut self, writes: bool) -> Result<Sid, Memory>
+        ensures ledger { OnOk result (self.new.ledger ≡ with_session writes self.old.ledger) }
+        ensures number { IfOk result (λ sid. sid.number ≡ length self.new.ledger.sessions) }
+        ensures err { OnErr result (self.new.ledger ≡ self.old.ledger) }
+    {
+        self.store.begin(writes)
+    }
+
+    /// Makes a session's request at the store, as `on_store` does.
+    pub fn make(&mut self, who: Sid, request: Wanted) -> Reply
+        requires { IsAtStore request }
+        ensures makes { MakesAtStore self.old who request self.new result }
+        ensures belongs { Belongs who request result }
+    {
+        on_store(&mut self.store, who, request)
+    }
+
+    /// Ends a session, and tells whether it was open.
+    pub fn end(&mut self, who: Sid) -> bool
+        ensures was { result ≡ is_open who self.old.ledger.sessions }
+        ensures ledger { self.new.ledger ≡ with_end who self.old.ledger }
+    {
+        self.store.end(who)
+    }
+
+    /// The store alone.
+    pub fn into_store(self) -> Store<K, StartOf<H>>
+        ensures same { result ≡ self }
+        ensures named { IsNamedStore H.opening H.cap result }
+    {
+        let KeptStore { store } = self;
+        store
+    }
+}

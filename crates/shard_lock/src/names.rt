@@ -1,0 +1,42 @@
+ghost use Rattle.std.specs.Prelude.{ℕ, Option};
+ghost use Rattle.rows_model.specs.Rows.{Tables};
+ghost use Rattle.key_shard.specs.Past.{Terms};
+
+use sql_keeper::Start;
+use std::marker::{Brand, PhantomData};
+
+/// Names what the locks of a hub keep: for each shard's number what it was made with, the store's
+/// opening rows and cap, and the count of faults at which its keeper stood when it was started.
+///
+/// The name is picked where a caller that is generic in it is called, at the type `Brand`.
+pub trait HubName {
+    ghost terms: { ℕ → Terms };
+
+    ghost opening: { Tables };
+
+    ghost cap: { ℕ };
+
+    ghost start: { Option ℕ };
+}
+
+impl HubName for Brand {
+    ghost use Rattle.std.specs.Prelude.{[], None};
+
+    ghost terms = { λ no. record { no = no; count = 1; room = 1; life = 1; first = 1 } };
+
+    ghost opening = { record { members = []; links = [] } };
+
+    ghost cap = { 0 };
+
+    ghost start = { None };
+}
+
+/// Names the count of faults at the start of a hub's keeper.
+#[derive(Drop)]
+pub struct StartOf<H: HubName> {
+    of: PhantomData<H>,
+}
+
+impl<H: HubName> Start for StartOf<H> {
+    ghost count = { H.start };
+}
