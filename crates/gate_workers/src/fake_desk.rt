@@ -1,5 +1,5 @@
-// A desk over a store and shards in memory, which keeps its record.
-ghost use Rattle.std.specs.Prelude.{◌≡◌, ℕ, ℤ, ◌≤◌, ◌<◌, Some, None, length};
+// A desk over a store and a shard in memory.
+ghost use Rattle.std.specs.Prelude.{◌≡◌, ℕ, ℤ, Some, None};
 ghost use Rattle.lease_table.specs.declared.records.Mode.TheVariants as Mode;
 ghost use Rattle.key_shard.specs.Answers.{FitsMode, FitsShift};
 ghost use Rattle.session_client.specs.Belongs.{Belongs};
@@ -8,110 +8,59 @@ ghost use Rattle.session_client.specs.declared.replies.Wanted.TheVariants as wan
 
 use key_shard::{Back, Grant, How, Shard, ShardFault};
 use lease_table::Mode;
-use rows_model::{Memory, QKey, Sid, Txn, Value, shard_number};
+use rows_model::{Memory, QKey, Sid, Txn, Value};
 use session_client::{Desk, Fault, Grants, Reply, Wanted};
 use sql_keeper::{CommitFault, KeepFault, MapKeeper, Place, Store};
 use std::alloc::Global;
-use std::marker::Model;
 use std::process::Abort;
-use std::snapshot::Snapshot;
 use std::test::Fail;
 
-/// One call of a desk: a session began, or it asked and was told.
+/// A store and a shard in memory, whose clock stands still at 0.
 #[derive(Drop)]
-pub struct Noted {
-    who: Sid,
-    writes: bool,
-    asked: bool,
-    request: Snapshot<Wanted>,
-    told: Snapshot<Reply>,
-}
-
-/// A store and shards in memory, whose clock stands still at 0. Contracts see its record.
-#[derive(Drop)]
-pub struct FakeDesk<R: Abort + Drop> {
-    rt: R,
+pub struct FakeDesk {
     store: Store<MapKeeper>,
-    shards: Vec<Shard>,
-    record: Vec<Noted>,
+    shard: Shard,
+    called: u64,
     tended: u64,
 }
 
-impl<R: Abort + Drop> Model for FakeDesk<R> {
-    ghost use Rattle.std.specs.Prelude.{◌≤◌, length, List, map, if◌then◌else◌};
-    ghost use Rattle.session_client.specs.Desks.{Call, Began, Asked};
-
-    ghost Value = { List Call };
-
-    ghost view = { λ desk. map (λ one. if one.asked
-        then Asked one.who one.request.value one.told.value
-        else Began one.writes one.who) desk.record.items };
-
-    ghost invariant = { λ desk. (1 ≤ length desk.shards.items) × (length desk.shards.items ≤ 64) };
-}
-
-impl<R: Abort + Drop> FakeDesk<R> {
-    /// A desk of two shards, over three members.
-    pub fn new(rt: R, alloc: Global, fails: Vec<u64>) -> Result<FakeDesk<R>, Fail> {
-        let store = match Store::new(alloc, MapKeeper::new(fails), &Place::Fresh, 3, 100) {
+impl FakeDesk {
+    /// A desk over three members.
+    pub fn new(rt: &impl Abort, alloc: Global) -> Result<FakeDesk, Fail> {
+        let keeper = MapKeeper::new(Vec::new(alloc));
+        let store = match Store::new(alloc, keeper, &Place::Fresh, 3, 100) {
             Ok(store) => store,
-            Err(none) => panic!(&rt; "{:?}", none.cause),
+            Err(none) => panic!(rt; "{:?}", none.cause),
         };
-        let first = Shard::new(alloc, 0, 2, 4, 100, 1)?;
-        let second = Shard::new(alloc, 1, 2, 4, 100, 1)?;
-        let shards = vec![in alloc; first, second]?;
         Ok(FakeDesk {
-            rt,
             store,
-            shards,
-            record: Vec::new(alloc),
+            shard: Shard::new(alloc, 0, 1, 16, 100, 1)?,
+            called: 0,
             tended: 0,
         })
+    }
+
+    /// How many requests it answered.
+    pub fn called(&self) -> u64 {
+        self.called
     }
 
     /// How often it tended.
     pub fn tended(&self) -> u64 {
         self.tended
     }
-
-    /// How many calls it answered.
-    pub fn calls(&self) -> usize
-        ensures { result ≡ length self.now }
-    {
-        self.record.len()
-    }
 }
 
-impl<R: Abort + Drop> Desk for FakeDesk<R> {
+impl Desk for FakeDesk {
     ghost begun = { λ desk. None };
 
-    ghost record_of = { λ desk. Some desk };
-
     fn begin(&mut self, writes: bool) -> Result<Sid, Memory> {
-        let who = self.store.begin(writes)?;
-        let one = Noted {
-            who,
-            writes,
-            asked: false,
-            request: Snapshot::of(&Wanted::Nothing),
-            told: Snapshot::of(&Reply::Nothing),
-        };
-        self.record.insert(0, one).expect(&self.rt, "room for the record");
-        Ok(who)
+        self.store.begin(writes)
     }
 
     fn call(&mut self, sid: Sid, wanted: Wanted) -> Reply {
-        let request = Snapshot::of(&wanted);
-        let reply = answer(&mut self.store, &mut self.shards, sid, wanted);
-        let one = Noted {
-            who: sid,
-            writes: false,
-            asked: true,
-            request,
-            told: Snapshot::of(&reply),
-        };
-        self.record.insert(0, one).expect(&self.rt, "room for the record");
-        reply
+        self.called = self.called.saturating_add(1);
+        answer(&mut self.store, &mut self.shard, sid, wanted)
     }
 
     fn tend(&mut self) {
@@ -120,52 +69,35 @@ impl<R: Abort + Drop> Desk for FakeDesk<R> {
 }
 
 /// Makes the request of the session.
-fn answer(
-    store: &mut Store<MapKeeper>,
-    shards: &mut Vec<Shard>,
-    sid: Sid,
-    wanted: Wanted,
-) -> Reply
-    requires some { 1 ≤ length shards.old.items }
-    requires few { length shards.old.items ≤ 64 }
-    requires proper { IsProper wanted }
-    ensures as_many { length shards.new.items ≡ length shards.old.items }
-    ensures belongs { Belongs sid wanted result }
+fn answer(store: &mut Store<MapKeeper>, shard: &mut Shard, sid: Sid, wanted: Wanted) -> Reply
+    requires { IsProper wanted }
+    ensures { Belongs sid wanted result }
 {
     match wanted {
-        Wanted::Get { key, floor } => get(shards, sid, key, floor),
+        Wanted::Get { key, floor } => get(shard, sid, key, floor),
         Wanted::Ask { key } => ask(store, key),
         Wanted::Set {
             key,
             token,
             value,
             stamp,
-        } => set(shards, key, token, value, stamp),
+        } => set(shard, key, token, value, stamp),
         Wanted::Staged { key, txn } => staged(store, key, txn),
-        Wanted::QaReg { key } => quarantine(shards, sid, key, Mode::Invalidate, 0),
-        Wanted::QaRead { key } => quarantine(shards, sid, key, Mode::Refresh, 0),
-        Wanted::Delta { key, by } => quarantine(shards, sid, key, Mode::Delta, by),
+        Wanted::QaReg { key } => quarantine(shard, sid, key, Mode::Invalidate, 0),
+        Wanted::QaRead { key } => quarantine(shard, sid, key, Mode::Refresh, 0),
+        Wanted::Delta { key, by } => quarantine(shard, sid, key, Mode::Delta, by),
         Wanted::Commit { txn, grants } => commit(store, sid, txn, grants),
         Wanted::End => end(store, sid),
-        Wanted::Dar { grant } => release(shards, grant, How::Drop),
+        Wanted::Dar { grant } => release(shard, grant, How::Drop),
         Wanted::Sar {
             grant,
             value,
             stamp,
-        } => replace(shards, grant, value, stamp),
-        Wanted::Apply { grant, stamp } => release(shards, grant, How::Shift { stamp }),
-        Wanted::Abort { grant } => release(shards, grant, How::Keep),
+        } => replace(shard, grant, value, stamp),
+        Wanted::Apply { grant, stamp } => release(shard, grant, How::Shift { stamp }),
+        Wanted::Abort { grant } => release(shard, grant, How::Keep),
         Wanted::Nothing => Reply::Nothing,
     }
-}
-
-/// The place of a key's shard.
-fn home_of(shards: &Vec<Shard>, key: &QKey) -> usize
-    requires some { 1 ≤ length shards.now.items }
-    requires few { length shards.now.items ≤ 64 }
-    ensures { result < length shards.now.items }
-{
-    shard_number(key, shards.len() as u32) as usize % shards.len()
 }
 
 /// What a session is told where a shard made no request that draws a token. Each key goes to its own
@@ -183,27 +115,19 @@ fn fault_of(fault: ShardFault) -> Reply
     Reply::Fault { fault }
 }
 
-fn get(shards: &mut Vec<Shard>, who: Sid, key: QKey, floor: u64) -> Reply
-    requires some { 1 ≤ length shards.old.items }
-    requires few { length shards.old.items ≤ 64 }
-    ensures as_many { length shards.new.items ≡ length shards.old.items }
-    ensures belongs { Belongs who (wanted.Get key floor) result }
+fn get(shard: &mut Shard, who: Sid, key: QKey, floor: u64) -> Reply
+    ensures { Belongs who (wanted.Get key floor) result }
 {
-    let place = home_of(shards, &key);
-    match shards[place].get(key, who, floor, 0) {
+    match shard.get(key, who, floor, 0) {
         Ok(got) => Reply::Got { got },
         Err(fault) => fault_of(fault),
     }
 }
 
-fn set(shards: &mut Vec<Shard>, key: QKey, token: u64, value: Value, stamp: u64) -> Reply
-    requires some { 1 ≤ length shards.old.items }
-    requires few { length shards.old.items ≤ 64 }
-    ensures as_many { length shards.new.items ≡ length shards.old.items }
-    ensures belongs { (who : Sid) → Belongs who (wanted.Set key token value stamp) result }
+fn set(shard: &mut Shard, key: QKey, token: u64, value: Value, stamp: u64) -> Reply
+    ensures { (who : Sid) → Belongs who (wanted.Set key token value stamp) result }
 {
-    let place = home_of(shards, &key);
-    match shards[place].set(key, token, value, stamp, 0) {
+    match shard.set(key, token, value, stamp, 0) {
         Ok(told) => Reply::Set { told },
         Err(
             ShardFault::Stranger { shard: _ } | ShardFault::Spent { next: _ } | ShardFault::Memory,
@@ -213,67 +137,52 @@ fn set(shards: &mut Vec<Shard>, key: QKey, token: u64, value: Value, stamp: u64)
     }
 }
 
-fn quarantine(shards: &mut Vec<Shard>, who: Sid, key: QKey, mode: Mode, by: i32) -> Reply
-    requires some { 1 ≤ length shards.old.items }
-    requires few { length shards.old.items ≤ 64 }
-    requires fits { FitsShift mode by }
-    ensures as_many { length shards.new.items ≡ length shards.old.items }
+fn quarantine(shard: &mut Shard, who: Sid, key: QKey, mode: Mode, by: i32) -> Reply
+    requires { FitsShift mode by }
     ensures invalidate { mode ≡ Mode.Invalidate → Belongs who (wanted.QaReg key) result }
     ensures refresh { mode ≡ Mode.Refresh → Belongs who (wanted.QaRead key) result }
     ensures delta { mode ≡ Mode.Delta → Belongs who (wanted.Delta key by) result }
 {
-    let place = home_of(shards, &key);
-    match shards[place].quarantine(key, who, mode, by, 0) {
+    match shard.quarantine(key, who, mode, by, 0) {
         Ok(told) => Reply::Quar { told },
         Err(fault) => fault_of(fault),
     }
 }
 
-fn release(shards: &mut Vec<Shard>, grant: Grant, how: How) -> Reply
-    requires some { 1 ≤ length shards.old.items }
-    requires few { length shards.old.items ≤ 64 }
-    requires fits { FitsMode grant.mode how }
-    ensures as_many { length shards.new.items ≡ length shards.old.items }
+fn release(shard: &mut Shard, grant: Grant, how: How) -> Reply
+    requires { FitsMode grant.mode how }
     ensures drop { (who : Sid) → Belongs who (wanted.Dar grant) result }
     ensures keep { (who : Sid) → Belongs who (wanted.Abort grant) result }
     ensures shift { (who : Sid) (stamp : ℕ) → Belongs who (wanted.Apply grant stamp) result }
     ensures put { (who : Sid) (stamp : ℕ) → Belongs who (wanted.Sar grant None stamp) result }
 {
-    let place = home_of(shards, &grant.key());
     Reply::Rel {
-        told: shards[place].release(grant, how),
+        told: shard.release(grant, how),
     }
 }
 
-fn put(shards: &mut Vec<Shard>, grant: Grant, value: Value, stamp: u64) -> Reply
-    requires some { 1 ≤ length shards.old.items }
-    requires few { length shards.old.items ≤ 64 }
-    requires fits { grant.mode ≡ Mode.Refresh }
-    ensures as_many { length shards.new.items ≡ length shards.old.items }
-    ensures belongs { (who : Sid) → Belongs who (wanted.Sar grant (Some value) stamp) result }
+fn put(shard: &mut Shard, grant: Grant, value: Value, stamp: u64) -> Reply
+    requires { grant.mode ≡ Mode.Refresh }
+    ensures { (who : Sid) → Belongs who (wanted.Sar grant (Some value) stamp) result }
 {
-    let place = home_of(shards, &grant.key());
-    match shards[place].replace(grant, value, stamp) {
+    match shard.replace(grant, value, stamp) {
         Ok(told) => Reply::Rel { told },
         Err(Back { grant, value: _ }) => Reply::SarBack { grant },
     }
 }
 
-fn replace(shards: &mut Vec<Shard>, grant: Grant, value: Option<Value>, stamp: u64) -> Reply
-    requires some { 1 ≤ length shards.old.items }
-    requires few { length shards.old.items ≤ 64 }
-    requires proper { IsProper (wanted.Sar grant value stamp) }
-    ensures as_many { length shards.new.items ≡ length shards.old.items }
-    ensures belongs { (who : Sid) → Belongs who (wanted.Sar grant value stamp) result }
+fn replace(shard: &mut Shard, grant: Grant, value: Option<Value>, stamp: u64) -> Reply
+    requires { IsProper (wanted.Sar grant value stamp) }
+    ensures { (who : Sid) → Belongs who (wanted.Sar grant value stamp) result }
 {
     match value {
-        Some(value) => put(shards, grant, value, stamp),
-        None => release(shards, grant, How::Drop),
+        Some(value) => put(shard, grant, value, stamp),
+        None => release(shard, grant, How::Drop),
     }
 }
 
 fn ask(store: &mut Store<MapKeeper>, key: QKey) -> Reply
-    ensures belongs { (who : Sid) → Belongs who (wanted.Ask key) result }
+    ensures { (who : Sid) → Belongs who (wanted.Ask key) result }
 {
     match store.ask(&key) {
         Ok(answer) => Reply::Answer { answer },
@@ -285,7 +194,7 @@ fn ask(store: &mut Store<MapKeeper>, key: QKey) -> Reply
 }
 
 fn staged(store: &mut Store<MapKeeper>, key: QKey, txn: Txn) -> Reply
-    ensures belongs { (who : Sid) → Belongs who (wanted.Staged key txn) result }
+    ensures { (who : Sid) → Belongs who (wanted.Staged key txn) result }
 {
     match store.ask_staged(&txn, &key) {
         Ok(value) => Reply::Staged { value, txn },
@@ -294,7 +203,7 @@ fn staged(store: &mut Store<MapKeeper>, key: QKey, txn: Txn) -> Reply
 }
 
 fn commit(store: &mut Store<MapKeeper>, who: Sid, txn: Txn, grants: Grants) -> Reply
-    ensures belongs { Belongs who (wanted.Commit txn grants) result }
+    ensures { Belongs who (wanted.Commit txn grants) result }
 {
     let Ok(copy) = txn.copy() else {
         return Reply::NotCommitted {
@@ -314,10 +223,9 @@ fn commit(store: &mut Store<MapKeeper>, who: Sid, txn: Txn, grants: Grants) -> R
 }
 
 fn end(store: &mut Store<MapKeeper>, who: Sid) -> Reply
-    ensures belongs { Belongs who wanted.End result }
+    ensures { Belongs who wanted.End result }
 {
     Reply::End {
         was: store.end(who),
     }
 }
-
