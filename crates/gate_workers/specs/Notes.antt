@@ -1,0 +1,46 @@
+-- The marks of a session that is under way.
+use Rattle.std.specs.Prelude.{◌≡◌, Bool, List, [], ◌∷◌, ◌++◌, Option, Some, None}
+use Rattle.rows_model.specs.declared.keys.Sid.{Sid}
+use Rattle.session_client.specs.Desks.{Call}
+use Rattle.session_client.specs.Follows.{Follows, plan_of, sid_of}
+use Rattle.session_client.specs.declared.plans.Plan.{Plan}
+use Rattle.session_client.specs.declared.replies.Outcome.{Outcome}
+use Rattle.session_client.specs.declared.replies.Reply.{Reply}
+use Rattle.session_client.specs.declared.sessions.Session.{Session}
+use Rattle.gate_workers.specs.declared.marks.Mark.{Mark}
+use Rattle.gate_workers.specs.Marks.{marks_of}
+use Rattle.gate_workers.specs.Rows.{Went, HasRun, with_calls}
+
+-- There are replies that the session may have heard.
+abbrev pub IsGoing : Session → Type 0
+IsGoing session = (short : Bool) × (heard : List Reply) × Follows session short heard
+
+-- A mark was put last among those that are kept, or they are lost. Lost ones stay lost.
+abbrev pub IsNoted : Mark → Option (List Mark) → Option (List Mark) → Type 0
+IsNoted mark (Some before) (Some after) = after ≡ before ++ mark ∷ []
+IsNoted mark before None = Unit {0}
+IsNoted mark None (Some after) = ⊥
+
+-- The marks that are kept are those of these calls.
+abbrev pub AreNoted : Option (List Mark) → List Call → Type 0
+AreNoted (Some marks) calls = marks ≡ marks_of calls
+AreNoted None calls = Unit {0}
+
+-- A session of this number and plan is under way: its calls so far were added to the record of its desk, where that is told, and its marks are theirs, where they are kept.
+pub record IsUnderWay (who : Sid) (plan : Plan) (session : Session) (before after : Option (List Call)) (notes : Option (List Mark)) : Type 0 where
+  pub short : Bool
+  pub heard : List Reply
+  pub calls : List Call
+  pub of_plan : plan_of session ≡ plan
+  pub of_number : sid_of session ≡ who
+  pub follows : Follows session short heard
+  pub went : Went who plan short heard calls
+  pub recorded : after ≡ with_calls calls before
+  pub noted : AreNoted notes calls
+
+-- A session of this number and plan has ended so: its calls were added to the record of its desk, where that is told, and its marks are theirs, where they are kept.
+pub record HasEnded (who : Sid) (plan : Plan) (outcome : Outcome) (before after : Option (List Call)) (notes : Option (List Mark)) : Type 0 where
+  pub calls : List Call
+  pub has_run : HasRun who plan calls outcome
+  pub recorded : after ≡ with_calls calls before
+  pub noted : AreNoted notes calls

@@ -1,0 +1,19 @@
+//! Workers: each runs its plans in order over a desk of its own, all at the same time, and keeps a
+//! transcript of what its sessions asked and were told.
+#![tactic(auto)]
+
+pub use marks::{Mark, Request, Response};
+pub use tallies::Tally;
+pub use transcripts::{Row, Transcript};
+pub use workers::work_all;
+
+#[cfg(test)]
+mod fake_desk;
+pub mod marks;
+mod notes;
+mod sessions;
+pub mod tallies;
+#[cfg(test)]
+mod tests;
+pub mod transcripts;
+pub mod workers;

@@ -1,0 +1,227 @@
+use key_shard::{Got, QAnswer, Rel, SetAnswer, Stands};
+use lease_table::Mode;
+use rows_model::{QKey, Sid};
+use session_client::{Fault, Reply, Wanted};
+use sql_keeper::{AfterFault, CommitFault};
+
+/// A request in its bare form: without its value, its transaction and its list of grants. Of a grant
+/// that is released the key and the token are left.
+#[derive(Clone, Copy, Debug, PartialEq, Eq)]
+pub enum Request {
+    /// The key's entry, with a stamp of at least the floor.
+    Get { key: QKey, floor: u64 },
+    /// The store's answer for the key.
+    Ask { key: QKey },
+    /// What the store would answer for the key after the transaction.
+    Staged { key: QKey },
+    /// To store a value under the I lease of this token.
+    Set { key: QKey, token: u64, stamp: u64 },
+    /// A quarantine of the key, to invalidate it.
+    QaReg { key: QKey },
+    /// A quarantine of the key, to refresh its value.
+    QaRead { key: QKey },
+    /// A quarantine of the key, to shift it by this much.
+    Delta { key: QKey, by: i32 },
+    /// To commit the transaction.
+    Commit,
+    /// To be ended at the store.
+    End,
+    /// To drop the key's value and end the quarantine.
+    Dar { key: QKey, token: u64 },
+    /// To put a new value in the place of the key's, or drop it, and end the quarantine.
+    Sar { key: QKey, token: u64, stamp: u64 },
+    /// To shift the key's value and end the quarantine.
+    Apply { key: QKey, token: u64, stamp: u64 },
+    /// To end the quarantine and leave the key's value.
+    Abort { key: QKey, token: u64 },
+    /// Nothing.
+    Nothing,
+}
+
+impl Request {
+    ghost use Rattle.std.specs.Prelude.{◌≡◌};
+    ghost use Rattle.gate_workers.specs.Marks.{request_of};
+
+    /// The bare form of a request. It takes no memory.
+    pub fn of(wanted: &Wanted) -> Request
+        ensures { result ≡ request_of wanted.now }
+    {
+        match wanted {
+            Wanted::Get { key, floor } => Request::Get {
+                key: *key,
+                floor: *floor,
+            },
+            Wanted::Ask { key } => Request::Ask { key: *key },
+            Wanted::Staged { key, txn: _ } => Request::Staged { key: *key },
+            Wanted::Set {
+                key,
+                token,
+                value: _,
+                stamp,
+            } => Request::Set {
+                key: *key,
+                token: *token,
+                stamp: *stamp,
+            },
+            Wanted::QaReg { key } => Request::QaReg { key: *key },
+            Wanted::QaRead { key } => Request::QaRead { key: *key },
+            Wanted::Delta { key, by } => Request::Delta { key: *key, by: *by },
+            Wanted::Commit { txn: _, grants: _ } => Request::Commit,
+            Wanted::End => Request::End,
+            Wanted::Dar { grant } => Request::Dar {
+                key: grant.key(),
+                token: grant.token(),
+            },
+            Wanted::Sar {
+                grant,
+                value: _,
+                stamp,
+            } => Request::Sar {
+                key: grant.key(),
+                token: grant.token(),
+                stamp: *stamp,
+            },
+            Wanted::Apply { grant, stamp } => Request::Apply {
+                key: grant.key(),
+                token: grant.token(),
+                stamp: *stamp,
+            },
+            Wanted::Abort { grant } => Request::Abort {
+                key: grant.key(),
+                token: grant.token(),
+            },
+            Wanted::Nothing => Request::Nothing,
+        }
+    }
+}
+
+/// A reply in its bare form: without values, the transaction and grants. Of a grant that is given the
+/// token is left.
+#[derive(Clone, Copy, Debug, PartialEq, Eq)]
+pub enum Response {
+    /// The key's entry has this stamp.
+    Hit { stamp: u64 },
+    /// The token of an I lease.
+    Lease { token: u64 },
+    /// A lease stands in the way: try again.
+    Again { standing: Stands },
+    /// The asker has quarantined the key itself.
+    Own,
+    /// The store's answer, with this stamp.
+    Answer { stamp: u64 },
+    /// The value stands. The key that had to make room is named.
+    Stored { evicted: Option<QKey> },
+    /// The lease stood no longer, and nothing was stored.
+    Void,
+    /// The quarantine is granted, with this token.
+    Granted { token: u64 },
+    /// The session has this quarantine already.
+    Held,
+    /// A quarantine of this session, in this mode, stands in the way.
+    Refused { holder: Sid, mode: Mode },
+    /// The store told what it would answer.
+    Staged,
+    /// The store has no such answer.
+    NotStaged { fault: AfterFault },
+    /// The transaction is the commit of this number.
+    Committed { number: u64 },
+    /// The transaction was not committed.
+    NotCommitted { fault: CommitFault },
+    /// Whether the session was open at the store.
+    End { was: bool },
+    /// The answer to a release.
+    Rel { told: Rel },
+    /// There was no memory to put the new value: the quarantine stands.
+    SarBack,
+    /// The request was not made.
+    Fault { fault: Fault },
+    /// Nothing.
+    Nothing,
+}
+
+impl Response {
+    ghost use Rattle.std.specs.Prelude.{◌≡◌};
+    ghost use Rattle.gate_workers.specs.Marks.{response_of};
+
+    /// The bare form of a reply. It takes no memory.
+    pub fn of(reply: &Reply) -> Response
+        ensures { result ≡ response_of reply.now }
+    {
+        match reply {
+            Reply::Got { got } => of_got(got),
+            Reply::Answer { answer } => Response::Answer {
+                stamp: answer.stamp,
+            },
+            Reply::Set { told } => of_set(*told),
+            Reply::Quar { told } => of_quarantine(told),
+            Reply::Staged { value: _, txn: _ } => Response::Staged,
+            Reply::NotStaged { fault, txn: _ } => Response::NotStaged { fault: *fault },
+            Reply::Committed {
+                number,
+                txn: _,
+                grants: _,
+            } => Response::Committed { number: *number },
+            Reply::NotCommitted {
+                fault,
+                txn: _,
+                grants: _,
+            } => Response::NotCommitted { fault: *fault },
+            Reply::End { was } => Response::End { was: *was },
+            Reply::Rel { told } => Response::Rel { told: *told },
+            Reply::SarBack { grant: _ } => Response::SarBack,
+            Reply::Fault { fault } => Response::Fault { fault: *fault },
+            Reply::Nothing => Response::Nothing,
+        }
+    }
+}
+
+ghost use Rattle.std.specs.Prelude.{◌≡◌};
+ghost use Rattle.gate_workers.specs.Marks.{response_of};
+ghost use Rattle.session_client.specs.declared.replies.Reply.TheVariants as replies;
+
+/// The bare form of the answer to a get.
+fn of_got(got: &Got) -> Response
+    ensures { result ≡ response_of (replies.Got got.now) }
+{
+    match got {
+        Got::Hit { value: _, stamp } => Response::Hit { stamp: *stamp },
+        Got::Lease { token } => Response::Lease { token: *token },
+        Got::Again { standing } => Response::Again {
+            standing: *standing,
+        },
+        Got::Own => Response::Own,
+    }
+}
+
+/// The bare form of the answer to a set.
+fn of_set(told: SetAnswer) -> Response
+    ensures { result ≡ response_of (replies.Set told) }
+{
+    match told {
+        SetAnswer::Stored { evicted } => Response::Stored { evicted },
+        SetAnswer::Void => Response::Void,
+    }
+}
+
+/// The bare form of the answer to a quarantine.
+fn of_quarantine(told: &QAnswer) -> Response
+    ensures { result ≡ response_of (replies.Quar told.now) }
+{
+    match told {
+        QAnswer::Granted { grant, old: _ } => Response::Granted {
+            token: grant.token(),
+        },
+        QAnswer::Held => Response::Held,
+        QAnswer::Refused { holder, mode } => Response::Refused {
+            holder: *holder,
+            mode: *mode,
+        },
+    }
+}
+
+/// A request of a session and its reply, in their bare forms.
+#[derive(Clone, Copy, Debug, PartialEq, Eq)]
+pub struct Mark {
+    pub asked: Request,
+    pub told: Response,
+}

@@ -1,0 +1,157 @@
+ghost use Rattle.std.specs.Prelude.{◌≡◌, Bool, List, Option, IfOk, OnOk};
+ghost use Rattle.rows_model.specs.declared.keys.Sid.{Sid};
+ghost use Rattle.session_client.specs.Desks.{Call};
+ghost use Rattle.session_client.specs.Follows.{IsReady};
+ghost use Rattle.session_client.specs.Plans.{IsPlan, writes};
+ghost use Rattle.session_client.specs.declared.plans.Plan.{Plan};
+ghost use Rattle.gate_workers.specs.Notes.{IsGoing, IsUnderWay, HasEnded};
+ghost use Rattle.gate_workers.specs.Rows.{IsRow, with_calls};
+
+use crate::marks::{Mark, Request, Response};
+use crate::notes::Notes;
+use crate::transcripts::Row;
+use iq_outside::{Gate, Point};
+use rows_model::{Memory, Sid};
+use session_client::{Desk, Fault, Outcome, Plan, Session, Wanted};
+use std::alloc::Global;
+use std::sync::Wait;
+
+/// A plan that says the same.
+fn copy_of(plan: &Plan) -> Result<Plan, Memory>
+    ensures { IfOk result (λ copy. copy ≡ plan.now) }
+{
+    Ok(match plan {
+        Plan::Read { key, floor } => Plan::Read {
+            key: *key,
+            floor: *floor,
+        },
+        Plan::Write { mode, txn } => Plan::Write {
+            mode: *mode,
+            txn: txn.copy()?,
+        },
+        Plan::Look { mode, key, txn } => Plan::Look {
+            mode: *mode,
+            key: *key,
+            txn: txn.copy()?,
+        },
+        Plan::Quit { mode, txn } => Plan::Quit {
+            mode: *mode,
+            txn: txn.copy()?,
+        },
+        Plan::Skip { key, txn } => Plan::Skip {
+            key: *key,
+            txn: txn.copy()?,
+        },
+    })
+}
+
+/// Whether a session of this plan may commit.
+fn writes(plan: &Plan) -> bool
+    ensures { result ≡ writes plan.now }
+{
+    match plan {
+        Plan::Read { key: _, floor: _ } => false,
+        Plan::Write { mode: _, txn: _ }
+        | Plan::Look {
+            mode: _,
+            key: _,
+            txn: _,
+        }
+        | Plan::Quit { mode: _, txn: _ }
+        | Plan::Skip { key: _, txn: _ } => true,
+    }
+}
+
+/// Runs a session of the plan to its end at the desk, and gives its row. The gate is told when it is
+/// about to ask for its commit and when it has its outcome, and the desk then takes a step of its
+/// sweep.
+///
+/// For want of memory there is no row. A session that had begun was ended all the same, and its grants
+/// were released.
+pub(crate) fn run_session<R: Wait, D: Desk, G: Gate>(
+    rt: &R,
+    alloc: Global,
+    worker: u32,
+    desk: &mut D,
+    plan: &Plan,
+    gate: &G,
+) -> Result<Row, Memory>
+    requires { IsPlan plan.now }
+    ensures { IfOk result (λ row. (calls : List Call) × IsRow plan.now calls row
+        × (D.record_of desk.new ≡ with_calls calls (D.record_of desk.old))) }
+{
+    let copy = copy_of(plan)?;
+    let sid = desk.begin(writes(plan))?;
+    let Ok(mut session) = Session::new(alloc, sid, copy) else {
+        desk.call(sid, Wanted::End).let_go();
+        return Err(Memory);
+    };
+    let mut notes = Notes::new(alloc);
+    let outcome = drive(rt, worker, desk, &mut session, &mut notes, gate);
+    session.let_go();
+    gate.at(worker, Point::Answered);
+    desk.tend();
+    if outcome
+        == (Outcome::Failed {
+            fault: Fault::Memory,
+        })
+    {
+        return Err(Memory);
+    }
+    Ok(Row::new(sid, outcome, notes.kept()?))
+}
+
+/// Makes the session's requests at the desk until it wants no more, and tells how it ended.
+fn drive<R: Wait, D: Desk, G: Gate>(
+    rt: &R,
+    worker: u32,
+    desk: &mut D,
+    session: &mut Session,
+    notes: &mut Notes,
+    gate: &G,
+) -> Outcome
+    requires ready { IsReady session.old }
+    requires going { IsGoing session.old }
+    ensures { (who : Sid) (plan : Plan) (before : Option (List Call)) →
+        IsUnderWay who plan session.old before (D.record_of desk.old) notes.old →
+        HasEnded who plan result before (D.record_of desk.new) notes.new }
+{
+    for _ in rt.forever() {
+        if let Some(outcome) = session.done() {
+            return outcome;
+        }
+        step(worker, desk, session, notes, gate);
+    }
+    unreachable!()
+}
+
+/// Makes the session's next request, and tells it the reply.
+fn step<D: Desk, G: Gate>(
+    worker: u32,
+    desk: &mut D,
+    session: &mut Session,
+    notes: &mut Notes,
+    gate: &G,
+)
+    requires ready { IsReady session.old }
+    requires going { IsGoing session.old }
+    ensures ready { IsReady session.new }
+    ensures going { IsGoing session.new }
+    ensures goes_on { (who : Sid) (plan : Plan) (before : Option (List Call)) →
+        IsUnderWay who plan session.old before (D.record_of desk.old) notes.old →
+        IsUnderWay who plan session.new before (D.record_of desk.new) notes.new }
+{
+    let sid = session.sid();
+    let wanted = session.wants();
+    let asked = Request::of(&wanted);
+    if asked == Request::Commit {
+        gate.at(worker, Point::Quarantined);
+    }
+    let reply = desk.call(sid, wanted);
+    notes.note(Mark {
+        asked,
+        told: Response::of(&reply),
+    });
+    // Where memory runs out here, the session's outcome says so.
+    let _ = session.told(reply);
+}
