@@ -21,6 +21,7 @@ use Rattle.sql_keeper.specs.Fresh.{Fresh, Covered, IsFreshPast, releases}
 use Rattle.sql_keeper.specs.Log.{rows_after}
 use Rattle.session_client.specs.declared.plans.Shape.{Shape}
 use Rattle.run_inputs.specs.declared.scripts.Act.{Act}
+use Rattle.sql_keeper.specs.declared.keepers.Place.TheVariants as place
 use Rattle.run_inputs.specs.Script.{IsScript, TextsTellScripts}
 use Rattle.core_history.specs.Determined.{Call, call_of, RunsAreDetermined}
 use Rattle.core_history.specs.Events.{log_of}
@@ -90,16 +91,16 @@ some-at (Some x) h = (x, refl)
 some-at None h = absurd cc
 
 -- a run that began over a keeper that tells its rows is fresh
-fresh-began : (held : Held) (before after : Tells) (left : Left) (opening : Tables) → Began held before after left → IsSome after.rows → left.opening ≡ Some opening
+fresh-began : (held : Held) (before after : Tells) (left : Left) (opening : Tables) → Began held before after left → held.place ≡ place.Fresh → IsSome after.rows → left.opening ≡ Some opening
     → IsFreshRun before.left after.left opening after.rows left.log left.histories
-fresh-began held before after left opening b some is =
+fresh-began held before after left opening b new some is =
     let told = some-at after.rows some in
     let same : b.opening ≡ opening = same-inside b.opening opening (sym b.opening_is ∙ is) in
     subst (λ (rows : Tables). IsFreshRun before.left after.left rows after.rows left.log left.histories) same (record {
       shape = b.shape;
       acts = b.acts;
       read = b.read;
-      opened = b.opened.opened told.0 told.1 (start_tables b.shape.members) b.opened.fresh;
+      opened = b.opened.opened told.0 told.1 (start_tables b.shape.members) (b.opened.fresh new);
       fresh = b.keeps.fresh told.0 told.1;
       covered = b.keeps.covered;
       rows_are = told.1 ∙ ap Some (b.keeps.rows_are told.0 told.1);
@@ -108,9 +109,9 @@ fresh-began held before after left opening b some is =
     same-inside : (a b : Tables) → Some a ≡ Some b → a ≡ b
     same-inside a b e = cc
 
-pub fresh-run : (s : Status) (held : Held) (before after : Tells) (left : Left) (written : ℕ) → Ended s held before after left written → (IsSome left.opening → IsSome after.rows)
+pub fresh-run : (s : Status) (held : Held) (before after : Tells) (left : Left) (written : ℕ) → Ended s held before after left written → held.place ≡ place.Fresh → (IsSome left.opening → IsSome after.rows)
     → IfSome left.opening (λ opening. IsFreshRun before.left after.left opening after.rows left.log left.histories)
-fresh-run s held before after left written h started = by left.opening refl (began-or-not s held before after left written h)
+fresh-run s held before after left written h new started = by left.opening refl (began-or-not s held before after left written h)
   where
     by : (o : Option Tables) → left.opening ≡ o → (IsNotStarted before after left written ⊎ Began held before after left)
         → IfSome o (λ opening. IsFreshRun before.left after.left opening after.rows left.log left.histories)
@@ -120,7 +121,7 @@ fresh-run s held before after left written h started = by left.opening refl (beg
         none-some : (opening : Tables) → None ≡ Some opening → ⊥
         none-some opening e = absurd cc
     by (Some opening) is (inr b) =
-        fresh-began held before after left opening b (started (subst (λ (o : Option Tables). IsSome o) (sym is) refl)) is
+        fresh-began held before after left opening b new (started (subst (λ (o : Option Tables). IsSome o) (sym is) refl)) is
 
 -- each history of a run that is kept is legal, so that its hits meet their floors
 pub above-floors : HitsMeetTheirFloors → (s : Status) (held : Held) (before after : Tells) (left : Left) (written : ℕ) → Ended s held before after left written
@@ -232,16 +233,16 @@ gained old new printed none h = h ∙ ap (option_map (λ taken. taken ++ printed
 -- two runs of one text, both to the end and without a FAULT, came to the same
 wholes-alike : TextsTellScripts → RunsAreDetermined → (held held' : Held) (before after before' after' : Tells) (left left' : Left) (written written' : ℕ)
     → IsWhole held before after left written [] → IsWhole held' before' after' left' written' []
-    → IsSome after.rows → IsSome after'.rows → IsSome before.left → before'.left ≡ before.left → before.taken ≡ Some [] → before'.taken ≡ Some []
+    → held.place ≡ place.Fresh → held'.place ≡ place.Fresh → IsSome after.rows → IsSome after'.rows → IsSome before.left → before'.left ≡ before.left → before.taken ≡ Some [] → before'.taken ≡ Some []
     → AreAlike after after' left left' written written'
-wholes-alike texts law held held' before after before' after' left left' written written' h h' some some' told same none none' =
+wholes-alike texts law held held' before after before' after' left left' written written' h h' new new' some some' told same none none' =
     let rest = some-at before.left told in
     let rows = some-at after.rows some in
     let rows' = some-at after'.rows some' in
     let text = one-text before.left before'.left after.left after'.left h.read.text h'.read.text rest.0 rest.1 same h.read.takes h.read.at_end h'.read.takes h'.read.at_end in
     let script = texts.one_script h.read.text h.shape h'.shape h.acts h'.acts h.read.is_script (subst (λ (t : List ℕ). IsScript t h'.shape h'.acts) text h'.read.is_script) in
-    let opening = h.opened.opened rows.0 rows.1 (start_tables h.shape.members) h.opened.fresh in
-    let opening' = h'.opened.opened rows'.0 rows'.1 (start_tables h'.shape.members) h'.opened.fresh in
+    let opening = h.opened.opened rows.0 rows.1 (start_tables h.shape.members) (h.opened.fresh new) in
+    let opening' = h'.opened.opened rows'.0 rows'.1 (start_tables h'.shape.members) (h'.opened.fresh new') in
     let openings : h'.opening ≡ h.opening = opening' ∙ ap (λ (s : Shape). start_tables s.members) (sym script.0) ∙ sym opening in
     let made : AreMoves h.acts h'.moves = h'.made ∙ ap calls_of (sym script.1) in
     let at' : past_of h'.shape h'.moves ≡ past_of h.shape h'.moves = ap (λ (s : Shape). past_of s h'.moves) (sym script.0) in
@@ -270,13 +271,13 @@ wholes-alike texts law held held' before after before' after' left left' written
 
 pub two-alike : TextsTellScripts → RunsAreDetermined → (one two : Status) (held held' : Held) (before after before' after' : Tells) (left left' : Left) (written written' : ℕ)
     → Ended one held before after left written → Ended two held' before' after' left' written'
-    → (IsSome left.opening → IsSome after.rows) → (IsSome left'.opening → IsSome after'.rows)
+    → held.place ≡ place.Fresh → held'.place ≡ place.Fresh → (IsSome left.opening → IsSome after.rows) → (IsSome left'.opening → IsSome after'.rows)
     → IsSome before.left → before'.left ≡ before.left → before.taken ≡ Some [] → before'.taken ≡ Some []
     → one ≡ status.Done → two ≡ status.Done → AreAlike after after' left left' written written'
-two-alike texts law one two held held' before after before' after' left left' written written' h h' started started' told same none none' done done' =
+two-alike texts law one two held held' before after before' after' left left' written written' h h' new new' started started' told same none none' done done' =
     let whole = subst (λ (s : Status). Ended s held before after left written) done h in
     let whole' = subst (λ (s : Status). Ended s held' before' after' left' written') done' h' in
-    wholes-alike texts law held held' before after before' after' left left' written written' whole whole'
+    wholes-alike texts law held held' before after before' after' left left' written written' whole whole' new new'
     (started (began left.opening whole.opening whole.opening_is)) (started' (began left'.opening whole'.opening whole'.opening_is)) told same none none'
   where
     began : (o : Option Tables) (opening : Tables) → o ≡ Some opening → IsSome o

@@ -46,10 +46,10 @@ HitsHoldCommits opening log histories =
     → IsHitBehind history key commit.sid value stamp
     → (place < stamp) × (value ≡ answer key (state opening log stamp))
 
--- Nothing that was handed in failed: all was run, or the words or the text say nothing to run, or memory ran out.
+-- Nothing that was handed in failed: all was run, or the text says nothing to run, or memory ran out.
 abbrev pub IsUnharmed : Status → Type 0
 IsUnharmed status.Done = Unit {0}
-IsUnharmed status.Usage = Unit {0}
+IsUnharmed status.Usage = ⊥
 IsUnharmed (status.Script line kind) = Unit {0}
 IsUnharmed status.Memory = Unit {0}
 IsUnharmed status.ReadFault = ⊥

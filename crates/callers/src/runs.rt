@@ -11,16 +11,15 @@ use crate::shards::hits_meet_their_floors;
 use core_history::laws::{runs_are_determined, sweeps_are_final};
 use iq_outside::{Sink, Source};
 use run_inputs::texts_tell_scripts;
-use sql_keeper::{Keeper, MapKeeper};
+use sql_keeper::{Keeper, MapKeeper, Place};
 use std::alloc::Global;
-use top_run::{RunEnd, Status, run};
+use top_run::{RunEnd, Status, replay, run};
 
 /// No hit is stale over a keeper in memory, whichever of its calls fail, and whatever the source, the
 /// sink and the script are. Where the run began, it began with the rows of as many members as the
 /// script says, and the keeper's rows are those after the log.
 pub fn run_fresh<S: Source, W: Sink>(
     alloc: Global,
-    words: &[Vec<u8>],
     source: &mut S,
     sink: &mut W,
     keeper: MapKeeper,
@@ -29,13 +28,12 @@ pub fn run_fresh<S: Source, W: Sink>(
         IfSome result.opening (λ opening. IsFreshRun (S.left source.old) (S.left source.new)
         opening result.keeper.rows result.log.items histories) }
 {
-    run(alloc, words, source, sink, keeper)
+    replay(alloc, &Place::Fresh, source, sink, keeper)
 }
 
 /// Once a writer has released a key, each hit on it holds the writer's commit, if that touches the key.
 pub fn run_holding_commits<S: Source, W: Sink>(
     alloc: Global,
-    words: &[Vec<u8>],
     source: &mut S,
     sink: &mut W,
     keeper: MapKeeper,
@@ -44,7 +42,7 @@ pub fn run_holding_commits<S: Source, W: Sink>(
         IfSome result.opening (λ opening.
         HitsHoldCommits opening result.log.items histories) }
 {
-    run_fresh(alloc, words, source, sink, keeper)
+    run_fresh(alloc, source, sink, keeper)
 }
 
 /// Who reads behind a writer is served what that left. Where a writer's release put a value, or shifted
@@ -53,7 +51,6 @@ pub fn run_holding_commits<S: Source, W: Sink>(
 /// stamp is the number of the writer's commit, and the value is the key's answer after as many commits.
 pub fn run_serving_writes<S: Source, W: Sink>(
     alloc: Global,
-    words: &[Vec<u8>],
     source: &mut S,
     sink: &mut W,
     keeper: MapKeeper,
@@ -62,7 +59,7 @@ pub fn run_serving_writes<S: Source, W: Sink>(
         IfSome result.opening (λ opening.
         HitsAfterWrites opening result.log.items histories) }
 {
-    run(alloc, words, source, sink, keeper)
+    replay(alloc, &Place::Fresh, source, sink, keeper)
 }
 
 /// What the sweeper drops in a run is final, whatever the keeper does: at the end the quarantine that it
@@ -70,7 +67,6 @@ pub fn run_serving_writes<S: Source, W: Sink>(
 /// and the commit of the session whose quarantine it was, if that has one.
 pub fn run_swept<S: Source, W: Sink, K: Keeper>(
     alloc: Global,
-    words: &[Vec<u8>],
     source: &mut S,
     sink: &mut W,
     keeper: K,
@@ -80,13 +76,12 @@ pub fn run_swept<S: Source, W: Sink, K: Keeper>(
         IsSweptRun (S.left source.old) (S.left source.new) result.log.items histories }
 {
     sweeps_are_final();
-    run(alloc, words, source, sink, keeper)
+    replay(alloc, &Place::Fresh, source, sink, keeper)
 }
 
 /// No reader of a run is served a value older than its floor, whatever the keeper does.
 pub fn run_above_floors<S: Source, W: Sink, K: Keeper>(
     alloc: Global,
-    words: &[Vec<u8>],
     source: &mut S,
     sink: &mut W,
     keeper: K,
@@ -95,21 +90,20 @@ pub fn run_above_floors<S: Source, W: Sink, K: Keeper>(
         All (λ history. All MeetsItsFloor history) histories }
 {
     hits_meet_their_floors();
-    run(alloc, words, source, sink, keeper)
+    replay(alloc, &Place::Fresh, source, sink, keeper)
 }
 
 /// No transaction of a run was committed without a quarantine on each key that it touches, whatever the
 /// keeper does.
 pub fn run_covered<S: Source, W: Sink, K: Keeper>(
     alloc: Global,
-    words: &[Vec<u8>],
     source: &mut S,
     sink: &mut W,
     keeper: K,
 ) -> RunEnd<K>
     ensures { Covered result.log.items (map (λ history. history.items) result.histories.items) }
 {
-    run(alloc, words, source, sink, keeper)
+    replay(alloc, &Place::Fresh, source, sink, keeper)
 }
 
 /// Words that are no command leave the source, the sink and the keeper as they are.
@@ -134,7 +128,6 @@ pub fn run_no_command<S: Source, W: Sink, K: Keeper>(
 /// in whatever pieces these are read and written, and leave the same opening rows, log and histories.
 pub fn run_twice<S: Source, T: Source, W: Sink, V: Sink>(
     alloc: Global,
-    words: &[Vec<u8>],
     source: &mut S,
     second: &mut T,
     sink: &mut W,
@@ -164,15 +157,14 @@ pub fn run_twice<S: Source, T: Source, W: Sink, V: Sink>(
 {
     texts_tell_scripts();
     runs_are_determined();
-    let first = run(alloc, words, source, sink, keepers.0);
-    let then = run(alloc, words, second, other, keepers.1);
+    let first = replay(alloc, &Place::Fresh, source, sink, keepers.0);
+    let then = replay(alloc, &Place::Fresh, second, other, keepers.1);
     (first, then)
 }
 
-/// A run in which none of the three counts of faults rose ended Done, Script, Usage or Memory.
+/// A run in which none of the three counts of faults rose ended Done, Script or Memory.
 pub fn run_unharmed<S: Source, W: Sink, K: Keeper>(
     alloc: Global,
-    words: &[Vec<u8>],
     source: &mut S,
     sink: &mut W,
     keeper: K,
@@ -184,14 +176,13 @@ pub fn run_unharmed<S: Source, W: Sink, K: Keeper>(
         W.faults sink.new ≡ W.faults sink.old →
         K.faults result.keeper ≡ K.faults keeper → IsUnharmed result.status }
 {
-    run(alloc, words, source, sink, keeper)
+    replay(alloc, &Place::Fresh, source, sink, keeper)
 }
 
 /// Where a run never began, nothing was printed, and the keeper's rows are as before. So is its count of
 /// faults, unless it was the keeper that failed, at its start.
 pub fn run_not_begun<S: Source, W: Sink, K: Keeper>(
     alloc: Global,
-    words: &[Vec<u8>],
     source: &mut S,
     sink: &mut W,
     keeper: K,
@@ -203,5 +194,5 @@ pub fn run_not_begun<S: Source, W: Sink, K: Keeper>(
         K.faults result.keeper ≡ K.faults keeper }
     ensures log { result.opening ≡ None → result.log.items ≡ [] }
 {
-    run(alloc, words, source, sink, keeper)
+    replay(alloc, &Place::Fresh, source, sink, keeper)
 }

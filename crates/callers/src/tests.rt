@@ -27,32 +27,24 @@ const PROFILE: QKey = QKey {
     id: 2,
 };
 
-/// The words of a run.
-fn words(alloc: Global) -> Result<Vec<Vec<u8>>, Fail> {
-    let mut words = Vec::new(alloc);
-    words.push(Vec::from_slice(alloc, b"replay")?)?;
-    Ok(words)
-}
-
 #[test]
 fn runs_are_fresh_hold_commits_and_meet_floors(rt: HostRuntime) -> Result<(), Fail> {
     let alloc = rt.alloc();
-    let words = words(alloc)?;
     let text = Vec::from_slice(alloc, SCRIPT)?;
     let mut source = MemSource::new(text, 5, Vec::new(alloc));
     let mut sink = MemSink::new(alloc, 4096, 7, Vec::new(alloc))?;
     let keeper = MapKeeper::new(Vec::new(alloc));
-    let end = runs::run_fresh(alloc, words.as_slice(), &mut source, &mut sink, keeper);
+    let end = runs::run_fresh(alloc, &mut source, &mut sink, keeper);
     assert_eq!(rt; (end.status, end.log.len()), (Status::Done, 1));
     // The text is at its end now.
     let keeper = MapKeeper::new(Vec::new(alloc));
-    let end = runs::run_holding_commits(alloc, words.as_slice(), &mut source, &mut sink, keeper);
+    let end = runs::run_holding_commits(alloc, &mut source, &mut sink, keeper);
     assert_eq!(rt; end.opening.is_none(), true);
     let keeper = MapKeeper::new(Vec::new(alloc));
-    let end = runs::run_above_floors(alloc, words.as_slice(), &mut source, &mut sink, keeper);
+    let end = runs::run_above_floors(alloc, &mut source, &mut sink, keeper);
     assert_eq!(rt; end.histories.len(), 0);
     let keeper = MapKeeper::new(Vec::new(alloc));
-    let end = runs::run_covered(alloc, words.as_slice(), &mut source, &mut sink, keeper);
+    let end = runs::run_covered(alloc, &mut source, &mut sink, keeper);
     assert_eq!(rt; end.log.len(), 0);
     let keeper = MapKeeper::new(Vec::new(alloc));
     let end = runs::run_no_command(alloc, &[], &mut source, &mut sink, keeper);
@@ -63,12 +55,11 @@ fn runs_are_fresh_hold_commits_and_meet_floors(rt: HostRuntime) -> Result<(), Fa
 #[test]
 fn a_reader_hits_what_a_writer_left(rt: HostRuntime) -> Result<(), Fail> {
     let alloc = rt.alloc();
-    let words = words(alloc)?;
     let text = Vec::from_slice(alloc, REFRESH)?;
     let mut source = MemSource::new(text, 64, Vec::new(alloc));
     let mut sink = MemSink::new(alloc, 4096, 64, Vec::new(alloc))?;
     let keeper = MapKeeper::new(Vec::new(alloc));
-    let end = runs::run_serving_writes(alloc, words.as_slice(), &mut source, &mut sink, keeper);
+    let end = runs::run_serving_writes(alloc, &mut source, &mut sink, keeper);
     assert_eq!(rt; (end.status, end.log.len()), (Status::Done, 2));
     Ok(())
 }
@@ -76,12 +67,11 @@ fn a_reader_hits_what_a_writer_left(rt: HostRuntime) -> Result<(), Fail> {
 #[test]
 fn a_swept_writer_has_its_commit(rt: HostRuntime) -> Result<(), Fail> {
     let alloc = rt.alloc();
-    let words = words(alloc)?;
     let text = Vec::from_slice(alloc, SWEPT)?;
     let mut source = MemSource::new(text, 64, Vec::new(alloc));
     let mut sink = MemSink::new(alloc, 4096, 64, Vec::new(alloc))?;
     let keeper = MapKeeper::new(Vec::new(alloc));
-    let end = runs::run_swept(alloc, words.as_slice(), &mut source, &mut sink, keeper);
+    let end = runs::run_swept(alloc, &mut source, &mut sink, keeper);
     assert_eq!(rt; (end.status, end.log.len()), (Status::Done, 1));
     Ok(())
 }
@@ -114,7 +104,6 @@ fn a_session_that_quits_is_ended_behind_its_quarantines(rt: HostRuntime) -> Resu
 #[test]
 fn two_runs_of_one_text_print_the_same(rt: HostRuntime) -> Result<(), Fail> {
     let alloc = rt.alloc();
-    let words = words(alloc)?;
     let text = Vec::from_slice(alloc, SCRIPT)?;
     let mut source = MemSource::new(text, 1, Vec::new(alloc));
     let text = Vec::from_slice(alloc, SCRIPT)?;
@@ -127,7 +116,6 @@ fn two_runs_of_one_text_print_the_same(rt: HostRuntime) -> Result<(), Fail> {
     );
     let (first, then) = runs::run_twice(
         alloc,
-        words.as_slice(),
         &mut source,
         &mut second,
         &mut sink,
@@ -144,14 +132,13 @@ fn a_run_without_a_fault_is_unharmed_and_one_without_a_script_leaves_no_trace(
     rt: HostRuntime,
 ) -> Result<(), Fail> {
     let alloc = rt.alloc();
-    let words = words(alloc)?;
     let mut source = MemSource::new(Vec::new(alloc), 5, Vec::new(alloc));
     let mut sink = MemSink::new(alloc, 4096, 7, Vec::new(alloc))?;
     let keeper = MapKeeper::new(Vec::new(alloc));
-    let end = runs::run_unharmed(alloc, words.as_slice(), &mut source, &mut sink, keeper);
+    let end = runs::run_unharmed(alloc, &mut source, &mut sink, keeper);
     assert_eq!(rt; end.opening.is_none(), true);
     let keeper = MapKeeper::new(Vec::new(alloc));
-    let end = runs::run_not_begun(alloc, words.as_slice(), &mut source, &mut sink, keeper);
+    let end = runs::run_not_begun(alloc, &mut source, &mut sink, keeper);
     assert_eq!(rt; (end.written, sink.taken().len()), (0, 0));
     Ok(())
 }

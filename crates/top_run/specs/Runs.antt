@@ -7,7 +7,10 @@ use Rattle.rows_model.specs.Rows.{Tables, start_tables}
 use Rattle.key_shard.specs.declared.steps.Step.{Step}
 use Rattle.key_shard.specs.Answers.{Legal}
 use Rattle.sql_keeper.specs.declared.stores.Commit.{Commit}
-use Rattle.sql_keeper.specs.Fresh.{Fresh, Covered}
+use Rattle.sql_keeper.specs.declared.keepers.Place.{Place}
+use Rattle.sql_keeper.specs.declared.keepers.Place.TheVariants.{Fresh}
+use Rattle.sql_keeper.specs.Fresh.{Covered}
+use Rattle.sql_keeper.specs.Fresh.{Fresh as AreFresh}
 use Rattle.sql_keeper.specs.Log.{rows_after}
 use Rattle.session_client.specs.declared.plans.Shape.{Shape}
 use Rattle.run_inputs.specs.declared.scripts.Act.{Act}
@@ -89,9 +92,14 @@ pub record Left : Type 0 where
   pub log : List Commit
   pub histories : List (List Step)
 
--- The rows that the place of a run holds where it is made with so many members, where that is told.
-abbrev pub Held : Type 0
-Held = ℕ → Option Tables
+-- The place of a run, and the rows that it holds where it is made with so many members, where that is told.
+pub record Held : Type 0 where
+  pub place : Place
+  pub rows : ℕ → Option Tables
+
+-- What is held at this place.
+abbrev pub held_at : Place → (ℕ → Option Tables) → Held
+held_at place rows = record { place = place; rows = rows }
 
 -- The most bytes that are taken from a source: one more than the longest script has.
 abbrev pub most_taken : ℕ
@@ -132,10 +140,10 @@ pub record AreTold (shape : Shape) (moves : List Move) (failed_old failed_new : 
   pub few : FewFaults (faults_in shape moves) failed_old failed_new
   pub none : faults_in shape moves ≡ 0 → failed_new ≡ failed_old
 
--- The opening rows are those of the place, a fresh one: where the keeper tells its rows, and the place's rows are told.
+-- The opening rows are those of the place: where the keeper tells its rows, and the place's rows are told. A fresh place holds as many members as the script says.
 pub record IsOpened (held : Held) (shape : Shape) (opening : Tables) (rows : Option Tables) : Type 0 where
-  pub fresh : held shape.members ≡ Some (start_tables shape.members)
-  pub opened : ForSome rows (λ _. ForSome (held shape.members) (λ there. opening ≡ there))
+  pub fresh : held.place ≡ Fresh → held.rows shape.members ≡ Some (start_tables shape.members)
+  pub opened : ForSome rows (λ _. ForSome (held.rows shape.members) (λ there. opening ≡ there))
 
 -- The log and the histories are those after these moves over these opening rows. Each history is legal, each commit was quarantined when it was made and is covered, and each value that was put or shifted has the number of its session's commit. Where the keeper tells its rows, they are the opening rows after the log, its word was true, and each hit is fresh.
 pub record Keeps (shape : Shape) (opening : Tables) (moves : List Move) (rows : Option Tables) (log : List Commit) (histories : List (List Step)) : Type 0 where
@@ -147,7 +155,7 @@ pub record Keeps (shape : Shape) (opening : Tables) (moves : List Move) (rows : 
   pub numbered : (place : ℕ) (history : List Step) → slice_get histories place ≡ Some history → AllByRecursion (IsNumbered log) (reverse history)
   pub rows_are : ForSome rows (λ told. told ≡ rows_after opening log)
   pub truth : ForSome rows (λ _. IsTruePast opening (past_of shape moves))
-  pub fresh : ForSome rows (λ _. Fresh opening log histories)
+  pub fresh : ForSome rows (λ _. AreFresh opening log histories)
 
 -- A script was read, and what it says was done to its end, with these turns answered FAULT: all is printed. Where the keeper tells its rows, it is the one text of the script over the opening rows and these turns.
 pub record IsWhole (held : Held) (before after : Tells) (left : Left) (written : ℕ) (turns : List ℕ) : Type 0 where

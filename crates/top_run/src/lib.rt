@@ -1,7 +1,8 @@
-//! The top call: a script from a source, run on the core over a keeper, and its lines to a sink.
+//! The top calls: a script from a source, replayed on the core over a keeper, and its lines to a sink; and
+//! a command by its words.
 #![tactic(auto)]
 
-pub use runs::{RunEnd, Status, run};
+pub use runs::{RunEnd, Status, replay, run};
 
 mod endings;
 mod plays;

@@ -4,7 +4,7 @@ ghost use Rattle.rows_model.specs.Rows.{Tables};
 ghost use Rattle.run_inputs.specs.Fit.{IsPlayable};
 ghost use Rattle.core_history.specs.Cores.{shards_in, origin_of};
 ghost use Rattle.top_run.specs.declared.runs.Status.{Status};
-ghost use Rattle.top_run.specs.Runs.{AreReplay, Ended, Held, Left, moment, IsRead, IsOpened, RoseWhere, is_read_fault, is_write_fault};
+ghost use Rattle.top_run.specs.Runs.{AreReplay, Ended, Held, Left, held_at, moment, IsRead, IsOpened, RoseWhere, is_read_fault, is_write_fault};
 ghost use Rattle.top_run.specs.Plays.{IsNew, IsFinished, IsStopped, IsUnread, at_write};
 
 use crate::endings::{ended_run, not_started, start_status};
@@ -58,15 +58,57 @@ pub struct RunEnd<K> {
     pub written: u64,
 }
 
-/// Runs a script over a store with this keeper, at a fresh place: the words are the one word `replay`,
-/// the script comes from the source, and a line a turn and a last line go to the sink. A turn is a
-/// session's, a tick of the clock, or a step of the sweeper.
+/// Replays a script over a store with this keeper, at this place: the script comes from the source, and a
+/// line a turn and a last line go to the sink. A turn is a session's, a tick of the clock, or a step of
+/// the sweeper. It starts no thread and waits for nobody.
 ///
 /// The script is read whole before anything is printed; of a text that is too long 16,777,217 bytes
 /// are taken. The bytes printed are always the first of what the whole run prints. A keeper that fails
 /// in a turn is told as FAULT, and the run goes on. At a write that fails, or where memory runs out,
 /// it stops at once. What comes before the keeper is started leaves it as it was, and a run that began
 /// is never thrown away.
+pub fn replay<S: Source, W: Sink, K: Keeper>(
+    alloc: Global,
+    place: &Place,
+    source: &mut S,
+    sink: &mut W,
+    keeper: K,
+) -> RunEnd<K>
+    ensures is_command { result.status ≢ Status.Usage }
+    ensures ended { let before = moment (S.left source.old) (S.faults source.old)
+        (W.taken sink.old) (W.faults sink.old) (K.rows keeper) (K.faults keeper) in
+        let after = moment (S.left source.new) (S.faults source.new)
+        (W.taken sink.new) (W.faults sink.new)
+        (K.rows result.keeper) (K.faults result.keeper) in
+        let left : Left = record {
+          opening = result.opening;
+          log = result.log.items;
+          histories = map (λ history. history.items) result.histories.items;
+        } in
+        Ended result.status (held_at place.now (K.holds keeper place.now)) before after left
+        result.written }
+    ensures started { IsSome result.opening → K.is_started result.keeper }
+    ensures unstarted { result.opening ≡ None → K.is_started result.keeper → K.is_started keeper }
+    ensures reads { RoseWhere (is_read_fault result.status)
+        (S.faults source.old) (S.faults source.new) }
+    ensures writes { RoseWhere (is_write_fault result.status)
+        (W.faults sink.old) (W.faults sink.new) }
+    ensures done { result.status ≡ Status.Done → K.faults result.keeper ≡ K.faults keeper }
+    ensures faultless { K.faults result.keeper ≡ K.faults keeper → K.faults keeper < 2 ^ 64 - 1 →
+        result.status ≢ Status.KeepFault }
+    ensures source_never_falls { S.faults source.old ≤ S.faults source.new }
+    ensures sink_never_falls { W.faults sink.old ≤ W.faults sink.new }
+    ensures keeper_never_falls { K.faults keeper ≤ K.faults result.keeper }
+{
+    match read_script(alloc, source) {
+        Ok(script) => replay_script(alloc, place, script, sink, keeper),
+        Err(status) => not_started(alloc, status, keeper),
+    }
+}
+
+/// Runs a command over a store with this keeper, at a fresh place: the words are the one word `replay`,
+/// which replays the script that the source gives, as `replay` does. Other words are a faulty command
+/// line, and nothing is read, written or started.
 pub fn run<S: Source, W: Sink, K: Keeper>(
     alloc: Global,
     words: &[Vec<u8>],
@@ -86,7 +128,8 @@ pub fn run<S: Source, W: Sink, K: Keeper>(
           log = result.log.items;
           histories = map (λ history. history.items) result.histories.items;
         } in
-        Ended result.status (K.holds keeper Place.Fresh) before after left result.written }
+        Ended result.status (held_at Place.Fresh (K.holds keeper Place.Fresh)) before after left
+        result.written }
     ensures started { IsSome result.opening → K.is_started result.keeper }
     ensures unstarted { result.opening ≡ None → K.is_started result.keeper → K.is_started keeper }
     ensures reads { RoseWhere (is_read_fault result.status)
@@ -103,10 +146,7 @@ pub fn run<S: Source, W: Sink, K: Keeper>(
     if !are_replay(words) {
         return not_started(alloc, Status::Usage, keeper);
     }
-    match read_script(alloc, source) {
-        Ok(script) => replay(alloc, script, sink, keeper),
-        Err(status) => not_started(alloc, status, keeper),
-    }
+    replay(alloc, &Place::Fresh, source, sink, keeper)
 }
 
 /// Whether the words are the one word `replay`.
@@ -148,7 +188,13 @@ fn read_script<S: Source>(alloc: Global, source: &mut S) -> Result<Script, Statu
 
 /// Runs a script and prints its lines. Room for the histories is there before the keeper starts, so
 /// that nothing that the run did is lost for want of memory.
-fn replay<W: Sink, K: Keeper>(alloc: Global, script: Script, sink: &mut W, keeper: K) -> RunEnd<K>
+fn replay_script<W: Sink, K: Keeper>(
+    alloc: Global,
+    place: &Place,
+    script: Script,
+    sink: &mut W,
+    keeper: K,
+) -> RunEnd<K>
     requires { IsPlayable script.shape script.acts }
     ensures ended { (left_old left_new : Option (List ℕ)) (reads : ℕ) →
         IsRead left_old left_new script.shape script.acts →
@@ -162,7 +208,8 @@ fn replay<W: Sink, K: Keeper>(alloc: Global, script: Script, sink: &mut W, keepe
           log = result.log.items;
           histories = map (λ history. history.items) result.histories.items;
         } in
-        Ended result.status (K.holds keeper Place.Fresh) before after left result.written }
+        Ended result.status (held_at place.now (K.holds keeper place.now)) before after left
+        result.written }
     ensures other { result.status ≢ Status.Usage }
     ensures no_read_fault { IsFalse (is_read_fault result.status) }
     ensures started { IsSome result.opening → K.is_started result.keeper }
@@ -175,7 +222,7 @@ fn replay<W: Sink, K: Keeper>(alloc: Global, script: Script, sink: &mut W, keepe
     let Ok(histories) = Vec::with_capacity(alloc, script.shape().shards as usize) else {
         return not_started(alloc, Status::Memory, keeper);
     };
-    match Core::new(alloc, keeper, &Place::Fresh, script.shape()) {
+    match Core::new(alloc, keeper, place, script.shape()) {
         Ok(core) => play_on(alloc, core, script, sink, histories),
         Err(NoStore { keeper, cause }) => not_started(alloc, start_status(cause), keeper),
     }

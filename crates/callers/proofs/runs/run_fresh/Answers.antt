@@ -1,5 +1,6 @@
+use Rattle.std.proofs.Common.{refl}
 use Rattle.callers.proofs.RunLemmas.{fresh-run}
 use Rattle.callers.proofs.runs.run_fresh.Goals as goal
 
 pub returns : goal.returns
-returns g c = fresh-run c.run.result.status _ _ _ _ c.run.result.written c.run.ensures.ended c.run.ensures.started
+returns g c = fresh-run c.replay.result.status _ _ _ _ c.replay.result.written c.replay.ensures.ended refl c.replay.ensures.started
