@@ -1,7 +1,8 @@
 // What whole runs tell who makes them.
 ghost use Rattle.std.specs.Prelude.{◌≡◌, ◌≢◌, ◌<◌, ◌-◌, ◌^◌, [], All, map, Some, None, IfSome, IsSome};
 ghost use Rattle.sql_keeper.specs.Fresh.{Covered};
-ghost use Rattle.top_run.specs.Runs.{AreReplay, Left, moment};
+ghost use Rattle.top_run.specs.Runs.{Left, moment};
+ghost use Rattle.top_run.specs.Works.{AreNoCommand};
 ghost use Rattle.callers.specs.Shards.{MeetsItsFloor};
 ghost use Rattle.callers.specs.Runs.{IsFreshRun, HitsHoldCommits, IsUnharmed, AreAlike};
 ghost use Rattle.callers.specs.Writes.{HitsAfterWrites};
@@ -9,10 +10,12 @@ ghost use Rattle.callers.specs.Drops.{IsSweptRun};
 
 use crate::shards::hits_meet_their_floors;
 use core_history::laws::{runs_are_determined, sweeps_are_final};
-use iq_outside::{Sink, Source};
+use iq_outside::{Clock, Gate, Sink, Source};
 use run_inputs::texts_tell_scripts;
 use sql_keeper::{Keeper, MapKeeper, Place};
 use std::alloc::Global;
+use std::sync::Wait;
+use std::thread::Threads;
 use top_run::{RunEnd, Status, replay, run};
 
 /// No hit is stale over a keeper in memory, whichever of its calls fail, and whatever the source, the
@@ -107,21 +110,31 @@ pub fn run_covered<S: Source, W: Sink, K: Keeper>(
 }
 
 /// Words that are no command leave the source, the sink and the keeper as they are.
-pub fn run_no_command<S: Source, W: Sink, K: Keeper>(
+pub fn run_no_command<
+    S: Source,
+    W: Sink,
+    K: Keeper + Send,
+    C: Clock,
+    G: Gate,
+    R: Threads + Wait + Sync,
+>(
+    rt: &R,
     alloc: Global,
     words: &[Vec<u8>],
     source: &mut S,
     sink: &mut W,
     keeper: K,
+    clock: &C,
+    gate: &G,
 ) -> RunEnd<K>
-    requires { AreReplay (map (λ word. word.items) words.now) → ⊥ }
+    requires { AreNoCommand (map (λ word. word.items) words.now) }
     ensures { let before = moment (S.left source.old) (S.faults source.old)
         (W.taken sink.old) (W.faults sink.old) (K.rows keeper) (K.faults keeper) in
         let after = moment (S.left source.new) (S.faults source.new)
         (W.taken sink.new) (W.faults sink.new) (K.rows result.keeper) (K.faults result.keeper) in
         after ≡ before }
 {
-    run(alloc, words, source, sink, keeper)
+    run(rt, alloc, words, source, sink, keeper, clock, gate)
 }
 
 /// Two runs of one text over keepers in memory that both end Done put the same bytes into their sinks,

@@ -2,7 +2,8 @@
 //! rows of its store are in memory.
 #![tactic(auto)]
 
-use iq_outside::{ReaderSource, WriterSink};
+use iq_outside::{OpenGate, ReaderSource, RuntimeClock, WriterSink};
+use rows_model::QKey;
 use sql_keeper::MapKeeper;
 use std::process::ExitCode;
 use std::{env, io};
@@ -10,7 +11,24 @@ use top_run::{Status, run};
 
 fn main(rt: HostRuntime) -> ExitCode {
     let status = match words(&rt) {
-        Ok(words) => run_on(&rt, words.as_slice()),
+        Ok(words) => {
+            // Standard input and standard output have no buffer, and the keeper is in memory.
+            let mut source = ReaderSource::new(rt.stdin());
+            let mut sink = WriterSink::new(rt.stdout());
+            let keeper = MapKeeper::new(Vec::new(rt.alloc()));
+            let clock = RuntimeClock::new(&rt);
+            run(
+                &rt,
+                rt.alloc(),
+                words.as_slice(),
+                &mut source,
+                &mut sink,
+                keeper,
+                &clock,
+                &OpenGate,
+            )
+            .status
+        }
         Err(status) => status,
     };
     tell(&rt, status);
@@ -41,14 +59,6 @@ fn ended_by(error: &io::Error) -> Status {
     }
 }
 
-/// Runs on standard input and standard output, neither with a buffer, over a keeper in memory.
-fn run_on(rt: &HostRuntime, words: &[Vec<u8>]) -> Status {
-    let mut source = ReaderSource::new(rt.stdin());
-    let mut sink = WriterSink::new(rt.stdout());
-    let keeper = MapKeeper::new(Vec::new(rt.alloc()));
-    run(rt.alloc(), words, &mut source, &mut sink, keeper).status
-}
-
 /// Writes the one line of a fault to standard error.
 fn tell(rt: &HostRuntime, status: Status) {
     let written = match status {
@@ -58,13 +68,25 @@ fn tell(rt: &HostRuntime, status: Status) {
         Status::ReadFault => eprintln!(rt; "read fault"),
         Status::WriteFault => eprintln!(rt; "write fault"),
         Status::KeepFault => eprintln!(rt; "store fault"),
+        Status::Spent { shard } => eprintln!(rt; "spent {shard}"),
+        Status::Stale { shard, place } => eprintln!(rt; "stale {shard} {place}"),
+        Status::Uncovered { commit, key } => tell_uncovered(rt, commit, key),
         Status::Memory => eprintln!(rt; "memory"),
     };
     // There is nowhere left to tell that a write failed.
     let _ = written;
 }
 
-/// The exit status, one for each way to end. A line that isn't run yet has its own.
+/// Writes which commit isn't covered, and on which key. Without memory for the key's text it tells that.
+fn tell_uncovered(rt: &HostRuntime, commit: u64, key: QKey) -> io::Result<()> {
+    let Ok(text) = key.text(rt.alloc()) else {
+        return eprintln!(rt; "memory");
+    };
+    let text = str::from_utf8(text.bytes()).unwrap_or("");
+    eprintln!(rt; "uncovered {commit} {text}")
+}
+
+/// The exit status, one for each way to end.
 fn exit_code(status: Status) -> u8 {
     match status {
         Status::Done => 0,
@@ -73,6 +95,9 @@ fn exit_code(status: Status) -> u8 {
         Status::ReadFault => 3,
         Status::WriteFault => 4,
         Status::KeepFault => 6,
+        Status::Stale { .. } => 7,
+        Status::Uncovered { .. } => 8,
         Status::Memory => 10,
+        Status::Spent { .. } => 11,
     }
 }

@@ -63,7 +63,7 @@ pub(crate) fn ended_run<K: Keeper>(
 }
 
 /// The histories of the shards, in their order, put where there is room for them.
-fn histories_of(shards: Vec<Shard>, room: Vec<Vec<Step>>) -> Vec<Vec<Step>>
+pub(crate) fn histories_of(shards: Vec<Shard>, room: Vec<Vec<Step>>) -> Vec<Vec<Step>>
     requires none { room.items ≡ [] }
     requires room { vec_len shards ≤ vec_capacity room }
     ensures { map (λ history. history.items) result.items ≡

@@ -5,18 +5,22 @@ ghost use Rattle.run_inputs.specs.Fit.{IsPlayable};
 ghost use Rattle.core_history.specs.Cores.{shards_in, origin_of};
 ghost use Rattle.top_run.specs.declared.runs.Status.{Status};
 ghost use Rattle.top_run.specs.Runs.{AreReplay, Ended, Held, Left, held_at, moment, IsRead, IsOpened, RoseWhere, is_read_fault, is_write_fault};
+ghost use Rattle.top_run.specs.Works.{AreNoCommand, CommandEnded};
 ghost use Rattle.top_run.specs.Plays.{IsNew, IsFinished, IsStopped, IsUnread, at_write};
 
 use crate::endings::{ended_run, not_started, start_status};
 use crate::plays::{Stop, Tally, play};
 use crate::printing::{last_line, print};
 use core_history::Core;
-use iq_outside::{ReadStop, Sink, Source, read_up_to};
+use crate::works::work;
+use iq_outside::{Clock, Gate, ReadStop, Sink, Source, read_up_to};
 use key_shard::Step;
-use rows_model::Rows;
-use run_inputs::{Script, ScriptFault, ScriptKind};
+use rows_model::{QKey, Rows};
+use run_inputs::{Script, ScriptFault, ScriptKind, work_words};
 use sql_keeper::{Commit, Keeper, NoStore, Place};
 use std::alloc::Global;
+use std::sync::Wait;
+use std::thread::Threads;
 
 /// The longest script, in bytes.
 const LONGEST_TEXT: usize = 16_777_216;
@@ -35,9 +39,18 @@ pub enum Status {
     ReadFault,
     /// A write failed.
     WriteFault,
-    /// The store's keeper didn't start, or it failed later: then all was run and printed, and some
-    /// line said FAULT.
+    /// The store's keeper didn't start, or it failed later: then all was run and printed, and of a
+    /// script some line said FAULT.
     KeepFault,
+    /// This is the least shard that has no token left to draw. All sessions of the load were run, and its
+    /// summary was printed.
+    Spent { shard: u32 },
+    /// The load's summary was printed, and its audit found that this is the first hit that isn't fresh:
+    /// by the number of its shard, and then by its place in the history, from 0.
+    Stale { shard: u32, place: u64 },
+    /// The load's summary was printed, and its audit found that this is the first commit, counted from 1,
+    /// that touches a key which wasn't granted to its session, and the least such key.
+    Uncovered { commit: u64, key: QKey },
     /// Memory ran out.
     Memory,
 }
@@ -106,18 +119,37 @@ pub fn replay<S: Source, W: Sink, K: Keeper>(
     }
 }
 
-/// Runs a command over a store with this keeper, at a fresh place: the words are the one word `replay`,
-/// which replays the script that the source gives, as `replay` does. Other words are a faulty command
-/// line, and nothing is read, written or started.
-pub fn run<S: Source, W: Sink, K: Keeper>(
+/// Runs a command over a store with this keeper, at a fresh place.
+///
+/// The one word `replay` replays the script that the source gives, as the call `replay` does. The words
+/// `work <members> <sessions> <workers> <shards> <seed>` run a load that is drawn from the seed: each
+/// worker runs its sessions in a thread of its own over one cache; then the kept log and histories are
+/// audited, and a summary of three lines goes to the sink. All numbers in it but the bypasses and the
+/// rejections are counted in what is kept. Nothing is read then. Where a call of the keeper failed, the
+/// status is `KeepFault`; else it is `Spent` where a shard has no token left; else it tells what the audit
+/// found. At a write that fails, or where memory runs out, no summary stands whole; what a load that
+/// began has kept is never thrown away. The call may wait.
+///
+/// Other words are a faulty command line, and nothing is read, written or started.
+pub fn run<
+    S: Source,
+    W: Sink,
+    K: Keeper + Send,
+    C: Clock,
+    G: Gate,
+    R: Threads + Wait + Sync,
+>(
+    rt: &R,
     alloc: Global,
     words: &[Vec<u8>],
     source: &mut S,
     sink: &mut W,
     keeper: K,
+    clock: &C,
+    gate: &G,
 ) -> RunEnd<K>
     ensures usage { (result.status ≡ Status.Usage) ↔
-        (AreReplay (map (λ word. word.items) words.now) → ⊥) }
+        AreNoCommand (map (λ word. word.items) words.now) }
     ensures ended { let before = moment (S.left source.old) (S.faults source.old)
         (W.taken sink.old) (W.faults sink.old) (K.rows keeper) (K.faults keeper) in
         let after = moment (S.left source.new) (S.faults source.new)
@@ -128,25 +160,32 @@ pub fn run<S: Source, W: Sink, K: Keeper>(
           log = result.log.items;
           histories = map (λ history. history.items) result.histories.items;
         } in
-        Ended result.status (held_at Place.Fresh (K.holds keeper Place.Fresh)) before after left
-        result.written }
+        CommandEnded (map (λ word. word.items) words.now) result.status
+        (held_at Place.Fresh (K.holds keeper Place.Fresh)) before after left result.written }
     ensures started { IsSome result.opening → K.is_started result.keeper }
     ensures unstarted { result.opening ≡ None → K.is_started result.keeper → K.is_started keeper }
     ensures reads { RoseWhere (is_read_fault result.status)
         (S.faults source.old) (S.faults source.new) }
     ensures writes { RoseWhere (is_write_fault result.status)
         (W.faults sink.old) (W.faults sink.new) }
-    ensures done { result.status ≡ Status.Done → K.faults result.keeper ≡ K.faults keeper }
+    ensures done { AreReplay (map (λ word. word.items) words.now) → result.status ≡ Status.Done →
+        K.faults result.keeper ≡ K.faults keeper }
     ensures faultless { K.faults result.keeper ≡ K.faults keeper → K.faults keeper < 2 ^ 64 - 1 →
         result.status ≢ Status.KeepFault }
     ensures source_never_falls { S.faults source.old ≤ S.faults source.new }
     ensures sink_never_falls { W.faults sink.old ≤ W.faults sink.new }
-    ensures keeper_never_falls { K.faults keeper ≤ K.faults result.keeper }
+    ensures keeper_never_falls { K.faults keeper ≤ 2 ^ 64 - 1 →
+        K.faults keeper ≤ K.faults result.keeper }
+    ensures replay_never_falls { AreReplay (map (λ word. word.items) words.now) →
+        K.faults keeper ≤ K.faults result.keeper }
 {
-    if !are_replay(words) {
-        return not_started(alloc, Status::Usage, keeper);
+    if are_replay(words) {
+        return replay(alloc, &Place::Fresh, source, sink, keeper);
     }
-    replay(alloc, &Place::Fresh, source, sink, keeper)
+    match work_words(words) {
+        Some(spec) => work(rt, alloc, &spec, sink, keeper, clock, gate),
+        None => not_started(alloc, Status::Usage, keeper),
+    }
 }
 
 /// Whether the words are the one word `replay`.

@@ -3,11 +3,11 @@
 #![tactic(auto)]
 
 use iq_outside::{MemSink, MemSource};
-use sql_keeper::MapKeeper;
+use sql_keeper::{MapKeeper, Place};
 use std::alloc::Global;
 use std::process::ExitCode;
 use std::{fs, io};
-use top_run::{Status, run};
+use top_run::{Status, replay};
 
 /// The most bytes that a script may print here.
 const ROOM: usize = 1_000_000;
@@ -50,13 +50,11 @@ fn names(rt: &HostRuntime) -> io::Result<Vec<String>> {
 
 /// Whether the script runs to its end and prints this.
 fn prints(alloc: Global, script: Vec<u8>, wanted: &[u8]) -> io::Result<bool> {
-    let mut words = Vec::new(alloc);
-    words.push(Vec::from_slice(alloc, b"replay")?)?;
     let mut source = MemSource::new(script, PIECE, Vec::new(alloc));
     let Ok(mut sink) = MemSink::new(alloc, ROOM, PIECE, Vec::new(alloc)) else {
         return Err(io::Error::from(io::ErrorKind::OutOfMemory));
     };
     let keeper = MapKeeper::new(Vec::new(alloc));
-    let end = run(alloc, words.as_slice(), &mut source, &mut sink, keeper);
+    let end = replay(alloc, &Place::Fresh, &mut source, &mut sink, keeper);
     Ok(end.status == Status::Done && sink.taken() == wanted)
 }

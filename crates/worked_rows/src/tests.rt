@@ -1,9 +1,11 @@
-use iq_outside::{MemSink, MemSource, read_up_to};
+use iq_outside::{ListClock, MemSink, MemSource, OpenGate, read_up_to};
 use run_inputs::ScriptKind;
 use sql_keeper::MapKeeper;
 use std::alloc::Global;
 use std::process::Abort;
+use std::sync::Wait;
 use std::test::Fail;
+use std::thread::Threads;
 use top_run::{Status, run};
 
 /// What each script prints.
@@ -241,7 +243,8 @@ struct Ran {
 
 /// Runs a text of which so many bytes are read or taken at a call, with these calls of the source, the
 /// sink and the keeper failing.
-fn run_over(
+fn run_over<R: Threads + Wait + Sync>(
+    rt: &R,
     alloc: Global,
     words: &[&str],
     text: &[u8],
@@ -264,7 +267,17 @@ fn run_over(
         Vec::from_slice(alloc, writes_fail)?,
     )?;
     let keeper = MapKeeper::new(Vec::from_slice(alloc, keeps_fail)?);
-    let end = run(alloc, said.as_slice(), &mut source, &mut sink, keeper);
+    let clock = ListClock::new(vec![in alloc; 0]?);
+    let end = run(
+        rt,
+        alloc,
+        said.as_slice(),
+        &mut source,
+        &mut sink,
+        keeper,
+        &clock,
+        &OpenGate,
+    );
     let unread = read_up_to(alloc, &mut source, usize::MAX)?.text.len();
     Ok(Ran {
         status: end.status,
@@ -278,8 +291,8 @@ fn run_over(
 }
 
 /// Runs a script without a fault, in pieces of three sizes, and looks at what it prints.
-fn prints(
-    rt: &impl Abort,
+fn prints<R: Threads + Wait + Abort + Sync>(
+    rt: &R,
     alloc: Global,
     name: &str,
     text: &[u8],
@@ -287,7 +300,7 @@ fn prints(
     histories: usize,
 ) -> Result<(), Fail> {
     for piece in [1, 5, 4096] {
-        let ran = run_over(alloc, &["replay"], text, piece, &[], &[], &[], 4096)?;
+        let ran = run_over(rt, alloc, &["replay"], text, piece, &[], &[], &[], 4096)?;
         assert_eq!(rt; ran.status, Status::Done, "{name}, in pieces of {piece}");
         assert_eq!(rt; ran.printed.as_slice(), out, "{name}, in pieces of {piece}");
         assert_eq!(rt; ran.written, out.len() as u64);
@@ -314,7 +327,7 @@ fn scripts_print_their_lines(rt: HostRuntime) -> Result<(), Fail> {
 fn a_run_keeps_its_log(rt: HostRuntime) -> Result<(), Fail> {
     let text =
         b"members 3\nwrite 1 invalidate rename 2 bob\nwrite 2 invalidate rename 1 al\nturn 1 3\nturn 2 2\nend\n";
-    let ran = run_over(rt.alloc(), &["replay"], text, 5, &[], &[], &[], 4096)?;
+    let ran = run_over(&rt, rt.alloc(), &["replay"], text, 5, &[], &[], &[], 4096)?;
     assert_eq!(rt; (ran.status, ran.commits), (Status::Done, 2));
     Ok(())
 }
@@ -322,7 +335,7 @@ fn a_run_keeps_its_log(rt: HostRuntime) -> Result<(), Fail> {
 #[test]
 fn a_keepers_fault_is_printed_and_the_run_goes_on(rt: HostRuntime) -> Result<(), Fail> {
     for (name, text, fails, out, commits) in FAULTS {
-        let ran = run_over(rt.alloc(), &["replay"], text, 5, &[], &[], fails, 4096)?;
+        let ran = run_over(&rt, rt.alloc(), &["replay"], text, 5, &[], &[], fails, 4096)?;
         assert_eq!(rt; ran.status, Status::KeepFault, "{name}");
         assert_eq!(rt; ran.printed.as_slice(), out, "{name}");
         assert_eq!(rt;
@@ -337,7 +350,7 @@ fn a_keepers_fault_is_printed_and_the_run_goes_on(rt: HostRuntime) -> Result<(),
 #[test]
 fn a_keeper_that_does_not_start_ends_the_run_before_it_begins(rt: HostRuntime) -> Result<(), Fail> {
     let text = b"members 3\nread 1 profile:2\nturn 1 3\nend\n";
-    let ran = run_over(rt.alloc(), &["replay"], text, 5, &[], &[], &[1], 4096)?;
+    let ran = run_over(&rt, rt.alloc(), &["replay"], text, 5, &[], &[], &[1], 4096)?;
     assert_eq!(rt; ran.status, Status::KeepFault);
     assert_eq!(rt;
         (ran.started, ran.commits, ran.histories, ran.unread),
@@ -350,7 +363,7 @@ fn a_keeper_that_does_not_start_ends_the_run_before_it_begins(rt: HostRuntime) -
 #[test]
 fn other_texts_print_nothing(rt: HostRuntime) -> Result<(), Fail> {
     for (name, text, line, kind) in NO_SCRIPTS {
-        let ran = run_over(rt.alloc(), &["replay"], text, 5, &[], &[], &[], 4096)?;
+        let ran = run_over(&rt, rt.alloc(), &["replay"], text, 5, &[], &[], &[], 4096)?;
         assert_eq!(rt; ran.status, Status::Script { line, kind }, "{name}");
         assert_eq!(rt;
             (ran.written, ran.started, ran.histories, ran.unread),
@@ -366,6 +379,7 @@ fn other_texts_print_nothing(rt: HostRuntime) -> Result<(), Fail> {
 fn of_a_text_that_is_too_long_no_more_is_read(rt: HostRuntime) -> Result<(), Fail> {
     let text = vec![in rt.alloc(); b'x'; 16_777_220]?;
     let ran = run_over(
+        &rt,
         rt.alloc(),
         &["replay"],
         text.as_slice(),
@@ -388,16 +402,21 @@ fn of_a_text_that_is_too_long_no_more_is_read(rt: HostRuntime) -> Result<(), Fai
 #[test]
 fn other_words_are_refused_and_nothing_is_read(rt: HostRuntime) -> Result<(), Fail> {
     let text = b"members 3\nend\n";
-    let cases: [&[&str]; 6] = [
+    let cases: [&[&str]; 11] = [
         &[],
         &[""],
         &["work"],
+        &["work", "3", "0", "1", "1"],
+        &["work", "0", "0", "1", "1", "1"],
+        &["work", "3", "0", "65", "1", "1"],
+        &["work", "3", "0", "1", "1", "01"],
+        &["work", "3", "0", "1", "1", "1", "1"],
         &["replay", "replay"],
         &["replay", "x"],
         &["Replay"],
     ];
     for words in cases {
-        let ran = run_over(rt.alloc(), words, text, 5, &[], &[], &[], 4096)?;
+        let ran = run_over(&rt, rt.alloc(), words, text, 5, &[], &[], &[], 4096)?;
         assert_eq!(rt; ran.status, Status::Usage);
         assert_eq!(rt; (ran.written, ran.started, ran.unread), (0, false, 14));
         assert!(rt; ran.printed.is_empty());
@@ -409,7 +428,7 @@ fn other_words_are_refused_and_nothing_is_read(rt: HostRuntime) -> Result<(), Fa
 fn a_read_that_fails_ends_the_run_before_it_begins(rt: HostRuntime) -> Result<(), Fail> {
     let text = b"members 3\nend\n";
     for at in [1, 2, 3, 4] {
-        let ran = run_over(rt.alloc(), &["replay"], text, 5, &[at], &[], &[], 4096)?;
+        let ran = run_over(&rt, rt.alloc(), &["replay"], text, 5, &[at], &[], &[], 4096)?;
         assert_eq!(rt; ran.status, Status::ReadFault, "at read {at}");
         assert_eq!(rt; (ran.written, ran.started, ran.histories), (0, false, 0));
         assert!(rt; ran.printed.is_empty());
@@ -429,6 +448,7 @@ fn a_write_that_fails_ends_the_run_there(rt: HostRuntime) -> Result<(), Fail> {
     ];
     for (writes_fail, room, taken) in cases {
         let ran = run_over(
+            &rt,
             rt.alloc(),
             &["replay"],
             text,
@@ -449,13 +469,13 @@ fn a_write_that_fails_ends_the_run_there(rt: HostRuntime) -> Result<(), Fail> {
 #[test]
 fn whichever_write_fails_the_lines_before_it_are_printed(rt: HostRuntime) -> Result<(), Fail> {
     for (at, out) in WRITES_FAIL {
-        let ran = nine_turns(rt.alloc(), &[at], &[])?;
+        let ran = nine_turns(&rt, rt.alloc(), &[at], &[])?;
         assert_eq!(rt; ran.status, Status::WriteFault, "at write {at}");
         assert_eq!(rt; ran.printed.as_slice(), out, "at write {at}");
         assert_eq!(rt; (ran.written, ran.commits), (out.len() as u64, 0));
     }
     for at in 4..=10 {
-        let ran = nine_turns(rt.alloc(), &[at], &[])?;
+        let ran = nine_turns(&rt, rt.alloc(), &[at], &[])?;
         assert_eq!(rt; ran.status, Status::WriteFault, "at write {at}");
         assert!(rt;
             NINE_LINES.starts_with(ran.printed.as_slice()),
@@ -464,7 +484,7 @@ fn whichever_write_fails_the_lines_before_it_are_printed(rt: HostRuntime) -> Res
         // The fifth turn commits, and its line is the fifth write.
         assert_eq!(rt; ran.commits, if at < 5 { 0 } else { 1 }, "at write {at}");
     }
-    let ran = nine_turns(rt.alloc(), &[11], &[])?;
+    let ran = nine_turns(&rt, rt.alloc(), &[11], &[])?;
     assert_eq!(rt;
         (ran.status, ran.printed.as_slice()),
         (Status::Done, NINE_LINES)
@@ -477,7 +497,7 @@ fn whichever_call_the_keeper_fails_is_printed_and_the_run_goes_on(
     rt: HostRuntime,
 ) -> Result<(), Fail> {
     for (at, out, commits) in KEEPS_FAIL {
-        let ran = nine_turns(rt.alloc(), &[], &[at])?;
+        let ran = nine_turns(&rt, rt.alloc(), &[], &[at])?;
         assert_eq!(rt; ran.status, Status::KeepFault, "at call {at}");
         assert_eq!(rt; ran.printed.as_slice(), out, "at call {at}");
         assert_eq!(rt;
@@ -486,7 +506,7 @@ fn whichever_call_the_keeper_fails_is_printed_and_the_run_goes_on(
             "at call {at}"
         );
     }
-    let ran = nine_turns(rt.alloc(), &[], &[5])?;
+    let ran = nine_turns(&rt, rt.alloc(), &[], &[5])?;
     assert_eq!(rt;
         (ran.status, ran.printed.as_slice()),
         (Status::Done, NINE_LINES)
@@ -495,8 +515,11 @@ fn whichever_call_the_keeper_fails_is_printed_and_the_run_goes_on(
 }
 
 /// Runs the nine turns, a line at a write, with these writes and calls of the keeper failing.
-fn nine_turns(alloc: Global, writes_fail: &[u64], keeps_fail: &[u64]) -> Result<Ran, Fail> {
+fn nine_turns<R: Threads + Wait + Sync>(
+    rt: &R,
+    alloc: Global, writes_fail: &[u64], keeps_fail: &[u64]) -> Result<Ran, Fail> {
     run_over(
+        rt,
         alloc,
         &["replay"],
         NINE_TURNS,

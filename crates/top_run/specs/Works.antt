@@ -1,0 +1,190 @@
+-- What the run of a load prints and keeps.
+use Rattle.std.specs.Prelude.{ℕ, ◌≡◌, ◌≤◌, ◌-◌, ◌^◌, ◌==◌, ◌⊎◌, nat_lt, Bool, true, false, List, [], ◌∷◌, ◌++◌, length, map, position, count_by, Option, Some, None, Result, Ok, Err, slice_get, codes, decimal}
+use Rattle.std.specs.Option.{ForSome}
+use Rattle.iq_outside.specs.Outside.{Rose}
+use Rattle.rows_model.specs.Key.{key_text}
+use Rattle.rows_model.specs.Rows.{Tables}
+use Rattle.key_shard.specs.declared.steps.Step.{Step}
+use Rattle.key_shard.specs.declared.steps.Step.TheVariants as step
+use Rattle.key_shard.specs.Answers.{Legal}
+use Rattle.key_shard.specs.Past.{draws}
+use Rattle.key_shard.specs.Shards.{ShardView}
+use Rattle.sql_keeper.specs.declared.stores.Commit.{Commit}
+use Rattle.sql_keeper.specs.Faults.{FewFailed}
+use Rattle.sql_keeper.specs.Log.{rows_after}
+use Rattle.session_client.specs.declared.plans.Shape.{Shape}
+use Rattle.core_history.specs.Lines.{line, count_in, is_hit, is_stored, is_again}
+use Rattle.core_history.specs.Machine.{terms_of, log_cap}
+use Rattle.run_audit.specs.declared.findings.Finding.{Finding}
+use Rattle.run_audit.specs.declared.findings.Finding.TheVariants as finding
+use Rattle.run_audit.specs.Findings.{IsFinding}
+use Rattle.run_inputs.specs.declared.loads.WorkSpec.{WorkSpec}
+use Rattle.run_inputs.specs.Words.{AreWork}
+use Rattle.top_run.specs.declared.plays.Stop.{Stop}
+use Rattle.top_run.specs.declared.plays.Stop.TheVariants as stop
+use Rattle.top_run.specs.declared.runs.Status.{Status}
+use Rattle.top_run.specs.declared.runs.Status.TheVariants as status
+use Rattle.top_run.specs.declared.summaries.Counted.{Counted}
+use Rattle.top_run.specs.declared.summaries.Counted.TheVariants as counted
+use Rattle.top_run.specs.Runs.{AreReplay, Held, Tells, Left, Prints, IsUnasked, IsNotStarted, Ended}
+
+-- The shape of a load's run: so many members and shards, room for 1,024 entries in each, and leases that live 10 seconds.
+abbrev pub work_shape : WorkSpec → Shape
+work_shape spec = record { members = spec.members; shards = spec.shards; room = 1024; life = 10000 }
+
+-- Steps that are counted, beside hits, stored values and Agains.
+abbrev pub is_void : Step → Bool
+is_void (step.Void key token now) = true
+is_void other = false
+
+abbrev pub is_refused : Step → Bool
+is_refused (step.Refused key sid mode holder held) = true
+is_refused other = false
+
+-- Whether a step is of this kind.
+abbrev pub test_of : Counted → Step → Bool
+test_of counted.Hit = is_hit
+test_of counted.Stored = is_stored
+test_of counted.Void = is_void
+test_of counted.Again = is_again
+test_of counted.Refused = is_refused
+
+-- The first line of the summary: the load.
+unfoldable pub load_line : WorkSpec → List ℕ
+load_line spec =
+    line (codes "work" ∷ codes "members" ∷ decimal spec.members ∷ codes "sessions" ∷ decimal spec.sessions
+    ∷ codes "workers" ∷ decimal spec.workers ∷ codes "shards" ∷ decimal spec.shards ∷ codes "seed" ∷ decimal spec.seed ∷ [])
+
+-- The second line: what the histories and the log count, and two numbers that neither tells.
+unfoldable pub totals_line : List Commit → List (List Step) → ℕ → ℕ → List ℕ
+totals_line log histories bypasses rejected =
+    line (codes "hits" ∷ decimal (count_in is_hit histories) ∷ codes "stores" ∷ decimal (count_in is_stored histories)
+    ∷ codes "voids" ∷ decimal (count_in is_void histories) ∷ codes "agains" ∷ decimal (count_in is_again histories)
+    ∷ codes "bypasses" ∷ decimal bypasses ∷ codes "commits" ∷ decimal (length log)
+    ∷ codes "rejected" ∷ decimal rejected ∷ codes "refused" ∷ decimal (count_in is_refused histories) ∷ [])
+
+-- The third line: what an audit found.
+unfoldable pub audit_line : Finding → List ℕ
+audit_line finding.Clean = line (codes "audit" ∷ codes "clean" ∷ [])
+audit_line (finding.Stale shard place) = line (codes "audit" ∷ codes "stale" ∷ decimal shard ∷ decimal place ∷ [])
+audit_line (finding.Uncovered commit key) = line (codes "audit" ∷ codes "uncovered" ∷ decimal commit ∷ key_text key ∷ [])
+
+-- The summary of a load: these three lines.
+unfoldable pub summary : WorkSpec → List Commit → List (List Step) → ℕ → ℕ → Finding → List ℕ
+summary spec log histories bypasses rejected found =
+    load_line spec ++ (totals_line log histories bypasses rejected ++ audit_line found)
+
+-- Whether a shard with this history has drawn each token that it can: 2^64-2 Lease and Granted steps.
+abbrev pub has_spent : List Step → Bool
+has_spent history = count_by draws history == 2 ^ 64 - 2
+
+-- The least shard that has.
+abbrev pub first_spent : List (List Step) → Option ℕ
+first_spent histories = position has_spent histories
+
+-- The status of a run whose summary was written: by whether a call of its keeper failed, the least shard that is spent, and what the audit found, in this order.
+abbrev pub work_status : Bool → Option ℕ → Finding → Status
+work_status true spent found = status.KeepFault
+work_status false (Some shard) found = status.Spent shard
+work_status false None finding.Clean = status.Done
+work_status false None (finding.Stale shard place) = status.Stale shard place
+work_status false None (finding.Uncovered commit key) = status.Uncovered commit key
+
+-- How a run that began ends, by what stopped it if something did.
+abbrev pub end_status : Bool → Option ℕ → Result Finding Stop → Status
+end_status failed spent (Ok found) = work_status failed spent found
+end_status failed spent (Err stop.WriteFault) = status.WriteFault
+end_status failed spent (Err stop.Memory) = status.Memory
+
+-- The shards have their places for their numbers, and legal histories.
+abbrev pub ArePlaced : List ShardView → Type 0
+ArePlaced shards =
+    (place : ℕ) (shard : ShardView) → slice_get shards place ≡ Some shard → (shard.terms.no ≡ place) × Legal shard.terms shard.history
+
+-- The summary of this log and these histories was written, for some numbers of bypasses and rejections, with what the audit found of them.
+pub record IsTold (spec : WorkSpec) (opening : Tables) (log : List Commit) (histories : List (List Step)) (taken_old taken_new : Option (List ℕ)) (written : ℕ) (found : Finding) : Type 0 where
+  pub is_finding : IsFinding opening log histories found
+  pub bypasses : ℕ
+  pub rejected : ℕ
+  pub prints : Prints taken_old taken_new (summary spec log histories bypasses rejected found) written
+
+-- The first bytes of such a summary were written.
+pub record IsCut (spec : WorkSpec) (opening : Tables) (log : List Commit) (histories : List (List Step)) (taken_old taken_new : Option (List ℕ)) (written : ℕ) : Type 0 where
+  pub found : Finding
+  pub is_finding : IsFinding opening log histories found
+  pub bypasses : ℕ
+  pub rejected : ℕ
+  pub printed : List ℕ
+  pub more : List ℕ
+  pub parts : printed ++ more ≡ summary spec log histories bypasses rejected found
+  pub prints : Prints taken_old taken_new printed written
+
+-- What was written where a run stopped before its summary was: the first bytes of it at a write that failed, and nothing for want of memory.
+abbrev pub IsHalted : WorkSpec → Tables → List Commit → List (List Step) → Option (List ℕ) → Option (List ℕ) → ℕ → Stop → Type 0
+IsHalted spec opening log histories taken_old taken_new written stop.WriteFault =
+    IsCut spec opening log histories taken_old taken_new written
+IsHalted spec opening log histories taken_old taken_new written stop.Memory = Prints taken_old taken_new [] written
+
+-- What a run that began leaves: the rows that it began with, a log that isn't too long, and a legal history of each shard. Where the keeper tells its rows, they are the opening rows after the log. So many of the keeper's calls failed, no more than its count of faults rose by, unless that stands at the end of its type.
+pub record IsKept (spec : WorkSpec) (before after : Tells) (left : Left) (opening : Tables) (failed : ℕ) : Type 0 where
+  pub opening_is : left.opening ≡ Some opening
+  pub short : length left.log ≤ log_cap
+  pub rows_are : ForSome after.rows (λ told. told ≡ rows_after opening left.log)
+  pub as_many : length left.histories ≡ spec.shards
+  pub legal : (place : ℕ) (history : List Step) → slice_get left.histories place ≡ Some history → Legal (terms_of (work_shape spec) place) history
+  pub few : FewFailed (Some before.keeps_failed) failed after.keeps_failed
+
+-- A run ended with its summary written. Its status is that of what it keeps.
+pub record IsSummed (spec : WorkSpec) (before after : Tells) (left : Left) (written : ℕ) (ended : Status) : Type 0 where
+  pub opening : Tables
+  pub failed : ℕ
+  pub kept : IsKept spec before after left opening failed
+  pub found : Finding
+  pub told : IsTold spec opening left.log left.histories before.taken after.taken written found
+  pub ends : ended ≡ work_status (nat_lt 0 failed) (first_spent left.histories) found
+
+-- A run that began stopped at a write: the first bytes of its summary are written.
+pub record IsCutShort (spec : WorkSpec) (before after : Tells) (left : Left) (written : ℕ) : Type 0 where
+  pub opening : Tables
+  pub failed : ℕ
+  pub kept : IsKept spec before after left opening failed
+  pub cut : IsCut spec opening left.log left.histories before.taken after.taken written
+
+-- A run that began stopped for want of memory: nothing is written.
+pub record IsStoppedShort (spec : WorkSpec) (before after : Tells) (left : Left) (written : ℕ) : Type 0 where
+  pub opening : Tables
+  pub failed : ℕ
+  pub kept : IsKept spec before after left opening failed
+  pub prints : Prints before.taken after.taken [] written
+
+-- What is so at an end of a load's run.
+abbrev pub WorkEnded : Status → WorkSpec → Tells → Tells → Left → ℕ → Type 0
+WorkEnded status.Done spec before after left written = IsSummed spec before after left written status.Done
+WorkEnded status.Usage spec before after left written = ⊥
+WorkEnded (status.Script row kind) spec before after left written = ⊥
+WorkEnded status.ReadFault spec before after left written = ⊥
+WorkEnded status.WriteFault spec before after left written = IsCutShort spec before after left written
+WorkEnded status.KeepFault spec before after left written =
+    Rose before.keeps_failed after.keeps_failed
+    × (((after.rows ≡ before.rows) × IsNotStarted before after left written) ⊎ IsSummed spec before after left written status.KeepFault)
+WorkEnded (status.Spent shard) spec before after left written = IsSummed spec before after left written (status.Spent shard)
+WorkEnded (status.Stale shard place) spec before after left written = IsSummed spec before after left written (status.Stale shard place)
+WorkEnded (status.Uncovered commit key) spec before after left written = IsSummed spec before after left written (status.Uncovered commit key)
+WorkEnded status.Memory spec before after left written =
+    (IsUnasked before after × IsNotStarted before after left written) ⊎ IsStoppedShort spec before after left written
+
+-- The source is as before.
+pub record IsUnread (before after : Tells) : Type 0 where
+  pub left : after.left ≡ before.left
+  pub count : after.reads_failed ≡ before.reads_failed
+
+-- The words are no command: neither `replay` alone nor those of a load.
+pub record AreNoCommand (words : List (List ℕ)) : Type 0 where
+  pub no_replay : AreReplay words → ⊥
+  pub no_work : (spec : WorkSpec) → AreWork words spec → ⊥
+
+-- What is so at an end of a command, by its words. The word `replay` alone replays a script, as the call of that name does. The words of a load run it, and read nothing. Other words do nothing.
+pub record CommandEnded (words : List (List ℕ)) (ended : Status) (held : Held) (before after : Tells) (left : Left) (written : ℕ) : Type 0 where
+  pub replayed : AreReplay words → Ended ended held before after left written
+  pub worked : (spec : WorkSpec) → AreWork words spec → IsUnread before after × WorkEnded ended spec before after left written
+  pub refused : AreNoCommand words → Ended status.Usage held before after left written

@@ -1,0 +1,369 @@
+// The run of a load: its sessions over a hub, each worker in a thread of its own, and then the audit and
+// the summary.
+ghost use Rattle.std.specs.Prelude.{◌≡◌, ◌≢◌, ◌≤◌, ◌-◌, ◌^◌, ℕ, [], List, Option, Some, None, All, IfOk, IfErr, IsSome, length, map, position, vec_capacity, nat_lt};
+ghost use Rattle.std.specs.Bool.{IsFalse};
+ghost use Rattle.rows_model.specs.Rows.{Tables};
+ghost use Rattle.key_shard.specs.Answers.{Legal};
+ghost use Rattle.key_shard.specs.Shards.{ShardView};
+ghost use Rattle.session_client.specs.Plans.{IsPlan};
+ghost use Rattle.core_history.specs.Machine.{terms_of};
+ghost use Rattle.shard_lock.specs.Names.{AreAll, IsNamed, IsNamedStore};
+ghost use Rattle.run_audit.specs.Findings.{histories_in, AreNumbered};
+ghost use Rattle.run_inputs.specs.Loads.{IsWork};
+ghost use Rattle.top_run.specs.Runs.{Left, moment, RoseWhere, is_read_fault, is_write_fault};
+ghost use Rattle.top_run.specs.Works.{work_shape, has_spent, first_spent, end_status, ArePlaced, IsNewStore, IsTold, IsHalted, WorkEnded};
+
+use crate::endings::{histories_of, not_started, start_status};
+use crate::plays::Stop;
+use crate::printing::print;
+use crate::runs::{RunEnd, Status};
+use crate::summaries::{others_in, summary};
+use gate_workers::{Transcript, work_all};
+use iq_outside::{Clock, Gate, Sink};
+use key_shard::{Shard, Step};
+use rows_model::{Memory, Rows};
+use run_audit::{Finding, audit};
+use run_inputs::{WorkSpec, make_plans};
+use session_client::Plan;
+use shard_lock::{Hub, HubName, StartOf, new_shards};
+use sql_keeper::{Commit, Keeper, NoStore, Place, Start, Store};
+use std::alloc::Global;
+use std::marker::Brand;
+use std::sync::Wait;
+use std::thread::Threads;
+
+/// How many entries a shard has room for.
+const ROOM: u32 = 1024;
+
+/// How long a lease lives, in milliseconds.
+const LIFE: u64 = 10_000;
+
+/// How many commits a store takes.
+const CAP: u64 = 8_000_000;
+
+/// Runs the load over a store with this keeper, at a fresh place, and writes its summary. What needs
+/// memory before the store is there before the keeper starts.
+pub(crate) fn work<
+    W: Sink,
+    K: Keeper + Send,
+    C: Clock,
+    G: Gate,
+    R: Threads + Wait + Sync,
+>(
+    rt: &R,
+    alloc: Global,
+    spec: &WorkSpec,
+    sink: &mut W,
+    keeper: K,
+    clock: &C,
+    gate: &G,
+) -> RunEnd<K>
+    requires { IsWork spec.now }
+    ensures ended { (left : Option (List ℕ)) (reads : ℕ) →
+        let before = moment left reads
+        (W.taken sink.old) (W.faults sink.old) (K.rows keeper) (K.faults keeper) in
+        let after = moment left reads
+        (W.taken sink.new) (W.faults sink.new) (K.rows result.keeper) (K.faults result.keeper) in
+        let left : Left = record {
+          opening = result.opening;
+          log = result.log.items;
+          histories = map (λ history. history.items) result.histories.items;
+        } in
+        WorkEnded result.status spec.now before after left result.written }
+    ensures started { IsSome result.opening → K.is_started result.keeper }
+    ensures unstarted { result.opening ≡ None → K.is_started result.keeper → K.is_started keeper }
+    ensures writes { RoseWhere (is_write_fault result.status)
+        (W.faults sink.old) (W.faults sink.new) }
+    ensures sink_never_falls { W.faults sink.old ≤ W.faults sink.new }
+{
+    let Ok(ready) = ready_for(alloc, spec) else {
+        return not_started(alloc, Status::Memory, keeper);
+    };
+    match Store::new(alloc, keeper, &Place::Fresh, spec.members, CAP) {
+        Ok(store) => work_on::<Brand, _, _, _, _, _>(rt, alloc, spec, sink, store, ready, clock, gate),
+        Err(NoStore { keeper, cause }) => not_started(alloc, start_status(cause), keeper),
+    }
+}
+
+/// What a load is run with: the plans of each worker, the shards, and room for their histories.
+#[derive(Drop)]
+struct Ready {
+    plans: Vec<Vec<Plan>>,
+    shards: Vec<Shard>,
+    histories: Vec<Vec<Step>>,
+}
+
+fn ready_for(alloc: Global, spec: &WorkSpec) -> Result<Ready, Memory>
+    requires { IsWork spec.now }
+    ensures plans { IfOk result (λ ready. All (λ list. All IsPlan list.items) ready.plans.items) }
+    ensures workers { IfOk result (λ ready. length ready.plans.items ≡ spec.now.workers) }
+    ensures shards { IfOk result (λ ready.
+        AreAll (terms_of (work_shape spec.now)) ready.shards.items) }
+    ensures as_many { IfOk result (λ ready. length ready.shards.items ≡ spec.now.shards) }
+    ensures none { IfOk result (λ ready. ready.histories.items ≡ []) }
+    ensures room { IfOk result (λ ready. spec.now.shards ≤ vec_capacity ready.histories) }
+{
+    Ok(Ready {
+        plans: make_plans(alloc, spec)?,
+        shards: new_shards(alloc, spec.shards, ROOM, LIFE)?,
+        histories: Vec::with_capacity(alloc, spec.shards as usize)?,
+    })
+}
+
+/// Runs the load over a store that was just started, and ends.
+fn work_on<
+    H: HubName + Send + Sync,
+    W: Sink,
+    K: Keeper + Send,
+    C: Clock,
+    G: Gate,
+    R: Threads + Wait + Sync,
+>(
+    rt: &R,
+    alloc: Global,
+    spec: &WorkSpec,
+    sink: &mut W,
+    store: Store<K>,
+    ready: Ready,
+    clock: &C,
+    gate: &G,
+) -> RunEnd<K>
+{
+    let Ready {
+        plans,
+        shards,
+        histories,
+    } = ready;
+    let Ran {
+        store,
+        shards,
+        transcripts,
+    } = run_plans::<H, _, _, _, _>(
+        rt,
+        alloc,
+        store.named::<StartOf<H>>(),
+        shards,
+        plans.as_slice(),
+        clock,
+        gate,
+    );
+    await_places(rt, shards.as_slice());
+    let mut written = 0;
+    let told = tell(
+        alloc,
+        spec,
+        sink,
+        &mut written,
+        store.opening(),
+        store.log(),
+        shards.as_slice(),
+        transcripts,
+    );
+    ended_work(store, shards, told, written, histories)
+}
+
+/// A store and its shards after the threads have ended, and the transcripts where memory sufficed.
+#[derive(Drop)]
+struct Ran<K: Keeper, H: HubName> {
+    store: Store<K, StartOf<H>>,
+    shards: Vec<Shard>,
+    transcripts: Result<Vec<Transcript>, Memory>,
+}
+
+/// Runs the plans over a hub of the store and the shards, and takes the hub apart.
+fn run_plans<
+    H: HubName + Send + Sync,
+    K: Keeper + Send,
+    C: Clock,
+    G: Gate,
+    R: Threads + Wait + Sync,
+>(
+    rt: &R,
+    alloc: Global,
+    store: Store<K, StartOf<H>>,
+    shards: Vec<Shard>,
+    plans: &[Vec<Plan>],
+    clock: &C,
+    gate: &G,
+) -> Ran<K, H>
+    requires store { IsNamedStore H.opening H.cap store }
+    requires shards { AreAll H.terms shards.items }
+    requires few { length shards.items ≤ 64 }
+    requires plans { All (λ list. All IsPlan list.items) plans.now }
+    requires few_workers { length plans.now ≤ 64 }
+    ensures store { IsNamedStore H.opening H.cap result.store }
+    ensures as_many { length result.shards.items ≡ length shards.items }
+    ensures named { All (IsNamed H.terms) result.shards.items }
+{
+    match Hub::new(alloc, store, shards) {
+        Ok(hub) => {
+            let transcripts = run_over(rt, alloc, &hub, plans, clock, gate);
+            let (store, shards) = hub.into_parts();
+            Ran {
+                store,
+                shards,
+                transcripts,
+            }
+        }
+        Err((store, shards)) => Ran {
+            store,
+            shards,
+            transcripts: Err(Memory),
+        },
+    }
+}
+
+/// Runs the plans of each worker on a desk of its own over the hub.
+fn run_over<
+    H: HubName + Send + Sync,
+    K: Keeper + Send,
+    C: Clock,
+    G: Gate,
+    R: Threads + Wait + Sync,
+>(
+    rt: &R,
+    alloc: Global,
+    hub: &Hub<K, H>,
+    plans: &[Vec<Plan>],
+    clock: &C,
+    gate: &G,
+) -> Result<Vec<Transcript>, Memory>
+    requires plans { All (λ list. All IsPlan list.items) plans.now }
+    requires few { length plans.now ≤ 64 }
+{
+    let mut desks = Vec::with_capacity(alloc, plans.len())?;
+    for worker in 0..plans.len() as u32 {
+        desks.push(hub.desk(rt, worker, clock, gate))?;
+    }
+    work_all(rt, alloc, desks.as_mut_slice(), plans, gate)
+}
+
+/// Waits for ever unless each shard has its place for its number. No type says which shard a lock of a
+/// hub has.
+fn await_places<R: Wait>(rt: &R, shards: &[Shard])
+    ensures { ArePlaced shards.now }
+{
+    for (place, shard) in shards.iter().enumerate() {
+        let _legal = shard.history();
+        if shard.no() as usize != place {
+            wait_for_ever(rt);
+        }
+    }
+}
+
+/// Never returns.
+fn wait_for_ever<R: Wait>(rt: &R)
+    ensures { ⊥ }
+{
+    for _ in rt.forever() {}
+    unreachable!()
+}
+
+/// Audits what was kept and writes the summary. It tells what the audit found.
+fn tell<W: Sink>(
+    alloc: Global,
+    spec: &WorkSpec,
+    sink: &mut W,
+    written: &mut u64,
+    opening: &Rows,
+    log: &[Commit],
+    shards: &[Shard],
+    transcripts: Result<Vec<Transcript>, Memory>,
+) -> Result<Finding, Stop>
+    requires some { 1 ≤ length shards.now }
+    requires few { length shards.now ≤ 64 }
+    requires numbered { AreNumbered shards.now }
+    requires nothing { written.old ≡ 0 }
+    ensures told { IfOk result (IsTold spec.now opening.now log.now (histories_in shards.now)
+        (W.taken sink.old) (W.taken sink.new) written.new) }
+    ensures halted { IfErr result (IsHalted spec.now opening.now log.now
+        (histories_in shards.now) (W.taken sink.old) (W.taken sink.new) written.new) }
+{
+    let transcripts = transcripts?;
+    let finding = audit(alloc, opening, log, shards)?;
+    let others = others_in(transcripts.as_slice());
+    let text = summary(alloc, spec, log, shards, others, finding)?;
+    print(sink, written, text.as_slice())?;
+    Ok(finding)
+}
+
+/// The end of a load's run that began.
+fn ended_work<K: Keeper, N: Start>(
+    store: Store<K, N>,
+    shards: Vec<Shard>,
+    told: Result<Finding, Stop>,
+    written: u64,
+    histories: Vec<Vec<Step>>,
+) -> RunEnd<K>
+{
+    let failed = store.failed() > 0;
+    let status = end_status(failed, first_spent(shards.as_slice()), told);
+    let (keeper, opening, log) = store.into_parts();
+    RunEnd {
+        status,
+        keeper,
+        opening: Some(opening),
+        log,
+        histories: histories_of(shards, histories),
+        written,
+    }
+}
+
+/// The status of a load's run that began: whether a call of its keeper failed, the least shard without
+/// a token left, and what its audit found, or what stopped it.
+fn end_status(failed: bool, spent: Option<u32>, told: Result<Finding, Stop>) -> Status
+    ensures { result ≡ end_status failed spent told }
+{
+    match told {
+        Err(Stop::WriteFault) => Status::WriteFault,
+        Err(Stop::Memory) => Status::Memory,
+        Ok(finding) => work_status(failed, spent, finding),
+    }
+}
+
+/// The status of a load's run whose summary was written.
+fn work_status(failed: bool, spent: Option<u32>, finding: Finding) -> Status
+    ensures { result ≡ work_status failed spent finding }
+{
+    if failed {
+        return Status::KeepFault;
+    }
+    if let Some(shard) = spent {
+        return Status::Spent { shard };
+    }
+    match finding {
+        Finding::Clean => Status::Done,
+        Finding::Stale { shard, place } => Status::Stale { shard, place },
+        Finding::Uncovered { commit, key } => Status::Uncovered { commit, key },
+    }
+}
+
+/// The least shard that has drawn each token that it can, if there is one.
+fn first_spent(shards: &[Shard]) -> Option<u32>
+    requires { length shards.now ≤ 64 }
+    ensures { result ≡ first_spent (histories_in shards.now) }
+{
+    let place = shards.iter().position(|shard| has_spent(shard.history()))?;
+    Some(place as u32)
+}
+
+/// Whether the shard of this history has drawn each token that it can.
+fn has_spent(history: &[Step]) -> bool
+    ensures { result ≡ has_spent history.now }
+{
+    drawn_in(history) as u64 == u64::MAX - 1
+}
+
+/// How many tokens were drawn in a history.
+fn drawn_in(history: &[Step]) -> usize
+    ensures { result ≡ count_by draws history.now }
+{
+    history.iter().filter(|step| draws(step)).count()
+}
+
+/// Whether the step drew a token.
+fn draws(step: &Step) -> bool
+    ensures { result ≡ draws step.now }
+{
+    matches!(step, Step::Lease { .. } | Step::Granted { .. })
+}
