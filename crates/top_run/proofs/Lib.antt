@@ -3,3 +3,6 @@ pub mod PlayLemmas
 pub mod PlayStates
 pub mod KeepLemmas
 pub mod RunLemmas
+pub mod SummaryLemmas
+pub mod WorkLemmas
+pub mod CommandLemmas

@@ -2,3 +2,4 @@ pub use Rattle.rows_model.specs.Key
 pub mod Runs
 pub mod Plays
 pub mod Works
+pub mod Ready

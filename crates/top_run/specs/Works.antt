@@ -1,5 +1,5 @@
 -- What the run of a load prints and keeps.
-use Rattle.std.specs.Prelude.{ℕ, ◌≡◌, ◌≤◌, ◌-◌, ◌^◌, ◌==◌, ◌⊎◌, nat_lt, Bool, true, false, List, [], ◌∷◌, ◌++◌, length, map, position, count_by, Option, Some, None, Result, Ok, Err, slice_get, codes, decimal}
+use Rattle.std.specs.Prelude.{ℕ, ◌≡◌, ◌≤◌, ◌-◌, ◌^◌, ◌==◌, ◌⊎◌, nat_lt, All, Bool, true, false, List, [], ◌∷◌, ◌++◌, length, map, position, count_by, Option, Some, None, Result, Ok, Err, slice_get, codes, decimal}
 use Rattle.std.specs.Option.{ForSome}
 use Rattle.iq_outside.specs.Outside.{Rose}
 use Rattle.rows_model.specs.Key.{key_text}
@@ -7,11 +7,12 @@ use Rattle.rows_model.specs.Rows.{Tables}
 use Rattle.key_shard.specs.declared.steps.Step.{Step}
 use Rattle.key_shard.specs.declared.steps.Step.TheVariants as step
 use Rattle.key_shard.specs.Answers.{Legal}
-use Rattle.key_shard.specs.Past.{draws}
+use Rattle.key_shard.specs.Past.{Terms, draws}
 use Rattle.key_shard.specs.Shards.{ShardView}
 use Rattle.sql_keeper.specs.declared.stores.Commit.{Commit}
 use Rattle.sql_keeper.specs.Faults.{FewFailed}
 use Rattle.sql_keeper.specs.Log.{rows_after}
+use Rattle.sql_keeper.specs.Stores.{StoreView}
 use Rattle.session_client.specs.declared.plans.Shape.{Shape}
 use Rattle.core_history.specs.Lines.{line, count_in, is_hit, is_stored, is_again}
 use Rattle.core_history.specs.Machine.{terms_of, log_cap}
@@ -96,10 +97,26 @@ end_status failed spent (Ok found) = work_status failed spent found
 end_status failed spent (Err stop.WriteFault) = status.WriteFault
 end_status failed spent (Err stop.Memory) = status.Memory
 
--- The shards have their places for their numbers, and legal histories.
+-- Whether a write ended it.
+abbrev pub at_write_told : Result Finding Stop → Bool
+at_write_told (Ok found) = false
+at_write_told (Err stop.WriteFault) = true
+at_write_told (Err stop.Memory) = false
+
+-- Each shard has its place for its number.
 abbrev pub ArePlaced : List ShardView → Type 0
-ArePlaced shards =
-    (place : ℕ) (shard : ShardView) → slice_get shards place ≡ Some shard → (shard.terms.no ≡ place) × Legal shard.terms shard.history
+ArePlaced shards = (place : ℕ) (shard : ShardView) → slice_get shards place ≡ Some shard → shard.terms.no ≡ place
+
+-- Each shard's history is legal.
+abbrev pub AreLegal : List ShardView → Type 0
+AreLegal shards = All (λ shard. Legal shard.terms shard.history) shards
+
+-- The name of a hub names what a load is run with: a shard's terms, and the store as it was handed in.
+pub record IsNameOf (spec : WorkSpec) (store : StoreView) (terms : ℕ → Terms) (opening : Tables) (cap : ℕ) (start : Option ℕ) : Type 0 where
+  pub terms_are : (place : ℕ) → terms place ≡ terms_of (work_shape spec) place
+  pub opening_is : store.ledger.opening ≡ opening
+  pub cap_is : cap ≡ log_cap
+  pub start_is : start ≡ Some store.faults
 
 -- The summary of this log and these histories was written, for some numbers of bypasses and rejections, with what the audit found of them.
 pub record IsTold (spec : WorkSpec) (opening : Tables) (log : List Commit) (histories : List (List Step)) (taken_old taken_new : Option (List ℕ)) (written : ℕ) (found : Finding) : Type 0 where

@@ -11,8 +11,8 @@ ghost use Rattle.top_run.specs.Plays.{IsNew, IsFinished, IsStopped, IsUnread, at
 use crate::endings::{ended_run, not_started, start_status};
 use crate::plays::{Stop, Tally, play};
 use crate::printing::{last_line, print};
-use core_history::Core;
 use crate::works::work;
+use core_history::Core;
 use iq_outside::{Clock, Gate, ReadStop, Sink, Source, read_up_to};
 use key_shard::Step;
 use rows_model::{QKey, Rows};
@@ -131,14 +131,7 @@ pub fn replay<S: Source, W: Sink, K: Keeper>(
 /// began has kept is never thrown away. The call may wait.
 ///
 /// Other words are a faulty command line, and nothing is read, written or started.
-pub fn run<
-    S: Source,
-    W: Sink,
-    K: Keeper + Send,
-    C: Clock,
-    G: Gate,
-    R: Threads + Wait + Sync,
->(
+pub fn run<S: Source, W: Sink, K: Keeper + Send, C: Clock, G: Gate, R: Threads + Wait + Sync>(
     rt: &R,
     alloc: Global,
     words: &[Vec<u8>],

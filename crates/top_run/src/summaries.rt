@@ -4,8 +4,8 @@ ghost use Rattle.core_history.specs.Lines.{count_in};
 ghost use Rattle.run_audit.specs.Findings.{histories_in};
 ghost use Rattle.top_run.specs.Works.{test_of, load_line, totals_line, audit_line, summary};
 
-use itoa::Buffer;
 use gate_workers::Transcript;
+use itoa::Buffer;
 use key_shard::{Shard, Step};
 use rows_model::Memory;
 use run_audit::Finding;

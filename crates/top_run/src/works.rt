@@ -1,17 +1,20 @@
 // The run of a load: its sessions over a hub, each worker in a thread of its own, and then the audit and
 // the summary.
-ghost use Rattle.std.specs.Prelude.{◌≡◌, ◌≢◌, ◌≤◌, ◌-◌, ◌^◌, ℕ, [], List, Option, Some, None, All, IfOk, IfErr, IsSome, length, map, position, vec_capacity, nat_lt};
+ghost use Rattle.std.specs.Prelude.{◌≡◌, ◌≢◌, ◌≤◌, ◌<◌, ◌-◌, ◌^◌, ℕ, [], List, Option, Some, None, All, IfOk, IfErr, IfSome, IsSome, count_by, length, map, position, vec_capacity, nat_lt};
 ghost use Rattle.std.specs.Bool.{IsFalse};
+ghost use Rattle.std.specs.Option.{ForSome};
 ghost use Rattle.rows_model.specs.Rows.{Tables};
-ghost use Rattle.key_shard.specs.Answers.{Legal};
-ghost use Rattle.key_shard.specs.Shards.{ShardView};
+ghost use Rattle.key_shard.specs.Past.{draws};
+ghost use Rattle.sql_keeper.specs.Faults.{FewFailed};
+ghost use Rattle.sql_keeper.specs.Stores.{rows_of};
 ghost use Rattle.session_client.specs.Plans.{IsPlan};
-ghost use Rattle.core_history.specs.Machine.{terms_of};
+ghost use Rattle.core_history.specs.Machine.{terms_of, log_cap};
 ghost use Rattle.shard_lock.specs.Names.{AreAll, IsNamed, IsNamedStore};
 ghost use Rattle.run_audit.specs.Findings.{histories_in, AreNumbered};
 ghost use Rattle.run_inputs.specs.Loads.{IsWork};
 ghost use Rattle.top_run.specs.Runs.{Left, moment, RoseWhere, is_read_fault, is_write_fault};
-ghost use Rattle.top_run.specs.Works.{work_shape, has_spent, first_spent, end_status, ArePlaced, IsNewStore, IsTold, IsHalted, WorkEnded};
+ghost use Rattle.top_run.specs.Works.{work_shape, has_spent, first_spent, work_status, end_status, at_write_told, ArePlaced, AreLegal, IsNameOf, IsTold, IsHalted, WorkEnded};
+ghost use Rattle.top_run.specs.Ready.{IsReady};
 
 use crate::endings::{histories_of, not_started, start_status};
 use crate::plays::Stop;
@@ -43,13 +46,7 @@ const CAP: u64 = 8_000_000;
 
 /// Runs the load over a store with this keeper, at a fresh place, and writes its summary. What needs
 /// memory before the store is there before the keeper starts.
-pub(crate) fn work<
-    W: Sink,
-    K: Keeper + Send,
-    C: Clock,
-    G: Gate,
-    R: Threads + Wait + Sync,
->(
+pub(crate) fn work<W: Sink, K: Keeper + Send, C: Clock, G: Gate, R: Threads + Wait + Sync>(
     rt: &R,
     alloc: Global,
     spec: &WorkSpec,
@@ -75,12 +72,18 @@ pub(crate) fn work<
     ensures writes { RoseWhere (is_write_fault result.status)
         (W.faults sink.old) (W.faults sink.new) }
     ensures sink_never_falls { W.faults sink.old ≤ W.faults sink.new }
+    ensures command { result.status ≢ Status.Usage }
+    ensures no_read_fault { IsFalse (is_read_fault result.status) }
+    ensures keeper_never_falls { K.faults keeper ≤ 2 ^ 64 - 1 →
+        K.faults keeper ≤ K.faults result.keeper }
 {
     let Ok(ready) = ready_for(alloc, spec) else {
         return not_started(alloc, Status::Memory, keeper);
     };
     match Store::new(alloc, keeper, &Place::Fresh, spec.members, CAP) {
-        Ok(store) => work_on::<Brand, _, _, _, _, _>(rt, alloc, spec, sink, store, ready, clock, gate),
+        Ok(store) => work_on::<Brand, _, _, _, _, _>(
+            rt, alloc, spec, sink, store, ready, clock, gate,
+        ),
         Err(NoStore { keeper, cause }) => not_started(alloc, start_status(cause), keeper),
     }
 }
@@ -95,13 +98,7 @@ struct Ready {
 
 fn ready_for(alloc: Global, spec: &WorkSpec) -> Result<Ready, Memory>
     requires { IsWork spec.now }
-    ensures plans { IfOk result (λ ready. All (λ list. All IsPlan list.items) ready.plans.items) }
-    ensures workers { IfOk result (λ ready. length ready.plans.items ≡ spec.now.workers) }
-    ensures shards { IfOk result (λ ready.
-        AreAll (terms_of (work_shape spec.now)) ready.shards.items) }
-    ensures as_many { IfOk result (λ ready. length ready.shards.items ≡ spec.now.shards) }
-    ensures none { IfOk result (λ ready. ready.histories.items ≡ []) }
-    ensures room { IfOk result (λ ready. spec.now.shards ≤ vec_capacity ready.histories) }
+    ensures { IfOk result (IsReady spec.now (terms_of (work_shape spec.now))) }
 {
     Ok(Ready {
         plans: make_plans(alloc, spec)?,
@@ -128,6 +125,30 @@ fn work_on<
     clock: &C,
     gate: &G,
 ) -> RunEnd<K>
+    requires work { IsWork spec.now }
+    requires named { IsNameOf spec.now store H.terms H.opening H.cap H.start }
+    requires cap { store.ledger.cap ≡ log_cap }
+    requires new { store.ledger.failed ≡ 0 }
+    requires ready { IsReady spec.now H.terms ready }
+    ensures ended { (left : Option (List ℕ)) (reads : ℕ) (rows : Option Tables) →
+        let before = moment left reads
+        (W.taken sink.old) (W.faults sink.old) rows store.faults in
+        let after = moment left reads
+        (W.taken sink.new) (W.faults sink.new) (K.rows result.keeper) (K.faults result.keeper) in
+        let left : Left = record {
+          opening = result.opening;
+          log = result.log.items;
+          histories = map (λ history. history.items) result.histories.items;
+        } in
+        WorkEnded result.status spec.now before after left result.written }
+    ensures started { K.is_started result.keeper }
+    ensures began { IsSome result.opening }
+    ensures writes { RoseWhere (is_write_fault result.status)
+        (W.faults sink.old) (W.faults sink.new) }
+    ensures sink_never_falls { W.faults sink.old ≤ W.faults sink.new }
+    ensures command { result.status ≢ Status.Usage }
+    ensures no_read_fault { IsFalse (is_read_fault result.status) }
+    ensures keeper_never_falls { store.faults ≤ 2 ^ 64 - 1 → store.faults ≤ K.faults result.keeper }
 {
     let Ready {
         plans,
@@ -241,13 +262,21 @@ fn run_over<
 /// Waits for ever unless each shard has its place for its number. No type says which shard a lock of a
 /// hub has.
 fn await_places<R: Wait>(rt: &R, shards: &[Shard])
-    ensures { ArePlaced shards.now }
+    ensures placed { ArePlaced shards.now }
+    ensures legal { AreLegal shards.now }
 {
     for (place, shard) in shards.iter().enumerate() {
         let _legal = shard.history();
-        if shard.no() as usize != place {
-            wait_for_ever(rt);
-        }
+        await_place(rt, shard, place);
+    }
+}
+
+/// Waits for ever unless the shard has this number.
+fn await_place<R: Wait>(rt: &R, shard: &Shard, place: usize)
+    ensures { shard.now.terms.no ≡ place }
+{
+    if shard.no() as usize != place {
+        wait_for_ever(rt);
     }
 }
 
@@ -278,6 +307,8 @@ fn tell<W: Sink>(
         (W.taken sink.old) (W.taken sink.new) written.new) }
     ensures halted { IfErr result (IsHalted spec.now opening.now log.now
         (histories_in shards.now) (W.taken sink.old) (W.taken sink.new) written.new) }
+    ensures counts { RoseWhere (at_write_told result) (W.faults sink.old) (W.faults sink.new) }
+    ensures never_falls { W.faults sink.old ≤ W.faults sink.new }
 {
     let transcripts = transcripts?;
     let finding = audit(alloc, opening, log, shards)?;
@@ -295,6 +326,21 @@ fn ended_work<K: Keeper, N: Start>(
     written: u64,
     histories: Vec<Vec<Step>>,
 ) -> RunEnd<K>
+    requires few { length shards.items ≤ 64 }
+    requires none { histories.items ≡ [] }
+    requires room { length shards.items ≤ vec_capacity histories }
+    ensures status { result.status ≡ end_status (nat_lt 0 store.ledger.failed)
+        (first_spent (histories_in shards.items)) told }
+    ensures started { K.is_started result.keeper }
+    ensures rows { K.rows result.keeper ≡ store.told }
+    ensures faults { K.faults result.keeper ≡ store.faults }
+    ensures opening { result.opening ≡ Some store.ledger.opening }
+    ensures log { result.log.items ≡ store.ledger.log }
+    ensures histories { map (λ history. history.items) result.histories.items
+        ≡ histories_in shards.items }
+    ensures written { result.written ≡ written }
+    ensures told { ForSome store.told (λ told. told ≡ rows_of store.ledger) }
+    ensures few { FewFailed N.count store.ledger.failed store.faults }
 {
     let failed = store.failed() > 0;
     let status = end_status(failed, first_spent(shards.as_slice()), told);
@@ -343,8 +389,18 @@ fn first_spent(shards: &[Shard]) -> Option<u32>
     requires { length shards.now ≤ 64 }
     ensures { result ≡ first_spent (histories_in shards.now) }
 {
-    let place = shards.iter().position(|shard| has_spent(shard.history()))?;
-    Some(place as u32)
+    match spent_place(shards) {
+        Some(place) => Some(place as u32),
+        None => None,
+    }
+}
+
+/// Its place among them.
+fn spent_place(shards: &[Shard]) -> Option<usize>
+    ensures place { result ≡ position (λ shard. has_spent shard.history) shards.now }
+    ensures within { IfSome result (λ place. place < length shards.now) }
+{
+    shards.iter().position(|shard| has_spent(shard.history()))
 }
 
 /// Whether the shard of this history has drawn each token that it can.

@@ -71,8 +71,14 @@ fn totals_in(alloc: Global, printed: &[u8]) -> Result<Vec<u64>, Fail> {
 fn a_load_with_no_session_writes_zeros(rt: HostRuntime) -> Result<(), Fail> {
     let (end, printed) = work(&rt, rt.alloc(), &["3", "0", "1", "1", "1"], &[], &[])?;
     assert_eq!(rt; end.status, Status::Done);
-    assert_eq!(rt; printed.as_slice(), b"work members 3 sessions 0 workers 1 shards 1 seed 1\nhits 0 stores 0 voids 0 agains 0 bypasses 0 commits 0 rejected 0 refused 0\naudit clean\n".as_slice());
-    assert_eq!(rt; (end.opening.is_some(), end.log.len(), end.histories.len()), (true, 0, 1));
+    assert_eq!(rt;
+        printed.as_slice(),
+        b"work members 3 sessions 0 workers 1 shards 1 seed 1\nhits 0 stores 0 voids 0 agains 0 bypasses 0 commits 0 rejected 0 refused 0\naudit clean\n".as_slice()
+    );
+    assert_eq!(rt;
+        (end.opening.is_some(), end.log.len(), end.histories.len()),
+        (true, 0, 1)
+    );
     Ok(())
 }
 
@@ -84,19 +90,51 @@ fn the_totals_of_a_load_are_those_of_what_it_keeps(rt: HostRuntime) -> Result<()
     let (end, printed) = work(&rt, rt.alloc(), &load, &[], &[])?;
     assert_eq!(rt; end.status, Status::Done);
     assert_eq!(rt; end.histories.len(), 8);
-    assert!(rt; printed.as_slice().starts_with(b"work members 1000 sessions 20000 workers 4 shards 8 seed 1\n"));
+    assert!(rt;
+        printed.as_slice().starts_with(
+            b"work members 1000 sessions 20000 workers 4 shards 8 seed 1\n"
+        )
+    );
     assert!(rt; printed.as_slice().ends_with(b"\naudit clean\n"));
     let totals = totals_in(rt.alloc(), printed.as_slice())?;
-    let [hits, stores, voids, agains, bypasses, commits, rejected, refused] = totals.as_slice() else {
+    let [
+        hits,
+        stores,
+        voids,
+        agains,
+        bypasses,
+        commits,
+        rejected,
+        refused,
+    ] = totals.as_slice()
+    else {
         panic!(rt; "not eight totals");
     };
-    assert_eq!(rt; hits + stores + voids + bypasses + commits + rejected + refused, 20_000);
+    assert_eq!(rt;
+        hits + stores + voids + bypasses + commits + rejected + refused,
+        20_000
+    );
     let histories = end.histories.as_slice();
-    assert_eq!(rt; *hits, counted(histories, |step| matches!(step, Step::Hit { .. })));
-    assert_eq!(rt; *stores, counted(histories, |step| matches!(step, Step::Stored { .. })));
-    assert_eq!(rt; *voids, counted(histories, |step| matches!(step, Step::Void { .. })));
-    assert_eq!(rt; *agains, counted(histories, |step| matches!(step, Step::Again { .. })));
-    assert_eq!(rt; *refused, counted(histories, |step| matches!(step, Step::Refused { .. })));
+    assert_eq!(rt;
+        *hits,
+        counted(histories, |step| matches!(step, Step::Hit { .. }))
+    );
+    assert_eq!(rt;
+        *stores,
+        counted(histories, |step| matches!(step, Step::Stored { .. }))
+    );
+    assert_eq!(rt;
+        *voids,
+        counted(histories, |step| matches!(step, Step::Void { .. }))
+    );
+    assert_eq!(rt;
+        *agains,
+        counted(histories, |step| matches!(step, Step::Again { .. }))
+    );
+    assert_eq!(rt;
+        *refused,
+        counted(histories, |step| matches!(step, Step::Refused { .. }))
+    );
     assert_eq!(rt; *commits, end.log.len() as u64);
     Ok(())
 }
@@ -108,7 +146,10 @@ fn one_worker_writes_the_same_each_time(rt: HostRuntime) -> Result<(), Fail> {
         let load = ["1000", "20000", "1", "8", "1"];
         let (end, printed) = work(&rt, rt.alloc(), &load, &[], &[])?;
         assert_eq!(rt; end.status, Status::Done);
-        assert_eq!(rt; printed.as_slice(), b"work members 1000 sessions 20000 workers 1 shards 8 seed 1\nhits 9955 stores 6043 voids 0 agains 0 bypasses 0 commits 1783 rejected 2219 refused 0\naudit clean\n".as_slice());
+        assert_eq!(rt;
+            printed.as_slice(),
+            b"work members 1000 sessions 20000 workers 1 shards 8 seed 1\nhits 9955 stores 6043 voids 0 agains 0 bypasses 0 commits 1783 rejected 2219 refused 0\naudit clean\n".as_slice()
+        );
     }
     Ok(())
 }
@@ -118,7 +159,10 @@ fn a_write_that_fails_cuts_the_summary(rt: HostRuntime) -> Result<(), Fail> {
     let load = ["3", "0", "1", "1", "1"];
     let (end, printed) = work(&rt, rt.alloc(), &load, &[2], &[])?;
     assert_eq!(rt; end.status, Status::WriteFault);
-    assert_eq!(rt; printed.as_slice(), b"work members 3 sessions 0 workers 1 shards 1 seed 1\nhits 0 s".as_slice());
+    assert_eq!(rt;
+        printed.as_slice(),
+        b"work members 3 sessions 0 workers 1 shards 1 seed 1\nhits 0 s".as_slice()
+    );
     assert_eq!(rt; (end.opening.is_some(), end.histories.len()), (true, 1));
     Ok(())
 }
@@ -128,7 +172,10 @@ fn a_keeper_that_does_not_start_ends_a_load_before_it_begins(rt: HostRuntime) ->
     let load = ["3", "5", "2", "2", "1"];
     let (end, printed) = work(&rt, rt.alloc(), &load, &[], &[1])?;
     assert_eq!(rt; end.status, Status::KeepFault);
-    assert_eq!(rt; (end.opening.is_some(), end.log.len(), end.histories.len()), (false, 0, 0));
+    assert_eq!(rt;
+        (end.opening.is_some(), end.log.len(), end.histories.len()),
+        (false, 0, 0)
+    );
     assert!(rt; printed.is_empty());
     Ok(())
 }
@@ -139,6 +186,9 @@ fn a_keepers_fault_in_a_session_is_told_behind_the_summary(rt: HostRuntime) -> R
     let (end, printed) = work(&rt, rt.alloc(), &load, &[], &[2])?;
     assert_eq!(rt; end.status, Status::KeepFault);
     assert!(rt; printed.as_slice().ends_with(b"\naudit clean\n"));
-    assert_eq!(rt; (end.opening.is_some(), end.log.len(), end.histories.len()), (true, 0, 1));
+    assert_eq!(rt;
+        (end.opening.is_some(), end.log.len(), end.histories.len()),
+        (true, 0, 1)
+    );
     Ok(())
 }

@@ -517,7 +517,10 @@ fn whichever_call_the_keeper_fails_is_printed_and_the_run_goes_on(
 /// Runs the nine turns, a line at a write, with these writes and calls of the keeper failing.
 fn nine_turns<R: Threads + Wait + Sync>(
     rt: &R,
-    alloc: Global, writes_fail: &[u64], keeps_fail: &[u64]) -> Result<Ran, Fail> {
+    alloc: Global,
+    writes_fail: &[u64],
+    keeps_fail: &[u64],
+) -> Result<Ran, Fail> {
     run_over(
         rt,
         alloc,

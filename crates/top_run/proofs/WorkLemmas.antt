@@ -1,0 +1,202 @@
+-- The ends of a load's run.
+use Rattle.std.proofs.Common.{ℕ, zero, suc, ◌≡◌, ◌+◌, ◌-◌, ◌^◌, ◌<◌, ◌≤◌, List, [], ◌∷◌, length, map, take, arith, refl, sym, ap, ◌∙◌, subst, inl, inr, All}
+use Rattle.std.specs.Prelude.{Bool, true, false, ◌⊎◌, nat_lt, cond, Option, Some, None, Result, Ok, Err, IfOk, IfErr, slice_get, option_map, unwrap_or, is_some, get_or, position}
+use Rattle.std.specs.List.{position_from}
+use Rattle.std.proofs.lemmas.Iterator.Adapters.{position_from-zero}
+use Rattle.std.specs.Option.{ForSome}
+use Rattle.std.proofs.lemmas.Bool.{false≢true}
+use Rattle.std.proofs.lemmas.List.{length-map}
+use Rattle.std.proofs.lemmas.List.Elements.{All-get_or}
+use Rattle.std.proofs.lemmas.List.Quantifiers.{position-Some}
+use Rattle.std.proofs.lemmas.Option.{slice_get-map, slice_get_within, get_or_from_slice_get}
+use Rattle.iq_outside.specs.Outside.{Rose}
+use Rattle.rows_model.specs.Rows.{Tables}
+use Rattle.key_shard.specs.declared.steps.Step.{Step}
+use Rattle.key_shard.specs.Answers.{Legal}
+use Rattle.key_shard.specs.Past.{Terms}
+use Rattle.key_shard.specs.Shards.{ShardView}
+use Rattle.sql_keeper.specs.Faults.{FewFailed}
+use Rattle.sql_keeper.specs.Stores.{StoreView, rows_of}
+use Rattle.core_history.specs.Machine.{terms_of, log_cap}
+use Rattle.shard_lock.specs.Names.{IsNamed}
+use Rattle.run_audit.specs.declared.findings.Finding.{Finding}
+use Rattle.run_audit.specs.declared.findings.Finding.TheVariants as finding
+use Rattle.run_audit.specs.Findings.{histories_in, AreNumbered}
+use Rattle.run_inputs.specs.declared.loads.WorkSpec.{WorkSpec}
+use Rattle.top_run.specs.declared.plays.Stop.{Stop}
+use Rattle.top_run.specs.declared.plays.Stop.TheVariants as stop
+use Rattle.top_run.specs.declared.runs.Status.{Status}
+use Rattle.top_run.specs.declared.runs.Status.TheVariants as status
+use Rattle.top_run.specs.Runs.{Tells, Left, is_read_fault, is_write_fault}
+use Rattle.top_run.specs.Works.{work_shape, has_spent, first_spent, work_status, end_status, at_write_told, ArePlaced, AreLegal, IsTold, IsHalted, IsKept, WorkEnded}
+
+-- ---- what the shards of a hub are
+
+-- the element at a place has what all have
+at_place : (P : ShardView → Type 0) (shards : List ShardView) (place : ℕ) (shard : ShardView) → All P shards → slice_get shards place ≡ Some shard → P shard
+at_place P shards place shard all is =
+    subst P (get_or_from_slice_get shards place shard shard is) (All-get_or P shards place shard (slice_get_within shards place shard is) all)
+
+-- shards in their places have the terms of their places
+terms_at_place : (terms : ℕ → Terms) (spec : WorkSpec) (shards : List ShardView) → ((place : ℕ) → terms place ≡ terms_of (work_shape spec) place)
+    → All (IsNamed terms) shards → ArePlaced shards → (place : ℕ) (shard : ShardView) → slice_get shards place ≡ Some shard → shard.terms ≡ terms_of (work_shape spec) place
+terms_at_place terms spec shards are named placed place shard is =
+    at_place (IsNamed terms) shards place shard named is ∙ ap terms (placed place shard is) ∙ are place
+
+-- so they can be audited
+pub numbered_of : (terms : ℕ → Terms) (spec : WorkSpec) (shards : List ShardView) → ((place : ℕ) → terms place ≡ terms_of (work_shape spec) place)
+    → All (IsNamed terms) shards → ArePlaced shards → length shards ≡ spec.shards → spec.shards ≤ 64 → AreNumbered shards
+numbered_of terms spec shards are named placed many few = record {
+  few = omega (arith, many, few);
+  each = λ place shard is. record {
+    no = placed place shard is;
+    count = ap (λ (t : Terms). t.count) (terms_at_place terms spec shards are named placed place shard is) ∙ sym many;
+  };
+}
+
+-- a mapped value is that of a value
+unmapped : (o : Option ShardView) (history : List Step) → option_map (λ (s : ShardView). s.history) o ≡ Some history → (shard : ShardView) × (o ≡ Some shard) × (shard.history ≡ history)
+unmapped None history is = absurd (false≢true (ap (λ (o : Option (List Step)). is_some o) is))
+unmapped (Some shard) history is = (shard, refl, ap (λ (o : Option (List Step)). unwrap_or o history) is)
+
+-- and their histories are legal
+pub legal_of : (terms : ℕ → Terms) (spec : WorkSpec) (shards : List ShardView) → ((place : ℕ) → terms place ≡ terms_of (work_shape spec) place)
+    → All (IsNamed terms) shards → ArePlaced shards → AreLegal shards
+    → (place : ℕ) (history : List Step) → slice_get (histories_in shards) place ≡ Some history → Legal (terms_of (work_shape spec) place) history
+legal_of terms spec shards are named placed legal place history is =
+    let there = unmapped (slice_get shards place) history (sym (slice_get-map (λ (s : ShardView). s.history) shards place) ∙ is) in
+    let here = at_place (λ (s : ShardView). Legal s.terms s.history) shards place there.0 legal there.1 in
+    subst (λ (h : List Step). Legal (terms_of (work_shape spec) place) h) there.2
+    (subst (λ (t : Terms). Legal t there.0.history) (terms_at_place terms spec shards are named placed place there.0 there.1) here)
+
+-- one shard more is in its place
+pub placed_more : (shards : List ShardView) (i : ℕ) (new : ShardView) → new ≡ get_or shards i new → new.terms.no ≡ i
+    → ((at : ℕ) (shard : ShardView) → at < i → slice_get shards at ≡ Some shard → shard.terms.no ≡ at)
+    → (at : ℕ) (shard : ShardView) → at < i + 1 → slice_get shards at ≡ Some shard → shard.terms.no ≡ at
+placed_more shards i new is number before at shard below there = by (at == i) refl
+  where
+    by : (b : Bool) → (at == i) ≡ b → shard.terms.no ≡ at
+    by true same =
+        let e : at ≡ i = grind (arith, same) in
+        let one : get_or shards at new ≡ shard = get_or_from_slice_get shards at shard new there in
+        ap (λ (s : ShardView). s.terms.no) (sym one ∙ ap (λ (k : ℕ). get_or shards k new) e ∙ sym is) ∙ number ∙ sym e
+    by false other = before at shard (grind (arith, other, below)) there
+
+-- ---- the least shard that is spent
+
+-- a test of histories is one of shards
+spent_from : (i : ℕ) (shards : List ShardView) → position_from (λ (s : ShardView). has_spent s.history) i shards ≡ position_from has_spent i (histories_in shards)
+spent_from i [] = refl
+spent_from i (shard ∷ shards) = ap (λ (later : Option ℕ). cond (has_spent shard.history) (Some i) later) (spent_from (i + 1) shards)
+
+pub spent_is : (shards : List ShardView) → position (λ (s : ShardView). has_spent s.history) shards ≡ first_spent (histories_in shards)
+spent_is shards =
+    position_from-zero (λ (s : ShardView). has_spent s.history) shards
+    ∙ spent_from 0 shards
+    ∙ sym (position_from-zero has_spent (histories_in shards))
+
+-- ---- how a run ends
+
+-- a keeper of which a call failed has a count that rose
+rose_of_failed : (start failed faults : ℕ) → nat_lt 0 failed ≡ true → FewFailed (Some start) failed faults → Rose start faults
+rose_of_failed start failed faults some few = by (few start refl)
+  where
+    by : ((start + failed ≤ faults) ⊎ (faults ≡ 2 ^ 64 - 1)) → Rose start faults
+    by (inl h) = inl (grind (arith, some, h))
+    by (inr h) = inr h
+
+-- a keeper's count doesn't fall in a run
+pub never_fell_since : (start failed faults : ℕ) (named : Option ℕ) → named ≡ Some start → FewFailed named failed faults → start ≤ 2 ^ 64 - 1 → start ≤ faults
+never_fell_since start failed faults named is few low = by (few start is)
+  where
+    by : ((start + failed ≤ faults) ⊎ (faults ≡ 2 ^ 64 - 1)) → start ≤ faults
+    by (inl h) = omega (arith, h)
+    by (inr h) = omega (arith, h, low)
+
+-- what a run leaves
+pub left_of : StoreView → List ShardView → Left
+left_of store shards = record { opening = Some store.ledger.opening; log = store.ledger.log; histories = histories_in shards }
+
+pub kept_of : (spec : WorkSpec) (before after : Tells) (store : StoreView) (shards : List ShardView) (terms : ℕ → Terms) (start : Option ℕ)
+    → after.rows ≡ store.told → after.keeps_failed ≡ store.faults → start ≡ Some before.keeps_failed
+    → length store.ledger.log ≤ store.ledger.cap → store.ledger.cap ≡ log_cap
+    → ForSome store.told (λ told. told ≡ rows_of store.ledger) → FewFailed start store.ledger.failed store.faults
+    → ((place : ℕ) → terms place ≡ terms_of (work_shape spec) place) → All (IsNamed terms) shards → ArePlaced shards → AreLegal shards → length shards ≡ spec.shards
+    → IsKept spec before after (left_of store shards) store.ledger.opening store.ledger.failed
+kept_of spec before after store shards terms start rows count starts short cap told few are named placed legal many = record {
+  opening_is = refl;
+  short = subst (λ (n : ℕ). length store.ledger.log ≤ n) cap short;
+  rows_are = subst (λ (r : Option Tables). ForSome r (λ t. t ≡ rows_of store.ledger)) (sym rows) told;
+  as_many = length-map shards (λ (s : ShardView). s.history) ∙ many;
+  legal = legal_of terms spec shards are named placed legal;
+  few = subst (λ (n : ℕ). FewFailed (Some before.keeps_failed) store.ledger.failed n) (sym count)
+      (subst (λ (o : Option ℕ). FewFailed o store.ledger.failed store.faults) starts few);
+}
+
+module _ (spec : WorkSpec) (before after : Tells) (left : Left) (written : ℕ) (opening : Tables) (failed : ℕ) (kept : IsKept spec before after left opening failed) where
+  same_status : (b : Bool) (spent : Option ℕ) (found : Finding) → nat_lt 0 failed ≡ b → first_spent left.histories ≡ spent
+      → work_status b spent found ≡ work_status (nat_lt 0 failed) (first_spent left.histories) found
+  same_status b spent found is first =
+      ap (λ (x : Bool). work_status x spent found) (sym is) ∙ ap (λ (o : Option ℕ). work_status (nat_lt 0 failed) o found) (sym first)
+
+  summed : (b : Bool) (spent : Option ℕ) (found : Finding) → nat_lt 0 failed ≡ b → first_spent left.histories ≡ spent
+      → IsTold spec opening left.log left.histories before.taken after.taken written found
+      → WorkEnded (work_status b spent found) spec before after left written
+  summed true spent found is first told = (
+    rose_of_failed before.keeps_failed failed after.keeps_failed is kept.few,
+    inr (record { opening = opening; failed = failed; kept = kept; found = found; told = told; ends = same_status true spent found is first }),
+  )
+  summed false (Some shard) found is first told =
+      record { opening = opening; failed = failed; kept = kept; found = found; told = told; ends = same_status false (Some shard) found is first }
+  summed false None finding.Clean is first told =
+      record { opening = opening; failed = failed; kept = kept; found = finding.Clean; told = told; ends = same_status false None finding.Clean is first }
+  summed false None (finding.Stale shard place) is first told =
+      record { opening = opening; failed = failed; kept = kept; found = finding.Stale shard place; told = told; ends = same_status false None (finding.Stale shard place) is first }
+  summed false None (finding.Uncovered commit key) is first told =
+      record { opening = opening; failed = failed; kept = kept; found = finding.Uncovered commit key; told = told; ends = same_status false None (finding.Uncovered commit key) is first }
+
+  -- the end of a run that began
+  pub work_ended : (told : Result Finding Stop)
+      → IfOk told (IsTold spec opening left.log left.histories before.taken after.taken written)
+      → IfErr told (IsHalted spec opening left.log left.histories before.taken after.taken written)
+      → WorkEnded (end_status (nat_lt 0 failed) (first_spent left.histories) told) spec before after left written
+  work_ended (Ok found) all some = summed (nat_lt 0 failed) (first_spent left.histories) found refl refl all
+  work_ended (Err stop.WriteFault) all some = record { opening = opening; failed = failed; kept = kept; cut = some }
+  work_ended (Err stop.Memory) all some = inr (record { opening = opening; failed = failed; kept = kept; prints = some })
+
+-- it is none for want of a command, nor at a read, and one at a write where the telling ended there
+no_usage_found : (b : Bool) (spent : Option ℕ) (found : Finding) → work_status b spent found ≡ status.Usage → ⊥
+no_usage_found true spent found is = cc
+no_usage_found false (Some shard) found is = cc
+no_usage_found false None finding.Clean is = cc
+no_usage_found false None (finding.Stale shard place) is = cc
+no_usage_found false None (finding.Uncovered commit key) is = cc
+
+pub no_usage : (b : Bool) (spent : Option ℕ) (told : Result Finding Stop) → end_status b spent told ≡ status.Usage → ⊥
+no_usage b spent (Ok found) is = no_usage_found b spent found is
+no_usage b spent (Err stop.WriteFault) is = cc
+no_usage b spent (Err stop.Memory) is = cc
+
+no_read_found : (b : Bool) (spent : Option ℕ) (found : Finding) → is_read_fault (work_status b spent found) ≡ false
+no_read_found true spent found = refl
+no_read_found false (Some shard) found = refl
+no_read_found false None finding.Clean = refl
+no_read_found false None (finding.Stale shard place) = refl
+no_read_found false None (finding.Uncovered commit key) = refl
+
+pub no_read : (b : Bool) (spent : Option ℕ) (told : Result Finding Stop) → is_read_fault (end_status b spent told) ≡ false
+no_read b spent (Ok found) = no_read_found b spent found
+no_read b spent (Err stop.WriteFault) = refl
+no_read b spent (Err stop.Memory) = refl
+
+no_write_found : (b : Bool) (spent : Option ℕ) (found : Finding) → is_write_fault (work_status b spent found) ≡ false
+no_write_found true spent found = refl
+no_write_found false (Some shard) found = refl
+no_write_found false None finding.Clean = refl
+no_write_found false None (finding.Stale shard place) = refl
+no_write_found false None (finding.Uncovered commit key) = refl
+
+pub at_write_end : (b : Bool) (spent : Option ℕ) (told : Result Finding Stop) → is_write_fault (end_status b spent told) ≡ at_write_told told
+at_write_end b spent (Ok found) = no_write_found b spent found
+at_write_end b spent (Err stop.WriteFault) = refl
+at_write_end b spent (Err stop.Memory) = refl

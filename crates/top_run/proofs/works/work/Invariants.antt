@@ -1,0 +1,13 @@
+use Rattle.std.proofs.Common.{Some}
+use Rattle.core_history.specs.Machine.{terms_of, log_cap}
+use Rattle.top_run.specs.Works.{work_shape}
+use Rattle.top_run.proofs.works.work.Given as goal
+
+-- what the shards are made with, and the store as it is handed in
+abbrev pub ghosts-work_on : goal.ghosts-work_on
+ghosts-work_on g a = record {
+  terms = terms_of (work_shape a.spec.now);
+  opening = a.store.ledger.opening;
+  cap = log_cap;
+  start = Some a.store.faults;
+}
