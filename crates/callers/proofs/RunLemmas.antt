@@ -27,6 +27,7 @@ use Rattle.core_history.specs.Determined.{Call, call_of, RunsAreDetermined}
 use Rattle.core_history.specs.Events.{log_of}
 use Rattle.core_history.specs.Freshness.{histories_of}
 use Rattle.core_history.specs.Lines.{fault_turns}
+use Rattle.top_run.specs.Works.{AreNoCommand}
 use Rattle.core_history.specs.Machine.{Move, terms_of}
 use Rattle.core_history.specs.Truth.{IsTruePast}
 use Rattle.top_run.specs.declared.runs.Status.{Status}
@@ -82,6 +83,9 @@ began-or-not status.ReadFault held before after left written h = inl h.2
 began-or-not status.WriteFault held before after left written h = inr (began-cut-off held before after left written h)
 began-or-not status.KeepFault held before after left written (rose, inl h) = inl h.nothing
 began-or-not status.KeepFault held before after left written (rose, inr (turns, some, h)) = inr (began-whole held before after left written turns h)
+began-or-not (status.Spent shard) held before after left written h = absurd h
+began-or-not (status.Stale shard at) held before after left written h = absurd h
+began-or-not (status.Uncovered commit key) held before after left written h = absurd h
 began-or-not status.Memory held before after left written (inl h) = inl h.2
 began-or-not status.Memory held before after left written (inr h) = inr (began-cut-off held before after left written h)
 
@@ -146,9 +150,12 @@ covered-run s held before after left written h = by (began-or-not s held before 
     by (inl k) = λ place commit key at touched. absurd (none-at left.log place commit k.no_log at)
     by (inr b) = b.keeps.covered
 
--- faulty words leave all that was handed in
-pub untouched-run : (s : Status) (held : Held) (before after : Tells) (left : Left) (written : ℕ) → Ended s held before after left written → s ≡ status.Usage → after ≡ before
-untouched-run s held before after left written h usage = (subst (λ (s : Status). Ended s held before after left written) usage h).0
+-- no words are no command
+pub no-words : AreNoCommand []
+no-words = record {
+  no_replay = λ is. let lengths : 0 ≡ 1 = ap length is in absurd (omega (arith, lengths));
+  no_work = λ spec work. let lengths : 0 ≡ 6 = ap length work.written in absurd (omega (arith, lengths));
+}
 
 -- what holds of all elements holds of the one at a place
 pub at-place : {X : Type 0} (P : X → Type 0) (xs : List X) (i : ℕ) (x : X) → All P xs → slice_get xs i ≡ Some x → P x

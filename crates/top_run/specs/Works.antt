@@ -118,22 +118,27 @@ pub record IsNameOf (spec : WorkSpec) (store : StoreView) (terms : ℕ → Terms
   pub cap_is : cap ≡ log_cap
   pub start_is : start ≡ Some store.faults
 
--- The summary of this log and these histories was written, for some numbers of bypasses and rejections, with what the audit found of them.
-pub record IsTold (spec : WorkSpec) (opening : Tables) (log : List Commit) (histories : List (List Step)) (taken_old taken_new : Option (List ℕ)) (written : ℕ) (found : Finding) : Type 0 where
+-- The text is the summary of this log and these histories, with what an audit finds of them, for some numbers of bypasses and rejections.
+pub record IsSummary (spec : WorkSpec) (opening : Tables) (log : List Commit) (histories : List (List Step)) (found : Finding) (text : List ℕ) : Type 0 where
   pub is_finding : IsFinding opening log histories found
   pub bypasses : ℕ
   pub rejected : ℕ
-  pub prints : Prints taken_old taken_new (summary spec log histories bypasses rejected found) written
+  pub text_is : text ≡ summary spec log histories bypasses rejected found
 
--- The first bytes of such a summary were written.
+-- The summary was written.
+pub record IsTold (spec : WorkSpec) (opening : Tables) (log : List Commit) (histories : List (List Step)) (taken_old taken_new : Option (List ℕ)) (written : ℕ) (found : Finding) : Type 0 where
+  pub text : List ℕ
+  pub is_summary : IsSummary spec opening log histories found text
+  pub prints : Prints taken_old taken_new text written
+
+-- The first bytes of a summary were written.
 pub record IsCut (spec : WorkSpec) (opening : Tables) (log : List Commit) (histories : List (List Step)) (taken_old taken_new : Option (List ℕ)) (written : ℕ) : Type 0 where
   pub found : Finding
-  pub is_finding : IsFinding opening log histories found
-  pub bypasses : ℕ
-  pub rejected : ℕ
+  pub text : List ℕ
+  pub is_summary : IsSummary spec opening log histories found text
   pub printed : List ℕ
   pub more : List ℕ
-  pub parts : printed ++ more ≡ summary spec log histories bypasses rejected found
+  pub parts : printed ++ more ≡ text
   pub prints : Prints taken_old taken_new printed written
 
 -- What was written where a run stopped before its summary was: the first bytes of it at a write that failed, and nothing for want of memory.

@@ -5,6 +5,9 @@ ghost use Rattle.std.specs.Bool.{IsFalse};
 ghost use Rattle.std.specs.Option.{ForSome};
 ghost use Rattle.rows_model.specs.Rows.{Tables};
 ghost use Rattle.key_shard.specs.Past.{draws};
+ghost use Rattle.key_shard.specs.declared.steps.Step.{Step};
+ghost use Rattle.sql_keeper.specs.declared.stores.Commit.{Commit};
+ghost use Rattle.run_inputs.specs.declared.loads.WorkSpec.{WorkSpec};
 ghost use Rattle.sql_keeper.specs.Faults.{FewFailed};
 ghost use Rattle.sql_keeper.specs.Stores.{rows_of};
 ghost use Rattle.session_client.specs.Plans.{IsPlan};
@@ -13,7 +16,7 @@ ghost use Rattle.shard_lock.specs.Names.{AreAll, IsNamed, IsNamedStore};
 ghost use Rattle.run_audit.specs.Findings.{histories_in, AreNumbered};
 ghost use Rattle.run_inputs.specs.Loads.{IsWork};
 ghost use Rattle.top_run.specs.Runs.{Left, moment, RoseWhere, is_read_fault, is_write_fault};
-ghost use Rattle.top_run.specs.Works.{work_shape, has_spent, first_spent, work_status, end_status, at_write_told, ArePlaced, AreLegal, IsNameOf, IsTold, IsHalted, WorkEnded};
+ghost use Rattle.top_run.specs.Works.{work_shape, has_spent, first_spent, work_status, end_status, at_write_told, ArePlaced, AreLegal, IsNameOf, IsSummary, IsTold, IsHalted, WorkEnded};
 ghost use Rattle.top_run.specs.Ready.{IsReady};
 
 use crate::endings::{histories_of, not_started, start_status};
@@ -170,16 +173,15 @@ fn work_on<
     );
     await_places(rt, shards.as_slice());
     let mut written = 0;
-    let told = tell(
+    let made = summed_up(
         alloc,
         spec,
-        sink,
-        &mut written,
         store.opening(),
         store.log(),
         shards.as_slice(),
         transcripts,
     );
+    let told = tell(sink, &mut written, made);
     ended_work(store, shards, told, written, histories)
 }
 
@@ -288,34 +290,62 @@ fn wait_for_ever<R: Wait>(rt: &R)
     unreachable!()
 }
 
-/// Audits what was kept and writes the summary. It tells what the audit found.
-fn tell<W: Sink>(
+/// A summary, and what its audit found.
+#[derive(Drop)]
+struct Summary {
+    finding: Finding,
+    text: Vec<u8>,
+}
+
+/// Audits what was kept, and makes the summary.
+fn summed_up(
     alloc: Global,
     spec: &WorkSpec,
-    sink: &mut W,
-    written: &mut u64,
     opening: &Rows,
     log: &[Commit],
     shards: &[Shard],
     transcripts: Result<Vec<Transcript>, Memory>,
-) -> Result<Finding, Stop>
+) -> Result<Summary, Memory>
     requires some { 1 ≤ length shards.now }
     requires few { length shards.now ≤ 64 }
     requires numbered { AreNumbered shards.now }
-    requires nothing { written.old ≡ 0 }
-    ensures told { IfOk result (IsTold spec.now opening.now log.now (histories_in shards.now)
-        (W.taken sink.old) (W.taken sink.new) written.new) }
-    ensures halted { IfErr result (IsHalted spec.now opening.now log.now
-        (histories_in shards.now) (W.taken sink.old) (W.taken sink.new) written.new) }
-    ensures counts { RoseWhere (at_write_told result) (W.faults sink.old) (W.faults sink.new) }
-    ensures never_falls { W.faults sink.old ≤ W.faults sink.new }
+    ensures { IfOk result (λ made. IsSummary spec.now opening.now log.now (histories_in shards.now)
+        made.finding made.text.items) }
 {
     let transcripts = transcripts?;
     let finding = audit(alloc, opening, log, shards)?;
     let others = others_in(transcripts.as_slice());
     let text = summary(alloc, spec, log, shards, others, finding)?;
-    print(sink, written, text.as_slice())?;
-    Ok(finding)
+    Ok(Summary { finding, text })
+}
+
+/// Writes the summary, if there is one. It tells what the audit found.
+fn tell<W: Sink>(
+    sink: &mut W,
+    written: &mut u64,
+    made: Result<Summary, Memory>,
+) -> Result<Finding, Stop>
+    requires nothing { written.old ≡ 0 }
+    ensures told { (spec : WorkSpec) (opening : Tables) (log : List Commit)
+        (histories : List (List Step)) →
+        IfOk made (λ one. IsSummary spec opening log histories one.finding one.text.items) →
+        IfOk result (IsTold spec opening log histories (W.taken sink.old) (W.taken sink.new)
+        written.new) }
+    ensures halted { (spec : WorkSpec) (opening : Tables) (log : List Commit)
+        (histories : List (List Step)) →
+        IfOk made (λ one. IsSummary spec opening log histories one.finding one.text.items) →
+        IfErr result (IsHalted spec opening log histories (W.taken sink.old) (W.taken sink.new)
+        written.new) }
+    ensures counts { RoseWhere (at_write_told result) (W.faults sink.old) (W.faults sink.new) }
+    ensures never_falls { W.faults sink.old ≤ W.faults sink.new }
+{
+    match made {
+        Ok(Summary { finding, text }) => match print(sink, written, text.as_slice()) {
+            Ok(()) => Ok(finding),
+            Err(_) => Err(Stop::WriteFault),
+        },
+        Err(Memory) => Err(Stop::Memory),
+    }
 }
 
 /// The end of a load's run that began.

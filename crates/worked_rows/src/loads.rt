@@ -41,17 +41,22 @@ fn work<R: Threads + Wait + Abort + Sync>(
     Ok((end, printed))
 }
 
-/// How many steps of all histories pass the test.
-fn counted(histories: &[Vec<Step>], mut test: impl FnMut(&Step) -> bool) -> u64 {
-    let mut count = 0u64;
+/// The hits, stores, voids, agains and refusals of all histories.
+fn counted(histories: &[Vec<Step>]) -> [u64; 5] {
+    let [mut hits, mut stores, mut voids, mut agains, mut refused] = [0u64; 5];
     for history in histories {
         for step in history {
-            if test(step) {
-                count += 1;
+            match step {
+                Step::Hit { .. } => hits = hits.saturating_add(1),
+                Step::Stored { .. } => stores = stores.saturating_add(1),
+                Step::Void { .. } => voids = voids.saturating_add(1),
+                Step::Again { .. } => agains = agains.saturating_add(1),
+                Step::Refused { .. } => refused = refused.saturating_add(1),
+                _ => {}
             }
         }
     }
-    count
+    [hits, stores, voids, agains, refused]
 }
 
 /// The eight totals of a summary.
@@ -110,30 +115,14 @@ fn the_totals_of_a_load_are_those_of_what_it_keeps(rt: HostRuntime) -> Result<()
     else {
         panic!(rt; "not eight totals");
     };
+    let mut ends = 0u64;
+    for count in [hits, stores, voids, bypasses, commits, rejected, refused] {
+        ends = ends.saturating_add(*count);
+    }
+    assert_eq!(rt; ends, 20_000);
     assert_eq!(rt;
-        hits + stores + voids + bypasses + commits + rejected + refused,
-        20_000
-    );
-    let histories = end.histories.as_slice();
-    assert_eq!(rt;
-        *hits,
-        counted(histories, |step| matches!(step, Step::Hit { .. }))
-    );
-    assert_eq!(rt;
-        *stores,
-        counted(histories, |step| matches!(step, Step::Stored { .. }))
-    );
-    assert_eq!(rt;
-        *voids,
-        counted(histories, |step| matches!(step, Step::Void { .. }))
-    );
-    assert_eq!(rt;
-        *agains,
-        counted(histories, |step| matches!(step, Step::Again { .. }))
-    );
-    assert_eq!(rt;
-        *refused,
-        counted(histories, |step| matches!(step, Step::Refused { .. }))
+        [*hits, *stores, *voids, *agains, *refused],
+        counted(end.histories.as_slice())
     );
     assert_eq!(rt; *commits, end.log.len() as u64);
     Ok(())

@@ -6,8 +6,8 @@ use Rattle.top_run.specs.Works.{first_spent}
 use Rattle.top_run.proofs.WorkLemmas.{numbered_of, left_of, kept_of, work_ended, no_usage, no_read, at_write_end, never_fell_since}
 use Rattle.top_run.proofs.works.work_on.Goals as goal
 
-pub tell-requires-clause-numbered : goal.tell-requires-clause-numbered
-tell-requires-clause-numbered g c =
+pub summed_up-requires-clause-numbered : goal.summed_up-requires-clause-numbered
+summed_up-requires-clause-numbered g c =
     let shards = c.run_plans.result.shards.items in
     numbered_of g.H.HubName.terms c.args.spec.now shards c.requires.named.terms_are c.run_plans.ensures.named c.await_places.ensures.placed
     (c.run_plans.ensures.as_many ∙ c.requires.ready.as_many) c.requires.work.few_shards
@@ -23,10 +23,11 @@ returns-clause-ended g c = λ left reads rows.
     c.log.ensures.few (c.run_plans.ensures.store.cap_is ∙ c.requires.named.cap_is) c.ended_work.ensures.told c.ended_work.ensures.few
     c.requires.named.terms_are c.run_plans.ensures.named c.await_places.ensures.placed c.await_places.ensures.legal
     (c.run_plans.ensures.as_many ∙ c.requires.ready.as_many) in
+    let made = (rw (c.opening.ensures, c.log.ensures.items) at c.summed_up.ensures) in
     rw (c.ended_work.ensures.status, c.ended_work.ensures.opening, c.ended_work.ensures.log, c.ended_work.ensures.histories, c.ended_work.ensures.written, c.ended_work.ensures.rows, c.ended_work.ensures.faults)
     (work_ended spec before after (left_of store shards) c.tell.new.written store.ledger.opening store.ledger.failed kept c.tell.result
-    (rw (c.opening.ensures, c.log.ensures.items) at c.tell.ensures.told)
-    (rw (c.opening.ensures, c.log.ensures.items) at c.tell.ensures.halted))
+    (c.tell.ensures.told spec store.ledger.opening store.ledger.log (histories_in shards) made)
+    (c.tell.ensures.halted spec store.ledger.opening store.ledger.log (histories_in shards) made))
 
 pub returns-clause-command : goal.returns-clause-command
 returns-clause-command g c = λ is.
