@@ -59,10 +59,10 @@ pub(crate) fn work<W: Sink, K: Keeper + Send, C: Clock, G: Gate, R: Threads + Wa
     gate: &G,
 ) -> RunEnd<K>
     requires { IsWork spec.now }
-    ensures ended { (left : Option (List ℕ)) (reads : ℕ) →
-        let before = moment left reads
+    ensures ended { (unread : Option (List ℕ)) (reads : ℕ) →
+        let before = moment unread reads
         (W.taken sink.old) (W.faults sink.old) (K.rows keeper) (K.faults keeper) in
-        let after = moment left reads
+        let after = moment unread reads
         (W.taken sink.new) (W.faults sink.new) (K.rows result.keeper) (K.faults result.keeper) in
         let left : Left = record {
           opening = result.opening;
@@ -133,10 +133,10 @@ fn work_on<
     requires cap { store.ledger.cap ≡ log_cap }
     requires new { store.ledger.failed ≡ 0 }
     requires ready { IsReady spec.now H.terms ready }
-    ensures ended { (left : Option (List ℕ)) (reads : ℕ) (rows : Option Tables) →
-        let before = moment left reads
+    ensures ended { (unread : Option (List ℕ)) (reads : ℕ) (rows : Option Tables) →
+        let before = moment unread reads
         (W.taken sink.old) (W.faults sink.old) rows store.faults in
-        let after = moment left reads
+        let after = moment unread reads
         (W.taken sink.new) (W.faults sink.new) (K.rows result.keeper) (K.faults result.keeper) in
         let left : Left = record {
           opening = result.opening;
@@ -292,7 +292,7 @@ fn wait_for_ever<R: Wait>(rt: &R)
 
 /// A summary, and what its audit found.
 #[derive(Drop)]
-struct Summary {
+struct Made {
     finding: Finding,
     text: Vec<u8>,
 }
@@ -305,7 +305,7 @@ fn summed_up(
     log: &[Commit],
     shards: &[Shard],
     transcripts: Result<Vec<Transcript>, Memory>,
-) -> Result<Summary, Memory>
+) -> Result<Made, Memory>
     requires some { 1 ≤ length shards.now }
     requires few { length shards.now ≤ 64 }
     requires numbered { AreNumbered shards.now }
@@ -316,14 +316,15 @@ fn summed_up(
     let finding = audit(alloc, opening, log, shards)?;
     let others = others_in(transcripts.as_slice());
     let text = summary(alloc, spec, log, shards, others, finding)?;
-    Ok(Summary { finding, text })
+    Ok(Made { finding, text })
 }
 
 /// Writes the summary, if there is one. It tells what the audit found.
+#[tactic(auto, using(crate::proofs::PrintLemmas::print_none))]
 fn tell<W: Sink>(
     sink: &mut W,
     written: &mut u64,
-    made: Result<Summary, Memory>,
+    made: Result<Made, Memory>,
 ) -> Result<Finding, Stop>
     requires nothing { written.old ≡ 0 }
     ensures told { (spec : WorkSpec) (opening : Tables) (log : List Commit)
@@ -340,7 +341,7 @@ fn tell<W: Sink>(
     ensures never_falls { W.faults sink.old ≤ W.faults sink.new }
 {
     match made {
-        Ok(Summary { finding, text }) => match print(sink, written, text.as_slice()) {
+        Ok(Made { finding, text }) => match print(sink, written, text.as_slice()) {
             Ok(()) => Ok(finding),
             Err(_) => Err(Stop::WriteFault),
         },

@@ -13,12 +13,12 @@ summed_up-requires-clause-numbered g c =
     (c.run_plans.ensures.as_many ∙ c.requires.ready.as_many) c.requires.work.few_shards
 
 pub returns-clause-ended : goal.returns-clause-ended
-returns-clause-ended g c = λ left reads rows.
+returns-clause-ended g c = λ unread reads rows.
     let store = c.run_plans.result.store in
     let shards = c.run_plans.result.shards.items in
     let spec = c.args.spec.now in
-    let before = moment left reads (g.W.Sink.taken c.args.sink.now) (g.W.Sink.faults c.args.sink.now) rows c.args.store.faults in
-    let after = moment left reads (g.W.Sink.taken c.tell.new.sink) (g.W.Sink.faults c.tell.new.sink) store.told store.faults in
+    let before = moment unread reads (g.W.Sink.taken c.args.sink.now) (g.W.Sink.faults c.args.sink.now) rows c.args.store.faults in
+    let after = moment unread reads (g.W.Sink.taken c.tell.new.sink) (g.W.Sink.faults c.tell.new.sink) store.told store.faults in
     let kept = kept_of spec before after store shards g.H.HubName.terms g.H.HubName.start refl refl c.requires.named.start_is
     c.log.ensures.few (c.run_plans.ensures.store.cap_is ∙ c.requires.named.cap_is) c.ended_work.ensures.told c.ended_work.ensures.few
     c.requires.named.terms_are c.run_plans.ensures.named c.await_places.ensures.placed c.await_places.ensures.legal
