@@ -1,7 +1,7 @@
 // Runs of plans on the desks of a hub.
-ghost use Rattle.std.specs.Prelude.{◌≡◌, ◌≤◌, length, Some, All};
+ghost use Rattle.std.specs.Prelude.{◌≡◌, ◌≤◌, Some, All};
 ghost use Rattle.session_client.specs.Plans.{IsPlan};
-ghost use Rattle.shard_lock.specs.Names.{AreAll, IsNamedStore};
+ghost use Rattle.shard_lock.specs.Names.{IsNamedStore, terms_at};
 
 use crate::kept_desks::{Call, KeptDesk};
 use gate_workers::{Transcript, work_all};
@@ -51,26 +51,29 @@ pub fn run_plans<G: Gate, R: Threads + Wait + Abort + Sync>(
         Ok(store) => store,
         Err(none) => panic!(rt; "{:?}", none.cause),
     };
-    let shards = new_shards(alloc, shape.shards, shape.room, shape.life)?;
-    run_on::<Brand, _, _>(rt, alloc, store, shards, plans, gate)
+    run_on::<Brand, _, _>(rt, alloc, shape, store, plans, gate)
 }
 
-/// Runs the plans on the desks of a hub of this store and these shards.
+/// Runs the plans on the desks of a hub of this shape over this store.
 fn run_on<H: HubName + Send + Sync, G: Gate, R: Threads + Wait + Abort + Sync>(
     rt: &R,
     alloc: Global,
+    shape: &Shape,
     store: Store<MapKeeper>,
-    shards: Vec<Shard>,
     plans: &[Vec<Plan>],
     gate: &G,
 ) -> Result<Ran, Fail>
     requires store { IsNamedStore H.opening H.cap store }
     requires start { H.start ≡ Some store.faults }
     requires new { store.ledger.failed ≡ 0 }
-    requires shards { AreAll H.terms shards.items }
-    requires few { length shards.items ≤ 64 }
+    requires terms { H.terms ≡ terms_at shape.now.shards shape.now.room shape.now.life }
+    requires some_shards { 1 ≤ shape.now.shards }
+    requires few_shards { shape.now.shards ≤ 64 }
+    requires roomy { 1 ≤ shape.now.room }
+    requires lively { 1 ≤ shape.now.life }
     requires plans { All (λ list. All IsPlan list.items) plans.now }
 {
+    let shards = new_shards(alloc, shape.shards, shape.room, shape.life)?;
     let clock = ListClock::new(vec![in alloc; 0]?);
     let hub: Hub<MapKeeper, H> = match Hub::new(alloc, store.named::<StartOf<H>>(), shards) {
         Ok(hub) => hub,
