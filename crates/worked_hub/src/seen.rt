@@ -1,5 +1,5 @@
-// What happens on a key of a shard, in a form in which a call at a desk and a step of a history can be
-// compared.
+// What happens on a key of a shard, in a form in which a call at a desk and a step of a history can
+// be compared.
 use crate::kept_desks::Call;
 use gate_workers::{Request, Response};
 use key_shard::{Ended, Rel, Stands, Step};
