@@ -2,9 +2,8 @@
 use Rattle.std.proofs.Common.{◌≡◌, if◌then◌else◌, Bool, true, List, [], ◌∷◌, ◌++◌, Option, Some, None, Result, Ok, Err, MatchResult, OnErr, refl, sym, ap, subst, ◌∙◌, inl, inr}
 use Rattle.rows_model.specs.declared.keys.Sid.{Sid}
 use Rattle.rows_model.specs.declared.refusals.Memory.{Memory}
-use Rattle.session_client.specs.Desks.{Call, Began, Asked, with_member}
+use Rattle.session_client.specs.Desks.{Call, Asked, with_member}
 use Rattle.session_client.specs.Follows.{Follows, IsReady, IsRefreshing, plan_of, sid_of}
-use Rattle.session_client.specs.Plans.{writes}
 use Rattle.session_client.specs.Wants.{wants, outcome_of, done_by, is_nothing}
 use Rattle.session_client.specs.declared.plans.Plan.{Plan}
 use Rattle.session_client.specs.declared.replies.Reply.{Reply}
@@ -13,8 +12,8 @@ use Rattle.session_client.specs.declared.replies.Wanted.{Wanted}
 use Rattle.session_client.specs.declared.replies.Wanted.TheVariants as wanted
 use Rattle.session_client.specs.declared.sessions.Session.{Session}
 use Rattle.gate_workers.specs.declared.marks.Mark.{Mark}
-use Rattle.gate_workers.specs.Marks.{mark_of, marks_of}
-use Rattle.gate_workers.specs.Rows.{Went, IsShort, with_calls}
+use Rattle.gate_workers.specs.Marks.{mark_of}
+use Rattle.gate_workers.specs.Rows.{IsShort, with_calls}
 use Rattle.gate_workers.specs.Notes.{IsGoing, IsNoted, AreNoted, IsUnderWay, HasEnded}
 
 -- one call more in a record

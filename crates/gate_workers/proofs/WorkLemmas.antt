@@ -1,10 +1,10 @@
 -- The rows of a worker's plans, as they come, and the transcripts of all workers.
-use Rattle.std.proofs.Common.{All, Vec, Global, Result, Ok, Err, IfOk, map, set, get_or, arith, ◌≡◌, ℕ, ◌+◌, ◌<◌, Bool, true, false, List, [], ◌∷◌, ◌++◌, Option, Some, None, length, take, refl, sym, ap, subst, ◌∙◌, append_assoc, append-nil}
+use Rattle.std.proofs.Common.{All, Vec, Global, Result, Ok, Err, IfOk, map, set, get_or, arith, ◌≡◌, ◌<◌, false, List, [], ◌∷◌, ◌++◌, Option, Some, None, length, refl, sym, ap, subst, ◌∙◌, append_assoc, append-nil}
 use Rattle.std.proofs.lemmas.List.{map-append}
 use Rattle.std.proofs.lemmas.List.Elements.{All-head, All-tail, All-nil, All-cons, All-same}
 use Rattle.rows_model.specs.declared.refusals.Memory.{Memory}
 use Rattle.rows_model.specs.declared.keys.Sid.{Sid}
-use Rattle.session_client.specs.Desks.{Call, Began, Asked, with_member}
+use Rattle.session_client.specs.Desks.{Call, Began, with_member}
 use Rattle.session_client.specs.Follows.{Follows, plan_of, sid_of}
 use Rattle.session_client.specs.Plans.{writes, IsPlan}
 use Rattle.session_client.specs.declared.plans.Plan.{Plan}

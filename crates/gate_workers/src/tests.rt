@@ -19,6 +19,41 @@ const PROFILE: QKey = QKey {
     id: 1,
 };
 
+/// What is counted of the first list.
+const TALLY: Tally = Tally {
+    hits: 1,
+    stores: 1,
+    voids: 0,
+    agains: 0,
+    bypasses: 0,
+    commits: 1,
+    rejected: 1,
+    refused: 0,
+};
+
+/// What is left of a session that stores its answer.
+const MARKS: [Mark; 3] = [
+    Mark {
+        asked: Request::Get {
+            key: PROFILE,
+            floor: 0,
+        },
+        told: Response::Lease { token: 1 },
+    },
+    Mark {
+        asked: Request::Ask { key: PROFILE },
+        told: Response::Answer { stamp: 0 },
+    },
+    Mark {
+        asked: Request::Set {
+            key: PROFILE,
+            token: 1,
+            stamp: 0,
+        },
+        told: Response::Stored { evicted: None },
+    },
+];
+
 /// How often a gate looks for the other worker.
 const TURNS: u64 = 100_000_000;
 
@@ -126,42 +161,11 @@ fn runs_each_list_in_order(rt: HostRuntime) -> Result<(), Fail> {
         ],
     );
     check_rows(&rt, second, &[(1, Outcome::Stored)]);
-    let tally = Tally {
-        hits: 1,
-        stores: 1,
-        voids: 0,
-        agains: 0,
-        bypasses: 0,
-        commits: 1,
-        rejected: 1,
-        refused: 0,
-    };
-    assert_eq!(rt; first.tally(), tally);
-    let marks = [
-        Mark {
-            asked: Request::Get {
-                key: PROFILE,
-                floor: 0,
-            },
-            told: Response::Lease { token: 1 },
-        },
-        Mark {
-            asked: Request::Ask { key: PROFILE },
-            told: Response::Answer { stamp: 0 },
-        },
-        Mark {
-            asked: Request::Set {
-                key: PROFILE,
-                token: 1,
-                stamp: 0,
-            },
-            told: Response::Stored { evicted: None },
-        },
-    ];
+    assert_eq!(rt; first.tally(), TALLY);
     let [row] = second.rows() else {
         panic!(rt; "one row");
     };
-    assert_eq!(rt; row.marks(), marks.as_slice());
+    assert_eq!(rt; row.marks(), MARKS.as_slice());
     assert_eq!(rt; desks[0].tended(), 5);
     assert_eq!(rt; desks[1].tended(), 1);
     assert_eq!(rt; desks[1].called(), 3);

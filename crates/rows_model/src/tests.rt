@@ -192,19 +192,16 @@ fn makes_changes_and_answers(rt: HostRuntime) -> Result<(), Fail> {
     Ok(())
 }
 
-// Whether the members from 1 on give these answers of all kinds, which `/` parts.
-fn answers_are(alloc: Global, rows: &Rows, want: &[&str]) -> Result<bool, Fail> {
-    for (id, texts) in (1..).zip(want.iter()) {
-        let mut all = Vec::new(alloc);
-        for key in kinds_of(id).iter() {
+// The answers of all kinds about each member, each with `/` behind it.
+fn answers(alloc: Global, rows: &Rows) -> Result<Vec<u8>, Fail> {
+    let mut all = Vec::new(alloc);
+    for member in rows.members() {
+        for key in kinds_of(member.id).iter() {
             all.extend_from_slice(ask(alloc, rows, key)?.bytes())?;
             all.push(b'/')?;
         }
-        if all.as_slice() != texts.as_bytes() {
-            return Ok(false);
-        }
     }
-    Ok(true)
+    Ok(all)
 }
 
 #[test]
@@ -219,22 +216,12 @@ fn each_member_answers_by_its_own_links(rt: HostRuntime) -> Result<(), Fail> {
                 Change::Invite { a: 1, b: 4 },
             ]
             .as_slice(),
-            [
-                "m1 0 2//2,3/0/2/",
-                "m2 0 0///0/0/",
-                "m3 0 0///0/0/",
-                "m4 0 1//1/0/1/",
-            ],
+            "m1 0 2//2,3/0/2/m2 0 0///0/0/m3 0 0///0/0/m4 0 1//1/0/1/",
             3,
         ),
         (
             [Change::Accept { a: 3, b: 1 }, Change::Invite { a: 4, b: 2 }].as_slice(),
-            [
-                "m1 1 1/3/2/1/1/",
-                "m2 0 1//4/0/1/",
-                "m3 1 0/1//1/0/",
-                "m4 0 1//1/0/1/",
-            ],
+            "m1 1 1/3/2/1/1/m2 0 1//4/0/1/m3 1 0/1//1/0/m4 0 1//1/0/1/",
             4,
         ),
         (
@@ -244,12 +231,7 @@ fn each_member_answers_by_its_own_links(rt: HostRuntime) -> Result<(), Fail> {
                 Change::Reject { a: 4, b: 2 },
             ]
             .as_slice(),
-            [
-                "m1 3 0/2,3,4//3/0/",
-                "m2 1 0/1//1/0/",
-                "m3 1 0/1//1/0/",
-                "m4 1 0/1//1/0/",
-            ],
+            "m1 3 0/2,3,4//3/0/m2 1 0/1//1/0/m3 1 0/1//1/0/m4 1 0/1//1/0/",
             3,
         ),
         (
@@ -263,20 +245,15 @@ fn each_member_answers_by_its_own_links(rt: HostRuntime) -> Result<(), Fail> {
                 Change::Invite { a: 2, b: 4 },
             ]
             .as_slice(),
-            [
-                "m1 2 1/2,4/3/2/1/",
-                "m2 1 0/1//1/0/",
-                "m3 0 0///0/0/",
-                "ann 1 1/1/2/1/1/",
-            ],
+            "m1 2 1/2,4/3/2/1/m2 1 0/1//1/0/m3 0 0///0/0/ann 1 1/1/2/1/1/",
             4,
         ),
     ] {
         let txn = Txn::of(rt.alloc(), changes)?;
         assert_eq!(rt; rows.apply(&txn), Ok(()));
-        assert!(rt; answers_are(rt.alloc(), &rows, &want)?);
+        assert_eq!(rt; answers(rt.alloc(), &rows)?.as_slice(), want.as_bytes());
         let copy = rows.copy()?;
-        assert!(rt; answers_are(rt.alloc(), &copy, &want)?);
+        assert_eq!(rt; answers(rt.alloc(), &copy)?.as_slice(), want.as_bytes());
         assert_eq!(rt; rows.link_count(), links);
     }
     assert_eq!(rt; rows.links_of(1).len(), 3);
@@ -327,8 +304,8 @@ fn judges_each_change_after_the_earlier_ones(rt: HostRuntime) -> Result<(), Fail
     ] {
         let txn = Txn::of(rt.alloc(), changes)?;
         assert_eq!(rt; rows.apply(&txn), Err(ApplyFault::Rejected { index }));
-        let want = ["m1 1 0/2//1/0/", "m2 1 0/1//1/0/", "m3 0 0///0/0/"];
-        assert!(rt; answers_are(rt.alloc(), &rows, &want)?);
+        let want = "m1 1 0/2//1/0/m2 1 0/1//1/0/m3 0 0///0/0/";
+        assert_eq!(rt; answers(rt.alloc(), &rows)?.as_slice(), want.as_bytes());
     }
     Ok(())
 }

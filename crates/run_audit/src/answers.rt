@@ -1,8 +1,8 @@
-ghost use Rattle.std.specs.Prelude.{◌≡◌, ◌≤◌, ℕ, List, OnOk, IfOk, All, AllPairs, if◌then◌else◌, true, Some, option_map};
+ghost use Rattle.std.specs.Prelude.{◌≡◌, OnOk, IfOk, All, if◌then◌else◌, Some};
 ghost use Rattle.std.specs.Option.{option_copied};
 ghost use Rattle.rows_model.specs.declared.keys.QKey.{QKey};
 ghost use Rattle.rows_model.specs.Key.{same_key};
-ghost use Rattle.rows_model.specs.Changes.{has_key, is_key_before};
+ghost use Rattle.rows_model.specs.Changes.{has_key};
 ghost use Rattle.run_audit.specs.Findings.{histories_in};
 ghost use Rattle.run_audit.specs.Answers.{noted, pushed, renewed, value_at, AreOpening, Keeps, Knows, InOrder, InTurn};
 

@@ -1,4 +1,4 @@
-ghost use Rattle.std.specs.Prelude.{◌≡◌, ◌≤◌, ◌↔◌, List, IfOk, IsTrue, All, length};
+ghost use Rattle.std.specs.Prelude.{◌≡◌, ◌≤◌, ◌↔◌, List, IfOk, All, length};
 ghost use Rattle.rows_model.specs.Rows.{Tables};
 ghost use Rattle.sql_keeper.specs.declared.stores.Commit.{Commit};
 ghost use Rattle.sql_keeper.specs.Fresh.{Fresh, Covered};

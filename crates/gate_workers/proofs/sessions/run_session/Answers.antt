@@ -1,5 +1,4 @@
 use Rattle.std.proofs.Common.{◌≡◌, ◌∙◌, sym, subst, Some, [], List, Option}
-use Rattle.rows_model.specs.declared.keys.Sid.{Sid}
 use Rattle.session_client.specs.Desks.{Began, with_member}
 use Rattle.session_client.specs.Plans.{writes}
 use Rattle.gate_workers.specs.declared.marks.Mark.{Mark}

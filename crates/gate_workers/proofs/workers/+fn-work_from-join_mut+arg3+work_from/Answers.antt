@@ -1,4 +1,4 @@
-use Rattle.std.proofs.Common.{rules, Vec, Global, IfOk, List, map, ◌≡◌, ◌++◌, refl}
+use Rattle.std.proofs.Common.{rules, Vec, Global, IfOk, map, ◌++◌, refl}
 use Rattle.session_client.specs.declared.plans.Plan.{Plan}
 use Rattle.gate_workers.specs.Rows.{AllWork, AreJoined}
 use Rattle.gate_workers.proofs.WorkLemmas.{both_worked}
