@@ -1,7 +1,8 @@
 -- The ends of a command, by its words.
-use Rattle.std.proofs.Common.{ℕ, ◌≡◌, List, [], ◌∷◌, length, arith, refl, sym, ap, ◌∙◌, subst}
+use Rattle.std.proofs.Common.{ℕ, ◌≡◌, ◌<◌, ◌-◌, ◌^◌, inl, inr, List, [], ◌∷◌, length, arith, refl, sym, ap, ◌∙◌, subst}
 use Rattle.std.specs.Prelude.{Option, Some, None, unwrap_or, is_some}
 use Rattle.std.proofs.lemmas.Bool.{false≢true}
+use Rattle.iq_outside.specs.Outside.{Rose}
 use Rattle.run_inputs.specs.declared.loads.WorkSpec.{WorkSpec}
 use Rattle.run_inputs.specs.Words.{AreWork}
 use Rattle.top_run.specs.declared.runs.Status.{Status}
@@ -51,3 +52,14 @@ nothing_ended words held before after left written no_replay none h = record {
 
 pub no_command : (words : List (List ℕ)) → (AreReplay words → ⊥) → ((spec : WorkSpec) → AreWork words spec → None ≡ Some spec) → AreNoCommand words
 no_command words no_replay none = record { no_replay = no_replay; no_work = λ spec work. no_load spec (none spec work) }
+
+-- where the keeper's count of faults stands below the end of its type, no call of it failed
+not_rose : (before after : ℕ) → Rose before after → after ≡ before → before < 2 ^ 64 - 1 → ⊥
+not_rose before after (inl up) same below = omega (arith, up, same)
+not_rose before after (inr end) same below = omega (arith, end, same, below)
+
+pub load_not_failed : (ended : Status) (spec : WorkSpec) (before after : Tells) (left : Left) (written : ℕ) → WorkEnded ended spec before after left written
+    → after.keeps_failed ≡ before.keeps_failed → before.keeps_failed < 2 ^ 64 - 1 → ended ≡ status.KeepFault → ⊥
+load_not_failed ended spec before after left written h same below is =
+    let failed = subst (λ (e : Status). WorkEnded e spec before after left written) is h in
+    not_rose before.keeps_failed after.keeps_failed failed.0 same below

@@ -7,13 +7,14 @@ use Rattle.rows_model.specs.declared.keys.QKey.{QKey}
 use Rattle.rows_model.specs.Key.{key_text}
 use Rattle.sql_keeper.specs.declared.stores.Commit.{Commit}
 use Rattle.core_history.specs.Lines.{count_in, is_hit, is_stored, is_again}
-use Rattle.std.proofs.lemmas.List.{length-map, take-map}
+use Rattle.std.proofs.lemmas.List.{take-map}
 use Rattle.std.proofs.lemmas.Option.{slice_get_read, slice_get-map}
 use Rattle.std.specs.Prelude.{Option, Some, slice_get, option_map}
 use Rattle.run_audit.specs.declared.findings.Finding.TheVariants as finding
+use Rattle.run_audit.specs.declared.findings.Finding.{Finding}
 use Rattle.run_audit.specs.Findings.{histories_in}
 use Rattle.run_inputs.specs.declared.loads.WorkSpec.{WorkSpec}
-use Rattle.top_run.specs.Works.{load_line, totals_line, audit_line, is_void, is_refused}
+use Rattle.top_run.specs.Works.{load_line, totals_line, audit_line, summary, is_void, is_refused}
 use Rattle.top_run.proofs.PrintLemmas.{counted_more}
 
 -- lists that are joined in another order
@@ -75,6 +76,12 @@ uncovered_line_is text commit key =
     three text (codes "audit uncovered " ++ decimal commit) (32 ∷ []) (key_text key) (10 ∷ [])
     ∙ ap (λ (line : List ℕ). text ++ (line ++ 10 ∷ [])) (append_assoc (codes "audit uncovered ") (decimal commit) (32 ∷ key_text key))
 
+-- the lines make the summary
+pub summary_is : (spec : WorkSpec) (log : List Commit) (histories : List (List Step)) (bypasses rejected : ℕ) (found : Finding)
+    → (load_line spec ++ totals_line log histories bypasses rejected) ++ audit_line found ≡ summary spec log histories bypasses rejected found
+unfolding summary
+summary_is spec log histories bypasses rejected found = append_assoc (load_line spec) (totals_line log histories bypasses rejected) (audit_line found)
+
 -- the history of a shard at a place
 pub history_at : (shards : List ShardView) (i : ℕ) (shard : ShardView) → i < length shards → shard ≡ get_or shards i shard → slice_get (histories_in shards) i ≡ Some shard.history
 history_at shards i shard within is =
@@ -85,6 +92,6 @@ history_at shards i shard within is =
 pub counted_next : (test : Step → Bool) (shards : List ShardView) (i : ℕ) (shard : ShardView) (a n : ℕ) → i < length shards → shard ≡ get_or shards i shard
     → a ≡ count_in test (histories_in (take i shards)) → n ≡ count_by test shard.history → a + n ≡ count_in test (histories_in (take (i + 1) shards))
 counted_next test shards i shard a n within is before here =
-    let past : (k : ℕ) → histories_in (take k shards) ≡ take k (histories_in shards) = λ k. sym (take-map (λ (s : ShardView). s.history) shards k) in
+    let past : (k : ℕ) → histories_in (take k shards) ≡ take k (histories_in shards) = λ k. sym (take-map (λ (s : ShardView). s.history) k shards) in
     counted_more test (histories_in shards) i shard.history a n (history_at shards i shard within is) (before ∙ ap (count_in test) (past i)) here
     ∙ ap (count_in test) (sym (past (i + 1)))

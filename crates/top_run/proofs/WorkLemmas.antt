@@ -1,6 +1,6 @@
 -- The ends of a load's run.
 use Rattle.std.proofs.Common.{ℕ, zero, suc, ◌≡◌, ◌+◌, ◌-◌, ◌^◌, ◌<◌, ◌≤◌, List, [], ◌∷◌, length, map, take, arith, refl, sym, ap, ◌∙◌, subst, inl, inr, All}
-use Rattle.std.specs.Prelude.{Bool, true, false, ◌⊎◌, nat_lt, cond, Option, Some, None, Result, Ok, Err, IfOk, IfErr, slice_get, option_map, unwrap_or, is_some, get_or, position}
+use Rattle.std.specs.Prelude.{Bool, true, false, ◌⊎◌, ◌==◌, nat_lt, cond, Option, Some, None, Result, Ok, Err, IfOk, IfErr, slice_get, option_map, unwrap_or, is_some, get_or, position}
 use Rattle.std.specs.List.{position_from}
 use Rattle.std.proofs.lemmas.Iterator.Adapters.{position_from-zero}
 use Rattle.std.specs.Option.{ForSome}
@@ -114,7 +114,7 @@ never_fell_since start failed faults named is few low = by (few start is)
     by (inr h) = omega (arith, h, low)
 
 -- what a run leaves
-pub left_of : StoreView → List ShardView → Left
+abbrev pub left_of : StoreView → List ShardView → Left
 left_of store shards = record { opening = Some store.ledger.opening; log = store.ledger.log; histories = histories_in shards }
 
 pub kept_of : (spec : WorkSpec) (before after : Tells) (store : StoreView) (shards : List ShardView) (terms : ℕ → Terms) (start : Option ℕ)

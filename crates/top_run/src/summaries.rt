@@ -7,7 +7,7 @@ ghost use Rattle.top_run.specs.Works.{test_of, load_line, totals_line, audit_lin
 use gate_workers::Transcript;
 use itoa::Buffer;
 use key_shard::{Shard, Step};
-use rows_model::Memory;
+use rows_model::{Memory, QKey};
 use run_audit::Finding;
 use run_inputs::WorkSpec;
 use sql_keeper::Commit;
@@ -74,19 +74,38 @@ fn push_audit(alloc: Global, text: &mut Vec<u8>, finding: Finding) -> Result<(),
     ensures { OnOk result (text.new.items ≡ text.old.items ++ audit_line finding) }
 {
     match finding {
-        Finding::Clean => {
-            text.extend_from_slice(b"audit clean")?;
-        }
-        Finding::Stale { shard, place } => {
-            push_field(text, b"audit stale ", shard as u128)?;
-            push_field(text, b" ", place as u128)?;
-        }
-        Finding::Uncovered { commit, key } => {
-            push_field(text, b"audit uncovered ", commit as u128)?;
-            text.push(b' ')?;
-            text.extend_from_slice(key.text(alloc)?.bytes())?;
-        }
+        Finding::Clean => push_clean(text),
+        Finding::Stale { shard, place } => push_stale(text, shard, place),
+        Finding::Uncovered { commit, key } => push_uncovered(alloc, text, commit, key),
     }
+}
+
+fn push_clean(text: &mut Vec<u8>) -> Result<(), Memory>
+    ensures { OnOk result (text.new.items ≡ text.old.items ++ audit_line Finding.Clean) }
+{
+    text.extend_from_slice(b"audit clean")?;
+    text.push(b'\n')?;
+    Ok(())
+}
+
+fn push_stale(text: &mut Vec<u8>, shard: u32, place: u64) -> Result<(), Memory>
+    ensures { OnOk result (text.new.items ≡ text.old.items
+        ++ audit_line (Finding.Stale shard place)) }
+{
+    push_field(text, b"audit stale ", shard as u128)?;
+    push_field(text, b" ", place as u128)?;
+    text.push(b'\n')?;
+    Ok(())
+}
+
+fn push_uncovered(alloc: Global, text: &mut Vec<u8>, commit: u64, key: QKey) -> Result<(), Memory>
+    ensures { OnOk result (text.new.items ≡ text.old.items
+        ++ audit_line (Finding.Uncovered commit key)) }
+{
+    let name = key.text(alloc)?;
+    push_field(text, b"audit uncovered ", commit as u128)?;
+    text.push(b' ')?;
+    text.extend_from_slice(name.bytes())?;
     text.push(b'\n')?;
     Ok(())
 }

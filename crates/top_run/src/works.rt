@@ -340,12 +340,12 @@ fn tell<W: Sink>(
     ensures counts { RoseWhere (at_write_told result) (W.faults sink.old) (W.faults sink.new) }
     ensures never_falls { W.faults sink.old ≤ W.faults sink.new }
 {
-    match made {
-        Ok(Made { finding, text }) => match print(sink, written, text.as_slice()) {
-            Ok(()) => Ok(finding),
-            Err(_) => Err(Stop::WriteFault),
-        },
-        Err(Memory) => Err(Stop::Memory),
+    let Ok(made) = made else {
+        return Err(Stop::Memory);
+    };
+    match print(sink, written, made.text.as_slice()) {
+        Ok(()) => Ok(made.finding),
+        Err(_) => Err(Stop::WriteFault),
     }
 }
 
