@@ -1,50 +1,55 @@
-use Rattle.std.proofs.Common.{Bool, sym, refl, ap, subst, ◌∙◌}
-use Rattle.std.specs.Prelude.{nat_lt}
+use Rattle.std.proofs.Common.{Bool, refl, sym, ap, subst, ◌∙◌}
 use Rattle.run_audit.specs.Findings.{histories_in}
-use Rattle.top_run.specs.Runs.{RoseWhere, moment, is_read_fault, is_write_fault}
+use Rattle.std.specs.Prelude.{nat_lt}
+use Rattle.top_run.specs.Runs.{moment, RoseWhere, is_read_fault, is_write_fault}
 use Rattle.top_run.specs.Works.{first_spent}
 use Rattle.top_run.proofs.WorkLemmas.{numbered_of, left_of, kept_of, work_ended, no_usage, no_read, at_write_end, never_fell_since}
 use Rattle.top_run.proofs.works.work_on.Goals as goal
 
-pub summed_up-requires-clause-numbered : goal.summed_up-requires-clause-numbered
-summed_up-requires-clause-numbered g c =
-    let shards = c.run_plans.result.shards.items in
-    numbered_of g.H.HubName.terms c.args.spec.now shards c.requires.named.terms_are c.run_plans.ensures.named c.await_places.ensures.placed
-    (c.run_plans.ensures.as_many ∙ c.requires.ready.as_many) c.requires.work.few_shards
+pub summed_up-made-requires-clause-numbered : goal.summed_up-made-requires-clause-numbered
+summed_up-made-requires-clause-numbered g c =
+    let shards = c.run_plans-store.result.shards.items in
+    let placed = (rw c.as_slice-2.ensures.value at c.await_places.ensures.placed) in
+    rw c.as_slice-3.ensures.value
+    (numbered_of g.H.HubName.terms c.args.spec.now shards c.requires.named.terms_are c.run_plans-store.ensures.named placed
+    (c.run_plans-store.ensures.as_many ∙ c.requires.ready.as_many) c.requires.work.few_shards)
 
 pub returns-clause-ended : goal.returns-clause-ended
 returns-clause-ended g c = λ unread reads rows.
-    let store = c.run_plans.result.store in
-    let shards = c.run_plans.result.shards.items in
+    let store = c.run_plans-store.result.store in
+    let shards = c.run_plans-store.result.shards.items in
     let spec = c.args.spec.now in
+    let placed = (rw c.as_slice-2.ensures.value at c.await_places.ensures.placed) in
+    let legal = (rw c.as_slice-2.ensures.value at c.await_places.ensures.legal) in
+    let short = (rw c.log.ensures.items at c.log.ensures.few) in
+    let made = (rw (c.opening.ensures, c.log.ensures.items, c.as_slice-3.ensures.value) at c.summed_up-made.ensures) in
     let before = moment unread reads (g.W.Sink.taken c.args.sink.now) (g.W.Sink.faults c.args.sink.now) rows c.args.store.faults in
-    let after = moment unread reads (g.W.Sink.taken c.tell.new.sink) (g.W.Sink.faults c.tell.new.sink) store.told store.faults in
+    let after = moment unread reads (g.W.Sink.taken c.tell-told.new.sink) (g.W.Sink.faults c.tell-told.new.sink) store.told store.faults in
     let kept = kept_of spec before after store shards g.H.HubName.terms g.H.HubName.start refl refl c.requires.named.start_is
-    c.log.ensures.few (c.run_plans.ensures.store.cap_is ∙ c.requires.named.cap_is) c.ended_work.ensures.told c.ended_work.ensures.few
-    c.requires.named.terms_are c.run_plans.ensures.named c.await_places.ensures.placed c.await_places.ensures.legal
-    (c.run_plans.ensures.as_many ∙ c.requires.ready.as_many) in
-    let made = (rw (c.opening.ensures, c.log.ensures.items) at c.summed_up.ensures) in
+    short (c.run_plans-store.ensures.store.cap_is ∙ c.requires.named.cap_is) c.ended_work.ensures.told c.ended_work.ensures.few
+    c.requires.named.terms_are c.run_plans-store.ensures.named placed legal
+    (c.run_plans-store.ensures.as_many ∙ c.requires.ready.as_many) in
     rw (c.ended_work.ensures.status, c.ended_work.ensures.opening, c.ended_work.ensures.log, c.ended_work.ensures.histories, c.ended_work.ensures.written, c.ended_work.ensures.rows, c.ended_work.ensures.faults)
-    (work_ended spec before after (left_of store shards) c.tell.new.written store.ledger.opening store.ledger.failed kept c.tell.result
-    (c.tell.ensures.told spec store.ledger.opening store.ledger.log (histories_in shards) made)
-    (c.tell.ensures.halted spec store.ledger.opening store.ledger.log (histories_in shards) made))
+    (work_ended spec before after (left_of store shards) c.tell-told.new.written store.ledger.opening store.ledger.failed kept c.tell-told.result
+    (c.tell-told.ensures.told spec store.ledger.opening store.ledger.log (histories_in shards) made)
+    (c.tell-told.ensures.halted spec store.ledger.opening store.ledger.log (histories_in shards) made))
 
 pub returns-clause-command : goal.returns-clause-command
 returns-clause-command g c = λ is.
-    no_usage (nat_lt 0 c.run_plans.result.store.ledger.failed) (first_spent (histories_in c.run_plans.result.shards.items)) c.tell.result (sym c.ended_work.ensures.status ∙ is)
+    no_usage (nat_lt 0 c.run_plans-store.result.store.ledger.failed) (first_spent (histories_in c.run_plans-store.result.shards.items)) c.tell-told.result (sym c.ended_work.ensures.status ∙ is)
 
 pub returns-clause-no_read_fault : goal.returns-clause-no_read_fault
 returns-clause-no_read_fault g c =
     ap is_read_fault c.ended_work.ensures.status
-    ∙ no_read (nat_lt 0 c.run_plans.result.store.ledger.failed) (first_spent (histories_in c.run_plans.result.shards.items)) c.tell.result
+    ∙ no_read (nat_lt 0 c.run_plans-store.result.store.ledger.failed) (first_spent (histories_in c.run_plans-store.result.shards.items)) c.tell-told.result
 
 pub returns-clause-writes : goal.returns-clause-writes
 returns-clause-writes g c =
     let is = ap is_write_fault c.ended_work.ensures.status
-    ∙ at_write_end (nat_lt 0 c.run_plans.result.store.ledger.failed) (first_spent (histories_in c.run_plans.result.shards.items)) c.tell.result in
-    subst (λ (b : Bool). RoseWhere b (g.W.Sink.faults c.args.sink.now) (g.W.Sink.faults c.tell.new.sink)) (sym is) c.tell.ensures.counts
+    ∙ at_write_end (nat_lt 0 c.run_plans-store.result.store.ledger.failed) (first_spent (histories_in c.run_plans-store.result.shards.items)) c.tell-told.result in
+    subst (λ (b : Bool). RoseWhere b (g.W.Sink.faults c.args.sink.now) (g.W.Sink.faults c.tell-told.new.sink)) (sym is) c.tell-told.ensures.counts
 
 pub returns-clause-keeper_never_falls : goal.returns-clause-keeper_never_falls
 returns-clause-keeper_never_falls g c = λ low.
     rw c.ended_work.ensures.faults
-    (never_fell_since c.args.store.faults c.run_plans.result.store.ledger.failed c.run_plans.result.store.faults g.H.HubName.start c.requires.named.start_is c.ended_work.ensures.few low)
+    (never_fell_since c.args.store.faults c.run_plans-store.result.store.ledger.failed c.run_plans-store.result.store.faults g.H.HubName.start c.requires.named.start_is c.ended_work.ensures.few low)
