@@ -1,5 +1,5 @@
 -- The ends of a load's run.
-use Rattle.std.proofs.Common.{ℕ, zero, suc, ◌≡◌, ◌+◌, ◌-◌, ◌^◌, ◌<◌, ◌≤◌, List, [], ◌∷◌, length, map, take, arith, refl, sym, ap, ◌∙◌, subst, inl, inr, All}
+use Rattle.std.proofs.Common.{ℕ, ◌≡◌, ◌+◌, ◌-◌, ◌^◌, ◌<◌, ◌≤◌, List, [], ◌∷◌, length, arith, refl, sym, ap, ◌∙◌, subst, inl, inr, All}
 use Rattle.std.specs.Prelude.{Bool, true, false, ◌⊎◌, ◌==◌, nat_lt, cond, Option, Some, None, Result, Ok, Err, IfOk, IfErr, slice_get, option_map, unwrap_or, is_some, get_or, position}
 use Rattle.std.specs.List.{position_from}
 use Rattle.std.proofs.lemmas.Iterator.Adapters.{position_from-zero}
@@ -7,7 +7,6 @@ use Rattle.std.specs.Option.{ForSome}
 use Rattle.std.proofs.lemmas.Bool.{false≢true}
 use Rattle.std.proofs.lemmas.List.{length-map}
 use Rattle.std.proofs.lemmas.List.Elements.{All-get_or}
-use Rattle.std.proofs.lemmas.List.Quantifiers.{position-Some}
 use Rattle.std.proofs.lemmas.Option.{slice_get-map, slice_get_within, get_or_from_slice_get}
 use Rattle.iq_outside.specs.Outside.{Rose}
 use Rattle.rows_model.specs.Rows.{Tables}
@@ -25,7 +24,6 @@ use Rattle.run_audit.specs.Findings.{histories_in, AreNumbered}
 use Rattle.run_inputs.specs.declared.loads.WorkSpec.{WorkSpec}
 use Rattle.top_run.specs.declared.plays.Stop.{Stop}
 use Rattle.top_run.specs.declared.plays.Stop.TheVariants as stop
-use Rattle.top_run.specs.declared.runs.Status.{Status}
 use Rattle.top_run.specs.declared.runs.Status.TheVariants as status
 use Rattle.top_run.specs.Runs.{Tells, Left, is_read_fault, is_write_fault}
 use Rattle.top_run.specs.Works.{work_shape, has_spent, first_spent, work_status, end_status, at_write_told, ArePlaced, AreLegal, IsTold, IsHalted, IsKept, WorkEnded}

@@ -1,5 +1,5 @@
 -- What is there before the run of a load begins.
-use Rattle.std.specs.Prelude.{ℕ, ◌≡◌, ◌≤◌, List, [], length, All, vec_capacity}
+use Rattle.std.specs.Prelude.{ℕ, ◌≡◌, ◌≤◌, [], length, All, vec_capacity}
 use Rattle.key_shard.specs.Past.{Terms}
 use Rattle.session_client.specs.Plans.{IsPlan}
 use Rattle.shard_lock.specs.Names.{AreAll}

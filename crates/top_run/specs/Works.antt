@@ -1,5 +1,5 @@
 -- What the run of a load prints and keeps.
-use Rattle.std.specs.Prelude.{ℕ, ◌≡◌, ◌≤◌, ◌-◌, ◌^◌, ◌==◌, ◌⊎◌, nat_lt, All, Bool, true, false, List, [], ◌∷◌, ◌++◌, length, map, position, count_by, Option, Some, None, Result, Ok, Err, slice_get, codes, decimal}
+use Rattle.std.specs.Prelude.{ℕ, ◌≡◌, ◌≤◌, ◌-◌, ◌^◌, ◌==◌, ◌⊎◌, nat_lt, All, Bool, true, false, List, [], ◌∷◌, ◌++◌, length, position, count_by, Option, Some, None, Result, Ok, Err, slice_get, codes, decimal}
 use Rattle.std.specs.Option.{ForSome}
 use Rattle.iq_outside.specs.Outside.{Rose}
 use Rattle.rows_model.specs.Key.{key_text}

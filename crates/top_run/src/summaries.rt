@@ -1,5 +1,5 @@
 // The summary of a load: what its histories, its log and its transcripts count, and what its audit found.
-ghost use Rattle.std.specs.Prelude.{◌≡◌, ◌≤◌, ◌++◌, ℕ, List, IfOk, OnOk, count_by, length, decimal};
+ghost use Rattle.std.specs.Prelude.{◌≡◌, ◌≤◌, ◌++◌, IfOk, OnOk, count_by, length, decimal};
 ghost use Rattle.core_history.specs.Lines.{count_in};
 ghost use Rattle.run_audit.specs.Findings.{histories_in};
 ghost use Rattle.top_run.specs.Works.{test_of, load_line, totals_line, audit_line, summary};
