@@ -6,3 +6,4 @@ pub mod RunLemmas
 pub mod SummaryLemmas
 pub mod WorkLemmas
 pub mod CommandLemmas
+pub mod ReadyLemmas

@@ -1,4 +1,6 @@
-use Rattle.std.proofs.Common.{sym, subst}
+use Rattle.std.proofs.Common.{sym, ap, subst}
+use Rattle.std.specs.Prelude.{Option, is_some}
+use Rattle.rows_model.specs.Rows.{Tables}
 use Rattle.session_client.specs.declared.plans.Shape.{Shape}
 use Rattle.top_run.specs.Runs.{Held, held_at, IsOpened}
 use Rattle.top_run.proofs.RunLemmas.{shape_of, new_core}
@@ -17,5 +19,5 @@ returns-in-Ok-new-clause-ended g c = λ left_old left_new reads read.
     let held : Held = held_at c.args.place.now (g.K.Keeper.holds c.args.keeper c.args.place.now) in
     let opened : IsOpened held c.args.script.shape core.store.ledger.opening core.store.told =
     subst (λ (shape : Shape). IsOpened held shape core.store.ledger.opening core.store.told) c.shape-2.ensures
-    (record { fresh = c.in-Ok-new.ensures.fresh; opened = c.in-Ok-new.ensures.held }) in
+    (record { fresh = c.in-Ok-new.ensures.fresh; opened = λ rows is. c.in-Ok-new.ensures.held (ap (λ (o : Option Tables). is_some o) is) }) in
     rw (sym c.in-Ok-new.ensures.counts) (c.play_on.ensures.ended left_old left_new reads (g.K.Keeper.rows c.args.keeper) held read opened)

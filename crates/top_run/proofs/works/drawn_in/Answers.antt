@@ -1,0 +1,11 @@
+use Rattle.std.proofs.Common.{◌∙◌, rules, tests}
+use Rattle.std.proofs.lemmas.Iterator.{YieldsList-from_slice}
+use Rattle.std.proofs.lemmas.Iterator.Consumers.{YieldsList-from_filter, count_from_yields_List}
+use Rattle.std.proofs.lemmas.List.Sums.{length-filter}
+use Rattle.key_shard.specs.Past.{draws}
+use Rattle.top_run.proofs.works.drawn_in.Goals as goal
+
+pub returns : goal.returns
+returns c =
+    count_from_yields_List c.filter.result _ c.count.ensures.ran (YieldsList-from_filter _ draws (YieldsList-from_slice c.args.history.now cc) c.filter.ensures.closure (λ x b q k. search (rules, tests)))
+    ∙ length-filter draws c.args.history.now
