@@ -51,7 +51,9 @@ fn made_in(alloc: Global, history: &[Step]) -> Result<Vec<Seen<'_>>, Fail> {
 
 /// What the calls say of the keys of a shard of so many, session by session, each session's in their
 /// order.
-fn told_on(alloc: Global, calls: &[Call], shard: u32, count: u32) -> Result<Vec<Seen<'_>>, Fail> {
+fn told_on(alloc: Global, calls: &[Call], shard: u32, count: u32) -> Result<Vec<Seen<'_>>, Fail>
+    requires { 1 ≤ count }
+{
     let mut told = Vec::new(alloc);
     for seen in calls.iter().filter_map(told_by) {
         if shard_number(&seen.key, count) == shard {

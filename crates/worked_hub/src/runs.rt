@@ -55,13 +55,13 @@ pub fn run_plans<G: Gate, R: Threads + Wait + Abort + Sync>(
 }
 
 /// Runs the plans on the desks of a hub of this shape over this store.
-fn run_on<H: HubName + Send + Sync, G: Gate, R: Threads + Wait + Abort + Sync>(
-    rt: &R,
+fn run_on<'x, H: HubName + Send + Sync, G: Gate, R: Threads + Wait + Abort + Sync>(
+    rt: &'x R,
     alloc: Global,
     shape: &Shape,
     store: Store<MapKeeper>,
     plans: &[Vec<Plan>],
-    gate: &G,
+    gate: &'x G,
 ) -> Result<Ran, Fail>
     requires store { IsNamedStore H.opening H.cap store }
     requires start { H.start ≡ Some store.faults }
