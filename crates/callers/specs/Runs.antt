@@ -55,6 +55,9 @@ IsUnharmed status.Memory = Unit {0}
 IsUnharmed status.ReadFault = ⊥
 IsUnharmed status.WriteFault = ⊥
 IsUnharmed status.KeepFault = ⊥
+IsUnharmed (status.Spent shard) = ⊥
+IsUnharmed (status.Stale shard place) = ⊥
+IsUnharmed (status.Uncovered commit key) = ⊥
 
 -- Two runs came to the same: their sinks tell the same bytes, as many were counted, their keepers tell the same rows, and they began with the same rows and leave the same log and histories.
 pub record AreAlike (after after' : Tells) (left left' : Left) (written written' : ℕ) : Type 0 where
