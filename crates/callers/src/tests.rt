@@ -1,5 +1,5 @@
 use crate::{quits, runs, shards, stores};
-use iq_outside::{ListClock, MemSink, MemSource, OpenGate};
+use iq_outside::{MemSink, MemSource};
 use key_shard::{Got, SetAnswer, Shard};
 use lease_table::Mode;
 use rows_model::{Change, Kind, Name, QKey, Sid, Txn, Value};
@@ -46,19 +46,6 @@ fn runs_are_fresh_hold_commits_and_meet_floors(rt: HostRuntime) -> Result<(), Fa
     let keeper = MapKeeper::new(Vec::new(alloc));
     let end = runs::run_covered(alloc, &mut source, &mut sink, keeper);
     assert_eq!(rt; end.log.len(), 0);
-    let keeper = MapKeeper::new(Vec::new(alloc));
-    let clock = ListClock::new(vec![in alloc; 0]?);
-    let end = runs::run_no_command(
-        &rt,
-        alloc,
-        &[],
-        &mut source,
-        &mut sink,
-        keeper,
-        &clock,
-        &OpenGate,
-    );
-    assert_eq!(rt; end.status, Status::Usage);
     Ok(())
 }
 
