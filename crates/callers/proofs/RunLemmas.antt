@@ -1,6 +1,6 @@
 -- What follows from how a run ended.
 use Rattle.std.proofs.Common.{◌≡◌, ℕ, ◌-◌, ◌^◌, ◌<◌, ◌⊎◌, ◌||◌, Bool, true, false, inl, inr, List, [], ◌∷◌, ◌++◌, length, map, reverse, Option, Some, None, IsSome, slice_get, refl, sym, ap, subst, ◌∙◌, append_assoc, append-nil, arith}
-use Rattle.std.specs.Prelude.{All, IfSome, min}
+use Rattle.std.specs.Prelude.{All, IfSome, min, nat_lt}
 use Rattle.std.specs.Option.{option_map}
 use Rattle.std.specs.List.{list_any}
 use Rattle.std.proofs.lemmas.Bool.{and_from, eq-eqb}
@@ -27,14 +27,17 @@ use Rattle.core_history.specs.Determined.{Call, call_of, RunsAreDetermined}
 use Rattle.core_history.specs.Events.{log_of}
 use Rattle.core_history.specs.Freshness.{histories_of}
 use Rattle.core_history.specs.Lines.{fault_turns}
-use Rattle.top_run.specs.Works.{AreNoCommand}
+use Rattle.run_audit.specs.declared.findings.Finding.{Finding}
+use Rattle.run_audit.specs.declared.findings.Finding.TheVariants as finding
+use Rattle.run_inputs.specs.declared.loads.WorkSpec.{WorkSpec}
+use Rattle.top_run.specs.Works.{AreNoCommand, IsTold, IsSummed, IsUnread, WorkEnded, first_spent, work_status}
 use Rattle.core_history.specs.Machine.{Move, terms_of}
 use Rattle.core_history.specs.Truth.{IsTruePast}
 use Rattle.top_run.specs.declared.runs.Status.{Status}
 use Rattle.top_run.specs.declared.runs.Status.TheVariants as status
 use Rattle.top_run.specs.Runs.{calls_of, AreMoves, AreFirstMoves, past_of, out, Held, Tells, Left, IsRead, IsOpened, Keeps, IsWhole, IsCutOff, IsNotStarted, Ended}
 use Rattle.callers.specs.Shards.{MeetsItsFloor, HitsMeetTheirFloors}
-use Rattle.callers.specs.Runs.{IsFreshRun, HitsHoldCommits, AreAlike}
+use Rattle.callers.specs.Runs.{IsFreshRun, IsCleanLoad, HitsHoldCommits, AreAlike}
 
 -- a run that began
 pub record Began (held : Held) (before after : Tells) (left : Left) : Type 0 where
@@ -151,8 +154,8 @@ covered-run s held before after left written h = by (began-or-not s held before 
     by (inr b) = b.keeps.covered
 
 -- no words are no command
-pub no-words : AreNoCommand []
-no-words = record {
+pub no_words : AreNoCommand []
+no_words = record {
   no_replay = λ is. let lengths : 0 ≡ 1 = ap length is in absurd (omega (arith, lengths));
   no_work = λ spec work. let lengths : 0 ≡ 6 = ap length work.written in absurd (omega (arith, lengths));
 }
@@ -289,3 +292,30 @@ two-alike texts law one two held held' before after before' after' left left' wr
   where
     began : (o : Option Tables) (opening : Tables) → o ≡ Some opening → IsSome o
     began o opening is = subst (λ (o : Option Tables). IsSome o) (sym is) refl
+
+clean_found : (failed : Bool) (spent : Option ℕ) (found : Finding) → status.Done ≡ work_status failed spent found → found ≡ finding.Clean
+clean_found true spent found h = absurd cc
+clean_found false (Some shard) found h = absurd cc
+clean_found false None finding.Clean h = refl
+clean_found false None (finding.Stale shard place) h = absurd cc
+clean_found false None (finding.Uncovered commit key) h = absurd cc
+
+clean_summed : (spec : WorkSpec) (before after : Tells) (left : Left) (written : ℕ) → IsSummed spec before after left written status.Done
+    → IsCleanLoad spec before after left written
+clean_summed spec before after left written h =
+    let clean = clean_found (nat_lt 0 h.failed) (first_spent left.histories) h.found h.ends in
+    let told : IsTold spec h.opening left.log left.histories before.taken after.taken written finding.Clean =
+    subst (IsTold spec h.opening left.log left.histories before.taken after.taken written) clean h.told in
+    record {
+      opening = h.opening;
+      opening_is = h.kept.opening_is;
+      fresh = told.is_summary.is_finding.1;
+      covered = told.is_summary.is_finding.0;
+      told = told;
+    }
+
+-- a load that ended Done had a clean audit
+pub load_done : (s : Status) (spec : WorkSpec) (before after : Tells) (left : Left) (written : ℕ)
+    → IsUnread before after × WorkEnded s spec before after left written → s ≡ status.Done → IsCleanLoad spec before after left written
+load_done s spec before after left written h done =
+    clean_summed spec before after left written (subst (λ (t : Status). WorkEnded t spec before after left written) done h.1)

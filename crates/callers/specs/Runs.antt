@@ -15,7 +15,10 @@ use Rattle.session_client.specs.declared.plans.Shape.{Shape}
 use Rattle.run_inputs.specs.declared.scripts.Act.{Act}
 use Rattle.top_run.specs.declared.runs.Status.{Status}
 use Rattle.top_run.specs.declared.runs.Status.TheVariants as status
+use Rattle.run_audit.specs.declared.findings.Finding.TheVariants as finding
+use Rattle.run_inputs.specs.declared.loads.WorkSpec.{WorkSpec}
 use Rattle.top_run.specs.Runs.{IsRead, Tells, Left}
+use Rattle.top_run.specs.Works.{IsTold}
 
 -- A run over a keeper in memory, which began with these rows and has those at its end: it began with the rows of as many members as its script says, no hit is stale, each commit is covered, and the rows at the end are those after the log.
 pub record IsFreshRun (left_old left_new : Option (List ℕ)) (opening : Tables) (rows : Option Tables) (log : List Commit) (histories : List (List Step)) : Type 0 where
@@ -26,6 +29,14 @@ pub record IsFreshRun (left_old left_new : Option (List ℕ)) (opening : Tables)
   pub fresh : Fresh opening log histories
   pub covered : Covered log histories
   pub rows_are : rows ≡ Some (rows_after opening log)
+
+-- A load of these words ended with a clean audit over these opening rows: its summary was written, no hit is stale, and each commit is covered.
+pub record IsCleanLoad (spec : WorkSpec) (before after : Tells) (left : Left) (written : ℕ) : Type 0 where
+  pub opening : Tables
+  pub opening_is : left.opening ≡ Some opening
+  pub fresh : Fresh opening left.log left.histories
+  pub covered : Covered left.log left.histories
+  pub told : IsTold spec opening left.log left.histories before.taken after.taken written finding.Clean
 
 -- A hit behind a release of the key, in a history that has the earliest step first: between them and around them are any steps.
 pub record IsHitBehind (history : List Step) (key : QKey) (writer : Sid) (value : List ℕ) (stamp : ℕ) : Type 0 where

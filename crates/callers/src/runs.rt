@@ -4,7 +4,9 @@ ghost use Rattle.sql_keeper.specs.Fresh.{Covered};
 ghost use Rattle.top_run.specs.Runs.{Left, moment};
 ghost use Rattle.top_run.specs.Works.{AreNoCommand};
 ghost use Rattle.callers.specs.Shards.{MeetsItsFloor};
-ghost use Rattle.callers.specs.Runs.{IsFreshRun, HitsHoldCommits, IsUnharmed, AreAlike};
+ghost use Rattle.callers.specs.Runs.{IsFreshRun, IsCleanLoad, HitsHoldCommits, IsUnharmed, AreAlike};
+ghost use Rattle.run_inputs.specs.Words.{AreWork};
+ghost use Rattle.run_inputs.specs.declared.loads.WorkSpec.{WorkSpec};
 ghost use Rattle.callers.specs.Writes.{HitsAfterWrites};
 ghost use Rattle.callers.specs.Drops.{IsSweptRun};
 
@@ -133,6 +135,33 @@ pub fn run_no_command<
         let after = moment (S.left source.new) (S.faults source.new)
         (W.taken sink.new) (W.faults sink.new) (K.rows result.keeper) (K.faults result.keeper) in
         after ≡ before }
+{
+    run(rt, alloc, words, source, sink, keeper, clock, gate)
+}
+
+/// A load that ends Done left nothing stale, whatever its threads did and whatever the keeper is: its
+/// audit was clean, and the summary was written whole.
+pub fn run_load<S: Source, W: Sink, K: Keeper + Send, C: Clock, G: Gate, R: Threads + Wait + Sync>(
+    rt: &R,
+    alloc: Global,
+    words: &[Vec<u8>],
+    source: &mut S,
+    sink: &mut W,
+    keeper: K,
+    clock: &C,
+    gate: &G,
+) -> RunEnd<K>
+    ensures { let before = moment (S.left source.old) (S.faults source.old)
+        (W.taken sink.old) (W.faults sink.old) (K.rows keeper) (K.faults keeper) in
+        let after = moment (S.left source.new) (S.faults source.new)
+        (W.taken sink.new) (W.faults sink.new) (K.rows result.keeper) (K.faults result.keeper) in
+        let left : Left = record {
+          opening = result.opening;
+          log = result.log.items;
+          histories = map (λ history. history.items) result.histories.items;
+        } in
+        (spec : WorkSpec) → AreWork (map (λ word. word.items) words.now) spec →
+        result.status ≡ Status.Done → IsCleanLoad spec before after left result.written }
 {
     run(rt, alloc, words, source, sink, keeper, clock, gate)
 }

@@ -1,5 +1,5 @@
 use crate::{quits, runs, shards, stores};
-use iq_outside::{MemSink, MemSource};
+use iq_outside::{ListClock, MemSink, MemSource, OpenGate};
 use key_shard::{Got, SetAnswer, Shard};
 use lease_table::Mode;
 use rows_model::{Change, Kind, Name, QKey, Sid, Txn, Value};
@@ -46,6 +46,55 @@ fn runs_are_fresh_hold_commits_and_meet_floors(rt: HostRuntime) -> Result<(), Fa
     let keeper = MapKeeper::new(Vec::new(alloc));
     let end = runs::run_covered(alloc, &mut source, &mut sink, keeper);
     assert_eq!(rt; end.log.len(), 0);
+    Ok(())
+}
+
+#[test]
+#[tactic(auto, using(crate::proofs::RunLemmas::no_words))]
+fn words_that_are_no_command_do_nothing(rt: HostRuntime) -> Result<(), Fail> {
+    let alloc = rt.alloc();
+    let mut source = MemSource::new(Vec::from_slice(alloc, SCRIPT)?, 5, Vec::new(alloc));
+    let mut sink = MemSink::new(alloc, 4096, 7, Vec::new(alloc))?;
+    let keeper = MapKeeper::new(Vec::new(alloc));
+    let clock = ListClock::new(vec![in alloc; 0]?);
+    let end = runs::run_no_command(
+        &rt,
+        alloc,
+        &[],
+        &mut source,
+        &mut sink,
+        keeper,
+        &clock,
+        &OpenGate,
+    );
+    assert_eq!(rt; (end.status, sink.taken().len()), (Status::Usage, 0));
+    Ok(())
+}
+
+#[test]
+fn a_load_ends_with_a_clean_audit(rt: HostRuntime) -> Result<(), Fail> {
+    let alloc = rt.alloc();
+    let mut words = Vec::new(alloc);
+    for word in ["work", "3", "40", "2", "2", "1"] {
+        words.push(Vec::from_slice(alloc, word.as_bytes())?)?;
+    }
+    let mut source = MemSource::new(Vec::new(alloc), 1, Vec::new(alloc));
+    let mut sink = MemSink::new(alloc, 4096, 7, Vec::new(alloc))?;
+    let keeper = MapKeeper::new(Vec::new(alloc));
+    let clock = ListClock::new(vec![in alloc; 0]?);
+    let words = words.as_slice();
+    let end = runs::run_load(
+        &rt,
+        alloc,
+        words,
+        &mut source,
+        &mut sink,
+        keeper,
+        &clock,
+        &OpenGate,
+    );
+    assert_eq!(rt; (end.status, end.histories.len()), (Status::Done, 2));
+    assert!(rt; sink.taken().ends_with(b"\naudit clean\n"));
     Ok(())
 }
 
