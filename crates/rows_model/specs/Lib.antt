@@ -2,6 +2,7 @@ pub mod Key
 pub mod Name
 pub mod Number
 pub mod Query
+pub mod Text
 pub mod Rows
 pub mod Placement
 pub mod Shift

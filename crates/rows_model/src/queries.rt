@@ -54,7 +54,7 @@ pub(crate) fn profile_of(
     push_decimal(&mut text, friends)?;
     text.push(b' ')?;
     push_decimal(&mut text, pending)?;
-    Ok(Value::from(text))
+    Value::shared(text)
 }
 
 // The ids of the member's friends, in the order of the links.
@@ -106,7 +106,7 @@ pub(crate) fn id_list(alloc: Global, ids: &[u32]) -> Result<Value, Memory>
         }
         push_decimal(&mut text, u64::from(*id))?;
     }
-    Ok(Value::from(text))
+    Value::shared(text)
 }
 
 // The number in decimal.
@@ -115,7 +115,7 @@ pub(crate) fn number(alloc: Global, number: u64) -> Result<Value, Memory>
 {
     let mut text = Vec::new(alloc);
     push_decimal(&mut text, number)?;
-    Ok(Value::from(text))
+    Value::shared(text)
 }
 
 /// The ids in the answers about a member ascend, since the links are in order.

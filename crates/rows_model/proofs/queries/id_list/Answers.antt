@@ -1,4 +1,4 @@
-use Rattle.std.proofs.Common.{ℕ, ◌≡◌, ◌≤◌, [], ◌∷◌, ◌++◌, length, get_or, Vec, Global, take, arith, rules, ap, ◌∙◌}
+use Rattle.std.proofs.Common.{ℕ, ◌≡◌, ◌≤◌, [], ◌∷◌, ◌++◌, length, get_or, Vec, Global, take, arith, rules, ap, sym, ◌∙◌}
 use Rattle.std.proofs.lemmas.Bool.Decides.{nat_tests}
 use Rattle.std.proofs.lemmas.List.{take_all}
 use Rattle.rows_model.specs.Query.{id_list}
@@ -25,4 +25,4 @@ loop-id-preserved c = elim c.if-not-is_empty.branch [
 pub returns : goal.returns
 returns c =
     let all : take c.loop-id.id-index c.args.ids.now ≡ c.args.ids.now = take_all c.loop-id.id-index c.args.ids.now (omega arith) in
-    c.from-2.ensures ∙ (c.loop-id.invariant ∙ ap id_list all)
+    rw (sym (c.loop-id.invariant ∙ ap id_list all)) c.shared.ensures
