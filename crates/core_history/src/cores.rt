@@ -108,7 +108,7 @@ impl<K: Keeper> Core<K> {
             IsAt self.new origin (Begin plan ∷ moves)) }
         ensures err { OnErr result (self.new ≡ self.old) }
     {
-        let writes = writes(&plan);
+        let writes = plan.writes();
         let sid = Sid {
             number: self.sessions.len() as u64 + 1,
         };
@@ -273,16 +273,6 @@ fn let_go(mut sessions: Vec<Session>) {
         session.let_go();
     }
     sessions.destroy_empty();
-}
-
-/// Whether a session of this plan writes.
-fn writes(plan: &Plan) -> bool
-    ensures { result ≡ writes plan.now }
-{
-    match plan {
-        Plan::Read { .. } => false,
-        Plan::Write { .. } | Plan::Look { .. } | Plan::Quit { .. } | Plan::Skip { .. } => true,
-    }
 }
 
 /// The shards of a shape.

@@ -16,52 +16,6 @@ use session_client::{Desk, Fault, Outcome, Plan, Session, Wanted};
 use std::alloc::Global;
 use std::sync::Wait;
 
-/// A plan that says the same.
-fn copy_of(plan: &Plan) -> Result<Plan, Memory>
-    ensures { IfOk result (λ copy. copy ≡ plan.now) }
-{
-    Ok(match plan {
-        Plan::Read { key, floor } => Plan::Read {
-            key: *key,
-            floor: *floor,
-        },
-        Plan::Write { mode, txn } => Plan::Write {
-            mode: *mode,
-            txn: txn.copy()?,
-        },
-        Plan::Look { mode, key, txn } => Plan::Look {
-            mode: *mode,
-            key: *key,
-            txn: txn.copy()?,
-        },
-        Plan::Quit { mode, txn } => Plan::Quit {
-            mode: *mode,
-            txn: txn.copy()?,
-        },
-        Plan::Skip { key, txn } => Plan::Skip {
-            key: *key,
-            txn: txn.copy()?,
-        },
-    })
-}
-
-/// Whether a session of this plan may commit.
-fn writes(plan: &Plan) -> bool
-    ensures { result ≡ writes plan.now }
-{
-    match plan {
-        Plan::Read { key: _, floor: _ } => false,
-        Plan::Write { mode: _, txn: _ }
-        | Plan::Look {
-            mode: _,
-            key: _,
-            txn: _,
-        }
-        | Plan::Quit { mode: _, txn: _ }
-        | Plan::Skip { key: _, txn: _ } => true,
-    }
-}
-
 /// Runs a session of the plan to its end at the desk, and gives its row. The gate is told when it is
 /// about to ask for its commit and when it has its outcome, and the desk then takes a step of its
 /// sweep.
@@ -80,8 +34,8 @@ pub(crate) fn run_session<R: Wait, D: Desk, G: Gate>(
     ensures { IfOk result (λ row. (calls : List Call) × IsRow plan.now calls row
         × (D.record_of desk.new ≡ with_calls calls (D.record_of desk.old))) }
 {
-    let copy = copy_of(plan)?;
-    let sid = desk.begin(writes(plan))?;
+    let copy = plan.copy()?;
+    let sid = desk.begin(plan.writes())?;
     let Ok(mut session) = Session::new(alloc, sid, copy) else {
         desk.call(sid, Wanted::End).let_go();
         return Err(Memory);

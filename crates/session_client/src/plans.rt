@@ -1,5 +1,8 @@
+ghost use Rattle.std.specs.Prelude.{◌≡◌, IfOk};
+ghost use Rattle.session_client.specs.Plans.{changes_of, writes};
+
 use lease_table::Mode;
-use rows_model::{Change, QKey, Sid, Txn};
+use rows_model::{Change, Memory, QKey, Sid, Txn};
 
 /// What a session is to do.
 #[derive(Debug, Drop)]
@@ -22,8 +25,44 @@ pub enum Plan {
 }
 
 impl Plan {
-    ghost use Rattle.std.specs.Prelude.{◌≡◌};
-    ghost use Rattle.session_client.specs.Plans.{changes_of};
+    /// Whether a session of this plan may commit.
+    pub fn writes(&self) -> bool
+        ensures { result ≡ writes self.now }
+    {
+        match self {
+            Plan::Read { .. } => false,
+            Plan::Write { .. } | Plan::Look { .. } | Plan::Quit { .. } | Plan::Skip { .. } => true,
+        }
+    }
+
+    /// A plan that says the same.
+    pub fn copy(&self) -> Result<Plan, Memory>
+        ensures { IfOk result (λ copy. copy ≡ self.now) }
+    {
+        Ok(match self {
+            Plan::Read { key, floor } => Plan::Read {
+                key: *key,
+                floor: *floor,
+            },
+            Plan::Write { mode, txn } => Plan::Write {
+                mode: *mode,
+                txn: txn.copy()?,
+            },
+            Plan::Look { mode, key, txn } => Plan::Look {
+                mode: *mode,
+                key: *key,
+                txn: txn.copy()?,
+            },
+            Plan::Quit { mode, txn } => Plan::Quit {
+                mode: *mode,
+                txn: txn.copy()?,
+            },
+            Plan::Skip { key, txn } => Plan::Skip {
+                key: *key,
+                txn: txn.copy()?,
+            },
+        })
+    }
 
     /// The changes that the session is to commit: none where it reads.
     pub fn changes(&self) -> &[Change]

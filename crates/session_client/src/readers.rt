@@ -1,4 +1,4 @@
-ghost use Rattle.std.specs.Prelude.{◌≡◌, ℕ, List, [], ◌∷◌, ◌↔◌, IsTrue, IfSome, None, if◌then◌else◌};
+ghost use Rattle.std.specs.Prelude.{◌≡◌, ℕ, false, List, [], ◌∷◌, ◌↔◌, IsTrue, IfSome, None, if◌then◌else◌};
 ghost use Rattle.rows_model.specs.declared.keys.QKey.{QKey};
 ghost use Rattle.rows_model.specs.declared.keys.Sid.{Sid};
 ghost use Rattle.session_client.specs.Belongs.{Belongs};
@@ -147,6 +147,9 @@ impl Reader {
             ReadFollows self.now heard →
             result ≡ (if is_nothing (read_wants self.now.key self.now.floor heard)
             then read_outcome heard else None) }
+        ensures wanting { (heard : List Reply) → ReadIsReady self.now.stage →
+            ReadFollows self.now heard → result ≡ None →
+            is_nothing (read_wants self.now.key self.now.floor heard) ≡ false }
         ensures going { IfSome result (λ _. IsTrue (read_is_over self.now.stage)) }
         ensures ready { IfSome result (λ _. ReadIsReady self.now.stage) }
     {

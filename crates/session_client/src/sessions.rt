@@ -2,7 +2,7 @@ ghost use Rattle.std.specs.Prelude.{◌≡◌, ◌↔◌, ℕ, Bool, true, false
 ghost use Rattle.rows_model.specs.Changes.{footprint};
 ghost use Rattle.session_client.specs.Desks.{IsProper};
 ghost use Rattle.session_client.specs.Plans.{IsPlan, changes_of, without_key, writes};
-ghost use Rattle.session_client.specs.Wants.{wants, done_by};
+ghost use Rattle.session_client.specs.Wants.{wants, done_by, is_nothing};
 
 use crate::plans::Plan;
 use crate::readers::Reader;
@@ -141,6 +141,9 @@ impl Session {
     pub fn done(&self) -> Option<Outcome>
         ensures done { (short : Bool) (heard : List Reply) → IsReady self.now →
             Follows self.now short heard → result ≡ done_by (plan_of self.now) short heard }
+        ensures wanting { (short : Bool) (heard : List Reply) → IsReady self.now →
+            Follows self.now short heard → result ≡ None →
+            is_nothing (wants (plan_of self.now) short heard) ≡ false }
         ensures going { (IsReady self.now → ⊥) → result ≡ None }
     {
         match &self.course {

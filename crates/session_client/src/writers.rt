@@ -202,6 +202,10 @@ impl Writer {
             WriteIsReady self.now.stage → WriteFollows changes self.now short heard →
             result ≡ (if is_nothing (write_wants (writing_as self.now changes) short heard)
             then writing_outcome (writing_as self.now changes) short heard else None) }
+        ensures wanting { (changes : List Change) (short : Bool) (heard : List Reply) →
+            WriteIsReady self.now.stage → WriteFollows changes self.now short heard →
+            result ≡ None →
+            is_nothing (write_wants (writing_as self.now changes) short heard) ≡ false }
         ensures going { IfSome result (λ _. IsTrue (write_is_over self.now.stage)) }
         ensures ready { IfSome result (λ _. WriteIsReady self.now.stage) }
     {
