@@ -1,1 +1,2 @@
 pub mod Compatibility
+pub mod Verbs

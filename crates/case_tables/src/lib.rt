@@ -1,6 +1,9 @@
-//! The compatibility grid: which lease may stand beside which, as one table.
+//! Tables: which lease may stand beside which, and the verbs of the commands.
 #![tactic(auto)]
 
 pub use grids::{Grid, Verdict, lease_grid};
+pub use verbs::{VerbRow, Verbs, lease_verbs};
 
 pub mod grids;
+pub mod verbs;
+mod words;

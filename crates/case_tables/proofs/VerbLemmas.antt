@@ -1,0 +1,18 @@
+-- That no row of a table has a word, by its rows one after another.
+use Rattle.std.proofs.Common.{ℕ, ◌<◌, ◌≡◌, false, List, length, map, slice_index_or, arith, ap, sym, ◌∙◌}
+use Rattle.std.proofs.lemmas.List.{get_or-map, length-map}
+use Rattle.case_tables.specs.declared.words.Word.TheVariants as word
+use Rattle.case_tables.specs.declared.verbs.Row.{Row}
+use Rattle.case_tables.specs.Verbs.{Verb, text_of, told, IsNoVerb}
+
+-- some row, for places behind the last
+abbrev some_row : Row
+some_row = record { word = word.Begin; fields = 0; block = false; number = 0 }
+
+-- a table has no row with a word that none of its rows has
+pub no_verb : (rows : List Row) (word : List ℕ) → ((i : ℕ) (d : Row) → i < length rows → text_of (slice_index_or rows i d).word ≡ word → ⊥) → IsNoVerb (map told rows) word
+no_verb rows word none row h =
+    let (k, within, at) = h.listed in
+    let inside : k < length rows = omega (arith, length-map rows told) in
+    let kept = get_or-map told rows k some_row row inside in
+    none k some_row inside (ap (λ (v : Verb). v.word) (sym kept ∙ at) ∙ h.word_is)

@@ -1,0 +1,7 @@
+use Rattle.std.proofs.Common.{arith}
+use Rattle.case_tables.proofs.VerbLemmas.{no_verb}
+use Rattle.case_tables.proofs.verbs.Verbs.find.Goals as goal
+
+pub returns-clause-none : goal.returns-clause-none
+returns-clause-none g c =
+    rw (← c.self.view_is) (no_verb c.self.inside.rows c.args.word.now (λ i d h. c.loop-row.invariant i d (omega arith)))

@@ -1,0 +1,9 @@
+use Rattle.std.proofs.Common.{◌≡◌, ℕ, ◌<◌, slice_index_or}
+use Rattle.case_tables.specs.declared.verbs.Row.{Row}
+use Rattle.case_tables.specs.Verbs.{text_of}
+use Rattle.case_tables.proofs.verbs.Verbs.find.Given as goal
+
+-- no row so far has the word
+abbrev pub invariant-loop-row : goal.invariant-loop-row
+invariant-loop-row g l =
+    (i : ℕ) (d : Row) → i < l.row-index → text_of (slice_index_or l.row-items i d).word ≡ l.word → ⊥

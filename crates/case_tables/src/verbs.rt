@@ -1,0 +1,122 @@
+ghost use Rattle.std.specs.Prelude.{◌≡◌, IfSome, IfNone};
+ghost use Rattle.case_tables.specs.Verbs.{seen, IsRowOf, IsNoVerb, lease_rows};
+
+use crate::words::Word;
+use std::marker::Model;
+
+/// What a table says of one verb.
+#[derive(Clone, Copy, Debug, PartialEq, Eq)]
+pub struct VerbRow {
+    /// The word that stands first in the line of such a command.
+    pub verb: &'static [u8],
+    /// How many words stand behind the verb, where that number is fixed. A transaction, which has
+    /// some words of its own, counts as one.
+    pub fields: u8,
+    /// Whether a block of data follows the line.
+    pub block: bool,
+    /// The number of the row, from 1.
+    pub number: u8,
+}
+
+/// A table of `N` verbs. Contracts see its rows, in their order.
+#[derive(Drop)]
+pub struct Verbs<const N: usize> {
+    rows: [Row; N],
+}
+
+// A row as the table keeps it.
+#[derive(Clone, Copy)]
+struct Row {
+    word: Word,
+    fields: u8,
+    block: bool,
+    number: u8,
+}
+
+impl<const N: usize> Model for Verbs<N> {
+    ghost use Rattle.std.specs.Prelude.{List, map};
+    ghost use Rattle.case_tables.specs.Verbs.{Verb, told};
+
+    ghost Value = { List Verb };
+
+    ghost view = { λ verbs. map told verbs.rows };
+}
+
+impl<const N: usize> Verbs<N> {
+    /// A row that has this word as its verb, or `None` exactly where no row has it.
+    pub fn find(&self, word: &[u8]) -> Option<VerbRow>
+        ensures found { IfSome result (λ row. IsRowOf self.now word.now (seen row)) }
+        ensures none { IfNone result (IsNoVerb self.now word.now) }
+    {
+        for row in &self.rows {
+            let verb = row.word.text();
+            if verb == word {
+                return Some(VerbRow {
+                    verb,
+                    fields: row.fields,
+                    block: row.block,
+                    number: row.number,
+                });
+            }
+        }
+        None
+    }
+}
+
+/// Writes out the table, a row in each line: its number, the verb, how many words stand behind it,
+/// and whether a block does.
+macro_rules! verbs {
+    ($($number:literal $word:ident $fields:literal $block:literal;)*) => {
+        Verbs {
+            rows: [$(Row {
+                word: Word::$word,
+                fields: $fields,
+                block: $block,
+                number: $number,
+            }),*],
+        }
+    };
+}
+
+/// The verbs of the lease commands.
+pub fn lease_verbs() -> Verbs<14>
+    ensures { result ≡ lease_rows }
+{
+    verbs! {
+        1 Begin 1 false;
+        2 IqGet 3 false;
+        3 Ask 2 false;
+        4 Stage 3 false;
+        5 IqSet 6 true;
+        6 QaReg 2 false;
+        7 QaRead 2 false;
+        8 IqDelta 3 false;
+        9 Sql 2 false;
+        10 Dar 2 false;
+        11 Sar 5 true;
+        12 IqCommit 2 false;
+        13 IqAbort 1 false;
+        14 Quit 0 false;
+    }
+}
+
+#[cfg(test)]
+mod tests {
+    use super::*;
+
+    #[test]
+    fn finds_verbs_and_no_other_words(rt: HostRuntime) {
+        let table = lease_verbs();
+        let sar = VerbRow {
+            verb: b"sar",
+            fields: 5,
+            block: true,
+            number: 11,
+        };
+        assert_eq!(rt; table.find(b"sar"), Some(sar));
+        assert_eq!(rt; table.find(b"quit").map(|row| row.number), Some(14));
+        for word in [b"SAR".as_slice(), b"sa", b"sart", b"", b"get", b"sar\r"] {
+            assert_eq!(rt; table.find(word), None, "{word:?}");
+        }
+    }
+}
