@@ -1,3 +1,4 @@
+pub mod PowerLemmas
 pub mod RefusalLemmas
 pub mod NameLemmas
 pub mod PlaceLemmas

@@ -1,6 +1,7 @@
 -- What the locks of a hub keep of what was handed in.
-use Rattle.std.specs.Prelude.{ℕ, ◌≡◌, ◌≤◌, List, length, Option, Some, slice_get, All}
+use Rattle.std.specs.Prelude.{ℕ, ◌≡◌, ◌+◌, ◌^◌, ◌<◌, ◌≤◌, List, length, Option, Some, slice_get, All}
 use Rattle.rows_model.specs.Rows.{Tables}
+use Rattle.key_shard.specs.Answers.{Legal}
 use Rattle.key_shard.specs.Past.{Terms}
 use Rattle.key_shard.specs.Shards.{ShardView}
 use Rattle.sql_keeper.specs.Stores.{StoreView}
@@ -8,6 +9,28 @@ use Rattle.sql_keeper.specs.Stores.{StoreView}
 -- A shard with the terms that are named for its number.
 abbrev pub IsNamed : (ℕ → Terms) → ShardView → Type 0
 IsNamed terms shard = shard.terms ≡ terms shard.terms.no
+
+-- The token of the shard of this number: one part of the hub's ledger, with this power of two for its amount.
+pub record IsTokenOf (no parts amount : ℕ) : Type 0 where
+  pub one_part : parts ≡ 1
+  pub amount_is : amount ≡ 2 ^ no
+
+-- The tokens of the shards of all numbers below this one, together.
+pub record AreTokens (count parts amount : ℕ) : Type 0 where
+  pub one_each : parts ≡ count
+  pub amount_is : amount + 1 ≡ 2 ^ count
+
+-- Whoever is named for a number below this one is one of so many.
+abbrev pub HaveCount : (ℕ → Terms) → ℕ → Type 0
+HaveCount terms count = (no : ℕ) → no < count → (terms no).count ≡ count
+
+-- Each shard has its place for its number.
+abbrev pub ArePlaced : List ShardView → Type 0
+ArePlaced shards = (place : ℕ) (shard : ShardView) → slice_get shards place ≡ Some shard → shard.terms.no ≡ place
+
+-- Each shard's history is legal.
+abbrev pub AreLegal : List ShardView → Type 0
+AreLegal shards = All (λ shard. Legal shard.terms shard.history) shards
 
 -- A store with the opening rows and the cap that are named.
 pub record IsNamedStore (opening : Tables) (cap : ℕ) (store : StoreView) : Type 0 where
@@ -19,7 +42,7 @@ pub record AreAll (terms : ℕ → Terms) (shards : List ShardView) : Type 0 whe
   pub some : 1 ≤ length shards
   pub named : All (IsNamed terms) shards
   pub counted : All (λ shard. shard.terms.count ≡ length shards) shards
-  pub placed : (place : ℕ) (shard : ShardView) → slice_get shards place ≡ Some shard → shard.terms.no ≡ place
+  pub placed : ArePlaced shards
 
 -- What the shard of this number is made with, one of so many with this room, whose leases live so long. The first token is 1.
 abbrev pub terms_at : ℕ → ℕ → ℕ → ℕ → Terms

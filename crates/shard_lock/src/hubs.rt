@@ -1,8 +1,8 @@
-ghost use Rattle.std.specs.Prelude.{◌≡◌, ◌<◌, ◌≤◌, All, MatchResult, length, vec_len, vec_capacity};
+ghost use Rattle.std.specs.Prelude.{◌≡◌, ◌+◌, ◌^◌, ◌<◌, ◌≤◌, All, MatchResult, length, sum_by, vec_len, vec_capacity};
 ghost use Rattle.std.specs.Sync.Mutex.{mutex_guard_value};
 ghost use Rattle.rows_model.specs.Placement.{shard_of};
 ghost use Rattle.key_shard.specs.Answers.{IsAtHome};
-ghost use Rattle.shard_lock.specs.Names.{AreAll, IsNamed, IsNamedStore};
+ghost use Rattle.shard_lock.specs.Names.{AreAll, AreLegal, ArePlaced, AreTokens, IsNamed, IsNamedStore, IsTokenOf};
 
 use crate::hub_desks::HubDesk;
 use crate::kept::{KeptShard, KeptStore};
@@ -14,6 +14,7 @@ use rows_model::{QKey, shard_number};
 use sql_keeper::{Keeper, Store};
 use std::alloc::Global;
 use std::marker::Model;
+use std::sync::ledger::{Blank, Book, Share, Total};
 use std::sync::{Mutex, MutexGuard, Wait};
 
 /// A cache that threads share: a lock round each of its shards, and one round its store. Contracts see
@@ -29,30 +30,37 @@ pub struct Hub<K: Keeper, H: HubName> {
     count: u32,
     /// No shards, and room for all.
     room: Vec<Shard>,
+    /// What the tokens of all shards have. They take no bytes.
+    tokens: Total<H>,
 }
 
 impl<K: Keeper, H: HubName> Model for Hub<K, H> {
     ghost use Rattle.std.specs.Prelude.{ℕ, ◌≡◌, ◌≤◌, vec_len, vec_capacity};
+    ghost use Rattle.shard_lock.specs.Names.{AreTokens, HaveCount};
 
     ghost Value = { ℕ };
 
     ghost view = { λ hub. hub.count };
 
     ghost invariant = { λ hub. (1 ≤ hub.count) × (vec_len hub.shards ≡ hub.count)
-        × (vec_len hub.room ≡ 0) × (hub.count ≤ vec_capacity hub.room) };
+        × (vec_len hub.room ≡ 0) × (hub.count ≤ vec_capacity hub.room)
+        × HaveCount H.terms hub.count × AreTokens hub.count hub.tokens.parts hub.tokens.amount };
 }
 
 impl<K: Keeper, H: HubName> Hub<K, H> {
-    /// A hub of this store and these shards, of which each has its place for its number. For want of
-    /// memory both come back as they were.
+    /// A hub of this store and these shards, of which each has its place for its number, and of a ledger
+    /// with a part for each. For want of memory the store and the shards come back as they were.
     pub fn new(
         alloc: Global,
         store: Store<K, StartOf<H>>,
         shards: Vec<Shard>,
+        ledger: Blank,
     ) -> Result<Hub<K, H>, (Store<K, StartOf<H>>, Vec<Shard>)>
         requires store { IsNamedStore H.opening H.cap store }
         requires shards { AreAll H.terms shards.items }
         requires few { length shards.items ≤ 64 }
+        requires ledger { (ledger.name ≡ H.name) × (ledger.parts ≡ H.parts) }
+        requires one_each { ledger.parts ≡ length shards.items }
         ensures { MatchResult result
             (λ hub. hub ≡ length shards.items)
             (λ back. (back.0 ≡ store) × (back.1.items ≡ shards.items)) }
@@ -61,12 +69,13 @@ impl<K: Keeper, H: HubName> Hub<K, H> {
             return Err((store, shards));
         };
         let count = shards.len() as u32;
-        let (locks, room) = locked(locks, shards);
+        let (locks, room, tokens) = locked(locks, shards, ledger);
         Ok(Hub {
             shards: locks,
             store: Mutex::new(KeptStore::new(store)),
             count,
             room,
+            tokens,
         })
     }
 
@@ -95,19 +104,25 @@ impl<K: Keeper, H: HubName> Hub<K, H> {
         HubDesk::new(rt, self, worker, clock, gate, Sweeper::new(self.count))
     }
 
-    /// The store and the shards, after the threads have ended. It takes no lock and no memory.
+    /// The store and the shards, after the threads have ended: as many as were handed in, each in its
+    /// place and with a legal history. It takes no lock and no memory.
     pub fn into_parts(self) -> (Store<K, StartOf<H>>, Vec<Shard>)
         ensures store { IsNamedStore H.opening H.cap result.0 }
         ensures as_many { length result.1.items ≡ self }
-        ensures named { All (IsNamed H.terms) result.1.items }
+        ensures all { AreAll H.terms result.1.items }
+        ensures legal { AreLegal result.1.items }
     {
         let Hub {
             shards,
             store,
             count: _,
             room,
+            tokens,
         } = self;
-        (store.into_inner().into_store(), unlocked(shards, room))
+        (
+            store.into_inner().into_store(),
+            unlocked(shards, room, &tokens),
+        )
     }
 
     /// The lock of the store.
@@ -144,40 +159,95 @@ fn wait_for_ever<R: Wait>(rt: &R)
     unreachable!()
 }
 
-/// Puts each shard under a lock of its own, in their order. The list that they leave has the room that
-/// it had.
+/// Puts each shard under a lock of its own with a token, in their order. The list that they leave has
+/// the room that it had.
 fn locked<H: HubName>(
     locks: Vec<Mutex<KeptShard<H>>>,
     shards: Vec<Shard>,
-) -> (Vec<Mutex<KeptShard<H>>>, Vec<Shard>)
+    ledger: Blank,
+) -> (Vec<Mutex<KeptShard<H>>>, Vec<Shard>, Total<H>)
     requires none { vec_len locks ≡ 0 }
     requires room { vec_len shards ≤ vec_capacity locks }
     requires named { All (IsNamed H.terms) shards.items }
+    requires placed { ArePlaced shards.items }
+    requires few { vec_len shards ≤ 64 }
+    requires ledger { (ledger.name ≡ H.name) × (ledger.parts ≡ H.parts) }
+    requires one_each { ledger.parts ≡ vec_len shards }
     ensures all { vec_len result.0 ≡ vec_len shards }
     ensures left { vec_len result.1 ≡ 0 }
     ensures room { vec_capacity result.1 ≡ vec_capacity shards }
+    ensures tokens { AreTokens (vec_len shards) result.2.parts result.2.amount }
 {
     let mut locks = locks;
     let mut shards = shards;
+    let (mut book, mut rest) = ledger.open::<H>();
     while let Some(shard) = shards.pop() {
-        locks.push_reserved(Mutex::new(KeptShard::new(shard)));
+        let token = token_of(&mut book, &mut rest, shards.len() as u32);
+        locks.push_reserved(Mutex::new(KeptShard::new(shard, token)));
     }
     locks.reverse();
-    (locks, shards)
+    (locks, shards, book.close())
 }
 
-/// Takes each shard from under its lock, in their order.
-fn unlocked<H: HubName>(locks: Vec<Mutex<KeptShard<H>>>, room: Vec<Shard>) -> Vec<Shard>
+/// A token for the shard of this number. It is one of the parts that are left.
+fn token_of<H: HubName>(book: &mut Book<H>, rest: &mut Share<H>, no: u32) -> Share<H>
+    requires few { no < 64 }
+    requires some { 1 ≤ rest.old.parts }
+    requires bare { rest.old.amount ≡ 0 }
+    ensures token { IsTokenOf no result.parts result.amount }
+    ensures parts { rest.new.parts + 1 ≡ rest.old.parts }
+    ensures bare { rest.new.amount ≡ 0 }
+    ensures total { book.new.total ≡ book.old.total + 2 ^ no }
+{
+    let mut token = rest.split_off(1, 0);
+    book.add(&mut token, 2u64.pow(no));
+    token
+}
+
+/// Takes each shard from under its lock, in the order of their numbers. By their tokens no two have the
+/// same number, so each has its place.
+fn unlocked<H: HubName>(
+    locks: Vec<Mutex<KeptShard<H>>>,
+    room: Vec<Shard>,
+    tokens: &Total<H>,
+) -> Vec<Shard>
+    requires some { 1 ≤ vec_len locks }
     requires none { vec_len room ≡ 0 }
     requires room { vec_len locks ≤ vec_capacity room }
+    requires tokens { AreTokens (vec_len locks) tokens.now.parts tokens.now.amount }
     ensures as_many { length result.items ≡ vec_len locks }
     ensures named { All (IsNamed H.terms) result.items }
+    ensures legal { AreLegal result.items }
+    ensures placed { ArePlaced result.items }
+{
+    let (mut shards, mut all) = taken(locks, room);
+    tokens.audit(&mut all);
+    shards.sort_unstable_by_key(|shard| shard.no());
+    shards
+}
+
+/// Takes each shard from under its lock, in any order, and puts their tokens together.
+fn taken<H: HubName>(locks: Vec<Mutex<KeptShard<H>>>, room: Vec<Shard>) -> (Vec<Shard>, Share<H>)
+    requires some { 1 ≤ vec_len locks }
+    requires none { vec_len room ≡ 0 }
+    requires room { vec_len locks ≤ vec_capacity room }
+    ensures as_many { length result.0.items ≡ vec_len locks }
+    ensures named { All (IsNamed H.terms) result.0.items }
+    ensures legal { AreLegal result.0.items }
+    ensures parts { result.1.parts ≡ vec_len locks }
+    ensures amount { result.1.amount ≡ sum_by (λ shard. 2 ^ shard.terms.no) result.0.items }
 {
     let mut locks = locks;
     let mut shards = room;
+    let Some(first) = locks.pop() else {
+        unreachable!()
+    };
+    let (shard, mut all) = first.into_inner().into_parts();
+    shards.push_reserved(shard);
     while let Some(lock) = locks.pop() {
-        shards.push_reserved(lock.into_inner().into_shard());
+        let (shard, token) = lock.into_inner().into_parts();
+        all.merge(token);
+        shards.push_reserved(shard);
     }
-    shards.reverse();
-    shards
+    (shards, all)
 }

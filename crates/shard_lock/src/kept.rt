@@ -1,6 +1,6 @@
 // What lies under the locks: a shard and the store, each with what is named of it.
-ghost use Rattle.std.specs.Prelude.{◌≡◌, ◌↔◌, IfOk, OnOk, OnErr, IsTrue, length};
-ghost use Rattle.key_shard.specs.Answers.{IsAtHome, sweep_step};
+ghost use Rattle.std.specs.Prelude.{◌≡◌, ◌^◌, ◌↔◌, IfOk, OnOk, OnErr, IsTrue, length};
+ghost use Rattle.key_shard.specs.Answers.{IsAtHome, Legal, sweep_step};
 ghost use Rattle.key_shard.specs.Dues.{first_due};
 ghost use Rattle.key_shard.specs.Replies.{sweep_told};
 ghost use Rattle.key_shard.specs.Shards.{past_of, swept};
@@ -8,7 +8,7 @@ ghost use Rattle.session_client.specs.Belongs.{Belongs};
 ghost use Rattle.session_client.specs.Desks.{IsProper};
 ghost use Rattle.sql_keeper.specs.Sessions.{is_open};
 ghost use Rattle.sql_keeper.specs.Stores.{with_session, with_end};
-ghost use Rattle.shard_lock.specs.Names.{IsNamed, IsNamedStore};
+ghost use Rattle.shard_lock.specs.Names.{IsNamed, IsNamedStore, IsTokenOf};
 ghost use Rattle.shard_lock.specs.OnShard.{IsFor, MakesOnShard, scanned};
 ghost use Rattle.shard_lock.specs.OnStore.{IsAtStore, MakesAtStore};
 
@@ -20,35 +20,38 @@ use key_shard::{Rel, Shard};
 use rows_model::{Memory, QKey, Sid};
 use session_client::{Reply, Wanted};
 use sql_keeper::{Keeper, Store};
-use std::marker::{Model, PhantomData};
+use std::marker::Model;
+use std::sync::ledger::Share;
 
 /// A shard of a hub, with what is named for its number. Contracts see the shard.
+///
+/// Beside it lies one part of the hub's ledger, which takes no bytes. Its amount is 2 to the power of the
+/// shard's number: so all parts together tell whether any two shards have the same number.
 #[derive(Drop)]
 pub struct KeptShard<H: HubName> {
     shard: Shard,
-    of: PhantomData<H>,
+    token: Share<H>,
 }
 
 impl<H: HubName> Model for KeptShard<H> {
     ghost use Rattle.key_shard.specs.Shards.{ShardView};
-    ghost use Rattle.shard_lock.specs.Names.{IsNamed};
+    ghost use Rattle.shard_lock.specs.Names.{IsNamed, IsTokenOf};
 
     ghost Value = { ShardView };
 
     ghost view = { λ kept. kept.shard };
 
-    ghost invariant = { λ kept. IsNamed H.terms kept.shard };
+    ghost invariant = { λ kept. IsNamed H.terms kept.shard
+        × IsTokenOf kept.shard.terms.no kept.token.parts kept.token.amount };
 }
 
 impl<H: HubName> KeptShard<H> {
-    pub fn new(shard: Shard) -> KeptShard<H>
-        requires { IsNamed H.terms shard }
+    pub fn new(shard: Shard, token: Share<H>) -> KeptShard<H>
+        requires named { IsNamed H.terms shard }
+        requires token { IsTokenOf shard.terms.no token.parts token.amount }
         ensures { result ≡ shard }
     {
-        KeptShard {
-            shard,
-            of: PhantomData,
-        }
+        KeptShard { shard, token }
     }
 
     /// Makes a session's request on the shard, as `on_shard` does.
@@ -94,13 +97,16 @@ impl<H: HubName> KeptShard<H> {
         self.shard.sweep_drop(key, token)
     }
 
-    /// The shard alone.
-    pub fn into_shard(self) -> Shard
-        ensures same { result ≡ self }
-        ensures named { IsNamed H.terms result }
+    /// The shard and its token.
+    pub fn into_parts(self) -> (Shard, Share<H>)
+        ensures same { result.0 ≡ self }
+        ensures named { IsNamed H.terms result.0 }
+        ensures legal { Legal result.0.terms result.0.history }
+        ensures token { IsTokenOf result.0.terms.no result.1.parts result.1.amount }
     {
-        let KeptShard { shard, of: _ } = self;
-        shard
+        let KeptShard { shard, token } = self;
+        let _legal = shard.history();
+        (shard, token)
     }
 }
 

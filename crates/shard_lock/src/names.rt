@@ -4,12 +4,14 @@ ghost use Rattle.key_shard.specs.Past.{Terms};
 
 use sql_keeper::Start;
 use std::marker::{Brand, PhantomData};
+use std::sync::ledger::Ledger;
 
 /// Names what the locks of a hub keep: for each shard's number what it was made with, the store's
-/// opening rows and cap, and the count of faults at which its keeper stood when it was started.
+/// opening rows and cap, and the count of faults at which its keeper stood when it was started. It
+/// names a ledger too, which has a part for each shard.
 ///
 /// The name is picked where a caller that is generic in it is called, at the type `Brand`.
-pub trait HubName {
+pub trait HubName: Ledger {
     ghost terms: { ℕ → Terms };
 
     ghost opening: { Tables };

@@ -12,6 +12,7 @@ use std::alloc::Global;
 use std::marker::Brand;
 use std::process::Abort;
 use std::sync::Wait;
+use std::sync::ledger::Blank;
 use std::test::Fail;
 use std::thread::{Threads, join};
 
@@ -91,15 +92,23 @@ fn sweep_on<H: HubName, R: Wait + Abort>(
     alloc: Global,
     store: Store<MapKeeper>,
     shards: Vec<Shard>,
+    ledger: Blank,
 ) -> Result<(), Fail>
     requires store { IsNamedStore H.opening H.cap store }
     requires start { H.start ≡ Some store.faults }
     requires new { store.ledger.failed ≡ 0 }
     requires shards { AreAll H.terms shards.items }
     requires few { length shards.items ≤ 64 }
+    requires ledger { (ledger.name ≡ H.name) × (ledger.parts ≡ H.parts) }
+    requires one_each { ledger.parts ≡ length shards.items }
 {
     let clock = ListClock::new(vec![in alloc; 0, 10]?);
-    let hub: Hub<MapKeeper, H> = match Hub::new(alloc, store.named::<StartOf<H>>(), shards) {
+    let hub: Hub<MapKeeper, H> = match Hub::new(
+        alloc,
+        store.named::<StartOf<H>>(),
+        shards,
+        ledger,
+    ) {
         Ok(hub) => hub,
         Err(_) => panic!(rt; "memory"),
     };
@@ -123,7 +132,7 @@ fn sweep_on<H: HubName, R: Wait + Abort>(
 fn a_desk_tends_what_is_due(rt: HostRuntime) -> Result<(), Fail> {
     let alloc = rt.alloc();
     let shards = new_shards(alloc, 1, 4, 10)?;
-    sweep_on::<Brand, _>(&rt, alloc, store(&rt, alloc), shards)
+    sweep_on::<Brand, _>(&rt, alloc, store(&rt, alloc), shards, Blank::new(1))
 }
 
 // One thread writes a member's name while another reads another's profile; then the store has the
@@ -133,15 +142,23 @@ fn write_and_read<H: HubName + Send + Sync, R: Threads + Wait + Abort + Sync>(
     alloc: Global,
     store: Store<MapKeeper>,
     shards: Vec<Shard>,
+    ledger: Blank,
 ) -> Result<(), Fail>
     requires store { IsNamedStore H.opening H.cap store }
     requires start { H.start ≡ Some store.faults }
     requires new { store.ledger.failed ≡ 0 }
     requires shards { AreAll H.terms shards.items }
     requires few { length shards.items ≤ 64 }
+    requires ledger { (ledger.name ≡ H.name) × (ledger.parts ≡ H.parts) }
+    requires one_each { ledger.parts ≡ length shards.items }
 {
     let clock = ListClock::new(vec![in alloc; 0]?);
-    let hub: Hub<MapKeeper, H> = match Hub::new(alloc, store.named::<StartOf<H>>(), shards) {
+    let hub: Hub<MapKeeper, H> = match Hub::new(
+        alloc,
+        store.named::<StartOf<H>>(),
+        shards,
+        ledger,
+    ) {
         Ok(hub) => hub,
         Err(_) => panic!(rt; "memory"),
     };
@@ -239,5 +256,5 @@ fn read<D: Desk>(rt: &impl Abort, desk: &mut D) -> Result<(), Memory> {
 fn two_threads_share_a_hub(rt: HostRuntime) -> Result<(), Fail> {
     let alloc = rt.alloc();
     let shards = new_shards(alloc, 2, 4, 100)?;
-    write_and_read::<Brand, _>(&rt, alloc, store(&rt, alloc), shards)
+    write_and_read::<Brand, _>(&rt, alloc, store(&rt, alloc), shards, Blank::new(2))
 }

@@ -17,7 +17,7 @@ use Rattle.key_shard.specs.Shards.{ShardView}
 use Rattle.sql_keeper.specs.Faults.{FewFailed}
 use Rattle.sql_keeper.specs.Stores.{StoreView, rows_of}
 use Rattle.core_history.specs.Machine.{terms_of, log_cap}
-use Rattle.shard_lock.specs.Names.{IsNamed}
+use Rattle.shard_lock.specs.Names.{AreAll, AreLegal, IsNamed}
 use Rattle.run_audit.specs.declared.findings.Finding.{Finding}
 use Rattle.run_audit.specs.declared.findings.Finding.TheVariants as finding
 use Rattle.run_audit.specs.Findings.{histories_in, AreNumbered}
@@ -26,7 +26,7 @@ use Rattle.top_run.specs.declared.plays.Stop.{Stop}
 use Rattle.top_run.specs.declared.plays.Stop.TheVariants as stop
 use Rattle.top_run.specs.declared.runs.Status.TheVariants as status
 use Rattle.top_run.specs.Runs.{Tells, Left, is_read_fault, is_write_fault}
-use Rattle.top_run.specs.Works.{work_shape, has_spent, first_spent, work_status, end_status, at_write_told, ArePlaced, AreLegal, IsTold, IsHalted, IsKept, WorkEnded}
+use Rattle.top_run.specs.Works.{work_shape, has_spent, first_spent, work_status, end_status, at_write_told, IsTold, IsHalted, IsKept, WorkEnded}
 
 -- ---- what the shards of a hub are
 
@@ -37,20 +37,26 @@ at_place P shards place shard all is =
 
 -- shards in their places have the terms of their places
 terms_at_place : (terms : ℕ → Terms) (spec : WorkSpec) (shards : List ShardView) → ((place : ℕ) → terms place ≡ terms_of (work_shape spec) place)
-    → All (IsNamed terms) shards → ArePlaced shards → (place : ℕ) (shard : ShardView) → slice_get shards place ≡ Some shard → shard.terms ≡ terms_of (work_shape spec) place
-terms_at_place terms spec shards are named placed place shard is =
-    at_place (IsNamed terms) shards place shard named is ∙ ap terms (placed place shard is) ∙ are place
+    → AreAll terms shards → (place : ℕ) (shard : ShardView) → slice_get shards place ≡ Some shard → shard.terms ≡ terms_of (work_shape spec) place
+terms_at_place terms spec shards are all place shard is =
+    at_place (IsNamed terms) shards place shard all.named is ∙ ap terms (all.placed place shard is) ∙ are place
 
 -- so they can be audited
-pub numbered_of : (terms : ℕ → Terms) (spec : WorkSpec) (shards : List ShardView) → ((place : ℕ) → terms place ≡ terms_of (work_shape spec) place)
-    → All (IsNamed terms) shards → ArePlaced shards → length shards ≡ spec.shards → spec.shards ≤ 64 → AreNumbered shards
-numbered_of terms spec shards are named placed many few = record {
-  few = omega (arith, many, few);
+pub numbered_of : (terms : ℕ → Terms) (shards : List ShardView) → AreAll terms shards → length shards ≤ 64 → AreNumbered shards
+numbered_of terms shards all few = record {
+  few = omega (arith, few);
   each = λ place shard is. record {
-    no = placed place shard is;
-    count = ap (λ (t : Terms). t.count) (terms_at_place terms spec shards are named placed place shard is) ∙ sym many;
+    no = all.placed place shard is;
+    count = at_place (λ (s : ShardView). s.terms.count ≡ length shards) shards place shard all.counted is;
   };
 }
+
+-- a history of no step is legal
+pub new_are_legal : (shards : List ShardView) → All (λ shard. shard.history ≡ []) shards → AreLegal shards
+new_are_legal shards new = λ place default below.
+    let is = new place default below in
+    let shard = get_or shards place default in
+    subst (λ (h : List Step). Legal shard.terms h) (sym is) tt
 
 -- a mapped value is that of a value
 unmapped : (o : Option ShardView) (history : List Step) → option_map (λ (s : ShardView). s.history) o ≡ Some history → (shard : ShardView) × (o ≡ Some shard) × (shard.history ≡ history)
@@ -59,26 +65,13 @@ unmapped (Some shard) history is = (shard, refl, ap (λ (o : Option (List Step))
 
 -- and their histories are legal
 pub legal_of : (terms : ℕ → Terms) (spec : WorkSpec) (shards : List ShardView) → ((place : ℕ) → terms place ≡ terms_of (work_shape spec) place)
-    → All (IsNamed terms) shards → ArePlaced shards → AreLegal shards
+    → AreAll terms shards → AreLegal shards
     → (place : ℕ) (history : List Step) → slice_get (histories_in shards) place ≡ Some history → Legal (terms_of (work_shape spec) place) history
-legal_of terms spec shards are named placed legal place history is =
+legal_of terms spec shards are all legal place history is =
     let there = unmapped (slice_get shards place) history (sym (slice_get-map (λ (s : ShardView). s.history) shards place) ∙ is) in
     let here = at_place (λ (s : ShardView). Legal s.terms s.history) shards place there.0 legal there.1 in
     subst (λ (h : List Step). Legal (terms_of (work_shape spec) place) h) there.2
-    (subst (λ (t : Terms). Legal t there.0.history) (terms_at_place terms spec shards are named placed place there.0 there.1) here)
-
--- one shard more is in its place
-pub placed_more : (shards : List ShardView) (i : ℕ) (new : ShardView) → new ≡ get_or shards i new → new.terms.no ≡ i
-    → ((at : ℕ) (shard : ShardView) → at < i → slice_get shards at ≡ Some shard → shard.terms.no ≡ at)
-    → (at : ℕ) (shard : ShardView) → at < i + 1 → slice_get shards at ≡ Some shard → shard.terms.no ≡ at
-placed_more shards i new is number before at shard below there = by (at == i) refl
-  where
-    by : (b : Bool) → (at == i) ≡ b → shard.terms.no ≡ at
-    by true same =
-        let e : at ≡ i = grind (arith, same) in
-        let one : get_or shards at new ≡ shard = get_or_from_slice_get shards at shard new there in
-        ap (λ (s : ShardView). s.terms.no) (sym one ∙ ap (λ (k : ℕ). get_or shards k new) e ∙ sym is) ∙ number ∙ sym e
-    by false other = before at shard (grind (arith, other, below)) there
+    (subst (λ (t : Terms). Legal t there.0.history) (terms_at_place terms spec shards are all place there.0 there.1) here)
 
 -- ---- the least shard that is spent
 
@@ -119,14 +112,14 @@ pub kept_of : (spec : WorkSpec) (before after : Tells) (store : StoreView) (shar
     → after.rows ≡ store.told → after.keeps_failed ≡ store.faults → start ≡ Some before.keeps_failed
     → length store.ledger.log ≤ store.ledger.cap → store.ledger.cap ≡ log_cap
     → ForSome store.told (λ told. told ≡ rows_of store.ledger) → FewFailed start store.ledger.failed store.faults
-    → ((place : ℕ) → terms place ≡ terms_of (work_shape spec) place) → All (IsNamed terms) shards → ArePlaced shards → AreLegal shards → length shards ≡ spec.shards
+    → ((place : ℕ) → terms place ≡ terms_of (work_shape spec) place) → AreAll terms shards → AreLegal shards → length shards ≡ spec.shards
     → IsKept spec before after (left_of store shards) store.ledger.opening store.ledger.failed
-kept_of spec before after store shards terms start rows count starts short cap told few are named placed legal many = record {
+kept_of spec before after store shards terms start rows count starts short cap told few are all legal many = record {
   opening_is = refl;
   short = subst (λ (n : ℕ). length store.ledger.log ≤ n) cap short;
   rows_are = subst (λ (r : Option Tables). ForSome r (λ t. t ≡ rows_of store.ledger)) (sym rows) told;
   as_many = length-map shards (λ (s : ShardView). s.history) ∙ many;
-  legal = legal_of terms spec shards are named placed legal;
+  legal = legal_of terms spec shards are all legal;
   few = subst (λ (n : ℕ). FewFailed (Some before.keeps_failed) store.ledger.failed n) (sym count)
       (subst (λ (o : Option ℕ). FewFailed o store.ledger.failed store.faults) starts few);
 }

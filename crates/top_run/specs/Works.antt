@@ -103,14 +103,6 @@ at_write_told (Ok found) = false
 at_write_told (Err stop.WriteFault) = true
 at_write_told (Err stop.Memory) = false
 
--- Each shard has its place for its number.
-abbrev pub ArePlaced : List ShardView → Type 0
-ArePlaced shards = (place : ℕ) (shard : ShardView) → slice_get shards place ≡ Some shard → shard.terms.no ≡ place
-
--- Each shard's history is legal.
-abbrev pub AreLegal : List ShardView → Type 0
-AreLegal shards = All (λ shard. Legal shard.terms shard.history) shards
-
 -- The name of a hub names what a load is run with: a shard's terms, and the store as it was handed in.
 pub record IsNameOf (spec : WorkSpec) (store : StoreView) (terms : ℕ → Terms) (opening : Tables) (cap : ℕ) (start : Option ℕ) : Type 0 where
   pub terms_are : (place : ℕ) → terms place ≡ terms_of (work_shape spec) place

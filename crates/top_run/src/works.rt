@@ -12,11 +12,11 @@ ghost use Rattle.sql_keeper.specs.Faults.{FewFailed};
 ghost use Rattle.sql_keeper.specs.Stores.{rows_of};
 ghost use Rattle.session_client.specs.Plans.{IsPlan};
 ghost use Rattle.core_history.specs.Machine.{terms_of, log_cap};
-ghost use Rattle.shard_lock.specs.Names.{AreAll, IsNamed, IsNamedStore};
+ghost use Rattle.shard_lock.specs.Names.{AreAll, AreLegal, IsNamedStore};
 ghost use Rattle.run_audit.specs.Findings.{histories_in, AreNumbered};
 ghost use Rattle.run_inputs.specs.Loads.{IsWork};
 ghost use Rattle.top_run.specs.Runs.{Left, moment, RoseWhere, is_read_fault, is_write_fault};
-ghost use Rattle.top_run.specs.Works.{work_shape, has_spent, first_spent, work_status, end_status, at_write_told, ArePlaced, AreLegal, IsNameOf, IsSummary, IsTold, IsHalted, WorkEnded};
+ghost use Rattle.top_run.specs.Works.{work_shape, has_spent, first_spent, work_status, end_status, at_write_told, IsNameOf, IsSummary, IsTold, IsHalted, WorkEnded};
 ghost use Rattle.top_run.specs.Ready.{IsReady};
 
 use crate::endings::{histories_of, not_started, start_status};
@@ -36,6 +36,7 @@ use sql_keeper::{Commit, Keeper, NoStore, Place, Start, Store};
 use std::alloc::Global;
 use std::marker::Brand;
 use std::sync::Wait;
+use std::sync::ledger::Blank;
 use std::thread::Threads;
 
 /// How many entries a shard has room for.
@@ -91,11 +92,13 @@ pub(crate) fn work<W: Sink, K: Keeper + Send, C: Clock, G: Gate, R: Threads + Wa
     }
 }
 
-/// What a load is run with: the plans of each worker, the shards, and room for their histories.
+/// What a load is run with: the plans of each worker, the shards with the ledger of their hub, and room
+/// for their histories.
 #[derive(Drop)]
 struct Ready {
     plans: Vec<Vec<Plan>>,
     shards: Vec<Shard>,
+    ledger: Blank,
     histories: Vec<Vec<Step>>,
 }
 
@@ -106,6 +109,7 @@ fn ready_for(alloc: Global, spec: &WorkSpec) -> Result<Ready, Memory>
     Ok(Ready {
         plans: make_plans(alloc, spec)?,
         shards: new_shards(alloc, spec.shards, ROOM, LIFE)?,
+        ledger: Blank::new(spec.shards as u64),
         histories: Vec::with_capacity(alloc, spec.shards as usize)?,
     })
 }
@@ -133,6 +137,7 @@ fn work_on<
     requires cap { store.ledger.cap ≡ log_cap }
     requires new { store.ledger.failed ≡ 0 }
     requires ready { IsReady spec.now H.terms ready }
+    requires ledger { (ready.ledger.name ≡ H.name) × (ready.ledger.parts ≡ H.parts) }
     ensures ended { (unread : Option (List ℕ)) (reads : ℕ) (rows : Option Tables) →
         let before = moment unread reads
         (W.taken sink.old) (W.faults sink.old) rows store.faults in
@@ -156,6 +161,7 @@ fn work_on<
     let Ready {
         plans,
         shards,
+        ledger,
         histories,
     } = ready;
     let Ran {
@@ -167,11 +173,11 @@ fn work_on<
         alloc,
         store.named::<StartOf<H>>(),
         shards,
+        ledger,
         plans.as_slice(),
         clock,
         gate,
     );
-    await_places(rt, shards.as_slice());
     let mut written = 0;
     let made = summed_up(
         alloc,
@@ -205,6 +211,7 @@ fn run_plans<
     alloc: Global,
     store: Store<K, StartOf<H>>,
     shards: Vec<Shard>,
+    ledger: Blank,
     plans: &[Vec<Plan>],
     clock: &C,
     gate: &G,
@@ -212,13 +219,17 @@ fn run_plans<
     requires store { IsNamedStore H.opening H.cap store }
     requires shards { AreAll H.terms shards.items }
     requires few { length shards.items ≤ 64 }
+    requires legal { AreLegal shards.items }
+    requires ledger { (ledger.name ≡ H.name) × (ledger.parts ≡ H.parts) }
+    requires one_each { ledger.parts ≡ length shards.items }
     requires plans { All (λ list. All IsPlan list.items) plans.now }
     requires few_workers { length plans.now ≤ 64 }
     ensures store { IsNamedStore H.opening H.cap result.store }
     ensures as_many { length result.shards.items ≡ length shards.items }
-    ensures named { All (IsNamed H.terms) result.shards.items }
+    ensures all { AreAll H.terms result.shards.items }
+    ensures legal { AreLegal result.shards.items }
 {
-    match Hub::new(alloc, store, shards) {
+    match Hub::new(alloc, store, shards, ledger) {
         Ok(hub) => {
             let transcripts = run_over(rt, alloc, &hub, plans, clock, gate);
             let (store, shards) = hub.into_parts();
@@ -259,35 +270,6 @@ fn run_over<
         desks.push(hub.desk(rt, worker, clock, gate))?;
     }
     work_all(rt, alloc, desks.as_mut_slice(), plans, gate)
-}
-
-/// Waits for ever unless each shard has its place for its number. No type says which shard a lock of a
-/// hub has.
-fn await_places<R: Wait>(rt: &R, shards: &[Shard])
-    ensures placed { ArePlaced shards.now }
-    ensures legal { AreLegal shards.now }
-{
-    for (place, shard) in shards.iter().enumerate() {
-        let _legal = shard.history();
-        await_place(rt, shard, place);
-    }
-}
-
-/// Waits for ever unless the shard has this number.
-fn await_place<R: Wait>(rt: &R, shard: &Shard, place: usize)
-    ensures { shard.now.terms.no ≡ place }
-{
-    if shard.no() as usize != place {
-        wait_for_ever(rt);
-    }
-}
-
-/// Never returns.
-fn wait_for_ever<R: Wait>(rt: &R)
-    ensures { ⊥ }
-{
-    for _ in rt.forever() {}
-    unreachable!()
 }
 
 /// A summary, and what its audit found.

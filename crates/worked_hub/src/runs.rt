@@ -14,6 +14,7 @@ use std::alloc::Global;
 use std::marker::Brand;
 use std::process::Abort;
 use std::sync::Wait;
+use std::sync::ledger::Blank;
 use std::test::Fail;
 use std::thread::Threads;
 
@@ -51,7 +52,8 @@ pub fn run_plans<G: Gate, R: Threads + Wait + Abort + Sync>(
         Ok(store) => store,
         Err(none) => panic!(rt; "{:?}", none.cause),
     };
-    run_on::<Brand, _, _>(rt, alloc, shape, store, plans, gate)
+    let ledger = Blank::new(shape.shards as u64);
+    run_on::<Brand, _, _>(rt, alloc, shape, store, ledger, plans, gate)
 }
 
 /// Runs the plans on the desks of a hub of this shape over this store.
@@ -60,12 +62,15 @@ fn run_on<'x, H: HubName + Send + Sync, G: Gate, R: Threads + Wait + Abort + Syn
     alloc: Global,
     shape: &Shape,
     store: Store<MapKeeper>,
+    ledger: Blank,
     plans: &[Vec<Plan>],
     gate: &'x G,
 ) -> Result<Ran, Fail>
     requires store { IsNamedStore H.opening H.cap store }
     requires start { H.start ≡ Some store.faults }
     requires new { store.ledger.failed ≡ 0 }
+    requires ledger { (ledger.name ≡ H.name) × (ledger.parts ≡ H.parts) }
+    requires one_each { ledger.parts ≡ shape.now.shards }
     requires terms { H.terms ≡ terms_at shape.now.shards shape.now.room shape.now.life }
     requires some_shards { 1 ≤ shape.now.shards }
     requires few_shards { shape.now.shards ≤ 64 }
@@ -75,7 +80,12 @@ fn run_on<'x, H: HubName + Send + Sync, G: Gate, R: Threads + Wait + Abort + Syn
 {
     let shards = new_shards(alloc, shape.shards, shape.room, shape.life)?;
     let clock = ListClock::new(vec![in alloc; 0]?);
-    let hub: Hub<MapKeeper, H> = match Hub::new(alloc, store.named::<StartOf<H>>(), shards) {
+    let hub: Hub<MapKeeper, H> = match Hub::new(
+        alloc,
+        store.named::<StartOf<H>>(),
+        shards,
+        ledger,
+    ) {
         Ok(hub) => hub,
         Err(_) => panic!(rt; "memory"),
     };

@@ -1,4 +1,4 @@
-use Rattle.std.proofs.Common.{Bool, refl, sym, ap, subst, ◌∙◌}
+use Rattle.std.proofs.Common.{arith, Bool, refl, sym, ap, subst, ◌∙◌}
 use Rattle.run_audit.specs.Findings.{histories_in}
 use Rattle.std.specs.Prelude.{nat_lt}
 use Rattle.top_run.specs.Runs.{moment, RoseWhere, is_read_fault, is_write_fault}
@@ -9,25 +9,21 @@ use Rattle.top_run.proofs.works.work_on.Goals as goal
 pub summed_up-made-requires-clause-numbered : goal.summed_up-made-requires-clause-numbered
 summed_up-made-requires-clause-numbered g c =
     let shards = c.run_plans-store.result.shards.items in
-    let placed = (rw c.as_slice-2.ensures.value at c.await_places.ensures.placed) in
-    rw c.as_slice-3.ensures.value
-    (numbered_of g.H.HubName.terms c.args.spec.now shards c.requires.named.terms_are c.run_plans-store.ensures.named placed
-    (c.run_plans-store.ensures.as_many ∙ c.requires.ready.as_many) c.requires.work.few_shards)
+    let many = c.run_plans-store.ensures.as_many ∙ c.requires.ready.as_many in
+    rw c.as_slice-2.ensures.value (numbered_of g.H.HubName.terms shards c.run_plans-store.ensures.all (omega (arith, many, c.requires.work.few_shards)))
 
 pub returns-clause-ended : goal.returns-clause-ended
 returns-clause-ended g c = λ unread reads rows.
     let store = c.run_plans-store.result.store in
     let shards = c.run_plans-store.result.shards.items in
     let spec = c.args.spec.now in
-    let placed = (rw c.as_slice-2.ensures.value at c.await_places.ensures.placed) in
-    let legal = (rw c.as_slice-2.ensures.value at c.await_places.ensures.legal) in
     let short = (rw c.log.ensures.items at c.log.ensures.few) in
-    let made = (rw (c.opening.ensures, c.log.ensures.items, c.as_slice-3.ensures.value) at c.summed_up-made.ensures) in
+    let made = (rw (c.opening.ensures, c.log.ensures.items, c.as_slice-2.ensures.value) at c.summed_up-made.ensures) in
     let before = moment unread reads (g.W.Sink.taken c.args.sink.now) (g.W.Sink.faults c.args.sink.now) rows c.args.store.faults in
     let after = moment unread reads (g.W.Sink.taken c.tell-told.new.sink) (g.W.Sink.faults c.tell-told.new.sink) store.told store.faults in
     let kept = kept_of spec before after store shards g.H.HubName.terms g.H.HubName.start refl refl c.requires.named.start_is
     short (c.run_plans-store.ensures.store.cap_is ∙ c.requires.named.cap_is) c.ended_work.ensures.told c.ended_work.ensures.few
-    c.requires.named.terms_are c.run_plans-store.ensures.named placed legal
+    c.requires.named.terms_are c.run_plans-store.ensures.all c.run_plans-store.ensures.legal
     (c.run_plans-store.ensures.as_many ∙ c.requires.ready.as_many) in
     rw (c.ended_work.ensures.status, c.ended_work.ensures.opening, c.ended_work.ensures.log, c.ended_work.ensures.histories, c.ended_work.ensures.written, c.ended_work.ensures.rows, c.ended_work.ensures.faults)
     (work_ended spec before after (left_of store shards) c.tell-told.new.written store.ledger.opening store.ledger.failed kept c.tell-told.result

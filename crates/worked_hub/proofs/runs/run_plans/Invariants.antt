@@ -3,10 +3,13 @@ use Rattle.shard_lock.specs.Names.{terms_at}
 use Rattle.worked_hub.proofs.runs.run_plans.Given as goal
 
 -- what the shards are made with, and the store as it is handed in
-abbrev pub ghosts-run_on : goal.ghosts-run_on
-ghosts-run_on g a = record {
+abbrev pub ghosts-run_on-H-HubName : goal.ghosts-run_on-H-HubName
+ghosts-run_on-H-HubName g a = record {
   terms = terms_at a.shape.now.shards a.shape.now.room a.shape.now.life;
   opening = a.store.ledger.opening;
   cap = a.store.ledger.cap;
   start = Some a.store.faults;
 }
+
+abbrev pub ghosts-run_on-H-Ledger : goal.ghosts-run_on-H-Ledger
+ghosts-run_on-H-Ledger g a = record { name = a.ledger.name; parts = a.ledger.parts }
