@@ -300,22 +300,23 @@ clean_found false None finding.Clean h = refl
 clean_found false None (finding.Stale shard place) h = absurd cc
 clean_found false None (finding.Uncovered commit key) h = absurd cc
 
-clean_summed : (spec : WorkSpec) (before after : Tells) (left : Left) (written : ℕ) → IsSummed spec before after left written status.Done
+clean_summed : (spec : WorkSpec) (held : Held) (before after : Tells) (left : Left) (written : ℕ) → held.place ≡ place.Fresh → IsSummed spec held before after left written status.Done
     → IsCleanLoad spec before after left written
-clean_summed spec before after left written h =
+clean_summed spec held before after left written new h =
     let clean = clean_found (nat_lt 0 h.failed) (first_spent left.histories) h.found h.ends in
     let told : IsTold spec h.opening left.log left.histories before.taken after.taken written finding.Clean =
     subst (IsTold spec h.opening left.log left.histories before.taken after.taken written) clean h.told in
     record {
       opening = h.opening;
       opening_is = h.kept.opening_is;
+      opened = λ rows is. h.kept.opened.opened rows is (start_tables spec.members) (h.kept.opened.fresh new);
       fresh = told.is_summary.is_finding.1;
       covered = told.is_summary.is_finding.0;
       told = told;
     }
 
 -- a load that ended Done had a clean audit
-pub load_done : (s : Status) (spec : WorkSpec) (before after : Tells) (left : Left) (written : ℕ)
-    → IsUnread before after × WorkEnded s spec before after left written → s ≡ status.Done → IsCleanLoad spec before after left written
-load_done s spec before after left written h done =
-    clean_summed spec before after left written (subst (λ (t : Status). WorkEnded t spec before after left written) done h.1)
+pub load_done : (s : Status) (spec : WorkSpec) (held : Held) (before after : Tells) (left : Left) (written : ℕ)
+    → held.place ≡ place.Fresh → IsUnread before after × WorkEnded s spec held before after left written → s ≡ status.Done → IsCleanLoad spec before after left written
+load_done s spec held before after left written new h done =
+    clean_summed spec held before after left written new (subst (λ (t : Status). WorkEnded t spec held before after left written) done h.1)

@@ -2,6 +2,7 @@
 use Rattle.std.specs.Prelude.{ℕ, ◌≡◌, ◌<◌, true, List, ◌∷◌, ◌++◌, Option, Some, slice_get}
 use Rattle.rows_model.specs.declared.keys.QKey.{QKey}
 use Rattle.rows_model.specs.declared.keys.Sid.{Sid}
+use Rattle.std.specs.Option.{ForSome}
 use Rattle.rows_model.specs.Rows.{Tables, start_tables}
 use Rattle.rows_model.specs.Query.{answer}
 use Rattle.rows_model.specs.Changes.{touches}
@@ -30,10 +31,11 @@ pub record IsFreshRun (left_old left_new : Option (List ℕ)) (opening : Tables)
   pub covered : Covered log histories
   pub rows_are : rows ≡ Some (rows_after opening log)
 
--- A load of these words ended with a clean audit over these opening rows: its summary was written, no hit is stale, and each commit is covered.
+-- A load of these words ended with a clean audit over these opening rows: its summary was written, no hit is stale, and each commit is covered. Where the keeper tells its rows, the opening rows are as many members as the load says, and no links.
 pub record IsCleanLoad (spec : WorkSpec) (before after : Tells) (left : Left) (written : ℕ) : Type 0 where
   pub opening : Tables
   pub opening_is : left.opening ≡ Some opening
+  pub opened : ForSome after.rows (λ _. opening ≡ start_tables spec.members)
   pub fresh : Fresh opening left.log left.histories
   pub covered : Covered left.log left.histories
   pub told : IsTold spec opening left.log left.histories before.taken after.taken written finding.Clean

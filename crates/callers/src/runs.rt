@@ -140,7 +140,8 @@ pub fn run_no_command<
 }
 
 /// A load that ends Done left nothing stale, whatever its threads did and whatever the keeper is: its
-/// audit was clean, and the summary was written whole.
+/// audit was clean, and the summary was written whole. Where the keeper tells its rows, the load began with
+/// as many members as its words say, and no links.
 pub fn run_load<S: Source, W: Sink, K: Keeper + Send, C: Clock, G: Gate, R: Threads + Wait + Sync>(
     rt: &R,
     alloc: Global,

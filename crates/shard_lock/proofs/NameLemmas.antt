@@ -1,5 +1,5 @@
--- A request at the store leaves the opening rows and the cap.
-use Rattle.std.proofs.Common.{ℕ, ◌≡◌, Bool, true, false, List, Some, None, refl, sym, ap, ◌∙◌}
+-- A request at the store leaves the opening rows and the cap, and makes no keeper tell rows that told none.
+use Rattle.std.proofs.Common.{ℕ, ◌≡◌, Bool, true, false, List, Option, Some, None, refl, sym, ap, ◌∙◌}
 use Rattle.std.specs.Prelude.{Result, Ok, Err}
 use Rattle.rows_model.specs.declared.changes.Change.{Change}
 use Rattle.rows_model.specs.declared.keys.QKey.{QKey}
@@ -29,14 +29,15 @@ ended : (who : Sid) (ledger : Ledger) → AreSame (with_end who ledger) ledger
 ended who ledger = (refl, refl)
 
 gone : (failed : Bool) (ledger : Ledger) (old new : StoreView) → Goes failed ledger old new → AreSame ledger old.ledger
-    → (opening : Tables) (most : ℕ) → IsNamedStore opening most old → IsNamedStore opening most new
-gone failed ledger old new goes same opening most named = record {
+    → (opening : Tables) (most : ℕ) (first : Option Tables) → IsNamedStore opening most first old → IsNamedStore opening most first new
+gone failed ledger old new goes same opening most first named = record {
   opening_is = ap (λ (l : Ledger). l.opening) goes.ledger_is ∙ (same.0 ∙ named.opening_is);
   cap_is = ap (λ (l : Ledger). l.cap) goes.ledger_is ∙ (same.1 ∙ named.cap_is);
+  told_before = λ some. named.told_before (goes.told_before some);
 }
 
-asked : (key : QKey) (old new : StoreView) (told : Reply) → TellsAnswer key old new told → (opening : Tables) (cap : ℕ)
-    → IsNamedStore opening cap old → IsNamedStore opening cap new
+asked : (key : QKey) (old new : StoreView) (told : Reply) → TellsAnswer key old new told → (opening : Tables) (most : ℕ) (first : Option Tables)
+    → IsNamedStore opening most first old → IsNamedStore opening most first new
 asked key old new (reply.Answer given) h = gone false old.ledger old new h.0 (refl, refl)
 asked key old new (reply.Fault faults.Keep) h = gone true (with_call true old.ledger) old new h (refl, refl)
 asked key old new (reply.Fault faults.Memory) h = gone false old.ledger old new h (refl, refl)
@@ -44,7 +45,7 @@ asked key old new (reply.Fault faults.Spent) h = absurd h
 asked key old new other h = absurd h
 
 staged : (key : QKey) (txn : List Change) (old new : StoreView) (told : Reply) → TellsStaged key txn old new told
-    → (opening : Tables) (most : ℕ) → IsNamedStore opening most old → IsNamedStore opening most new
+    → (opening : Tables) (most : ℕ) (first : Option Tables) → IsNamedStore opening most first old → IsNamedStore opening most first new
 staged key txn old new (reply.Staged value back) h = gone false old.ledger old new h.1.goes (refl, refl)
 staged key txn old new (reply.NotStaged fault back) h =
     let made : Result (List ℕ) AfterFault = Err fault in
@@ -52,21 +53,21 @@ staged key txn old new (reply.NotStaged fault back) h =
 staged key txn old new other h = absurd h
 
 committed : (who : Sid) (txn : List Change) (grants : List Permit) (old new : StoreView) (told : Reply)
-    → TellsCommit who txn grants old new told → (opening : Tables) (most : ℕ) → IsNamedStore opening most old → IsNamedStore opening most new
+    → TellsCommit who txn grants old new told → (opening : Tables) (most : ℕ) (first : Option Tables) → IsNamedStore opening most first old → IsNamedStore opening most first new
 committed who txn grants old new (reply.Committed number back kept) h =
     gone false (with_commit who txn old.ledger) old new h.2.goes (refl, refl)
 committed who txn grants old new (reply.NotCommitted fault back kept) h =
     gone (is_failure fault) (with_call (is_failure fault) old.ledger) old new h.2.goes (called (is_failure fault) old.ledger)
 committed who txn grants old new other h = absurd h
 
-closed : (who : Sid) (old new : StoreView) (told : Reply) → TellsEnd who old new told → (opening : Tables) (cap : ℕ)
-    → IsNamedStore opening cap old → IsNamedStore opening cap new
+closed : (who : Sid) (old new : StoreView) (told : Reply) → TellsEnd who old new told → (opening : Tables) (most : ℕ) (first : Option Tables)
+    → IsNamedStore opening most first old → IsNamedStore opening most first new
 closed who old new (reply.End was) h = gone false (with_end who old.ledger) old new h.1 (ended who old.ledger)
 closed who old new other h = absurd h
 
 -- a store has the names that it had before a request
 pub made_named : (old new : StoreView) (who : Sid) (request : Wanted) (told : Reply) → MakesAtStore old who request new told
-    → (opening : Tables) (most : ℕ) → IsNamedStore opening most old → IsNamedStore opening most new
+    → (opening : Tables) (most : ℕ) (first : Option Tables) → IsNamedStore opening most first old → IsNamedStore opening most first new
 made_named old new who (wanted.Ask key) told h = asked key old new told h
 made_named old new who (wanted.Staged key txn) told h = staged key txn old new told h
 made_named old new who (wanted.Commit txn grants) told h = committed who txn grants.items old new told h

@@ -7,8 +7,9 @@ use std::marker::{Brand, PhantomData};
 use std::sync::ledger::Ledger;
 
 /// Names what the locks of a hub keep: for each shard's number what it was made with, the store's
-/// opening rows and cap, and the count of faults at which its keeper stood when it was started. It
-/// names a ledger too, which has a part for each shard.
+/// opening rows and cap, the rows that its keeper told when the store was handed in, if it told any, and
+/// the count of faults at which that keeper stood when it was started. It names a ledger too, which has a
+/// part for each shard.
 ///
 /// The name is picked where a caller that is generic in it is called, at the type `Brand`.
 pub trait HubName: Ledger {
@@ -17,6 +18,8 @@ pub trait HubName: Ledger {
     ghost opening: { Tables };
 
     ghost cap: { ℕ };
+
+    ghost told: { Option Tables };
 
     ghost start: { Option ℕ };
 }
@@ -29,6 +32,8 @@ impl HubName for Brand {
     ghost opening = { record { members = []; links = [] } };
 
     ghost cap = { 0 };
+
+    ghost told = { None };
 
     ghost start = { None };
 }

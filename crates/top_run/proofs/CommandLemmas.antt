@@ -34,10 +34,10 @@ replay_ended words ended held before after left written are h = record {
 
 pub load_ended : (words : List (List ℕ)) (spec : WorkSpec) (ended : Status) (held : Held) (before after : Tells) (left : Left) (written : ℕ)
     → AreWork words spec → ((other : WorkSpec) → AreWork words other → Some spec ≡ Some other) → IsUnread before after
-    → WorkEnded ended spec before after left written → CommandEnded words ended held before after left written
+    → WorkEnded ended spec held before after left written → CommandEnded words ended held before after left written
 load_ended words spec ended held before after left written are only unread h = record {
   replayed = λ replay. absurd (not_both words replay spec are);
-  worked = λ other is. (unread, subst (λ (s : WorkSpec). WorkEnded ended s before after left written) (same_load spec other (only other is)) h);
+  worked = λ other is. (unread, subst (λ (s : WorkSpec). WorkEnded ended s held before after left written) (same_load spec other (only other is)) h);
   refused = λ none. absurd (none.no_work spec are);
 }
 
@@ -58,8 +58,8 @@ not_rose : (before after : ℕ) → Rose before after → after ≡ before → b
 not_rose before after (inl up) same below = omega (arith, up, same)
 not_rose before after (inr end) same below = omega (arith, end, same, below)
 
-pub load_not_failed : (ended : Status) (spec : WorkSpec) (before after : Tells) (left : Left) (written : ℕ) → WorkEnded ended spec before after left written
+pub load_not_failed : (ended : Status) (spec : WorkSpec) (held : Held) (before after : Tells) (left : Left) (written : ℕ) → WorkEnded ended spec held before after left written
     → after.keeps_failed ≡ before.keeps_failed → before.keeps_failed < 2 ^ 64 - 1 → ended ≡ status.KeepFault → ⊥
-load_not_failed ended spec before after left written h same below is =
-    let failed = subst (λ (e : Status). WorkEnded e spec before after left written) is h in
+load_not_failed ended spec held before after left written h same below is =
+    let failed = subst (λ (e : Status). WorkEnded e spec held before after left written) is h in
     not_rose before.keeps_failed after.keeps_failed failed.0 same below

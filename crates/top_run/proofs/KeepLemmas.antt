@@ -95,13 +95,19 @@ from_some : {P : Type 0} (rows : Option Tables) → ForSome rows (λ _. P) → I
 from_some None h some = absurd cc
 from_some (Some tables) h some = h tables refl
 
--- the opening rows are those of the place at the end too
+-- where a keeper tells its rows now only if it told some then, the opening rows are still those of the place
+pub opened_since : (held : Held) (shape : Shape) (opening : Tables) (told now : Option Tables) → (IsSome now → IsSome told)
+    → IsOpened held shape opening told → IsOpened held shape opening now
+opened_since held shape opening told now before h = record {
+  fresh = h.fresh;
+  opened = for_some now (λ some. from_some told h.opened (before some));
+}
+
+-- so they are at the end of a run of turns
 pub opened_still : (held : Held) (core : CoreView) (origin : Origin) (moves : List Move) (rows : Option Tables) → HasKept core origin moves → rows ≡ core.store.told
     → IsOpened held origin.shape origin.opening origin.told → IsOpened held origin.shape origin.opening rows
-opened_still held core origin moves rows kept told h = record {
-  fresh = h.fresh;
-  opened = for_some rows (λ some. from_some origin.told h.opened (kept.store.telling (subst (λ (r : Option Tables). IsSome r) told some)));
-}
+opened_still held core origin moves rows kept told =
+    opened_since held origin.shape origin.opening origin.told rows (λ some. kept.store.telling (subst (λ (r : Option Tables). IsSome r) told some))
 
 -- two lists that do the same in reverse do the same
 unreversed : (moves others : List Move) → map call_of (reverse moves) ≡ map call_of (reverse others) → map call_of moves ≡ map call_of others

@@ -25,7 +25,7 @@ use Rattle.run_inputs.specs.declared.loads.WorkSpec.{WorkSpec}
 use Rattle.top_run.specs.declared.plays.Stop.{Stop}
 use Rattle.top_run.specs.declared.plays.Stop.TheVariants as stop
 use Rattle.top_run.specs.declared.runs.Status.TheVariants as status
-use Rattle.top_run.specs.Runs.{Tells, Left, is_read_fault, is_write_fault}
+use Rattle.top_run.specs.Runs.{Held, Tells, Left, IsOpened, is_read_fault, is_write_fault}
 use Rattle.top_run.specs.Works.{work_shape, has_spent, first_spent, work_status, end_status, at_write_told, IsTold, IsHalted, IsKept, WorkEnded}
 
 -- ---- what the shards of a hub are
@@ -108,14 +108,16 @@ never_fell_since start failed faults named is few low = by (few start is)
 abbrev pub left_of : StoreView → List ShardView → Left
 left_of store shards = record { opening = Some store.ledger.opening; log = store.ledger.log; histories = histories_in shards }
 
-pub kept_of : (spec : WorkSpec) (before after : Tells) (store : StoreView) (shards : List ShardView) (terms : ℕ → Terms) (start : Option ℕ)
+pub kept_of : (spec : WorkSpec) (held : Held) (before after : Tells) (store : StoreView) (shards : List ShardView) (terms : ℕ → Terms) (start : Option ℕ)
     → after.rows ≡ store.told → after.keeps_failed ≡ store.faults → start ≡ Some before.keeps_failed
     → length store.ledger.log ≤ store.ledger.cap → store.ledger.cap ≡ log_cap
     → ForSome store.told (λ told. told ≡ rows_of store.ledger) → FewFailed start store.ledger.failed store.faults
     → ((place : ℕ) → terms place ≡ terms_of (work_shape spec) place) → AreAll terms shards → AreLegal shards → length shards ≡ spec.shards
-    → IsKept spec before after (left_of store shards) store.ledger.opening store.ledger.failed
-kept_of spec before after store shards terms start rows count starts short cap told few are all legal many = record {
+    → IsOpened held (work_shape spec) store.ledger.opening after.rows
+    → IsKept spec held before after (left_of store shards) store.ledger.opening store.ledger.failed
+kept_of spec held before after store shards terms start rows count starts short cap told few are all legal many opened = record {
   opening_is = refl;
+  opened = opened;
   short = subst (λ (n : ℕ). length store.ledger.log ≤ n) cap short;
   rows_are = subst (λ (r : Option Tables). ForSome r (λ t. t ≡ rows_of store.ledger)) (sym rows) told;
   as_many = length-map shards (λ (s : ShardView). s.history) ∙ many;
@@ -124,7 +126,7 @@ kept_of spec before after store shards terms start rows count starts short cap t
       (subst (λ (o : Option ℕ). FewFailed o store.ledger.failed store.faults) starts few);
 }
 
-module _ (spec : WorkSpec) (before after : Tells) (left : Left) (written : ℕ) (opening : Tables) (failed : ℕ) (kept : IsKept spec before after left opening failed) where
+module _ (spec : WorkSpec) (held : Held) (before after : Tells) (left : Left) (written : ℕ) (opening : Tables) (failed : ℕ) (kept : IsKept spec held before after left opening failed) where
   same_status : (b : Bool) (spent : Option ℕ) (found : Finding) → nat_lt 0 failed ≡ b → first_spent left.histories ≡ spent
       → work_status b spent found ≡ work_status (nat_lt 0 failed) (first_spent left.histories) found
   same_status b spent found is first =
@@ -132,7 +134,7 @@ module _ (spec : WorkSpec) (before after : Tells) (left : Left) (written : ℕ) 
 
   summed : (b : Bool) (spent : Option ℕ) (found : Finding) → nat_lt 0 failed ≡ b → first_spent left.histories ≡ spent
       → IsTold spec opening left.log left.histories before.taken after.taken written found
-      → WorkEnded (work_status b spent found) spec before after left written
+      → WorkEnded (work_status b spent found) spec held before after left written
   summed true spent found is first told = (
     rose_of_failed before.keeps_failed failed after.keeps_failed is kept.few,
     inr (record { opening = opening; failed = failed; kept = kept; found = found; told = told; ends = same_status true spent found is first }),
@@ -150,7 +152,7 @@ module _ (spec : WorkSpec) (before after : Tells) (left : Left) (written : ℕ) 
   pub work_ended : (told : Result Finding Stop)
       → IfOk told (IsTold spec opening left.log left.histories before.taken after.taken written)
       → IfErr told (IsHalted spec opening left.log left.histories before.taken after.taken written)
-      → WorkEnded (end_status (nat_lt 0 failed) (first_spent left.histories) told) spec before after left written
+      → WorkEnded (end_status (nat_lt 0 failed) (first_spent left.histories) told) spec held before after left written
   work_ended (Ok found) all some = summed (nat_lt 0 failed) (first_spent left.histories) found refl refl all
   work_ended (Err stop.WriteFault) all some = record { opening = opening; failed = failed; kept = kept; cut = some }
   work_ended (Err stop.Memory) all some = inr (record { opening = opening; failed = failed; kept = kept; prints = some })

@@ -15,7 +15,7 @@ ghost use Rattle.core_history.specs.Machine.{terms_of, log_cap};
 ghost use Rattle.shard_lock.specs.Names.{AreAll, AreLegal, IsNamedStore};
 ghost use Rattle.run_audit.specs.Findings.{histories_in, AreNumbered};
 ghost use Rattle.run_inputs.specs.Loads.{IsWork};
-ghost use Rattle.top_run.specs.Runs.{Left, moment, RoseWhere, is_read_fault, is_write_fault};
+ghost use Rattle.top_run.specs.Runs.{Held, Left, held_at, moment, IsOpened, RoseWhere, is_read_fault, is_write_fault};
 ghost use Rattle.top_run.specs.Works.{work_shape, has_spent, first_spent, work_status, end_status, at_write_told, IsNameOf, IsSummary, IsTold, IsHalted, WorkEnded};
 ghost use Rattle.top_run.specs.Ready.{IsReady};
 
@@ -70,7 +70,8 @@ pub(crate) fn work<W: Sink, K: Keeper + Send, C: Clock, G: Gate, R: Threads + Wa
           log = result.log.items;
           histories = map (λ history. history.items) result.histories.items;
         } in
-        WorkEnded result.status spec.now before after left result.written }
+        WorkEnded result.status spec.now (held_at Place.Fresh (K.holds keeper Place.Fresh))
+        before after left result.written }
     ensures started { IsSome result.opening → K.is_started result.keeper }
     ensures unstarted { result.opening ≡ None → K.is_started result.keeper → K.is_started keeper }
     ensures writes { RoseWhere (is_write_fault result.status)
@@ -133,12 +134,14 @@ fn work_on<
     gate: &G,
 ) -> RunEnd<K>
     requires work { IsWork spec.now }
-    requires named { IsNameOf spec.now store H.terms H.opening H.cap H.start }
+    requires named { IsNameOf spec.now store H.terms H.opening H.cap H.told H.start }
     requires cap { store.ledger.cap ≡ log_cap }
     requires new { store.ledger.failed ≡ 0 }
     requires ready { IsReady spec.now H.terms ready }
     requires ledger { (ready.ledger.name ≡ H.name) × (ready.ledger.parts ≡ H.parts) }
-    ensures ended { (unread : Option (List ℕ)) (reads : ℕ) (rows : Option Tables) →
+    ensures ended { (unread : Option (List ℕ)) (reads : ℕ) (rows : Option Tables)
+        (held : Held) →
+        IsOpened held (work_shape spec.now) store.ledger.opening store.told →
         let before = moment unread reads
         (W.taken sink.old) (W.faults sink.old) rows store.faults in
         let after = moment unread reads
@@ -148,7 +151,7 @@ fn work_on<
           log = result.log.items;
           histories = map (λ history. history.items) result.histories.items;
         } in
-        WorkEnded result.status spec.now before after left result.written }
+        WorkEnded result.status spec.now held before after left result.written }
     ensures started { K.is_started result.keeper }
     ensures began { IsSome result.opening }
     ensures writes { RoseWhere (is_write_fault result.status)
@@ -216,7 +219,7 @@ fn run_plans<
     clock: &C,
     gate: &G,
 ) -> Ran<K, H>
-    requires store { IsNamedStore H.opening H.cap store }
+    requires store { IsNamedStore H.opening H.cap H.told store }
     requires shards { AreAll H.terms shards.items }
     requires few { length shards.items ≤ 64 }
     requires legal { AreLegal shards.items }
@@ -224,7 +227,7 @@ fn run_plans<
     requires one_each { ledger.parts ≡ length shards.items }
     requires plans { All (λ list. All IsPlan list.items) plans.now }
     requires few_workers { length plans.now ≤ 64 }
-    ensures store { IsNamedStore H.opening H.cap result.store }
+    ensures store { IsNamedStore H.opening H.cap H.told result.store }
     ensures as_many { length result.shards.items ≡ length shards.items }
     ensures all { AreAll H.terms result.shards.items }
     ensures legal { AreLegal result.shards.items }

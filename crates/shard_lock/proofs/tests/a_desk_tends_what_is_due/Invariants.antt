@@ -8,6 +8,7 @@ ghosts-sweep_on-H-HubName g a = record {
   terms = terms_at 1 4 10;
   opening = a.store.ledger.opening;
   cap = a.store.ledger.cap;
+  told = a.store.told;
   start = Some a.store.faults;
 }
 

@@ -8,6 +8,7 @@ ghosts-write_and_read-H-HubName g a = record {
   terms = terms_at 2 4 100;
   opening = a.store.ledger.opening;
   cap = a.store.ledger.cap;
+  told = a.store.told;
   start = Some a.store.faults;
 }
 

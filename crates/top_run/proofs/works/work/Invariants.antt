@@ -9,6 +9,7 @@ ghosts-work_on-H-HubName g a = record {
   terms = terms_of (work_shape a.spec.now);
   opening = a.store.ledger.opening;
   cap = log_cap;
+  told = a.store.told;
   start = Some a.store.faults;
 }
 

@@ -1,8 +1,10 @@
 use Rattle.std.proofs.Common.{arith, Bool, refl, sym, ap, subst, ◌∙◌}
 use Rattle.run_audit.specs.Findings.{histories_in}
-use Rattle.std.specs.Prelude.{nat_lt}
-use Rattle.top_run.specs.Runs.{moment, RoseWhere, is_read_fault, is_write_fault}
-use Rattle.top_run.specs.Works.{first_spent}
+use Rattle.std.specs.Prelude.{nat_lt, Option, IsSome}
+use Rattle.rows_model.specs.Rows.{Tables}
+use Rattle.top_run.specs.Runs.{moment, IsOpened, RoseWhere, is_read_fault, is_write_fault}
+use Rattle.top_run.specs.Works.{first_spent, work_shape}
+use Rattle.top_run.proofs.KeepLemmas.{opened_since}
 use Rattle.top_run.proofs.WorkLemmas.{numbered_of, left_of, kept_of, work_ended, no_usage, no_read, at_write_end, never_fell_since}
 use Rattle.top_run.proofs.works.work_on.Goals as goal
 
@@ -13,7 +15,7 @@ summed_up-made-requires-clause-numbered g c =
     rw c.as_slice-2.ensures.value (numbered_of g.H.HubName.terms shards c.run_plans-store.ensures.all (omega (arith, many, c.requires.work.few_shards)))
 
 pub returns-clause-ended : goal.returns-clause-ended
-returns-clause-ended g c = λ unread reads rows.
+returns-clause-ended g c = λ unread reads rows held opens.
     let store = c.run_plans-store.result.store in
     let shards = c.run_plans-store.result.shards.items in
     let spec = c.args.spec.now in
@@ -21,12 +23,17 @@ returns-clause-ended g c = λ unread reads rows.
     let made = (rw (c.opening.ensures, c.log.ensures.items, c.as_slice-2.ensures.value) at c.summed_up-made.ensures) in
     let before = moment unread reads (g.W.Sink.taken c.args.sink.now) (g.W.Sink.faults c.args.sink.now) rows c.args.store.faults in
     let after = moment unread reads (g.W.Sink.taken c.tell-told.new.sink) (g.W.Sink.faults c.tell-told.new.sink) store.told store.faults in
-    let kept = kept_of spec before after store shards g.H.HubName.terms g.H.HubName.start refl refl c.requires.named.start_is
+    let named = c.run_plans-store.ensures.store in
+    let before_now : IsSome store.told → IsSome c.args.store.told = λ some.
+    subst (λ (r : Option Tables). IsSome r) c.requires.named.told_is (named.told_before some) in
+    let opened = subst (λ (opening : Tables). IsOpened held (work_shape spec) opening store.told) (c.requires.named.opening_is ∙ sym named.opening_is)
+    (opened_since held (work_shape spec) c.args.store.ledger.opening c.args.store.told store.told before_now opens) in
+    let kept = kept_of spec held before after store shards g.H.HubName.terms g.H.HubName.start refl refl c.requires.named.start_is
     short (c.run_plans-store.ensures.store.cap_is ∙ c.requires.named.cap_is) c.ended_work.ensures.told c.ended_work.ensures.few
     c.requires.named.terms_are c.run_plans-store.ensures.all c.run_plans-store.ensures.legal
-    (c.run_plans-store.ensures.as_many ∙ c.requires.ready.as_many) in
+    (c.run_plans-store.ensures.as_many ∙ c.requires.ready.as_many) opened in
     rw (c.ended_work.ensures.status, c.ended_work.ensures.opening, c.ended_work.ensures.log, c.ended_work.ensures.histories, c.ended_work.ensures.written, c.ended_work.ensures.rows, c.ended_work.ensures.faults)
-    (work_ended spec before after (left_of store shards) c.tell-told.new.written store.ledger.opening store.ledger.failed kept c.tell-told.result
+    (work_ended spec held before after (left_of store shards) c.tell-told.new.written store.ledger.opening store.ledger.failed kept c.tell-told.result
     (c.tell-told.ensures.told spec store.ledger.opening store.ledger.log (histories_in shards) made)
     (c.tell-told.ensures.halted spec store.ledger.opening store.ledger.log (histories_in shards) made))
 
