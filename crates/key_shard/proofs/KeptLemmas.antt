@@ -15,7 +15,7 @@ use Rattle.std.proofs.lemmas.List.{reverse-append}
 use Rattle.std.proofs.lemmas.List.Elements.{All-nil, All-weaker}
 use Rattle.entry_table.proofs.EntriesLemmas.{lookup-nil, keys-nil}
 use Rattle.key_shard.specs.declared.bodies.Body.{Body}
-use Rattle.key_shard.specs.declared.bodies.Out.{Out}
+use Rattle.key_shard.specs.declared.outs.Out.{Out}
 use Rattle.rows_model.specs.declared.keys.QKey.{QKey}
 use Rattle.rows_model.specs.declared.keys.Sid.{Sid}
 use Rattle.key_shard.specs.declared.steps.Step.{Step}
@@ -80,38 +80,38 @@ view-after old new step terms history out quiet =
     ap (λ t. made t new.history new.out) terms ∙ ap (λ h. made old.terms h new.out) history ∙ ap (made old.terms (old.history ++ step ∷ [])) (out ∙ sym quiet)
 
 -- what a shard keeps after a step
-pub IsKept-after : (old new : Body) (step : Step) → new.history.items ≡ old.history.items ++ step ∷ [] → terms_of new ≡ terms_of old → Ties (terms_of old) (step ∷ steps_of old) new.entries.list new.leases new.next → new.no < new.count → All (IsOut (terms_of old) (step ∷ steps_of old)) new.out.items → AreHeld (step ∷ steps_of old) new.out.items → places_of (step ∷ steps_of old) new.out.items ≤ new.promised → vec_len new.history + new.promised ≤ vec_capacity new.history → IsKept new
+pub IsKept-after : (old new : Body) (step : Step) → new.history.items ≡ old.history.items ++ step ∷ [] → terms_of new ≡ terms_of old → Ties (terms_of old) (step ∷ steps_of old) new.entries.list new.leases new.next → new.no < new.count → All (IsOut (terms_of old) (step ∷ steps_of old)) new.out → AreHeld (step ∷ steps_of old) new.out → places_of (step ∷ steps_of old) new.out ≤ new.promised → vec_len new.history + new.promised ≤ vec_capacity new.history → IsKept new
 IsKept-after old new step pushed same ties one outs held promises reserved =
     let past : steps_of new ≡ step ∷ steps_of old = steps-pushed old.history.items new.history.items step pushed in
     record {
       one_of = one;
       ties = subst (λ p. Ties (terms_of new) p new.entries.list new.leases new.next) (sym past) (subst (λ t. Ties t (step ∷ steps_of old) new.entries.list new.leases new.next) (sym same) ties);
-      outs = subst (λ p. All (IsOut (terms_of new) p) new.out.items) (sym past) (subst (λ t. All (IsOut t (step ∷ steps_of old)) new.out.items) (sym same) outs);
-      held = subst (λ p. AreHeld p new.out.items) (sym past) held;
-      promises = subst (λ p. places_of p new.out.items ≤ new.promised) (sym past) promises;
+      outs = subst (λ p. All (IsOut (terms_of new) p) new.out) (sym past) (subst (λ t. All (IsOut t (step ∷ steps_of old)) new.out) (sym same) outs);
+      held = subst (λ p. AreHeld p new.out) (sym past) held;
+      promises = subst (λ p. places_of p new.out ≤ new.promised) (sym past) promises;
       reserved = reserved;
     }
 
 -- a step that makes no grant
-pub IsKept-step : (old new : Body) (step : Step) → AddsNone (steps_of old) step → IsKept old → new.history.items ≡ old.history.items ++ step ∷ [] → terms_of new ≡ terms_of old → Ties (terms_of old) (step ∷ steps_of old) new.entries.list new.leases new.next → new.no < new.count → All (IsOut (terms_of old) (steps_of old)) new.out.items → AreHeld (steps_of old) new.out.items → places_of (steps_of old) new.out.items ≤ new.promised → vec_len new.history + new.promised ≤ vec_capacity new.history → IsKept new
+pub IsKept-step : (old new : Body) (step : Step) → AddsNone (steps_of old) step → IsKept old → new.history.items ≡ old.history.items ++ step ∷ [] → terms_of new ≡ terms_of old → Ties (terms_of old) (step ∷ steps_of old) new.entries.list new.leases new.next → new.no < new.count → All (IsOut (terms_of old) (steps_of old)) new.out → AreHeld (steps_of old) new.out → places_of (steps_of old) new.out ≤ new.promised → vec_len new.history + new.promised ≤ vec_capacity new.history → IsKept new
 IsKept-step old new step none kept pushed same ties one outs held promises reserved =
     let stood = stood-still (terms_of old) (steps_of old) step none in
-    let kept_places = places-kept (terms_of old) (steps_of old) step stood new.out.items outs in
-    IsKept-after old new step pushed same ties one (IsOut-later (terms_of old) (steps_of old) step stood new.out.items outs) (held-later (steps_of old) step none new.out.items held) (omega (arith, kept_places, promises)) reserved
+    let kept_places = places-kept (terms_of old) (steps_of old) step stood new.out outs in
+    IsKept-after old new step pushed same ties one (IsOut-later (terms_of old) (steps_of old) step stood new.out outs) (held-later (steps_of old) step none new.out held) (omega (arith, kept_places, promises)) reserved
 
 -- what a shard keeps where all stays but the room of its lists
-pub IsKept-still : (old new : Body) → IsKept old → terms_of new ≡ terms_of old → new.history.items ≡ old.history.items → new.entries.list ≡ old.entries.list → new.leases ≡ old.leases → new.next ≡ old.next → new.out.items ≡ old.out.items → new.no < new.count → places_of (steps_of old) old.out.items ≤ new.promised → vec_len new.history + new.promised ≤ vec_capacity new.history → IsKept new
+pub IsKept-still : (old new : Body) → IsKept old → terms_of new ≡ terms_of old → new.history.items ≡ old.history.items → new.entries.list ≡ old.entries.list → new.leases ≡ old.leases → new.next ≡ old.next → new.out ≡ old.out → new.no < new.count → places_of (steps_of old) old.out ≤ new.promised → vec_len new.history + new.promised ≤ vec_capacity new.history → IsKept new
 IsKept-still old new kept same history list table next out one promises reserved =
     let past : steps_of new ≡ steps_of old = ap reverse history in
     let ties : Ties (terms_of old) (steps_of old) new.entries.list new.leases new.next =
     subst (λ n. Ties (terms_of old) (steps_of old) new.entries.list new.leases n) (sym next) (subst (λ t. Ties (terms_of old) (steps_of old) new.entries.list t old.next) (sym table) (subst (λ l. Ties (terms_of old) (steps_of old) l old.leases old.next) (sym list) kept.ties)) in
-    let outs : All (IsOut (terms_of old) (steps_of old)) new.out.items = subst (All (IsOut (terms_of old) (steps_of old))) (sym out) kept.outs in
+    let outs : All (IsOut (terms_of old) (steps_of old)) new.out = subst (All (IsOut (terms_of old) (steps_of old))) (sym out) kept.outs in
     record {
       one_of = one;
       ties = subst (λ p. Ties (terms_of new) p new.entries.list new.leases new.next) (sym past) (subst (λ t. Ties t (steps_of old) new.entries.list new.leases new.next) (sym same) ties);
-      outs = subst (λ p. All (IsOut (terms_of new) p) new.out.items) (sym past) (subst (λ t. All (IsOut t (steps_of old)) new.out.items) (sym same) outs);
-      held = subst (λ p. AreHeld p new.out.items) (sym past) (subst (AreHeld (steps_of old)) (sym out) kept.held);
-      promises = subst (λ p. places_of p new.out.items ≤ new.promised) (sym past) (subst (λ l. places_of (steps_of old) l ≤ new.promised) (sym out) promises);
+      outs = subst (λ p. All (IsOut (terms_of new) p) new.out) (sym past) (subst (λ t. All (IsOut t (steps_of old)) new.out) (sym same) outs);
+      held = subst (λ p. AreHeld p new.out) (sym past) (subst (AreHeld (steps_of old)) (sym out) kept.held);
+      promises = subst (λ p. places_of p new.out ≤ new.promised) (sym past) (subst (λ l. places_of (steps_of old) l ≤ new.promised) (sym out) promises);
       reserved = reserved;
     }
 
@@ -147,7 +147,7 @@ pub terms-kept : (body : Body) (room : ℕ) → room ≡ body.entries.room → t
 terms-kept body room e = ap (terms_with body) e
 
 -- what a new shard keeps
-pub IsKept-new : (body : Body) → body.no < body.count → 1 ≤ body.entries.room → body.entries.list ≡ [] → body.leases ≡ [] → body.out.items ≡ [] → body.history.items ≡ [] → body.next ≡ body.first → body.promised ≡ 0 → vec_len body.history ≡ 0 → IsKept body
+pub IsKept-new : (body : Body) → body.no < body.count → 1 ≤ body.entries.room → body.entries.list ≡ [] → body.leases ≡ [] → body.out ≡ [] → body.history.items ≡ [] → body.next ≡ body.first → body.promised ≡ 0 → vec_len body.history ≡ 0 → IsKept body
 IsKept-new body one roomy entries leases out history next promised empty =
     let start : Ties (terms_of body) [] [] [] body.next = record {
       entries = λ k. lookup-nil k;
@@ -160,12 +160,12 @@ IsKept-new body one roomy entries leases out history next promised empty =
       legal = tt;
     } in
     let past : steps_of body ≡ [] = ap reverse history in
-    let none : places_of (steps_of body) body.out.items ≡ 0 = ap (places_of (steps_of body)) out in
+    let none : places_of (steps_of body) body.out ≡ 0 = ap (places_of (steps_of body)) out in
     record {
       one_of = one;
       ties = subst (λ p. Ties (terms_of body) p body.entries.list body.leases body.next) (sym past) (subst (λ l. Ties (terms_of body) [] l body.leases body.next) (sym entries) (subst (λ l. Ties (terms_of body) [] [] l body.next) (sym leases) start));
       outs = subst (All (IsOut (terms_of body) (steps_of body))) (sym out) (All-nil (IsOut (terms_of body) (steps_of body)));
-      held = subst (λ p. AreHeld p body.out.items) (sym past) (λ key token quar e. absurd cc);
+      held = subst (λ p. AreHeld p body.out) (sym past) (λ key token quar e. absurd cc);
       promises = omega (arith, none);
       reserved = omega (arith, empty, promised);
     }

@@ -13,4 +13,5 @@ pub mod PutLemmas
 pub mod QuarantineLemmas
 pub mod SweepLemmas
 pub mod TiesLemmas
+pub mod TokenLemmas
 pub mod PermitLemmas

@@ -14,7 +14,7 @@ use Rattle.lease_table.specs.declared.records.Mode.{Mode}
 use Rattle.lease_table.specs.declared.records.Mode.TheVariants.{Invalidate, Refresh, Delta}
 use Rattle.lease_table.specs.Leases.{way_of, has_token, Leaves}
 use Rattle.key_shard.specs.declared.bodies.Body.{Body}
-use Rattle.key_shard.specs.declared.bodies.Out.{Out}
+use Rattle.key_shard.specs.declared.outs.Out.{Out}
 use Rattle.key_shard.specs.declared.steps.Step.{Step}
 use Rattle.key_shard.specs.Past.{Terms, quar_of}
 use Rattle.key_shard.specs.Permit.{Permit, same_permit}
@@ -88,20 +88,20 @@ out-holds P number grant (out ∷ outs) each h =
     ]
 
 -- a grant that is out is among those of the body
-some-out : (body : Body) (grant : Permit) → is_out (shown body) grant ≡ true → list_any (λ out. same_permit grant (permit_of body.no out)) body.out.items ≡ true
-some-out body grant out = sym (any-map (same_permit grant) (permit_of body.no) body.out.items) ∙ out
+pub some-out : (body : Body) (grant : Permit) → is_out (shown body) grant ≡ true → list_any (λ out. same_permit grant (permit_of body.no out)) body.out ≡ true
+some-out body grant out = sym (any-map (same_permit grant) (permit_of body.no) body.out) ∙ out
 
 -- a grant that is out was granted, on a key that is the shard's
 pub out-granted : (body : Body) (grant : Permit) → IsKept body → is_out (shown body) grant ≡ true → WasGranted (steps_of body) grant × IsAtHome (terms_of body) grant.key
 out-granted body grant kept out =
-    let each = All-weaker (IsOut (terms_of body) (steps_of body)) (λ o. WasGranted (steps_of body) (permit_of body.no o) × IsAtHome (terms_of body) o.key) (λ o was. (was.granted, was.at_home)) body.out.items kept.outs in
-    out-holds (λ g. WasGranted (steps_of body) g × IsAtHome (terms_of body) g.key) body.no grant body.out.items each (some-out body grant out)
+    let each = All-weaker (IsOut (terms_of body) (steps_of body)) (λ o. WasGranted (steps_of body) (permit_of body.no o) × IsAtHome (terms_of body) o.key) (λ o was. (was.granted, was.at_home)) body.out kept.outs in
+    out-holds (λ g. WasGranted (steps_of body) g × IsAtHome (terms_of body) g.key) body.no grant body.out each (some-out body grant out)
 
 -- where the quarantine of a grant that is out stands, it is the grant's
 pub out-stands : (body : Body) (grant : Permit) → IsKept body → is_out (shown body) grant ≡ true → (quar : Quar) → quar_of grant.key grant.token (steps_of body) ≡ Some quar → IsOf grant quar
 out-stands body grant kept out =
-    let each = All-weaker (IsOut (terms_of body) (steps_of body)) (λ o. (quar : Quar) → quar_of o.key o.token (steps_of body) ≡ Some quar → IsOf (permit_of body.no o) quar) (λ o was. was.stands) body.out.items kept.outs in
-    out-holds (λ g. (quar : Quar) → quar_of g.key g.token (steps_of body) ≡ Some quar → IsOf g quar) body.no grant body.out.items each (some-out body grant out)
+    let each = All-weaker (IsOut (terms_of body) (steps_of body)) (λ o. (quar : Quar) → quar_of o.key o.token (steps_of body) ≡ Some quar → IsOf (permit_of body.no o) quar) (λ o was. was.stands) body.out kept.outs in
+    out-holds (λ g. (quar : Quar) → quar_of g.key g.token (steps_of body) ≡ Some quar → IsOf g quar) body.no grant body.out each (some-out body grant out)
 
 -- each that says the same may take so many places
 abbrev pub MayTake : Body → Permit → ℕ → Type 0
@@ -119,7 +119,7 @@ may-take-two body grant quar stands out same =
 -- so many places are kept for it
 pub places-out : (body : Body) (grant : Permit) (n : ℕ) → MayTake body grant n → IsKept body → is_out (shown body) grant ≡ true → n ≤ body.promised
 places-out body grant n may kept out =
-    let some = places-some (steps_of body) (λ o. same_permit grant (permit_of body.no o)) n may body.out.items (some-out body grant out) in
+    let some = places-some (steps_of body) (λ o. same_permit grant (permit_of body.no o)) n may body.out (some-out body grant out) in
     omega (arith, some, kept.promises)
 
 -- without a grant whose quarantine stands no longer, each quarantine that stands has a grant that is out
@@ -144,22 +144,22 @@ held-less number past grant outs gone held key token quar e =
         ]
 
 -- a step that takes a grant from those that are out, and gives back so many places
-pub IsKept-returned : (old new : Body) (step : Step) (grant : Permit) (n : ℕ) → MayTake old grant n → AddsNone (steps_of old) step → quar_of grant.key grant.token (step ∷ steps_of old) ≡ None → IsKept old → is_out (shown old) grant ≡ true → new.out.items ≡ filter (λ out. not (same_permit grant (permit_of old.no out))) old.out.items → new.history.items ≡ old.history.items ++ step ∷ [] → terms_of new ≡ terms_of old → Ties (terms_of old) (step ∷ steps_of old) new.entries.list new.leases new.next → new.no < new.count → new.promised + n ≡ old.promised → vec_len new.history + new.promised ≤ vec_capacity new.history → IsKept new
+pub IsKept-returned : (old new : Body) (step : Step) (grant : Permit) (n : ℕ) → MayTake old grant n → AddsNone (steps_of old) step → quar_of grant.key grant.token (step ∷ steps_of old) ≡ None → IsKept old → is_out (shown old) grant ≡ true → new.out ≡ filter (λ out. not (same_permit grant (permit_of old.no out))) old.out → new.history.items ≡ old.history.items ++ step ∷ [] → terms_of new ≡ terms_of old → Ties (terms_of old) (step ∷ steps_of old) new.entries.list new.leases new.next → new.no < new.count → new.promised + n ≡ old.promised → vec_len new.history + new.promised ≤ vec_capacity new.history → IsKept new
 IsKept-returned old new step grant n may none gone kept out less pushed same ties one promised reserved =
     let stood = stood-still (terms_of old) (steps_of old) step none in
-    let left : List Out = filter (λ o. not (same_permit grant (permit_of old.no o))) old.out.items in
-    let fewer = places-less (terms_of old) (steps_of old) step (λ o. same_permit grant (permit_of old.no o)) n stood may old.out.items kept.outs (some-out old grant out) in
+    let left : List Out = filter (λ o. not (same_permit grant (permit_of old.no o))) old.out in
+    let fewer = places-less (terms_of old) (steps_of old) step (λ o. same_permit grant (permit_of old.no o)) n stood may old.out kept.outs (some-out old grant out) in
     let fits : places_of (step ∷ steps_of old) left ≤ new.promised = omega (arith, fewer, promised, kept.promises) in
-    let outs = IsOut-later (terms_of old) (steps_of old) step stood left (All-filter (λ o. not (same_permit grant (permit_of old.no o))) (IsOut (terms_of old) (steps_of old)) old.out.items kept.outs) in
-    let held = held-less old.no (step ∷ steps_of old) grant old.out.items gone (held-later (steps_of old) step none old.out.items kept.held) in
+    let outs = IsOut-later (terms_of old) (steps_of old) step stood left (All-filter (λ o. not (same_permit grant (permit_of old.no o))) (IsOut (terms_of old) (steps_of old)) old.out kept.outs) in
+    let held = held-less old.no (step ∷ steps_of old) grant old.out gone (held-later (steps_of old) step none old.out kept.held) in
     IsKept-after old new step pushed same ties one (subst (All (IsOut (terms_of old) (step ∷ steps_of old))) (sym less) outs) (subst (AreHeld (step ∷ steps_of old)) (sym less) held) (subst (λ os. places_of (step ∷ steps_of old) os ≤ new.promised) (sym less) fits) reserved
 
 -- what callers see behind it
-pub view-returned : (old : Body) (terms : Terms) (history : List Step) (outs : List Out) (step : Step) (grant : Permit) → terms ≡ terms_of old → history ≡ old.history.items ++ step ∷ [] → outs ≡ filter (λ out. not (same_permit grant (permit_of old.no out))) old.out.items → record { terms = terms; history = history; out = map (permit_of old.no) outs } ≡ returned (shown old) grant step
+pub view-returned : (old : Body) (terms : Terms) (history : List Step) (outs : List Out) (step : Step) (grant : Permit) → terms ≡ terms_of old → history ≡ old.history.items ++ step ∷ [] → outs ≡ filter (λ out. not (same_permit grant (permit_of old.no out))) old.out → record { terms = terms; history = history; out = map (permit_of old.no) outs } ≡ returned (shown old) grant step
 view-returned old terms history outs step grant same pushed less =
     let made : Terms → List Step → List Permit → ShardView = λ t h o. record { terms = t; history = h; out = o } in
-    let out : map (permit_of old.no) outs ≡ without_permit grant (map (permit_of old.no) old.out.items) =
-    ap (map (permit_of old.no)) less ∙ map-filter (λ g. not (same_permit grant g)) (permit_of old.no) old.out.items in
+    let out : map (permit_of old.no) outs ≡ without_permit grant (map (permit_of old.no) old.out) =
+    ap (map (permit_of old.no)) less ∙ map-filter (λ g. not (same_permit grant g)) (permit_of old.no) old.out in
     ap (λ t. made t history (map (permit_of old.no) outs)) same ∙ ap (λ h. made (terms_of old) h (map (permit_of old.no) outs)) pushed ∙ ap (made (terms_of old) (old.history.items ++ step ∷ [])) out
 
 -- the quarantine of a token, as the table of leases tells it

@@ -17,7 +17,7 @@ use Rattle.key_shard.specs.declared.steps.Step.TheVariants.{Hit, Lease as StepLe
 use Rattle.key_shard.specs.declared.replies.How.{How}
 use Rattle.key_shard.specs.declared.replies.How.TheVariants as hows
 use Rattle.key_shard.specs.declared.bodies.Body.{Body}
-use Rattle.key_shard.specs.declared.bodies.Out.{Out}
+use Rattle.key_shard.specs.declared.outs.Out.{Out}
 use Rattle.key_shard.specs.declared.lookups.Look.{Look}
 use Rattle.key_shard.specs.declared.lookups.Look.TheVariants as looks
 use Rattle.key_shard.specs.Past.{Terms, standing, recorded, seen_by, quar_of, entry, order, is_evicted, entry_ended, is_put, last_key, next_token, deadline_at}
@@ -38,7 +38,7 @@ permit_of number out = record { shard = number; key = out.key; sid = out.sid; mo
 
 -- the shard as callers see it
 abbrev pub shown : Body → ShardView
-shown body = record { terms = terms_of body; history = body.history.items; out = map (permit_of body.no) body.out.items }
+shown body = record { terms = terms_of body; history = body.history.items; out = map (permit_of body.no) body.out }
 
 -- entries, leases and the next token are those of a past, and that past is legal
 pub record Ties (terms : Terms) (past : List Step) (list : List Item) (table : List Lease) (next : ℕ) : Type 0 where
@@ -79,9 +79,9 @@ AreHeld past outs =
 pub record IsKept (body : Body) : Type 0 where
   pub one_of : body.no < body.count
   pub ties : Ties (terms_of body) (steps_of body) body.entries.list body.leases body.next
-  pub outs : All (IsOut (terms_of body) (steps_of body)) body.out.items
-  pub held : AreHeld (steps_of body) body.out.items
-  pub promises : places_of (steps_of body) body.out.items ≤ body.promised
+  pub outs : All (IsOut (terms_of body) (steps_of body)) body.out
+  pub held : AreHeld (steps_of body) body.out
+  pub promises : places_of (steps_of body) body.out ≤ body.promised
   pub reserved : vec_len body.history + body.promised ≤ vec_capacity body.history
 
 -- a step that changes no entry, order or lease

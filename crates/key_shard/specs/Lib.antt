@@ -9,6 +9,7 @@ pub mod Dues
 pub mod Answers
 pub mod LegalStands
 pub mod OneStep
+pub mod Outs
 pub mod Modes
 pub mod Shards
 pub mod Replies

@@ -5,20 +5,12 @@ ghost use Rattle.key_shard.specs.Kept.{IsKept, IsQuiet, shown, steps_of, terms_o
 ghost use Rattle.key_shard.specs.Past.{deadline_at};
 ghost use Rattle.key_shard.specs.Shards.{stepped};
 
+use crate::outs::Outs;
 use crate::replies::ShardFault;
 use crate::steps::Step;
 use entry_table::Entries;
-use lease_table::{Leases, Mode};
-use rows_model::{Memory, QKey, Sid, shard_number};
-
-/// A grant that is out.
-#[derive(Clone, Copy, Debug)]
-pub struct Out {
-    pub key: QKey,
-    pub sid: Sid,
-    pub mode: Mode,
-    pub token: u64,
-}
+use lease_table::Leases;
+use rows_model::{Memory, QKey, shard_number};
 
 /// What a shard is made of.
 #[derive(Debug, Drop)]
@@ -32,7 +24,7 @@ pub struct Body {
     pub next: u64,
     pub entries: Entries,
     pub leases: Leases,
-    pub out: Vec<Out>,
+    pub out: Outs,
     /// How many places of the history are kept free for the grants that are out.
     pub promised: usize,
     pub history: Vec<Step>,

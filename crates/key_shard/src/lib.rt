@@ -11,6 +11,7 @@ mod gets;
 pub mod grants;
 pub mod laws;
 mod lookups;
+mod outs;
 mod quarantines;
 pub mod readers;
 mod releases;

@@ -1,19 +1,22 @@
-ghost use Rattle.std.specs.Prelude.{◌≡◌, ◌<◌, IsTrue, IsSome, OnOk, OnErr, IfOk, vec_len, vec_capacity};
+ghost use Rattle.std.specs.Prelude.{◌≡◌, ◌<◌, [], ◌∷◌, ◌++◌, None, IsTrue, IsSome, OnOk, OnErr, IfOk};
+ghost use Rattle.std.specs.List.{All};
 ghost use Rattle.case_tables.specs.Compatibility.{is_given, verdict, quarantine};
 ghost use Rattle.rows_model.specs.Placement.{shard_of};
-ghost use Rattle.lease_table.specs.Leases.{way_of};
+ghost use Rattle.lease_table.specs.Leases.{holding, quars, way_of, Leaves};
 ghost use Rattle.key_shard.specs.Answers.{Answers, FitsShift, quarantine_step, refused_step};
 ghost use Rattle.key_shard.specs.Kept.{IsKept, shown, steps_of, terms_of};
+ghost use Rattle.key_shard.specs.Outs.{out_as};
 ghost use Rattle.key_shard.specs.Past.{deadline_at, entry, holder_of, next_token, seen_by};
 ghost use Rattle.key_shard.specs.Replies.{ShowsQuarantine, old_value};
 ghost use Rattle.key_shard.specs.Shards.{Refuses, refusal, spent_at, stepped};
 
-use crate::bodies::{Body, Out, make_room};
+use crate::bodies::{Body, make_room};
 use crate::grants::Grant;
+use crate::outs::{Out, Outs};
 use crate::replies::{QAnswer, ShardFault};
 use crate::steps::Step;
 use case_tables::Verdict;
-use lease_table::{Mode, Quar};
+use lease_table::{Leases, Mode, Quar};
 use rows_model::{Memory, QKey, Sid, Value};
 
 impl Body {
@@ -140,7 +143,6 @@ impl Body {
         }
         let old = self.old_value(&key, mode)?;
         make_room(&mut self.history, self.promised, 3)?;
-        keep_place(&mut self.out)?;
         let deadline = self.deadline(now);
         let quar = Quar {
             sid,
@@ -150,18 +152,12 @@ impl Body {
             shift,
         };
         let grant = Grant::of(*self.history.allocator(), self.no, key, sid, mode, token)?;
-        let Ok(_) = self.leases.ask_q(key, quar, now) else {
+        let Ok(()) = stand(&mut self.leases, &mut self.out, key, quar, now) else {
             let _ = grant.spend();
             return Err(ShardFault::Memory);
         };
         self.next = token + 1;
         self.promised += 2;
-        self.out.push_reserved(Out {
-            key,
-            sid,
-            mode,
-            token,
-        });
         self.history.push_reserved(Step::Granted {
             key,
             sid,
@@ -175,11 +171,33 @@ impl Body {
     }
 }
 
-/// Keeps a place free for one more grant.
-fn keep_place(outs: &mut Vec<Out>) -> Result<(), Memory>
-    ensures items { outs.new.items ≡ outs.old.items }
-    ensures ok { OnOk result (vec_len outs.new < vec_capacity outs.new) }
+/// Puts a quarantine on its key and its grant among those that are out, or neither.
+fn stand(
+    leases: &mut Leases,
+    outs: &mut Outs,
+    key: QKey,
+    quar: Quar,
+    now: u64,
+) -> Result<(), Memory>
+    requires last_there { All (λ other. other.token < quar.token) (quars key leases.old) }
+    requires last_out { All (λ other. other.token < quar.token) outs.old }
+    requires given { IsTrue (is_given (verdict (holding key quar.sid now leases.old)
+        (quarantine (way_of quar.mode)))) }
+    ensures stands { OnOk result
+        (Leaves key None (quars key leases.old ++ quar ∷ []) leases.old leases.new) }
+    ensures out { OnOk result (outs.new ≡ outs.old ++ out_as key quar ∷ []) }
+    ensures leases_left { OnErr result (leases.new ≡ leases.old) }
+    ensures outs_left { OnErr result (outs.new ≡ outs.old) }
 {
-    outs.reserve(1)?;
+    outs.add(Out {
+        key,
+        sid: quar.sid,
+        mode: quar.mode,
+        token: quar.token,
+    })?;
+    let Ok(_) = leases.ask_q(key, quar, now) else {
+        outs.drop_last();
+        return Err(Memory);
+    };
     Ok(())
 }

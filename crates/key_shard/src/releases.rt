@@ -10,7 +10,7 @@ ghost use Rattle.key_shard.specs.Permit.{same_permit};
 ghost use Rattle.key_shard.specs.Replies.{ShowsRelease};
 ghost use Rattle.key_shard.specs.Shards.{is_out, returned};
 
-use crate::bodies::{Body, Out};
+use crate::bodies::Body;
 use crate::grants::Grant;
 use crate::replies::{Back, How, Rel};
 use crate::sets::put_in_front;
@@ -19,32 +19,6 @@ use entry_table::Entries;
 use itoa::Buffer;
 use lease_table::{Mode, Quar};
 use rows_model::{QKey, Value, shift};
-
-/// Whether this grant of a shard is out at it.
-fn is_grant(out: &Out, no: u32, grant: &Grant) -> bool
-    ensures { result ≡ same_permit grant.now (permit_of no out.now) }
-{
-    grant.shard() == no
-        && grant.key() == out.key
-        && grant.sid().number == out.sid.number
-        && grant.mode().place() == out.mode.place()
-        && grant.token() == out.token
-}
-
-/// Whether this grant of a shard is among those that are out.
-fn has_grant(outs: &[Out], no: u32, grant: &Grant) -> bool
-    ensures { result ≡ list_any (λ out. same_permit grant.now (permit_of no out)) outs.now }
-{
-    outs.iter().any(|out| is_grant(out, no, grant))
-}
-
-/// Takes a grant from those that are out.
-fn drop_out(outs: &mut Vec<Out>, no: u32, grant: &Grant)
-    ensures items { outs.new.items ≡ filter (λ out. not (same_permit grant.now (permit_of no out)))
-        outs.old.items }
-{
-    outs.retain(|out| !is_grant(out, no, grant));
-}
 
 /// The value of a number, written into digits that have room for it.
 fn value_in(mut digits: Vec<u8>, number: u64) -> Value
@@ -106,7 +80,7 @@ impl Body {
     fn is_out(&self, grant: &Grant) -> bool
         ensures { result ≡ is_out (shown self.now) grant.now }
     {
-        has_grant(self.out.as_slice(), self.no, grant)
+        self.out.has(self.no, grant)
     }
 
     /// Writes down that the quarantine of a grant stood no longer.
@@ -121,7 +95,7 @@ impl Body {
             (Step.Gone grant.key grant.sid grant.token) }
         ensures gone { result ≡ Rel.Gone }
     {
-        drop_out(&mut self.out, self.no, &grant);
+        self.out.take(self.no, &grant);
         self.promised -= 1;
         self.history.push_reserved(Step::Gone {
             key: grant.key(),
@@ -147,7 +121,7 @@ impl Body {
             (ended_as quar how)) result }
     {
         let (key, token) = (grant.key(), grant.token());
-        drop_out(&mut self.out, self.no, &grant);
+        self.out.take(self.no, &grant);
         self.promised -= 2;
         let _ = self.leases.end_q(&key, token);
         let how = end_entry(&mut self.entries, &key, how, quar, grant.spend());
@@ -208,7 +182,7 @@ impl Body {
             Ok(evicted) => evicted,
             Err(value) => return Err(Back { grant, value }),
         };
-        drop_out(&mut self.out, self.no, &grant);
+        self.out.take(self.no, &grant);
         self.promised -= 2;
         let _ = self.leases.end_q(&key, token);
         let _ = grant.spend();

@@ -9,6 +9,7 @@ ghost use Rattle.key_shard.specs.Shards.{past_of, is_out, stepped, returned, swe
 
 use crate::bodies::Body;
 use crate::grants::Grant;
+use crate::outs::Outs;
 use crate::replies::{Back, Got, How, QAnswer, Rel, SetAnswer, ShardFault};
 use crate::steps::Step;
 use entry_table::Entries;
@@ -66,7 +67,7 @@ impl Shard {
                 next: first,
                 entries: Entries::new(alloc, room)?,
                 leases: Leases::new(alloc),
-                out: Vec::new(alloc),
+                out: Outs::new(alloc),
                 promised: 0,
                 history: Vec::new(alloc),
             },

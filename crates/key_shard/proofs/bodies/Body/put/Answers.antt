@@ -8,7 +8,7 @@ use Rattle.key_shard.specs.declared.steps.Step.TheVariants.{Released}
 use Rattle.key_shard.specs.Past.{evicts}
 use Rattle.key_shard.specs.Kept.{Puts, terms_of, steps_of}
 use Rattle.key_shard.proofs.KeptLemmas.{IsKept-still, terms-kept}
-use Rattle.key_shard.proofs.OutLemmas.{IsKept-returned, may-take-two, places-out, view-returned, ended-leaves}
+use Rattle.key_shard.proofs.OutLemmas.{IsKept-returned, some-out, may-take-two, places-out, view-returned, ended-leaves}
 use Rattle.key_shard.proofs.PlaceLemmas.{ended-adds_none, ended-gone}
 use Rattle.key_shard.proofs.TiesLemmas.{Ties-put, evicts-room}
 use Rattle.key_shard.proofs.bodies.Body.put.Goals as goal
@@ -50,7 +50,7 @@ returns-clause-kept c =
     let leaves = ended-leaves c.requires.kept.ties grant.key grant.token c.key-key.result c.token-token.result c.end_q.result c.args.quar c.end_q.new.self c.key-key.ensures c.token-token.ensures c.end_q.ensures.ended c.end_q.ensures.after c.requires.stands in
     let ties = Ties-put (terms_of old) (steps_of old) old.entries.list old.leases c.end_q.new.self old.next grant.key c.args.quar.sid grant.token c.args.value c.args.stamp evicted c.put_in_front.new.entries puts leaves c.requires.answers c.requires.kept.ties in
     let two = places-out old grant 2 (may-take-two old grant c.args.quar c.requires.stands) c.requires.kept c.requires.out in
-    IsKept-returned old _ step grant 2 (may-take-two old grant c.args.quar c.requires.stands) (ended-adds_none (steps_of old) grant.key c.args.quar.sid grant.token (Put c.args.value c.args.stamp evicted)) (ended-gone (steps_of old) grant.key c.args.quar.sid grant.token (Put c.args.value c.args.stamp evicted)) c.requires.kept c.requires.out c.drop_out.ensures.items pushed (terms-kept old c.put_in_front.new.entries.room puts.same_room) ties c.requires.kept.one_of (omega (arith, two)) (omega (arith, two, c.requires.kept.reserved))
+    IsKept-returned old _ step grant 2 (may-take-two old grant c.args.quar c.requires.stands) (ended-adds_none (steps_of old) grant.key c.args.quar.sid grant.token (Put c.args.value c.args.stamp evicted)) (ended-gone (steps_of old) grant.key c.args.quar.sid grant.token (Put c.args.value c.args.stamp evicted)) c.requires.kept c.requires.out c.take.ensures pushed (terms-kept old c.put_in_front.new.entries.room puts.same_room) ties c.requires.kept.one_of (omega (arith, two)) (omega (arith, two, c.requires.kept.reserved))
 
 pub returns-clause-step : goal.returns-clause-step
 returns-clause-step c =
@@ -60,4 +60,7 @@ returns-clause-step c =
     let room : c.in-Ok-put_in_front.evicted ≡ evicted =
     c.in-Ok-put_in_front.ensures.puts.room_by ∙ evicts-room c.requires.kept.ties c.key-key.result ∙ ap (λ k. evicts (terms_of old) k (steps_of old)) c.key-key.ensures in
     let pushed = c.push_reserved.ensures.items ∙ ap (λ (s : Step). old.history.items ++ s ∷ []) (step-same grant.key c.key-key.result c.args.quar.sid grant.token c.token-token.result c.args.value c.in-Ok.copy c.args.stamp evicted c.in-Ok-put_in_front.evicted c.key-key.ensures c.token-token.ensures c.in-Ok.ensures room) in
-    view-returned old _ c.push_reserved.new.self.items c.drop_out.new.outs.items (Released grant.key c.args.quar.sid grant.token (Put c.args.value c.args.stamp evicted)) grant (terms-kept old c.put_in_front.new.entries.room c.in-Ok-put_in_front.ensures.puts.same_room) pushed c.drop_out.ensures.items
+    view-returned old _ c.push_reserved.new.self.items c.take.new.self (Released grant.key c.args.quar.sid grant.token (Put c.args.value c.args.stamp evicted)) grant (terms-kept old c.put_in_front.new.entries.room c.in-Ok-put_in_front.ensures.puts.same_room) pushed c.take.ensures
+
+pub take-requires : goal.take-requires
+take-requires c = some-out c.args.self.now c.args.grant c.requires.out
