@@ -1,5 +1,6 @@
 -- What the locks of a hub keep of what was handed in.
 use Rattle.std.specs.Prelude.{ℕ, ◌≡◌, ◌+◌, ◌^◌, ◌<◌, ◌≤◌, List, length, Option, Some, IsSome, slice_get, All}
+use Rattle.std.specs.Option.{ForSome}
 use Rattle.rows_model.specs.Rows.{Tables}
 use Rattle.key_shard.specs.Answers.{Legal}
 use Rattle.key_shard.specs.Past.{Terms}
@@ -32,11 +33,12 @@ ArePlaced shards = (place : ℕ) (shard : ShardView) → slice_get shards place 
 abbrev pub AreLegal : List ShardView → Type 0
 AreLegal shards = All (λ shard. Legal shard.terms shard.history) shards
 
--- A store with the opening rows and the cap that are named. Its keeper tells its rows only if it is named as having told some.
-pub record IsNamedStore (opening : Tables) (cap : ℕ) (told : Option Tables) (store : StoreView) : Type 0 where
+-- A store with the opening rows and the cap that are named. Its keeper tells its rows only if it is named as having told some, and its count of faults hasn't fallen since it was named.
+pub record IsNamedStore (opening : Tables) (cap : ℕ) (told : Option Tables) (start : Option ℕ) (store : StoreView) : Type 0 where
   pub opening_is : store.ledger.opening ≡ opening
   pub cap_is : store.ledger.cap ≡ cap
   pub told_before : IsSome store.told → IsSome told
+  pub never_fell : ForSome start (λ first. first ≤ store.faults)
 
 -- At least one shard: each has its place for its number, their number for its count, and the terms that are named for it.
 pub record AreAll (terms : ℕ → Terms) (shards : List ShardView) : Type 0 where

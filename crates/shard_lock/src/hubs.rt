@@ -56,7 +56,7 @@ impl<K: Keeper, H: HubName> Hub<K, H> {
         shards: Vec<Shard>,
         ledger: Blank,
     ) -> Result<Hub<K, H>, (Store<K, StartOf<H>>, Vec<Shard>)>
-        requires store { IsNamedStore H.opening H.cap H.told store }
+        requires store { IsNamedStore H.opening H.cap H.told H.start store }
         requires shards { AreAll H.terms shards.items }
         requires few { length shards.items ≤ 64 }
         requires ledger { (ledger.name ≡ H.name) × (ledger.parts ≡ H.parts) }
@@ -107,7 +107,7 @@ impl<K: Keeper, H: HubName> Hub<K, H> {
     /// The store and the shards, after the threads have ended: as many as were handed in, each in its
     /// place and with a legal history. It takes no lock and no memory.
     pub fn into_parts(self) -> (Store<K, StartOf<H>>, Vec<Shard>)
-        ensures store { IsNamedStore H.opening H.cap H.told result.0 }
+        ensures store { IsNamedStore H.opening H.cap H.told H.start result.0 }
         ensures as_many { length result.1.items ≡ self }
         ensures all { AreAll H.terms result.1.items }
         ensures legal { AreLegal result.1.items }

@@ -124,12 +124,12 @@ impl<K: Keeper, H: HubName> Model for KeptStore<K, H> {
 
     ghost view = { λ kept. kept.store };
 
-    ghost invariant = { λ kept. IsNamedStore H.opening H.cap H.told kept.store };
+    ghost invariant = { λ kept. IsNamedStore H.opening H.cap H.told H.start kept.store };
 }
 
 impl<K: Keeper, H: HubName> KeptStore<K, H> {
     pub fn new(store: Store<K, StartOf<H>>) -> KeptStore<K, H>
-        requires { IsNamedStore H.opening H.cap H.told store }
+        requires { IsNamedStore H.opening H.cap H.told H.start store }
         ensures { result ≡ store }
     {
         KeptStore { store }
@@ -164,7 +164,7 @@ impl<K: Keeper, H: HubName> KeptStore<K, H> {
     /// The store alone.
     pub fn into_store(self) -> Store<K, StartOf<H>>
         ensures same { result ≡ self }
-        ensures named { IsNamedStore H.opening H.cap H.told result }
+        ensures named { IsNamedStore H.opening H.cap H.told H.start result }
     {
         let KeptStore { store } = self;
         store

@@ -1,5 +1,5 @@
 // Requests at a store that is lent, each one call of it.
-ghost use Rattle.std.specs.Prelude.{◌≡◌, MatchResult};
+ghost use Rattle.std.specs.Prelude.{◌≡◌, ◌≤◌, MatchResult};
 ghost use Rattle.session_client.specs.Belongs.{Belongs};
 ghost use Rattle.session_client.specs.Desks.{IsProper};
 ghost use Rattle.session_client.specs.declared.replies.Wanted.TheVariants as wanted;
@@ -11,10 +11,12 @@ use sql_keeper::{CommitFault, KeepFault, Keeper, Start, Store};
 
 /// Makes a session's request at the store: one call of it, and the reply tells its answer. A keeper
 /// that failed in an ask is told as a `Fault` with `Keep`; what isn't staged and what isn't committed
-/// carry faults of their own. The transaction and the grants come back.
+/// carry faults of their own. The transaction and the grants come back. The keeper's count of faults
+/// never falls.
 pub fn on_store<K: Keeper, N: Start>(store: &mut Store<K, N>, who: Sid, request: Wanted) -> Reply
     requires { IsAtStore request }
     ensures makes { MakesAtStore store.old who request store.new result }
+    ensures never_falls { store.old.faults ≤ store.new.faults }
     ensures belongs { Belongs who request result }
 {
     match request {
@@ -39,6 +41,7 @@ pub fn on_store<K: Keeper, N: Start>(store: &mut Store<K, N>, who: Sid, request:
 
 fn ask<K: Keeper, N: Start>(store: &mut Store<K, N>, key: QKey) -> Reply
     ensures makes { TellsAnswer key store.old store.new result }
+    ensures never_falls { store.old.faults ≤ store.new.faults }
     ensures belongs { (who : Sid) → Belongs who (wanted.Ask key) result }
 {
     match store.ask(&key) {
@@ -52,6 +55,7 @@ fn ask<K: Keeper, N: Start>(store: &mut Store<K, N>, key: QKey) -> Reply
 
 fn ask_staged<K: Keeper, N: Start>(store: &mut Store<K, N>, key: QKey, txn: Txn) -> Reply
     ensures makes { TellsStaged key txn store.old store.new result }
+    ensures never_falls { store.old.faults ≤ store.new.faults }
     ensures belongs { (who : Sid) → Belongs who (wanted.Staged key txn) result }
 {
     match store.ask_staged(&txn, &key) {
@@ -64,6 +68,7 @@ fn ask_staged<K: Keeper, N: Start>(store: &mut Store<K, N>, key: QKey, txn: Txn)
 /// told that first.
 fn commit<K: Keeper, N: Start>(store: &mut Store<K, N>, who: Sid, txn: Txn, grants: Grants) -> Reply
     ensures makes { TellsCommit who txn grants.items store.old store.new result }
+    ensures never_falls { store.old.faults ≤ store.new.faults }
     ensures belongs { Belongs who (wanted.Commit txn grants) result }
 {
     let Ok(copy) = txn.copy() else {

@@ -94,7 +94,7 @@ fn sweep_on<H: HubName, R: Wait + Abort>(
     shards: Vec<Shard>,
     ledger: Blank,
 ) -> Result<(), Fail>
-    requires store { IsNamedStore H.opening H.cap H.told store }
+    requires store { IsNamedStore H.opening H.cap H.told H.start store }
     requires start { H.start ≡ Some store.faults }
     requires new { store.ledger.failed ≡ 0 }
     requires shards { AreAll H.terms shards.items }
@@ -144,7 +144,7 @@ fn write_and_read<H: HubName + Send + Sync, R: Threads + Wait + Abort + Sync>(
     shards: Vec<Shard>,
     ledger: Blank,
 ) -> Result<(), Fail>
-    requires store { IsNamedStore H.opening H.cap H.told store }
+    requires store { IsNamedStore H.opening H.cap H.told H.start store }
     requires start { H.start ≡ Some store.faults }
     requires new { store.ledger.failed ≡ 0 }
     requires shards { AreAll H.terms shards.items }

@@ -96,14 +96,6 @@ rose_of_failed start failed faults some few = by (few start refl)
     by (inl h) = inl (grind (arith, some, h))
     by (inr h) = inr h
 
--- a keeper's count doesn't fall in a run
-pub never_fell_since : (start failed faults : ℕ) (named : Option ℕ) → named ≡ Some start → FewFailed named failed faults → start ≤ 2 ^ 64 - 1 → start ≤ faults
-never_fell_since start failed faults named is few low = by (few start is)
-  where
-    by : ((start + failed ≤ faults) ⊎ (faults ≡ 2 ^ 64 - 1)) → start ≤ faults
-    by (inl h) = omega (arith, h)
-    by (inr h) = omega (arith, h, low)
-
 -- what a run leaves
 abbrev pub left_of : StoreView → List ShardView → Left
 left_of store shards = record { opening = Some store.ledger.opening; log = store.ledger.log; histories = histories_in shards }

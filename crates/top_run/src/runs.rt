@@ -167,10 +167,7 @@ pub fn run<S: Source, W: Sink, K: Keeper + Send, C: Clock, G: Gate, R: Threads +
         result.status ≢ Status.KeepFault }
     ensures source_never_falls { S.faults source.old ≤ S.faults source.new }
     ensures sink_never_falls { W.faults sink.old ≤ W.faults sink.new }
-    ensures keeper_never_falls { K.faults keeper ≤ 2 ^ 64 - 1 →
-        K.faults keeper ≤ K.faults result.keeper }
-    ensures replay_never_falls { AreReplay (map (λ word. word.items) words.now) →
-        K.faults keeper ≤ K.faults result.keeper }
+    ensures keeper_never_falls { K.faults keeper ≤ K.faults result.keeper }
 {
     if are_replay(words) {
         return replay(alloc, &Place::Fresh, source, sink, keeper);

@@ -79,8 +79,7 @@ pub(crate) fn work<W: Sink, K: Keeper + Send, C: Clock, G: Gate, R: Threads + Wa
     ensures sink_never_falls { W.faults sink.old ≤ W.faults sink.new }
     ensures command { result.status ≢ Status.Usage }
     ensures no_read_fault { IsFalse (is_read_fault result.status) }
-    ensures keeper_never_falls { K.faults keeper ≤ 2 ^ 64 - 1 →
-        K.faults keeper ≤ K.faults result.keeper }
+    ensures keeper_never_falls { K.faults keeper ≤ K.faults result.keeper }
 {
     let Ok(ready) = ready_for(alloc, spec) else {
         return not_started(alloc, Status::Memory, keeper);
@@ -159,7 +158,7 @@ fn work_on<
     ensures sink_never_falls { W.faults sink.old ≤ W.faults sink.new }
     ensures command { result.status ≢ Status.Usage }
     ensures no_read_fault { IsFalse (is_read_fault result.status) }
-    ensures keeper_never_falls { store.faults ≤ 2 ^ 64 - 1 → store.faults ≤ K.faults result.keeper }
+    ensures keeper_never_falls { store.faults ≤ K.faults result.keeper }
 {
     let Ready {
         plans,
@@ -219,7 +218,7 @@ fn run_plans<
     clock: &C,
     gate: &G,
 ) -> Ran<K, H>
-    requires store { IsNamedStore H.opening H.cap H.told store }
+    requires store { IsNamedStore H.opening H.cap H.told H.start store }
     requires shards { AreAll H.terms shards.items }
     requires few { length shards.items ≤ 64 }
     requires legal { AreLegal shards.items }
@@ -227,7 +226,7 @@ fn run_plans<
     requires one_each { ledger.parts ≡ length shards.items }
     requires plans { All (λ list. All IsPlan list.items) plans.now }
     requires few_workers { length plans.now ≤ 64 }
-    ensures store { IsNamedStore H.opening H.cap H.told result.store }
+    ensures store { IsNamedStore H.opening H.cap H.told H.start result.store }
     ensures as_many { length result.shards.items ≡ length shards.items }
     ensures all { AreAll H.terms result.shards.items }
     ensures legal { AreLegal result.shards.items }

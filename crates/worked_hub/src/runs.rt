@@ -66,7 +66,7 @@ fn run_on<'x, H: HubName + Send + Sync, G: Gate, R: Threads + Wait + Abort + Syn
     plans: &[Vec<Plan>],
     gate: &'x G,
 ) -> Result<Ran, Fail>
-    requires store { IsNamedStore H.opening H.cap H.told store }
+    requires store { IsNamedStore H.opening H.cap H.told H.start store }
     requires start { H.start ≡ Some store.faults }
     requires new { store.ledger.failed ≡ 0 }
     requires ledger { (ledger.name ≡ H.name) × (ledger.parts ≡ H.parts) }

@@ -5,7 +5,7 @@ use Rattle.rows_model.specs.Rows.{Tables}
 use Rattle.top_run.specs.Runs.{moment, IsOpened, RoseWhere, is_read_fault, is_write_fault}
 use Rattle.top_run.specs.Works.{first_spent, work_shape}
 use Rattle.top_run.proofs.KeepLemmas.{opened_since}
-use Rattle.top_run.proofs.WorkLemmas.{numbered_of, left_of, kept_of, work_ended, no_usage, no_read, at_write_end, never_fell_since}
+use Rattle.top_run.proofs.WorkLemmas.{numbered_of, left_of, kept_of, work_ended, no_usage, no_read, at_write_end}
 use Rattle.top_run.proofs.works.work_on.Goals as goal
 
 pub summed_up-made-requires-clause-numbered : goal.summed_up-made-requires-clause-numbered
@@ -53,6 +53,5 @@ returns-clause-writes g c =
     subst (λ (b : Bool). RoseWhere b (g.W.Sink.faults c.args.sink.now) (g.W.Sink.faults c.tell-told.new.sink)) (sym is) c.tell-told.ensures.counts
 
 pub returns-clause-keeper_never_falls : goal.returns-clause-keeper_never_falls
-returns-clause-keeper_never_falls g c = λ low.
-    rw c.ended_work.ensures.faults
-    (never_fell_since c.args.store.faults c.run_plans-store.result.store.ledger.failed c.run_plans-store.result.store.faults g.H.HubName.start c.requires.named.start_is c.ended_work.ensures.few low)
+returns-clause-keeper_never_falls g c =
+    rw c.ended_work.ensures.faults (c.run_plans-store.ensures.store.never_fell c.args.store.faults c.requires.named.start_is)
