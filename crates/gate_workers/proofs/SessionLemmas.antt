@@ -1,5 +1,5 @@
 -- A session under way: how it begins, goes on and ends, with its calls and its marks.
-use Rattle.std.proofs.Common.{◌≡◌, if◌then◌else◌, Bool, true, List, [], ◌∷◌, ◌++◌, Option, Some, None, Result, Ok, Err, MatchResult, OnErr, refl, sym, ap, subst, ◌∙◌, inl, inr}
+use Rattle.std.proofs.Common.{◌≡◌, ◌≢◌, if◌then◌else◌, Bool, true, false, List, [], ◌∷◌, ◌++◌, Option, Some, None, Result, Ok, Err, MatchResult, OnErr, refl, sym, ap, subst, ◌∙◌, inl, inr}
 use Rattle.rows_model.specs.declared.keys.Sid.{Sid}
 use Rattle.rows_model.specs.declared.refusals.Memory.{Memory}
 use Rattle.session_client.specs.Desks.{Call, Asked, with_member}
@@ -14,7 +14,8 @@ use Rattle.session_client.specs.declared.sessions.Session.{Session}
 use Rattle.gate_workers.specs.declared.marks.Mark.{Mark}
 use Rattle.gate_workers.specs.Marks.{mark_of}
 use Rattle.gate_workers.specs.Rows.{IsShort, with_calls}
-use Rattle.gate_workers.specs.Notes.{IsGoing, IsNoted, AreNoted, IsUnderWay, HasEnded}
+use Rattle.std.proofs.lemmas.Bool.{false≢true}
+use Rattle.gate_workers.specs.Notes.{IsGoing, IsWanting, IsNoted, AreNoted, IsUnderWay, HasEnded}
 
 -- one call more in a record
 pub with_more : (call : Call) (calls : List Call) (before now after : Option (List Call)) → now ≡ with_calls calls before → after ≡ with_member call now → after ≡ with_calls (call ∷ calls) before
@@ -51,13 +52,18 @@ told_so : (next : Session) (before : Bool) (heard : List Reply) (told : Reply) (
 told_so next before heard told (Ok x) f m = record { short = before; is_short = inl refl; follows = f }
 told_so next before heard told (Err x) f m = record { short = true; is_short = inr (m, refl); follows = f }
 
+-- a request that is asked isn't nothing
+is_asked : (asked : Wanted) → is_nothing asked ≡ false → asked ≢ wanted.Nothing
+is_asked asked some none = false≢true (sym some ∙ ap is_nothing none)
+
 -- a step keeps a session under way
-pub goes_on : (who : Sid) (plan : Plan) (session waits next : Session) (before now after : Option (List Call)) (notes notes' : Option (List Mark)) (asked : Wanted) (told : Reply) (result : Result (Unit {0}) Memory) → IsStep session waits next now after notes notes' asked told result → IsUnderWay who plan session before now notes → IsUnderWay who plan next before after notes'
-goes_on who plan session waits next before now after notes notes' asked told result s u =
+pub goes_on : (who : Sid) (plan : Plan) (session waits next : Session) (before now after : Option (List Call)) (notes notes' : Option (List Mark)) (asked : Wanted) (told : Reply) (result : Result (Unit {0}) Memory) → IsStep session waits next now after notes notes' asked told result → IsWanting session → IsUnderWay who plan session before now notes → IsUnderWay who plan next before after notes'
+goes_on who plan session waits next before now after notes notes' asked told result s wanting u =
     let of_plan : plan_of session ≡ plan = u.of_plan in
     let of_number : sid_of session ≡ who = u.of_number in
     let w : asked ≡ wants plan u.short u.heard = subst (λ (p : Plan). asked ≡ wants p u.short u.heard) of_plan (s.wanted u.short u.heard u.follows) in
     let t : Told next u.short u.heard told = told_so next u.short u.heard told result (s.was_told u.short u.heard (s.waits_for u.short u.heard u.follows)) s.memory in
+    let some : is_nothing (wants plan u.short u.heard) ≡ false = subst (λ (p : Plan). is_nothing (wants p u.short u.heard) ≡ false) of_plan (wanting u.short u.heard u.follows) in
     let call : Call = Asked who (wants plan u.short u.heard) told in
     let same : Asked (sid_of session) asked told ≡ call = cc in
     record {
@@ -67,7 +73,7 @@ goes_on who plan session waits next before now after notes notes' asked told res
       of_plan = s.plan_now ∙ (s.plan_then ∙ of_plan);
       of_number = s.sid_now ∙ (s.sid_then ∙ of_number);
       follows = t.follows;
-      went = (u.short, u.calls, u.went, t.is_short, refl);
+      went = (u.short, u.calls, u.went, is_asked (wants plan u.short u.heard) some, t.is_short, refl);
       recorded = with_more call u.calls before now after u.recorded (subst (λ (c : Call). after ≡ with_member c now) same s.recorded);
       noted = noted_more (wants plan u.short u.heard) who told u.calls notes notes' (subst (λ (r : Wanted). IsNoted (mark_of r told) notes notes') w s.noted) u.noted;
     }

@@ -1,19 +1,25 @@
 -- The marks of a session that is under way.
-use Rattle.std.specs.Prelude.{◌≡◌, Bool, List, [], ◌∷◌, ◌++◌, Option, Some, None}
+use Rattle.std.specs.Prelude.{◌≡◌, Bool, false, List, [], ◌∷◌, ◌++◌, Option, Some, None}
 use Rattle.rows_model.specs.declared.keys.Sid.{Sid}
 use Rattle.session_client.specs.Desks.{Call}
 use Rattle.session_client.specs.Follows.{Follows, plan_of, sid_of}
+use Rattle.session_client.specs.Wants.{wants, is_nothing}
 use Rattle.session_client.specs.declared.plans.Plan.{Plan}
 use Rattle.session_client.specs.declared.replies.Outcome.{Outcome}
 use Rattle.session_client.specs.declared.replies.Reply.{Reply}
 use Rattle.session_client.specs.declared.sessions.Session.{Session}
 use Rattle.gate_workers.specs.declared.marks.Mark.{Mark}
 use Rattle.gate_workers.specs.Marks.{marks_of}
-use Rattle.gate_workers.specs.Rows.{Went, HasRun, with_calls}
+use Rattle.gate_workers.specs.Rows.{RowView, Went, HasRun, IsRow, HasStopped, with_calls}
 
 -- There are replies that the session may have heard.
 abbrev pub IsGoing : Session → Type 0
 IsGoing session = (short : Bool) × (heard : List Reply) × Follows session short heard
+
+-- The session wants something, whatever it has heard.
+abbrev pub IsWanting : Session → Type 0
+IsWanting session =
+    (short : Bool) (heard : List Reply) → Follows session short heard → is_nothing (wants (plan_of session) short heard) ≡ false
 
 -- A mark was put last among those that are kept, or they are lost. Lost ones stay lost.
 abbrev pub IsNoted : Mark → Option (List Mark) → Option (List Mark) → Type 0
@@ -44,3 +50,11 @@ pub record HasEnded (who : Sid) (plan : Plan) (outcome : Outcome) (before after 
   pub has_run : HasRun who plan calls outcome
   pub recorded : after ≡ with_calls calls before
   pub noted : AreNoted notes calls
+
+-- The session of this plan has run, this is its row, and where the desk tells its record exactly its calls were added to it.
+abbrev pub AddsRow : Plan → Option (List Call) → Option (List Call) → RowView → Type 0
+AddsRow plan before after row = (calls : List Call) × IsRow plan calls row × (after ≡ with_calls calls before)
+
+-- The worker stops at this plan, and where the desk tells its record exactly its calls there were added to it.
+abbrev pub AddsStop : Plan → Option (List Call) → Option (List Call) → Type 0
+AddsStop plan before after = (calls : List Call) × HasStopped plan calls × (after ≡ with_calls calls before)

@@ -1,11 +1,10 @@
-ghost use Rattle.std.specs.Prelude.{◌≡◌, Bool, List, Option, IfOk, OnOk};
+ghost use Rattle.std.specs.Prelude.{◌≡◌, Bool, List, Option, IfOk, OnErr};
 ghost use Rattle.rows_model.specs.declared.keys.Sid.{Sid};
 ghost use Rattle.session_client.specs.Desks.{Call};
 ghost use Rattle.session_client.specs.Follows.{IsReady};
 ghost use Rattle.session_client.specs.Plans.{IsPlan, writes};
 ghost use Rattle.session_client.specs.declared.plans.Plan.{Plan};
-ghost use Rattle.gate_workers.specs.Notes.{IsGoing, IsUnderWay, HasEnded};
-ghost use Rattle.gate_workers.specs.Rows.{IsRow, with_calls};
+ghost use Rattle.gate_workers.specs.Notes.{IsGoing, IsWanting, IsUnderWay, HasEnded, AddsRow, AddsStop};
 
 use crate::marks::{Mark, Request, Response};
 use crate::notes::Notes;
@@ -31,8 +30,9 @@ pub(crate) fn run_session<R: Wait, D: Desk, G: Gate>(
     gate: &G,
 ) -> Result<Row, Memory>
     requires { IsPlan plan.now }
-    ensures { IfOk result (λ row. (calls : List Call) × IsRow plan.now calls row
-        × (D.record_of desk.new ≡ with_calls calls (D.record_of desk.old))) }
+    ensures row { IfOk result (λ row.
+        AddsRow plan.now (D.record_of desk.old) (D.record_of desk.new) row) }
+    ensures stop { OnErr result (AddsStop plan.now (D.record_of desk.old) (D.record_of desk.new)) }
 {
     let copy = plan.copy()?;
     let sid = desk.begin(plan.writes())?;
@@ -89,6 +89,7 @@ fn step<D: Desk, G: Gate>(
 )
     requires ready { IsReady session.old }
     requires going { IsGoing session.old }
+    requires wanting { IsWanting session.old }
     ensures ready { IsReady session.new }
     ensures going { IsGoing session.new }
     ensures goes_on { (who : Sid) (plan : Plan) (before : Option (List Call)) →

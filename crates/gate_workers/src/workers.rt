@@ -1,7 +1,7 @@
 ghost use Rattle.std.specs.Prelude.{◌≡◌, ◌<◌, All, List, map, length, IfOk};
 ghost use Rattle.std.specs.Thread.{IsSync};
 ghost use Rattle.session_client.specs.Plans.{IsPlan};
-ghost use Rattle.gate_workers.specs.Rows.{IsWork, AllWork, AreJoined};
+ghost use Rattle.gate_workers.specs.Rows.{IsWork, AllWork, HasWorked, AllWorked, AreJoined};
 
 use crate::sessions::run_session;
 use crate::transcripts::Transcript;
@@ -20,8 +20,9 @@ use std::thread::{Threads, join_mut};
 /// The gate is called with `Quarantined` before a commit is asked and with `Answered` after each
 /// outcome, and each desk tends once behind each `Answered`, with the number of the worker, from 0.
 ///
-/// For want of memory there are no transcripts. A session that had begun by then was ended at the store,
-/// and its grants were released.
+/// For want of memory there are no transcripts. A worker for which it ran out stopped at one of its
+/// plans: the sessions of those before it have run. The session of that plan has run too, or was ended
+/// at once, or didn't begin, and none is open or holds a grant. The other workers went on.
 pub fn work_all<R: Threads + Wait + Sync, D: Desk + Send, G: Gate>(
     rt: &R,
     alloc: Global,
@@ -33,6 +34,8 @@ pub fn work_all<R: Threads + Wait + Sync, D: Desk + Send, G: Gate>(
     requires plans { All (λ list. All IsPlan list.items) plans.now }
     ensures work { IfOk result (λ transcripts. AllWork (map (λ list. list.items) plans.now)
         (map D.record_of desks.old) (map D.record_of desks.new) transcripts.items) }
+    ensures worked { AllWorked (map (λ list. list.items) plans.now)
+        (map D.record_of desks.old) (map D.record_of desks.new) }
 {
     work_from(rt, &alloc, plans, plans, gate, desks)
 }
@@ -50,8 +53,10 @@ fn work_from<R: Threads + Wait + Sync, D: Desk + Send, G: Gate>(
 ) -> Result<Vec<Transcript>, Memory>
     requires as_many { length left.now ≡ length desks.old }
     requires plans { All (λ list. All IsPlan list.items) left.now }
-    ensures { IfOk result (λ transcripts. AllWork (map (λ list. list.items) left.now)
+    ensures work { IfOk result (λ transcripts. AllWork (map (λ list. list.items) left.now)
         (map D.record_of desks.old) (map D.record_of desks.new) transcripts.items) }
+    ensures worked { AllWorked (map (λ list. list.items) left.now)
+        (map D.record_of desks.old) (map D.record_of desks.new) }
 {
     if desks.len() < 2 {
         return work_one(rt, alloc, all, left, left, gate, desks);
@@ -63,16 +68,20 @@ fn work_from<R: Threads + Wait + Sync, D: Desk + Send, G: Gate>(
         &mut ||
             requires { (length first.now ≡ length front.now) × (length front.now < 2)
                 × All (λ list. All IsPlan list.items) first.now }
-            ensures { IfOk result (λ transcripts. AllWork
+            ensures work { IfOk result (λ transcripts. AllWork
                 (map (λ list. list.items) first.entry.now) (map D.record_of front.entry.now)
                 (map D.record_of front.exit.now) transcripts.items) }
+            ensures worked { AllWorked (map (λ list. list.items) first.entry.now)
+                (map D.record_of front.entry.now) (map D.record_of front.exit.now) }
         { work_one(rt, alloc, all, left, first, gate, front) },
         &mut ||
             requires { IsSync R.row × (length rest.now ≡ length back.now)
                 × All (λ list. All IsPlan list.items) rest.now }
-            ensures { IfOk result (λ transcripts. AllWork
+            ensures work { IfOk result (λ transcripts. AllWork
                 (map (λ list. list.items) rest.entry.now) (map D.record_of back.entry.now)
                 (map D.record_of back.exit.now) transcripts.items) }
+            ensures worked { AllWorked (map (λ list. list.items) rest.entry.now)
+                (map D.record_of back.entry.now) (map D.record_of back.exit.now) }
         { work_from(rt, alloc, all, rest, gate, back) },
     );
     joined(first, rest)
@@ -104,8 +113,10 @@ fn work_one<R: Wait, D: Desk, G: Gate>(
     requires as_many { length plans.now ≡ length desks.old }
     requires few { length desks.old < 2 }
     requires plans { All (λ list. All IsPlan list.items) plans.now }
-    ensures { IfOk result (λ transcripts. AllWork (map (λ list. list.items) plans.now)
+    ensures work { IfOk result (λ transcripts. AllWork (map (λ list. list.items) plans.now)
         (map D.record_of desks.old) (map D.record_of desks.new) transcripts.items) }
+    ensures worked { AllWorked (map (λ list. list.items) plans.now)
+        (map D.record_of desks.old) (map D.record_of desks.new) }
 {
     let mut transcripts = Vec::new(*alloc);
     if desks.is_empty() {
@@ -128,8 +139,9 @@ fn run_plans<R: Wait, D: Desk, G: Gate>(
     gate: &G,
 ) -> Result<Transcript, Memory>
     requires { All IsPlan plans.now }
-    ensures { IfOk result (λ rows.
+    ensures work { IfOk result (λ rows.
         IsWork plans.now (D.record_of desk.old) (D.record_of desk.new) rows) }
+    ensures worked { HasWorked plans.now (D.record_of desk.old) (D.record_of desk.new) }
 {
     let mut transcript = Transcript::new(alloc);
     for plan in plans {

@@ -30,6 +30,7 @@ returns-clause-goes_on g c =
       was_told = c.told.ensures.follows;
       memory = c.told.ensures.memory;
     })
+    c.requires.wanting
     u
 
 pub returns-clause-going : goal.returns-clause-going

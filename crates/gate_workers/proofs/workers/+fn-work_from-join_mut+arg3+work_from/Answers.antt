@@ -1,7 +1,7 @@
 use Rattle.std.proofs.Common.{rules, Vec, Global, IfOk, map, ◌++◌, refl}
 use Rattle.session_client.specs.declared.plans.Plan.{Plan}
-use Rattle.gate_workers.specs.Rows.{AllWork, AreJoined}
-use Rattle.gate_workers.proofs.WorkLemmas.{both_worked}
+use Rattle.gate_workers.specs.Rows.{AllWork, AllWorked, AreJoined}
+use Rattle.gate_workers.proofs.WorkLemmas.{both_worked, both_ended}
 use Rattle.gate_workers.proofs.workers.+fn-work_from-join_mut+arg3+work_from.Goals as goal
 
 pub returns : goal.returns
@@ -17,4 +17,9 @@ returns g t c =
     let s : IfOk some (λ rows. AllWork (map (λ (list : Vec Plan Global). list.items) first) (map g.D.Desk.record_of front) (map g.D.Desk.record_of front') rows.items) = search rules in
     let o : IfOk others (λ rows. AllWork (map (λ (list : Vec Plan Global). list.items) rest) (map g.D.Desk.record_of back) (map g.D.Desk.record_of back') rows.items) = search rules in
     let j : IfOk c.joined.result (λ all. AreJoined all.items some others) = search rules in
-    both_worked g.D.Desk.record_of c.args.left.now first rest c.args.desks.now front back (front' ++ back') front' back' some others c.joined.result c.split_at.ensures.by_index.0 c.split_at_mut-front.ensures.value refl j s o
+    let s' : AllWorked (map (λ (list : Vec Plan Global). list.items) first) (map g.D.Desk.record_of front) (map g.D.Desk.record_of front') = search rules in
+    let o' : AllWorked (map (λ (list : Vec Plan Global). list.items) rest) (map g.D.Desk.record_of back) (map g.D.Desk.record_of back') = search rules in
+    record {
+      work = both_worked g.D.Desk.record_of c.args.left.now first rest c.args.desks.now front back (front' ++ back') front' back' some others c.joined.result c.split_at.ensures.by_index.0 c.split_at_mut-front.ensures.value refl j s o;
+      worked = both_ended g.D.Desk.record_of c.args.left.now first rest c.args.desks.now front back (front' ++ back') front' back' c.split_at.ensures.by_index.0 c.split_at_mut-front.ensures.value refl s' o';
+    }
