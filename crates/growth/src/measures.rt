@@ -1,0 +1,161 @@
+use crate::asks::{ask_each, linked_rows};
+use crate::shards::{
+    NOW, leave_entries, leave_leases, leave_quarantines, new_shard, read, sweep, tend, write,
+};
+use crate::times::{Took, Unmeasured, used};
+use key_shard::Shard;
+use std::alloc::Global;
+use std::time::CpuClock;
+
+/// How much there is of each thing.
+#[derive(Clone, Copy, Debug)]
+pub struct Scale {
+    /// How many requests are made at first, and then ten times as many.
+    pub few: u32,
+    /// How many quarantines or leases are left standing.
+    pub standing: u32,
+    /// How many entries a full shard has.
+    pub entries: u32,
+    /// How many members the rows have.
+    pub members: u32,
+}
+
+/// What is measured.
+pub const FULL: Scale = Scale {
+    few: 100_000,
+    standing: 100_000,
+    entries: 65_536,
+    members: 100_000,
+};
+
+/// What is tried.
+pub const SMALL: Scale = Scale {
+    few: 1000,
+    standing: 100,
+    entries: 64,
+    members: 100,
+};
+
+/// How many entries a shard has room for that isn't to be full.
+const ROOM: u32 = 1024;
+
+/// A kind of requests, with what stands beside them.
+#[derive(Clone, Copy, Debug, PartialEq, Eq)]
+pub enum Measure {
+    Readers,
+    Quarantines,
+    Leases,
+    Entries,
+    Asks,
+    Tends,
+    Sweeps,
+    Writers,
+}
+
+pub const ALL: [Measure; 8] = [
+    Measure::Readers,
+    Measure::Quarantines,
+    Measure::Leases,
+    Measure::Entries,
+    Measure::Asks,
+    Measure::Tends,
+    Measure::Sweeps,
+    Measure::Writers,
+];
+
+impl Measure {
+    pub fn name(self) -> &'static str {
+        match self {
+            Measure::Readers => "(a) readers alone",
+            Measure::Quarantines => "(b) readers beside quarantines",
+            Measure::Leases => "(c) readers beside leases",
+            Measure::Entries => "(d) readers in a full shard",
+            Measure::Asks => "(e) answers from the rows",
+            Measure::Tends => "(f) sweeps beside quarantines",
+            Measure::Sweeps => "(g) sweeps where all are due",
+            Measure::Writers => "(h) writers beside quarantines",
+        }
+    }
+
+    /// How many requests are made of it where so many are made of most.
+    fn requests(self, most: u32) -> u32 {
+        match self {
+            Measure::Sweeps | Measure::Writers => most / 100,
+            _ => most,
+        }
+    }
+}
+
+/// How long the requests take, without what is set up before.
+pub fn took<C: CpuClock>(
+    rt: &C,
+    alloc: Global,
+    measure: Measure,
+    scale: &Scale,
+    most: u32,
+) -> Result<Took, Unmeasured> {
+    let requests = measure.requests(most);
+    match measure {
+        Measure::Asks => asks_took(rt, alloc, scale.members, requests),
+        _ => {
+            let mut shard = new_shard(alloc, room_of(measure, scale))?;
+            set_up(alloc, &mut shard, measure, scale, requests)?;
+            let before = used(rt)?;
+            make(alloc, &mut shard, measure, requests)?;
+            Ok(Took::between(requests, before, used(rt)?))
+        }
+    }
+}
+
+fn asks_took<C: CpuClock>(
+    rt: &C,
+    alloc: Global,
+    members: u32,
+    requests: u32,
+) -> Result<Took, Unmeasured> {
+    let rows = linked_rows(alloc, members)?;
+    let before = used(rt)?;
+    ask_each(alloc, &rows, members, requests)?;
+    Ok(Took::between(requests, before, used(rt)?))
+}
+
+fn room_of(measure: Measure, scale: &Scale) -> u32 {
+    match measure {
+        Measure::Entries => scale.entries,
+        _ => ROOM,
+    }
+}
+
+/// Leaves in the shard what is to stand beside the requests.
+fn set_up(
+    alloc: Global,
+    shard: &mut Shard,
+    measure: Measure,
+    scale: &Scale,
+    requests: u32,
+) -> Result<(), Unmeasured> {
+    match measure {
+        Measure::Quarantines | Measure::Tends | Measure::Writers => {
+            leave_quarantines(shard, scale.standing, NOW)
+        }
+        Measure::Leases => leave_leases(shard, scale.standing),
+        Measure::Entries => leave_entries(alloc, shard, scale.entries),
+        Measure::Sweeps => leave_quarantines(shard, requests, 0),
+        Measure::Readers | Measure::Asks => Ok(()),
+    }
+}
+
+/// Makes so many requests.
+fn make(
+    alloc: Global,
+    shard: &mut Shard,
+    measure: Measure,
+    requests: u32,
+) -> Result<(), Unmeasured> {
+    match measure {
+        Measure::Tends => tend(shard, requests),
+        Measure::Sweeps => sweep(shard, requests),
+        Measure::Writers => write(shard, requests),
+        _ => read(alloc, shard, requests),
+    }
+}
