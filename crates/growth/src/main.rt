@@ -12,6 +12,12 @@ use std::process::ExitCode;
 use std::{env, io};
 use times::{Ratio, Took, Unmeasured};
 
+/// How many times as many requests are made as at first.
+const TIMES: u32 = 10;
+
+/// How often each is tried.
+const TRIES: u32 = 3;
+
 /// What is to be done.
 enum Task {
     /// To measure, in some minutes.
@@ -60,33 +66,39 @@ fn try_all(rt: &HostRuntime) -> Result<(), Unmeasured> {
     Ok(())
 }
 
-/// Measures each, and prints its ratios.
+/// Measures each, and prints its ratios: what ten times the requests cost, and what one costs beside one
+/// of a reader's alone.
 fn measure_all(rt: &HostRuntime) -> Result<(), Unmeasured> {
-    let alone = least(rt, Measure::Readers, FULL.few)?;
+    let (alone, _) = few_and_many(rt, Measure::Readers)?;
     for measure in ALL {
-        let few = least(rt, measure, FULL.few)?;
-        let many = least(rt, measure, 10 * FULL.few)?;
-        tell(
-            rt,
-            measure,
-            &Ratio::of_all(many, few),
-            &Ratio::of_each(few, alone),
+        let (few, many) = few_and_many(rt, measure)?;
+        let grows = Ratio::of(TIMES, many, few);
+        let beside = Ratio::of(1, few, alone);
+        println!(rt;
+            "{}: ten times as many {grows}, beside (a) {beside}",
+            measure.name()
         )?;
     }
     Ok(())
 }
 
-/// Prints what ten times the requests cost, and what one costs beside a reader's alone.
-fn tell(rt: &HostRuntime, measure: Measure, grows: &Ratio, beside: &Ratio) -> io::Result<()> {
-    let name = measure.name();
-    println!(rt; "{name}: ten times as many {grows}, beside (a) {beside}")
+/// The least that the requests took in three tries: the few, made ten times from the start, and then ten
+/// times as many at once.
+fn few_and_many(rt: &HostRuntime, measure: Measure) -> Result<(Took, Took), Unmeasured> {
+    let (mut few, mut many) = one_try(rt, measure)?;
+    for _ in 1..TRIES {
+        let (next_few, next_many) = one_try(rt, measure)?;
+        few = few.least(next_few);
+        many = many.least(next_many);
+    }
+    Ok((few, many))
 }
 
-/// The least that the requests took in three tries.
-fn least(rt: &HostRuntime, measure: Measure, requests: u32) -> Result<Took, Unmeasured> {
-    let mut least = took(rt, rt.alloc(), measure, &FULL, requests)?;
-    for _ in 0..2 {
-        least = least.min(took(rt, rt.alloc(), measure, &FULL, requests)?);
+fn one_try(rt: &HostRuntime, measure: Measure) -> Result<(Took, Took), Unmeasured> {
+    let mut few = took(rt, rt.alloc(), measure, &FULL, FULL.few)?;
+    for _ in 1..TIMES {
+        few = few.and(took(rt, rt.alloc(), measure, &FULL, FULL.few)?);
     }
-    Ok(least)
+    let many = took(rt, rt.alloc(), measure, &FULL, TIMES * FULL.few)?;
+    Ok((few, many))
 }

@@ -140,7 +140,7 @@ fn set_up(
         }
         Measure::Leases => leave_leases(shard, scale.standing),
         Measure::Entries => leave_entries(alloc, shard, scale.entries),
-        Measure::Sweeps => leave_quarantines(shard, requests, 0),
+        Measure::Sweeps => leave_quarantines(shard, requests / 2, 0),
         Measure::Readers | Measure::Asks => Ok(()),
     }
 }

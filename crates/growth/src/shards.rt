@@ -68,7 +68,7 @@ pub fn read(alloc: Global, shard: &mut Shard, count: u32) -> Result<(), Unmeasur
     Ok(())
 }
 
-/// So many requests of writers: each quarantine is released.
+/// So many requests of writers: of two one quarantines a key and one releases it.
 pub fn write(shard: &mut Shard, count: u32) -> Result<(), Unmeasured> {
     for id in 0..count / 2 {
         let grant = quarantine(shard, profile(id), NOW)?;
@@ -80,18 +80,19 @@ pub fn write(shard: &mut Shard, count: u32) -> Result<(), Unmeasured> {
     Ok(())
 }
 
-/// So many times a quarantine that is due as it is given, and its sweep.
+/// So many requests: of three one quarantines a key so that it is due at once, one finds what is due first
+/// and one drops it.
 pub fn tend(shard: &mut Shard, count: u32) -> Result<(), Unmeasured> {
-    for id in 0..count {
+    for id in 0..count / 3 {
         quarantine(shard, profile(id), 0)?.let_go();
         sweep_one(shard)?;
     }
     Ok(())
 }
 
-/// So many times the sweep of the quarantine that is due first.
+/// So many requests of a sweeper: of two one finds what is due first and one drops it.
 pub fn sweep(shard: &mut Shard, count: u32) -> Result<(), Unmeasured> {
-    for _ in 0..count {
+    for _ in 0..count / 2 {
         sweep_one(shard)?;
     }
     Ok(())

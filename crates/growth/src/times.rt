@@ -53,8 +53,16 @@ impl Took {
         }
     }
 
-    /// The one that took less.
-    pub fn min(self, other: Took) -> Took {
+    /// Both together.
+    pub fn and(self, other: Took) -> Took {
+        Took {
+            requests: self.requests.saturating_add(other.requests),
+            nanos: self.nanos.saturating_add(other.nanos),
+        }
+    }
+
+    /// The one that took less, of as many requests.
+    pub fn least(self, other: Took) -> Took {
         if other.nanos < self.nanos {
             other
         } else {
@@ -75,17 +83,14 @@ pub struct Ratio {
 }
 
 impl Ratio {
-    /// Of all requests of the one to all of the other.
-    pub fn of_all(one: Took, other: Took) -> Ratio {
+    /// So many requests of the one to a request of the other.
+    pub fn of(times: u32, one: Took, other: Took) -> Ratio {
+        let hundredths = one
+            .each()
+            .saturating_mul(u64::from(times))
+            .saturating_mul(100);
         Ratio {
-            hundredths: one.nanos.saturating_mul(100) / other.nanos.max(1),
-        }
-    }
-
-    /// Of a request of the one to a request of the other.
-    pub fn of_each(one: Took, other: Took) -> Ratio {
-        Ratio {
-            hundredths: one.each().saturating_mul(100) / other.each().max(1),
+            hundredths: hundredths / other.each().max(1),
         }
     }
 }
