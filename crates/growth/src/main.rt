@@ -8,9 +8,9 @@ mod shards;
 mod times;
 
 use measures::{ALL, FULL, Measure, SMALL, took};
+use std::env;
 use std::process::ExitCode;
-use std::{env, io};
-use times::{Ratio, Took, Unmeasured};
+use times::{Ratio, Unmeasured};
 
 /// How many times as many requests are made as at first.
 const TIMES: u32 = 10;
@@ -60,8 +60,9 @@ fn task_of(rt: &HostRuntime) -> Option<Task> {
 /// Makes a few requests of each kind, and tells how many.
 fn try_all(rt: &HostRuntime) -> Result<(), Unmeasured> {
     for measure in ALL {
-        let took = took(rt, rt.alloc(), measure, &SMALL, SMALL.few)?;
-        println!(rt; "{}: {} requests", measure.name(), took.requests)?;
+        let _nanos = took(rt, rt.alloc(), measure, &SMALL, SMALL.few)?;
+        let requests = measure.requests(SMALL.few);
+        println!(rt; "{}: {requests} requests", measure.name())?;
     }
     Ok(())
 }
@@ -73,7 +74,9 @@ fn measure_all(rt: &HostRuntime) -> Result<(), Unmeasured> {
     for measure in ALL {
         let (few, many) = few_and_many(rt, measure)?;
         let grows = Ratio::of(TIMES, many, few);
-        let beside = Ratio::of(1, few, alone);
+        // Of some kinds fewer requests are made.
+        let fewer = FULL.few / measure.requests(FULL.few).max(1);
+        let beside = Ratio::of(fewer, few, alone);
         println!(rt;
             "{}: ten times as many {grows}, beside (a) {beside}",
             measure.name()
@@ -82,23 +85,22 @@ fn measure_all(rt: &HostRuntime) -> Result<(), Unmeasured> {
     Ok(())
 }
 
-/// The least that the requests took in three tries: the few, made ten times from the start, and then ten
-/// times as many at once.
-fn few_and_many(rt: &HostRuntime, measure: Measure) -> Result<(Took, Took), Unmeasured> {
-    let (mut few, mut many) = one_try(rt, measure)?;
-    for _ in 1..TRIES {
-        let (next_few, next_many) = one_try(rt, measure)?;
-        few = few.least(next_few);
-        many = many.least(next_many);
+/// The least nanoseconds, of three tries, that the few requests took, made ten times from the start, and
+/// that ten times as many took at once.
+fn few_and_many(rt: &HostRuntime, measure: Measure) -> Result<(u64, u64), Unmeasured> {
+    let (mut few, mut many) = (u64::MAX, u64::MAX);
+    for _ in 0..TRIES {
+        few = few.min(ten_few(rt, measure)?);
+        many = many.min(took(rt, rt.alloc(), measure, &FULL, TIMES * FULL.few)?);
     }
     Ok((few, many))
 }
 
-fn one_try(rt: &HostRuntime, measure: Measure) -> Result<(Took, Took), Unmeasured> {
-    let mut few = took(rt, rt.alloc(), measure, &FULL, FULL.few)?;
-    for _ in 1..TIMES {
-        few = few.and(took(rt, rt.alloc(), measure, &FULL, FULL.few)?);
+/// The nanoseconds that the few requests took, made ten times from the start.
+fn ten_few(rt: &HostRuntime, measure: Measure) -> Result<u64, Unmeasured> {
+    let mut all = 0u64;
+    for _ in 0..TIMES {
+        all = all.saturating_add(took(rt, rt.alloc(), measure, &FULL, FULL.few)?);
     }
-    let many = took(rt, rt.alloc(), measure, &FULL, TIMES * FULL.few)?;
-    Ok((few, many))
+    Ok(all)
 }

@@ -2,7 +2,7 @@ use crate::asks::{ask_each, linked_rows};
 use crate::shards::{
     NOW, leave_entries, leave_leases, leave_quarantines, new_shard, read, sweep, tend, write,
 };
-use crate::times::{Took, Unmeasured, used};
+use crate::times::{Unmeasured, used};
 use key_shard::Shard;
 use std::alloc::Global;
 use std::time::CpuClock;
@@ -78,7 +78,7 @@ impl Measure {
     }
 
     /// How many requests are made of it where so many are made of most.
-    fn requests(self, most: u32) -> u32 {
+    pub fn requests(self, most: u32) -> u32 {
         match self {
             Measure::Sweeps | Measure::Writers => most / 100,
             _ => most,
@@ -86,14 +86,14 @@ impl Measure {
     }
 }
 
-/// How long the requests take, without what is set up before.
+/// How many nanoseconds of the processor the requests take, without what is set up before.
 pub fn took<C: CpuClock>(
     rt: &C,
     alloc: Global,
     measure: Measure,
     scale: &Scale,
     most: u32,
-) -> Result<Took, Unmeasured> {
+) -> Result<u64, Unmeasured> {
     let requests = measure.requests(most);
     match measure {
         Measure::Asks => asks_took(rt, alloc, scale.members, requests),
@@ -102,7 +102,7 @@ pub fn took<C: CpuClock>(
             set_up(alloc, &mut shard, measure, scale, requests)?;
             let before = used(rt)?;
             make(alloc, &mut shard, measure, requests)?;
-            Ok(Took::between(requests, before, used(rt)?))
+            Ok(used(rt)?.saturating_sub(before))
         }
     }
 }
@@ -112,11 +112,11 @@ fn asks_took<C: CpuClock>(
     alloc: Global,
     members: u32,
     requests: u32,
-) -> Result<Took, Unmeasured> {
+) -> Result<u64, Unmeasured> {
     let rows = linked_rows(alloc, members)?;
     let before = used(rt)?;
     ask_each(alloc, &rows, members, requests)?;
-    Ok(Took::between(requests, before, used(rt)?))
+    Ok(used(rt)?.saturating_sub(before))
 }
 
 fn room_of(measure: Measure, scale: &Scale) -> u32 {

@@ -37,45 +37,6 @@ impl From<io::Error> for Unmeasured {
     }
 }
 
-/// How long so many requests took, in nanoseconds of the processor.
-#[derive(Clone, Copy, Debug, PartialEq, Eq)]
-pub struct Took {
-    pub requests: u32,
-    nanos: u64,
-}
-
-impl Took {
-    /// How long they took that were begun and done at these times.
-    pub fn between(requests: u32, before: u64, after: u64) -> Took {
-        Took {
-            requests,
-            nanos: after.saturating_sub(before),
-        }
-    }
-
-    /// Both together.
-    pub fn and(self, other: Took) -> Took {
-        Took {
-            requests: self.requests.saturating_add(other.requests),
-            nanos: self.nanos.saturating_add(other.nanos),
-        }
-    }
-
-    /// The one that took less, of as many requests.
-    pub fn least(self, other: Took) -> Took {
-        if other.nanos < self.nanos {
-            other
-        } else {
-            self
-        }
-    }
-
-    /// How long one took, in thousandths of a nanosecond.
-    fn each(self) -> u64 {
-        self.nanos.saturating_mul(1000) / u64::from(self.requests.max(1))
-    }
-}
-
 /// How many times one time is another, which is printed with two places behind the point.
 #[derive(Clone, Copy, Debug, PartialEq, Eq)]
 pub struct Ratio {
@@ -83,14 +44,11 @@ pub struct Ratio {
 }
 
 impl Ratio {
-    /// So many requests of the one to a request of the other.
-    pub fn of(times: u32, one: Took, other: Took) -> Ratio {
-        let hundredths = one
-            .each()
-            .saturating_mul(u64::from(times))
-            .saturating_mul(100);
+    /// So many times the one to the other.
+    pub fn of(times: u32, one: u64, other: u64) -> Ratio {
+        let hundredths = one.saturating_mul(u64::from(times)).saturating_mul(100);
         Ratio {
-            hundredths: hundredths / other.each().max(1),
+            hundredths: hundredths / other.max(1),
         }
     }
 }
