@@ -96,3 +96,6 @@ impl Outs {
         self.by_token.remove(&grant.token());
     }
 }
+
+#[cfg(test)]
+mod tests;
