@@ -60,7 +60,8 @@ fn task_of(rt: &HostRuntime) -> Option<Task> {
 /// Makes a few requests of each kind, and tells how many.
 fn try_all(rt: &HostRuntime) -> Result<(), Unmeasured> {
     for measure in ALL {
-        let _nanos = took(rt, rt.alloc(), measure, &SMALL, SMALL.few)?;
+        let mut kept = Vec::new(rt.alloc());
+        let _nanos = took(rt, rt.alloc(), measure, &SMALL, SMALL.few, &mut kept)?;
         let requests = measure.requests(SMALL.few);
         println!(rt; "{}: {requests} requests", measure.name())?;
     }
@@ -90,17 +91,24 @@ fn measure_all(rt: &HostRuntime) -> Result<(), Unmeasured> {
 fn few_and_many(rt: &HostRuntime, measure: Measure) -> Result<(u64, u64), Unmeasured> {
     let (mut few, mut many) = (u64::MAX, u64::MAX);
     for _ in 0..TRIES {
-        few = few.min(ten_few(rt, measure)?);
-        many = many.min(took(rt, rt.alloc(), measure, &FULL, TIMES * FULL.few)?);
+        few = few.min(took_times(rt, measure, TIMES, FULL.few)?);
+        many = many.min(took_times(rt, measure, 1, TIMES * FULL.few)?);
     }
     Ok((few, many))
 }
 
-/// The nanoseconds that the few requests took, made ten times from the start.
-fn ten_few(rt: &HostRuntime, measure: Measure) -> Result<u64, Unmeasured> {
+/// The nanoseconds that so many requests took, made so many times from the start.
+fn took_times(
+    rt: &HostRuntime,
+    measure: Measure,
+    times: u32,
+    requests: u32,
+) -> Result<u64, Unmeasured> {
+    let mut kept = Vec::new(rt.alloc());
     let mut all = 0u64;
-    for _ in 0..TIMES {
-        all = all.saturating_add(took(rt, rt.alloc(), measure, &FULL, FULL.few)?);
+    for _ in 0..times {
+        let nanos = took(rt, rt.alloc(), measure, &FULL, requests, &mut kept)?;
+        all = all.saturating_add(nanos);
     }
     Ok(all)
 }

@@ -4,6 +4,7 @@ use crate::shards::{
 };
 use crate::times::{Unmeasured, used};
 use key_shard::Shard;
+use rows_model::Memory;
 use std::alloc::Global;
 use std::time::CpuClock;
 
@@ -86,13 +87,15 @@ impl Measure {
     }
 }
 
-/// How many nanoseconds of the processor the requests take, without what is set up before.
+/// How many nanoseconds of the processor the requests take, without what is set up before. The shard is put
+/// behind those that are kept, so that the next one doesn't have its memory.
 pub fn took<C: CpuClock>(
     rt: &C,
     alloc: Global,
     measure: Measure,
     scale: &Scale,
     most: u32,
+    kept: &mut Vec<Shard>,
 ) -> Result<u64, Unmeasured> {
     let requests = measure.requests(most);
     match measure {
@@ -102,7 +105,9 @@ pub fn took<C: CpuClock>(
             set_up(alloc, &mut shard, measure, scale, requests)?;
             let before = used(rt)?;
             make(alloc, &mut shard, measure, requests)?;
-            Ok(used(rt)?.saturating_sub(before))
+            let nanos = used(rt)?.saturating_sub(before);
+            kept.push(shard).map_err(Memory::from)?;
+            Ok(nanos)
         }
     }
 }
