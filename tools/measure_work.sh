@@ -78,6 +78,7 @@ keep_try() {
         [ -n "$threaded" ] || fail "the threads of $workers workers weren't seen: too few sessions"
         load=$((joined - threaded))
     fi
+    [ "$load" -gt 0 ] || fail "the load of $workers workers is too short to be seen: too few sessions"
     [ -z "${loads[$workers]}" ] || [ "$load" -lt "${loads[$workers]}" ] || return 0
     loads[$workers]=$load
     peaks[$workers]=$peak
@@ -101,8 +102,12 @@ tell() {
 }
 
 loads=() peaks=() start=() audit=()
-run_load 0 1
-idle=$peak
+# So short a run is seen a few times alone, so the greatest peak of some counts.
+idle=0
+for ((try = 0; try < 5; try++)); do
+    run_load 0 1
+    [ "$peak" -le "$idle" ] || idle=$peak
+done
 for workers in 2 4 1; do
     for ((try = 0; try < tries; try++)); do
         run_load "$sessions" "$workers"
