@@ -5,13 +5,17 @@ fail() {
     exit 1
 }
 
-# The proved program of a crate: it has to stand, and no source may be newer.
+# The proved program of a crate: it has to stand, and no source of these crates may be newer. The words behind
+# its name say what builds it, and which crates it stands on (a star for all).
 proved_program() {
-    local program=$top/crates/$1/out/$1 newer
-    [ -x "$program" ] || fail "no proved program stands in crates/$1/out; $2 builds it"
-    newer=$(find "$top/crates.txt" "$top"/crates/*/src "$top"/crates/*/specs "$top"/crates/*/proofs \
-        -newer "$program" 2>/dev/null | head -n 1)
-    [ -z "$newer" ] || fail "$newer is newer than the proved program; $2 builds it"
+    local program=$top/crates/$1/out/$1 builds=$2 crate newer sources=()
+    shift 2
+    [ -x "$program" ] || fail "no proved program stands at $program; $builds builds it"
+    for crate in "$@"; do
+        sources+=("$top"/crates/$crate/{src,specs,proofs})
+    done
+    newer=$(find "${sources[@]}" -newer "$program" 2>/dev/null | head -n 1)
+    [ -z "$newer" ] || fail "$newer is newer than the proved program; $builds builds it"
     echo "$program"
 }
 
