@@ -81,7 +81,7 @@ impl Measure {
     /// How many requests are made of it where so many are made of most.
     pub fn requests(self, most: u32) -> u32 {
         match self {
-            Measure::Sweeps | Measure::Writers => most / 100,
+            Measure::Sweeps => most / 100,
             _ => most,
         }
     }
