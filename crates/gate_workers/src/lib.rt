@@ -7,13 +7,9 @@ pub use tallies::Tally;
 pub use transcripts::{Row, Transcript};
 pub use workers::work_all;
 
-#[cfg(test)]
-mod fake_desk;
 pub mod marks;
 mod notes;
 mod sessions;
 pub mod tallies;
-#[cfg(test)]
-mod tests;
 pub mod transcripts;
 pub mod workers;

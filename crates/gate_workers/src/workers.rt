@@ -21,8 +21,9 @@ use std::thread::{Threads, join_mut};
 /// outcome, and each desk tends once behind each `Answered`, with the number of the worker, from 0.
 ///
 /// For want of memory there are no transcripts. A worker for which it ran out stopped at one of its
-/// plans: the sessions of those before it have run. The session of that plan has run too, or was ended
-/// at once, or didn't begin, and none is open or holds a grant. The other workers went on.
+/// plans. The sessions of the plans before have run, and so has that of this plan, with its grants
+/// released, unless it was ended before it asked for anything, or never began. The other workers
+/// went on.
 pub fn work_all<R: Threads + Wait + Sync, D: Desk + Send, G: Gate>(
     rt: &R,
     alloc: Global,

@@ -19,13 +19,16 @@ pub struct Call {
     pub txn: Option<Txn>,
 }
 
-/// A desk that hands every call on to another, and keeps what was asked and told there.
+/// A desk that hands every call on to another, and keeps what was asked and told there. It counts how
+/// often it tends.
 #[derive(Drop)]
 pub struct KeptDesk<D: Desk + Drop> {
     desk: D,
     calls: Vec<Call>,
     /// Whether memory ran out for a call, which isn't kept.
     lost: bool,
+    /// How often it tended.
+    tended: u64,
 }
 
 impl<D: Desk + Drop> KeptDesk<D> {
@@ -35,7 +38,13 @@ impl<D: Desk + Drop> KeptDesk<D> {
             desk,
             calls: Vec::new(alloc),
             lost: false,
+            tended: 0,
         }
+    }
+
+    /// How often it tended.
+    pub fn tended(&self) -> u64 {
+        self.tended
     }
 
     /// The calls in their order, if none was lost.
@@ -85,6 +94,7 @@ impl<D: Desk + Drop> Desk for KeptDesk<D> {
     }
 
     fn tend(&mut self) {
+        self.tended = self.tended.saturating_add(1);
         self.desk.tend();
     }
 }

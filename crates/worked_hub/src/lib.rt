@@ -12,3 +12,7 @@ mod load_tests;
 mod runs;
 #[cfg(test)]
 mod seen;
+#[cfg(test)]
+mod telling_desks;
+#[cfg(test)]
+mod work_tests;

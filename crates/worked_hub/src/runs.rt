@@ -26,6 +26,8 @@ pub struct Ran {
     /// The calls that the workers' desks answered: a worker's are in their order, and a session's are
     /// those of one worker.
     pub calls: Vec<Call>,
+    /// How often the desks tended.
+    pub tended: u64,
     pub log: Vec<Commit>,
     pub shards: Vec<Shard>,
 }
@@ -99,7 +101,9 @@ fn run_on<'x, H: HubName + Send + Sync, G: Gate, R: Threads + Wait + Abort + Syn
     }
     let transcripts = work_all(rt, alloc, &mut desks, plans, gate)?;
     let mut calls = Vec::new(alloc);
+    let mut tended = 0u64;
     for desk in desks {
+        tended = tended.saturating_add(desk.tended());
         calls.append(&mut desk.into_calls()?)?;
     }
     let (store, shards) = hub.into_parts();
@@ -107,6 +111,7 @@ fn run_on<'x, H: HubName + Send + Sync, G: Gate, R: Threads + Wait + Abort + Syn
     Ok(Ran {
         transcripts,
         calls,
+        tended,
         log,
         shards,
     })
