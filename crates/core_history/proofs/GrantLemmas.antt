@@ -1,5 +1,5 @@
 -- The facts of grants hold of every world, and so every run is lawful.
-use Rattle.std.proofs.Common.{ℕ, ◌≡◌, ◌≢◌, ◌<◌, ◌≤◌, ◌==◌, true, false, List, [], ◌∷◌, length, reverse, count_by, Option, Some, None, slice_get, mod-lt, pos_of_ne-zero, refl, sym, ap, subst, ◌∙◌, inl, inr, ◌⊎◌, arith}
+use Rattle.std.proofs.Common.{ℕ, ◌≡◌, ◌≢◌, ◌<◌, ◌≤◌, ◌==◌, true, false, List, [], ◌∷◌, length, reverse, count_by, Option, Some, None, slice_get, pos_of_ne-zero, refl, sym, ap, subst, ◌∙◌, inl, inr, ◌⊎◌, arith}
 use Rattle.std.specs.List.{list_any}
 use Rattle.std.proofs.lemmas.Bool.{false≢true}
 use Rattle.std.proofs.lemmas.Option.{slice_get-get_or}
@@ -8,9 +8,10 @@ use Rattle.std.proofs.lemmas.List.FromFn.{get_or-map-range_with_len, length-map-
 use Rattle.rows_model.specs.declared.keys.QKey.{QKey}
 use Rattle.rows_model.specs.declared.keys.Sid.{Sid}
 use Rattle.rows_model.specs.declared.changes.Change.{Change}
-use Rattle.rows_model.specs.Key.{same_key, key_text}
+use Rattle.rows_model.specs.Key.{same_key}
 use Rattle.rows_model.proofs.SameKey.{same_key-true}
-use Rattle.rows_model.specs.Placement.{shard_of, hash_of}
+use Rattle.rows_model.specs.Placement.{shard_of}
+use Rattle.rows_model.proofs.PlacementLemmas.{shard_below}
 use Rattle.lease_table.specs.declared.records.Mode.{Mode}
 use Rattle.lease_table.specs.declared.records.Mode.TheVariants.{Invalidate, Refresh, Delta}
 use Rattle.lease_table.specs.declared.records.Quar.{Quar}
@@ -212,10 +213,6 @@ facts_of shape world inner = record {
 pub grant_facts : (shape : Shape) (moves : List Move) → shape.shards ≢ 0 → HasPlans moves → GrantFacts shape (world_of shape moves)
 grant_facts shape moves some plans = facts_of shape (world_of shape moves) (inner_of shape moves)
 
-shard_below : (key : QKey) (count : ℕ) → count ≢ 0 → shard_of key count < count
-unfolding shard_of
-shard_below key count some = mod-lt (hash_of (key_text key)) (pos_of_ne-zero some)
-
 -- the history of a shard, among those of all
 pub history-at : (shape : Shape) (past : List Event) (place : ℕ) → place < shape.shards → slice_get (histories_of shape past) place ≡ Some (reverse (steps_of place past))
 history-at shape past place within =
@@ -228,7 +225,7 @@ covered_is shape past some covered place commit key at touched =
     let home = shard_of key shape.shards in
     let f : ℕ → List Step = λ p. reverse (steps_of p past) in
     let len : length (histories_of shape past) ≡ shape.shards = length-map-range_with_len f 0 shape.shards in
-    (reverse (steps_of home past), ap (λ count. slice_get (histories_of shape past) (shard_of key count)) len ∙ history-at shape past home (shard_below key shape.shards some), any-reverse (quarantines key commit.sid) (steps_of home past) (covered place commit key at touched))
+    (reverse (steps_of home past), ap (λ count. slice_get (histories_of shape past) (shard_of key count)) len ∙ history-at shape past home (shard_below key shape.shards (pos_of_ne-zero some)), any-reverse (quarantines key commit.sid) (steps_of home past) (covered place commit key at touched))
 
 pub runs_are_lawful_is : RunsAreLawful
 runs_are_lawful_is shape moves some plans =

@@ -7,6 +7,7 @@ use Rattle.std.proofs.Math.ListN.{length-set}
 use Rattle.rows_model.specs.declared.keys.QKey.{QKey}
 use Rattle.rows_model.specs.declared.keys.Sid.{Sid}
 use Rattle.rows_model.specs.Placement.{shard_of}
+use Rattle.rows_model.proofs.PlacementLemmas.{shard_below}
 use Rattle.lease_table.specs.declared.records.Quar.{Quar}
 use Rattle.key_shard.specs.declared.steps.Ended.TheVariants.{Drop}
 use Rattle.key_shard.specs.declared.steps.Step.{Step}
@@ -150,11 +151,6 @@ pub shards_ticked : (shards : List ShardView) (shape : Shape) (past : List Event
     → HasShards shards shape (Ticked now ∷ past)
 shards_ticked shards shape past now has = shards_same shards shape past (Ticked now) has (λ place. refl)
 
--- a key's shard is one of them
-pub home_within : (key : QKey) (count : ℕ) → 1 ≤ count → shard_of key count < count
-unfolding shard_of
-home_within key count some = omega arith
-
 length-steps_in : (place : ℕ) (event : Event) → length (steps_in place event) ≤ 1
 length-steps_in place (Stepped shard who request step told) = one (shard == place) step
   where
@@ -183,7 +179,7 @@ pub homes_of : (shards : List ShardView) (shape : Shape) (past : List Event) →
 homes_of shards shape past has few key =
     let home = shard_of key (length shards) in
     let some : 1 ≤ length shards = omega (arith, has.count, has.fit.some_shards) in
-    let below : home < shape.shards = subst (λ (n : ℕ). home < n) has.count (home_within key (length shards) some) in
+    let below : home < shape.shards = subst (λ (n : ℕ). home < n) has.count (shard_below key (length shards) some) in
     let is : slice_get shards home ≡ Some (shard_after shape past home) = has.each home below in
     record {
       some = some;
@@ -204,7 +200,7 @@ pub shard_found : (shape : Shape) (past : List Event) (key : QKey) (shards : Lis
     → place ≡ shard_of key (length shards) → slice_get shards place ≡ Some shard → IsShardOf shape past key place shard
 shard_found shape past key shards place shard has at found =
     let here : place ≡ shard_of key shape.shards = at ∙ ap (λ (n : ℕ). shard_of key n) has.count in
-    let within = home_within key shape.shards has.fit.some_shards in
+    let within = shard_below key shape.shards has.fit.some_shards in
     let there : slice_get shards (shard_of key shape.shards) ≡ Some shard = ap (λ (n : ℕ). slice_get shards n) (sym here) ∙ found in
     record { here = here; within = within; same = some_is shard _ (sym there ∙ has.each (shard_of key shape.shards) within) }
 
