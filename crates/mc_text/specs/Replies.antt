@@ -1,0 +1,95 @@
+-- The text of each reply.
+use Rattle.std.specs.Prelude.{ℕ, ◌≡◌, List, [], ◌++◌, length, codes, decimal}
+use Rattle.lease_table.specs.declared.records.Mode.{Mode}
+use Rattle.lease_table.specs.declared.records.Mode.TheVariants.{Invalidate, Refresh, Delta}
+use Rattle.rows_model.specs.declared.keys.QKey.{QKey}
+use Rattle.rows_model.specs.Key.{key_text}
+use Rattle.mc_text.specs.declared.replies.LineReply.{LineReply}
+use Rattle.mc_text.specs.declared.replies.LineReply.TheVariants as reply
+
+-- the word of a mode
+abbrev pub mode_word : Mode → List ℕ
+mode_word Invalidate = codes "invalidate"
+mode_word Refresh = codes "refresh"
+mode_word Delta = codes "delta"
+
+-- a line: its text and CR LF
+abbrev pub line : List ℕ → List ℕ
+line text = text ++ codes "\r\n"
+
+-- a value in three lines: what is told of it, its bytes, and `END`
+abbrev pub value_text : QKey → List ℕ → List ℕ → List ℕ
+value_text key value more =
+    line (codes "VALUE " ++ key_text key ++ codes " 0 " ++ decimal (length value) ++ more) ++ line value ++ line (codes "END")
+
+-- the front of the first line of a value
+abbrev pub value_head : QKey → ℕ → List ℕ
+value_head key len = codes "VALUE " ++ key_text key ++ codes " 0 " ++ decimal len
+
+-- the end of the first line of a value, and the two lines behind it
+abbrev pub block_text : List ℕ → List ℕ
+block_text block = codes "\r\n" ++ line block ++ line (codes "END")
+
+-- what was written stands behind what stood there before
+pub record BeginsWith (old new : List ℕ) : Type 0 where
+  pub part : List ℕ
+  pub behind : new ≡ old ++ part
+
+-- a value with its stamp, which stands where memcached has the number of an entry
+abbrev pub stamped_text : QKey → ℕ → List ℕ → List ℕ
+stamped_text key stamp value = value_text key value (codes " " ++ decimal stamp)
+
+-- a refusal that the client could have known
+abbrev pub client_error : List ℕ → List ℕ
+client_error text = line (codes "CLIENT_ERROR " ++ text)
+
+-- a refusal of the server
+abbrev pub server_error : List ℕ → List ℕ
+server_error text = line (codes "SERVER_ERROR " ++ text)
+
+-- the text of a reply
+unfoldable pub text_of : LineReply → List ℕ
+text_of (reply.Session sid) = line (codes "SESSION " ++ decimal sid.number)
+text_of (reply.Stamped key stamp value) = stamped_text key stamp value
+text_of (reply.Unstamped key value) = value_text key value []
+text_of (reply.Lease token) = line (codes "LEASE " ++ decimal token)
+text_of reply.AgainI = line (codes "AGAIN I")
+text_of reply.AgainQ = line (codes "AGAIN Q")
+text_of reply.Own = line (codes "OWN")
+text_of (reply.Rejected index) = line (codes "REJECTED " ++ decimal index)
+text_of reply.Stored = line (codes "STORED")
+text_of reply.NotStored = line (codes "NOT_STORED")
+text_of (reply.Granted token) = line (codes "GRANTED " ++ decimal token)
+text_of (reply.GrantedStamped token key stamp value) =
+    line (codes "GRANTED " ++ decimal token) ++ stamped_text key stamp value
+text_of (reply.GrantedNone token) = line (codes "GRANTED " ++ decimal token) ++ line (codes "END")
+text_of reply.Held = line (codes "HELD")
+text_of (reply.Refused holder mode) =
+    line (codes "REFUSED " ++ decimal holder.number ++ codes " " ++ mode_word mode)
+text_of (reply.Committed commit) = line (codes "COMMITTED " ++ decimal commit)
+text_of reply.Ended = line (codes "ENDED")
+text_of (reply.Uncovered key) = line (codes "UNCOVERED " ++ key_text key)
+text_of reply.Deleted = line (codes "DELETED")
+text_of reply.NotFound = line (codes "NOT_FOUND")
+text_of (reply.Released count) = line (codes "RELEASED " ++ decimal count)
+text_of reply.Error = line (codes "ERROR")
+text_of reply.BadLine = client_error (codes "bad line")
+text_of reply.LongLine = client_error (codes "long line")
+text_of reply.BadBlock = client_error (codes "bad block")
+text_of reply.BigBlock = client_error (codes "big block")
+text_of reply.SessionBusy = client_error (codes "session busy")
+text_of reply.NotQueryKey = client_error (codes "not a query key")
+text_of reply.Flags = client_error (codes "flags")
+text_of reply.Exptime = client_error (codes "exptime")
+text_of reply.NotYours = client_error (codes "not yours")
+text_of reply.ReadSession = client_error (codes "read session")
+text_of reply.AlreadyCommitted = client_error (codes "committed")
+text_of reply.TooMany = client_error (codes "too many")
+text_of reply.NotCount = client_error (codes "not count")
+text_of reply.NotCommitted = client_error (codes "not committed")
+text_of reply.NoGrant = client_error (codes "no grant")
+text_of reply.WrongMode = client_error (codes "mode")
+text_of reply.Spent = server_error (codes "spent")
+text_of reply.Full = server_error (codes "full")
+text_of reply.Store = server_error (codes "store")
+text_of reply.Memory = server_error (codes "memory")

@@ -1,0 +1,34 @@
+-- What a line and the front of a stream are told to be.
+use Rattle.std.specs.Prelude.{ℕ, ◌+◌, ◌≡◌, ◌<◌, ◌≤◌, List, [], Option, Some, None}
+use Rattle.mc_text.specs.declared.lines.Said.{Said}
+use Rattle.mc_text.specs.declared.lines.Said.TheVariants.{Whole, Headed, Bad}
+use Rattle.mc_text.specs.declared.items.Front.{Front}
+use Rattle.mc_text.specs.declared.items.Front.TheVariants as front
+use Rattle.mc_text.specs.Commands.{AreWords, announced}
+use Rattle.mc_text.specs.Streams.{AreBad, EndsAt, Stands, command, bad_line, long_line, bad_block, big_block, IsOpen}
+use Rattle.mc_text.specs.Parsing.{IsSaid, IsUnsaid, with_block}
+
+-- what the words behind the verb of a row say
+abbrev pub Tells : ℕ → List (List ℕ) → Said → Type 0
+Tells number words (Whole said) = IsSaid number words said × (announced said ≡ None)
+Tells number words (Headed head) = IsSaid number words (with_block head [])
+Tells number words Bad = IsUnsaid number words
+
+-- what the words of a line say
+abbrev pub Told : List (List ℕ) → Said → Type 0
+Told words (Whole said) = AreWords said words × (announced said ≡ None)
+Told words (Headed head) = AreWords (with_block head []) words
+Told words Bad = AreBad words
+
+-- what stands first in a stream
+abbrev pub IsFront : List ℕ → Front → Type 0
+IsFront stream (front.Command said taken) = Stands stream (command said) taken
+IsFront stream (front.BadLine taken) = Stands stream bad_line taken
+IsFront stream front.LongLine = Stands stream long_line 0
+IsFront stream front.BadBlock = Stands stream bad_block 0
+IsFront stream front.BigBlock = Stands stream big_block 0
+IsFront stream front.Open = IsOpen stream
+
+-- no CR LF begins within the first bytes
+abbrev pub IsEndless : List ℕ → ℕ → Type 0
+IsEndless stream bytes = (place : ℕ) → place < bytes → EndsAt stream place → ⊥

@@ -1,0 +1,109 @@
+ghost use Rattle.std.specs.Prelude.{◌≡◌, ◌≤◌, length, OnOk, OnErr};
+ghost use Rattle.mc_text.specs.Framing.{begun, fed, past, Answers};
+
+use crate::commands::Command;
+use crate::faults::FrameFault;
+use crate::items::{Front, front_of};
+use rows_model::Memory;
+use std::alloc::Global;
+use std::marker::Model;
+
+/// The commands of a stream of bytes that comes in pieces. Contracts see the place in the stream at
+/// which the next command begins, and the bytes that were fed from there on. What is answered depends
+/// on these bytes, and not on the pieces in which they came.
+#[derive(Debug, Drop)]
+pub struct Framer {
+    alloc: Global,
+    // What was fed, the last bytes of it, and how many of those are taken.
+    bytes: Vec<u8>,
+    taken: usize,
+    place: u64,
+}
+
+impl Model for Framer {
+    ghost use Rattle.std.specs.Prelude.{◌≤◌, length, drop};
+    ghost use Rattle.mc_text.specs.Framing.{Frames};
+
+    ghost Value = { Frames };
+
+    ghost view = { λ f. record { place = f.place; rest = drop f.taken f.bytes.items } };
+
+    ghost invariant = { λ f. f.taken ≤ length f.bytes.items };
+}
+
+impl Framer {
+    /// A framer that was fed nothing. It takes no memory.
+    pub fn new(alloc: Global) -> Framer
+        ensures { result ≡ begun }
+    {
+        Framer {
+            alloc,
+            bytes: Vec::new(alloc),
+            taken: 0,
+            place: 0,
+        }
+    }
+
+    /// Takes the next piece of the stream. After want of memory all is as before.
+    pub fn feed(&mut self, piece: &[u8]) -> Result<(), Memory>
+        ensures ok { OnOk result (self.new ≡ fed self.old piece.now) }
+        ensures err { OnErr result (self.new ≡ self.old) }
+    {
+        self.give_up();
+        self.bytes.extend_from_slice(piece)?;
+        Ok(())
+    }
+
+    /// The command that stands next in the bytes, which is taken; `None` exactly where no whole
+    /// command and no fault stands there, and then all is as before. A line that isn't of its verb's
+    /// form is a fault and is taken. The other faults of the bytes last: nothing is taken, and the
+    /// same is told again. After want of memory all is as before.
+    pub fn next_command(&mut self) -> Result<Option<Command>, FrameFault>
+        ensures { Answers self.old result self.new }
+    {
+        let place = self.place;
+        match front_of(self.alloc, &self.bytes[self.taken..]) {
+            Ok(Front::Command { command, taken }) => {
+                self.take(taken);
+                Ok(Some(command))
+            }
+            Ok(Front::BadLine { taken }) => {
+                self.take(taken);
+                Err(FrameFault::BadLine { place })
+            }
+            Ok(Front::LongLine) => Err(FrameFault::LongLine { place }),
+            Ok(Front::BadBlock) => Err(FrameFault::BadBlock { place }),
+            Ok(Front::BigBlock) => Err(FrameFault::BigBlock { place }),
+            Ok(Front::Open) => Ok(None),
+            Err(Memory) => Err(FrameFault::Memory),
+        }
+    }
+
+    /// How many bytes were fed and not taken. It takes no memory.
+    pub fn left(&self) -> u64
+        ensures { result ≡ length self.now.rest }
+    {
+        (self.bytes.len() - self.taken) as u64
+    }
+
+    // So many bytes are taken.
+    fn take(&mut self, taken: usize)
+        requires { taken ≤ length self.old.rest }
+        ensures { self.new ≡ past self.old taken }
+    {
+        self.taken += taken;
+        self.place = self.place.saturating_add(taken as u64);
+    }
+
+    // Lets go of the bytes that are taken. Those that are left move to the front.
+    fn give_up(&mut self)
+        ensures { self.new ≡ self.old }
+    {
+        if self.taken == self.bytes.len() {
+            self.bytes.clear();
+        } else if self.taken > 0 {
+            self.bytes.drain(..self.taken);
+        }
+        self.taken = 0;
+    }
+}

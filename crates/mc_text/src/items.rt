@@ -1,0 +1,119 @@
+// What stands first in a stream: a command, a fault, or not enough to tell.
+ghost use Rattle.std.specs.Prelude.{◌≡◌, ◌+◌, ◌≤◌, [], ◌<◌, ◌^◌, length, take, IfSome, IfNone, IfOk};
+ghost use Rattle.std.specs.Bool.{MatchBool};
+ghost use Rattle.mc_text.specs.Words.{words_in};
+ghost use Rattle.mc_text.specs.Commands.{AreWords};
+ghost use Rattle.mc_text.specs.Streams.{EndsAt, IsLine};
+ghost use Rattle.mc_text.specs.Parsing.{with_block};
+ghost use Rattle.mc_text.specs.Telling.{Told, IsFront, IsEndless};
+
+use crate::commands::{Command, Head};
+use crate::lines::{Said, said_of};
+use rows_model::{Memory, Value};
+use std::alloc::Global;
+
+// The most bytes of a line, without its CR LF, and of a block.
+const LONGEST_LINE: usize = 2_048;
+
+const BIGGEST_BLOCK: u64 = 1_048_576;
+
+// What stands first in a stream.
+#[derive(Drop)]
+pub enum Front {
+    /// A command, with how many bytes it takes.
+    Command { command: Command, taken: usize },
+    /// A line that isn't of its verb's form, with how many bytes it takes.
+    BadLine { taken: usize },
+    /// A line that is too long.
+    LongLine,
+    /// A block that doesn't end where it should.
+    BadBlock,
+    /// A block that is too big.
+    BigBlock,
+    /// Neither a whole command nor a fault.
+    Open,
+}
+
+/// What stands first in the stream.
+pub(crate) fn front_of(alloc: Global, stream: &[u8]) -> Result<Front, Memory>
+    ensures { IfOk result (λ front. IsFront stream.now front) }
+{
+    match line_end(stream) {
+        Some(long) => with_line(alloc, stream, long),
+        None => Ok(without_line(stream)),
+    }
+}
+
+// How long the first line is: where the first CR LF begins, if that is within the longest line.
+fn line_end(stream: &[u8]) -> Option<usize>
+    ensures found { IfSome result (λ long. IsLine stream.now long) }
+    ensures none { IfNone result (IsEndless stream.now 2049) }
+{
+    let places = (LONGEST_LINE + 1).min(stream.len());
+    for place in 0..places {
+        if ends_at(stream, place) {
+            return Some(place);
+        }
+    }
+    None
+}
+
+// Whether a CR LF begins at this place.
+fn ends_at(stream: &[u8], place: usize) -> bool
+    requires { place < length stream.now }
+    ensures { MatchBool result (EndsAt stream.now place) (EndsAt stream.now place → ⊥) }
+{
+    stream[place] == b'\r' && place + 1 < stream.len() && stream[place + 1] == b'\n'
+}
+
+// A stream with no line.
+fn without_line(stream: &[u8]) -> Front
+    requires { IsEndless stream.now 2049 }
+    ensures { IsFront stream.now result }
+{
+    if stream.len() > LONGEST_LINE + 1 {
+        Front::LongLine
+    } else {
+        Front::Open
+    }
+}
+
+// A stream whose first line is so long.
+fn with_line(alloc: Global, stream: &[u8], long: usize) -> Result<Front, Memory>
+    requires { IsLine stream.now long }
+    ensures { IfOk result (λ front. IsFront stream.now front) }
+{
+    match said_of(alloc, &stream[..long])? {
+        Said::Whole { command } => Ok(Front::Command {
+            command,
+            taken: long + 2,
+        }),
+        Said::Headed { head } => with_block(alloc, stream, long, head),
+        Said::Bad => Ok(Front::BadLine { taken: long + 2 }),
+    }
+}
+
+// A stream whose first line announces a block.
+fn with_block(alloc: Global, stream: &[u8], long: usize, head: Head) -> Result<Front, Memory>
+    requires line { IsLine stream.now long }
+    requires says { AreWords (with_block head []) (words_in (take long stream.now)) }
+    ensures { IfOk result (λ front. IsFront stream.now front) }
+{
+    let bytes = head.bytes();
+    if bytes > BIGGEST_BLOCK {
+        return Ok(Front::BigBlock);
+    }
+    let from = long + 2;
+    let to = from + bytes as usize;
+    if stream.len() < to + 2 {
+        return Ok(Front::Open);
+    }
+    if !ends_at(stream, to) {
+        return Ok(Front::BadBlock);
+    }
+    let block = Value::of(alloc, &stream[from..to])?;
+    Ok(Front::Command {
+        command: head.with_block(block),
+        taken: to + 2,
+    })
+}

@@ -1,0 +1,19 @@
+//! The text of the lease commands: which bytes say which command, and what a reply looks like.
+#![tactic(auto)]
+
+pub use commands::{Command, Role};
+pub use faults::FrameFault;
+pub use framing::Framer;
+pub use replies::{LineReply, reply_text, write_reply};
+
+pub mod commands;
+pub mod faults;
+pub mod framing;
+mod items;
+mod lines;
+mod numbers;
+pub mod replies;
+#[cfg(test)]
+mod tests;
+mod txns;
+mod words;

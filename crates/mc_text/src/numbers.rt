@@ -1,0 +1,122 @@
+// What a word is: a key, a number, the number of a session.
+ghost use Rattle.std.specs.Prelude.{◌≡◌, ◌<◌, ◌^◌, ℕ, ℤ, Option, IfSome, IfNone};
+ghost use Rattle.rows_model.specs.declared.keys.QKey.{QKey};
+ghost use Rattle.rows_model.specs.declared.keys.Sid.{Sid};
+ghost use Rattle.rows_model.specs.Shift.{number_in};
+ghost use Rattle.mc_text.specs.Words.{is_key_byte, is_key, is_numeral, IsKey, IsNumber, IsFlags, IsSid, IsBy};
+
+use rows_model::{QKey, Sid};
+use std::str;
+
+// The most bytes of a key, and the most digits of a number.
+const LONGEST_KEY: usize = 250;
+
+const MOST_DIGITS: usize = 20;
+
+/// The key of the cache that the word is, if it is one; `None` where it may not be a key at all.
+pub(crate) fn key_of(word: &[u8]) -> Option<Option<QKey>>
+    ensures found { IfSome result (λ key. IsKey word.now key) }
+    ensures none { IfNone result ((key : Option QKey) → IsKey word.now key → ⊥) }
+{
+    if !is_key(word) {
+        return None;
+    }
+    Some(QKey::parse(word))
+}
+
+/// The number below 2^64 that the word is: 1 to 20 digits, with zeros in front or without.
+pub(crate) fn number_of(word: &[u8]) -> Option<u64>
+    ensures found { IfSome result (λ number. IsNumber word.now number) }
+    ensures none { IfNone result ((number : ℕ) → IsNumber word.now number → ⊥) }
+{
+    if word.is_empty() || word.len() > MOST_DIGITS {
+        return None;
+    }
+    let mut number: u64 = 0;
+    for byte in word {
+        if !(b'0'..=b'9').contains(byte) {
+            return None;
+        }
+        number = number
+            .checked_mul(10)?
+            .checked_add(u64::from(*byte - b'0'))?;
+    }
+    Some(number)
+}
+
+/// The number below 2^32 that the word is.
+pub(crate) fn flags_of(word: &[u8]) -> Option<u32>
+    ensures found { IfSome result (λ number. IsFlags word.now number) }
+    ensures none { IfNone result ((number : ℕ) → IsFlags word.now number → ⊥) }
+{
+    let number = number_of(word)?;
+    if number > 4_294_967_295 {
+        return None;
+    }
+    Some(number as u32)
+}
+
+/// The session whose number the word is.
+pub(crate) fn sid_of(word: &[u8]) -> Option<Sid>
+    ensures found { IfSome result (λ sid. IsSid word.now sid) }
+    ensures none { IfNone result ((sid : Sid) → IsSid word.now sid → ⊥) }
+{
+    let number = number_of(word)?;
+    Some(Sid { number })
+}
+
+/// The number of 32 bits that the word is, with a minus in front or without.
+pub(crate) fn by_of(word: &[u8]) -> Option<i32>
+    ensures found { IfSome result (λ by. IsBy word.now by) }
+    ensures none { IfNone result ((by : ℤ) → IsBy word.now by → ⊥) }
+{
+    match word {
+        [b'-', digits @ ..] => below_zero(number_of(digits)?),
+        _ => from_zero(number_of(word)?),
+    }
+}
+
+// So far below 0.
+fn below_zero(number: u64) -> Option<i32> {
+    if number > 2_147_483_648 {
+        return None;
+    }
+    Some((-(number as i64)) as i32)
+}
+
+// So far above 0.
+fn from_zero(number: u64) -> Option<i32> {
+    if number > 2_147_483_647 {
+        return None;
+    }
+    Some(number as i32)
+}
+
+/// The number below 2^64 that the word is, with no sign and no leading zero.
+pub(crate) fn canonical_of(word: &[u8]) -> Option<u64>
+    ensures { result ≡ number_in word.now }
+{
+    let [first, ..] = word else {
+        return None;
+    };
+    if *first == b'0' {
+        return if word.len() == 1 { Some(0) } else { None };
+    }
+    if !(b'1'..=b'9').contains(first) {
+        return None;
+    }
+    let Ok(digits) = str::from_utf8(word) else {
+        return None;
+    };
+    digits.parse().ok()
+}
+
+// Whether the word may be a key.
+fn is_key(word: &[u8]) -> bool
+    ensures { result ≡ is_key word.now }
+{
+    if word.is_empty() || word.len() > LONGEST_KEY {
+        return false;
+    }
+    word.iter().all(|byte| *byte >= 0x21 && *byte != 0x7f)
+}
