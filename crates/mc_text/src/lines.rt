@@ -29,7 +29,7 @@ pub enum Said {
 
 /// What the line says, without the CR LF that ends it.
 pub(crate) fn said_of(alloc: Global, line: &[u8]) -> Result<Said, Memory>
-    ensures { IfOk result (λ said. Told said (words_in line.now)) }
+    ensures { IfOk result (λ said. Told (words_in line.now) said) }
 {
     let Some((word, args)) = next_word(line) else {
         return Ok(Said::Whole {

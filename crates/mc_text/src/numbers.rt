@@ -1,7 +1,7 @@
 // What a word is: a key, a number, the number of a session.
-ghost use Rattle.std.specs.Prelude.{◌≡◌, ◌<◌, ◌^◌, ℕ, ℤ, Option, IfSome, IfNone};
+ghost use Rattle.std.specs.Prelude.{◌≡◌, ◌<◌, ◌≤◌, ◌^◌, ℕ, ℤ, pos, neg_ℤ, Option, SomeIff, IfSome, IfNone};
+ghost use Rattle.std.specs.List.{list_all};
 ghost use Rattle.rows_model.specs.declared.keys.QKey.{QKey};
-ghost use Rattle.rows_model.specs.declared.keys.Sid.{Sid};
 ghost use Rattle.rows_model.specs.Shift.{number_in};
 ghost use Rattle.mc_text.specs.Words.{is_key_byte, is_key, is_numeral, IsKey, IsNumber, IsFlags, IsSid, IsBy};
 
@@ -59,7 +59,7 @@ pub(crate) fn flags_of(word: &[u8]) -> Option<u32>
 /// The session whose number the word is.
 pub(crate) fn sid_of(word: &[u8]) -> Option<Sid>
     ensures found { IfSome result (λ sid. IsSid word.now sid) }
-    ensures none { IfNone result ((sid : Sid) → IsSid word.now sid → ⊥) }
+    ensures none { IfNone result ((number : ℕ) → IsNumber word.now number → ⊥) }
 {
     let number = number_of(word)?;
     Some(Sid { number })
@@ -77,7 +77,9 @@ pub(crate) fn by_of(word: &[u8]) -> Option<i32>
 }
 
 // So far below 0.
-fn below_zero(number: u64) -> Option<i32> {
+fn below_zero(number: u64) -> Option<i32>
+    ensures { SomeIff result (number ≤ 2 ^ 31) (neg_ℤ (pos number)) }
+{
     if number > 2_147_483_648 {
         return None;
     }
@@ -85,7 +87,9 @@ fn below_zero(number: u64) -> Option<i32> {
 }
 
 // So far above 0.
-fn from_zero(number: u64) -> Option<i32> {
+fn from_zero(number: u64) -> Option<i32>
+    ensures { SomeIff result (number < 2 ^ 31) (pos number) }
+{
     if number > 2_147_483_647 {
         return None;
     }
@@ -118,5 +122,12 @@ fn is_key(word: &[u8]) -> bool
     if word.is_empty() || word.len() > LONGEST_KEY {
         return false;
     }
+    are_key_bytes(word)
+}
+
+// Whether each byte may stand in a key.
+fn are_key_bytes(word: &[u8]) -> bool
+    ensures { result ≡ list_all is_key_byte word.now }
+{
     word.iter().all(|byte| *byte >= 0x21 && *byte != 0x7f)
 }

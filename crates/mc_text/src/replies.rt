@@ -150,6 +150,7 @@ pub fn write_reply(out: &mut Vec<u8>, reply: &LineReply) -> Result<(), Memory>
 }
 
 // Writes the text of the reply; for want of memory a part of it may have been written.
+#[tactic(auto, unfolding(crate::specs::Replies::text_of))]
 fn push_reply(out: &mut Vec<u8>, reply: &LineReply) -> Result<(), AllocError>
     ensures ok { OnOk result (out.new.items ≡ out.old.items ++ text_of reply.now) }
     ensures err { OnErr result (BeginsWith out.old.items out.new.items) }

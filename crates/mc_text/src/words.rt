@@ -42,7 +42,7 @@ pub(crate) fn take_key(args: &[u8]) -> Option<(Option<QKey>, &[u8])>
 pub(crate) fn take_sid(args: &[u8]) -> Option<(Sid, &[u8])>
     ensures found { IfSome result
         (λ read. IsFirst IsSid (words_in args.now) read.0 (words_in read.1.now)) }
-    ensures none { IfNone result (IsNoFirst IsSid (words_in args.now)) }
+    ensures none { IfNone result (IsNoFirst IsNumber (words_in args.now)) }
 {
     let (word, rest) = next_word(args)?;
     let sid = sid_of(word)?;

@@ -1,0 +1,10 @@
+use Rattle.std.proofs.Common.{◌≡◌, length}
+use Rattle.mc_text.specs.Words.{words_in}
+use Rattle.mc_text.proofs.ChangeLemmas.{HasTaken}
+use Rattle.mc_text.proofs.txns.changes_of.Given as goal
+
+abbrev pub invariant-loop : goal.invariant-loop
+invariant-loop l = record {
+  taken : HasTaken (words_in l.words) l.changes.items (words_in l.rest);
+  count : length l.changes.items ≡ l.counter;
+}
