@@ -28,7 +28,7 @@ same_bytes stream a b said other bytes h k says tells e =
     announced_once other said (words_in (take a stream)) again says ∙ e
 
 -- two numbers in options
-some_once : (a b : ℕ) → Some a ≡ Some b → a ≡ b
+pub some_once : (a b : ℕ) → Some a ≡ Some b → a ≡ b
 some_once a b e = cc
 
 -- a block that isn't whole

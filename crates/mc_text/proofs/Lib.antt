@@ -6,3 +6,5 @@ pub mod ChangeLemmas
 pub mod VerbLemmas
 pub mod OnceLemmas
 pub mod FrontLemmas
+pub mod TellLemmas
+pub mod StreamLemmas

@@ -71,11 +71,11 @@ in_table (IqAbort sid) some = record { listed = (12, omega arith, refl); word_is
 in_table Quit some = record { listed = (13, omega arith, refl); word_is = refl }
 
 -- so words that begin with a verb aren't unknown
-apart : (a b : Command) (words : List (List ℕ)) → IsStrange a words → Spells b words → ⊥
+pub apart : (a b : Command) (words : List (List ℕ)) → IsStrange a words → Spells b words → ⊥
 apart a b words strange known = (rw known.words_are at strange.none) (row_of b) (rw known.verb (in_table b known.from))
 
 -- two that words spell are of one row
-one_row : (a b : Command) (words : List (List ℕ)) → Spells a words → Spells b words → number_of a ≡ number_of b
+pub one_row : (a b : Command) (words : List (List ℕ)) → Spells a words → Spells b words → number_of a ≡ number_of b
 one_row a b words h k =
     let same : h.word ≡ k.word = ap (λ (ws : List (List ℕ)). get_or ws 0 []) (sym h.words_are ∙ k.words_are) in
     sym (number_back a) ∙ (ap (λ (w : List ℕ). number_with (letters w)) (sym h.verb ∙ (same ∙ k.verb)) ∙ number_back b)

@@ -6,3 +6,4 @@ pub mod Replies
 pub mod Framing
 pub mod Parsing
 pub mod Telling
+pub mod Laws

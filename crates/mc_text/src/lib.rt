@@ -4,12 +4,14 @@
 pub use commands::{Command, Role};
 pub use faults::FrameFault;
 pub use framing::Framer;
+pub use laws::streams_tell_items;
 pub use replies::{LineReply, reply_text, write_reply};
 
 pub mod commands;
 pub mod faults;
 pub mod framing;
 mod items;
+pub mod laws;
 mod lines;
 mod numbers;
 pub mod replies;
