@@ -72,21 +72,25 @@ stands_more stream more bad_line taken h = record {
   says = words_more AreBad stream more h.long h.line h.says;
   taken_is = h.taken_is;
 }
-stands_more stream more long_line taken h =
-    (record {
-      enough = omega (arith, length-append stream more, h.0.enough);
-      endless = λ place l e. h.0.endless place l (ends_less stream more place (omega (arith, h.0.enough, l)) e);
-    }, h.1)
+stands_more stream more long_line taken h = (
+  record {
+    enough = omega (arith, length-append stream more, h.0.enough);
+    endless = λ place l e. h.0.endless place l (ends_less stream more place (omega (arith, h.0.enough, l)) e);
+  },
+  h.1,
+)
 stands_more stream more bad_block taken h =
-    let b = h.0 in
-    (record {
-      long = b.long;
-      bytes = b.bytes;
-      line = announces_more stream more b.long b.bytes b.line;
-      small = b.small;
-      there = omega (arith, length-append stream more, b.there);
-      wrong = λ e. b.wrong (ends_less stream more (b.long + 2 + b.bytes) b.there e);
-    }, h.1)
+    let b = h.0 in (
+      record {
+        long = b.long;
+        bytes = b.bytes;
+        line = announces_more stream more b.long b.bytes b.line;
+        small = b.small;
+        there = omega (arith, length-append stream more, b.there);
+        wrong = λ e. b.wrong (ends_less stream more (b.long + 2 + b.bytes) b.there e);
+      },
+      h.1,
+    )
 stands_more stream more big_block taken h =
     let b = h.0 in
     (record { long = b.long; bytes = b.bytes; line = announces_more stream more b.long b.bytes b.line; big = b.big }, h.1)
@@ -125,9 +129,10 @@ command_once stream a b m n h k =
     let line : h.long ≡ k.long = line_once stream h.long k.long h.line k.line in
     let again : AreWords b (words_in (take h.long stream)) = same_words (λ ws. AreWords b ws) stream h.long k.long h.line k.line k.says in
     let size : announced a ≡ announced b = announced_once a b (words_in (take h.long stream)) h.says again in
-    let block = block_once stream (h.long + 2) (k.long + 2) (announced a) (announced b) (block_of a) (block_of b) (ap (λ (n : ℕ). n + 2) line) size h.block k.block in
-    (words_once a b (words_in (take h.long stream)) h.says again block,
-     h.taken_is ∙ (ap (λ (n : ℕ). n + 2 + block_size (announced a)) line ∙ (ap (λ (o : Option ℕ). k.long + 2 + block_size o) size ∙ sym k.taken_is)))
+    let block = block_once stream (h.long + 2) (k.long + 2) (announced a) (announced b) (block_of a) (block_of b) (ap (λ (n : ℕ). n + 2) line) size h.block k.block in (
+      words_once a b (words_in (take h.long stream)) h.says again block,
+      h.taken_is ∙ (ap (λ (n : ℕ). n + 2 + block_size (announced a)) line ∙ (ap (λ (o : Option ℕ). k.long + 2 + block_size o) size ∙ sym k.taken_is)),
+    )
 
 -- a command's line isn't bad
 command_not_bad : (stream : List ℕ) (a : Command) (m n : ℕ) → IsCommand stream a m → IsBadLine stream n → ⊥
@@ -144,9 +149,10 @@ not_long stream long h k = k.endless long h.short h.ends
 
 -- a line announces one size
 size_once : (stream : List ℕ) (a b m n : ℕ) → Announces stream a m → Announces stream b n → (a ≡ b) × (m ≡ n)
-size_once stream a b m n h k =
-    (line_once stream a b h.line k.line,
-     some_once m n (sym h.bytes_are ∙ same_bytes stream b a k.command h.command n k.line h.line k.says h.says k.bytes_are))
+size_once stream a b m n h k = (
+  line_once stream a b h.line k.line,
+  some_once m n (sym h.bytes_are ∙ same_bytes stream b a k.command h.command n k.line h.line k.says h.says k.bytes_are),
+)
 
 -- a command whose line announces a block has it
 block_there : (stream : List ℕ) (a : Command) (long bytes m : ℕ) → IsCommand stream a m → Announces stream long bytes → (bytes ≤ 1048576) × EndsAt stream (long + 2 + bytes)
@@ -193,9 +199,13 @@ first_more : (stream more : List ℕ) (items : List Item) (m : ℕ) → AreFirst
 first_more stream more [] m h = h
 first_more stream more (item ∷ items) m h =
     let (one, others, stands, rest, sum) = h in
-    let cut : drop one (stream ++ more) ≡ drop one stream ++ more = drop-append-le one stream more (stands_fit stream item one stands) in
-    (one, others, stands_more stream more item one stands,
-     subst (λ (bytes : List ℕ). AreFirst bytes items others) (sym cut) (first_more (drop one stream) more items others rest), sum)
+    let cut : drop one (stream ++ more) ≡ drop one stream ++ more = drop-append-le one stream more (stands_fit stream item one stands) in (
+      one,
+      others,
+      stands_more stream more item one stands,
+      subst (λ (bytes : List ℕ). AreFirst bytes items others) (sym cut) (first_more (drop one stream) more items others rest),
+      sum,
+    )
 
 -- those that stand behind them go on
 pieces_join : (front more : List ℕ) (items others : List Item) (m n : ℕ) → AreFirst front items m → AreFirst (drop m front ++ more) others n → AreFirst (front ++ more) (items ++ others) (m + n)

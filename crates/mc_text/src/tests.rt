@@ -412,6 +412,14 @@ fn lines_and_keys_and_blocks_are_bounded(rt: HostRuntime) -> Result<(), Fail> {
     Ok(())
 }
 
+// How long the block of a command is.
+fn block_length(command: &Command) -> usize {
+    match command {
+        Command::IqSet { block, .. } | Command::Sar { block, .. } => block.bytes().len(),
+        _ => 0,
+    }
+}
+
 #[test]
 fn a_block_may_be_a_mebibyte(rt: HostRuntime) -> Result<(), Fail> {
     let stream = padded(
@@ -432,7 +440,7 @@ fn a_block_may_be_a_mebibyte(rt: HostRuntime) -> Result<(), Fail> {
         }
     }
     let long = match framer.next_command() {
-        Ok(Some(Command::IqSet { block, .. })) => block.bytes().len(),
+        Ok(Some(command)) => block_length(&command),
         _ => 0,
     };
     assert_eq!(rt; long, 1_048_576);
