@@ -1,5 +1,5 @@
 -- So many numbers, the lowest first, of which the powers of two add up to one less than a power: they count from 0.
-use Rattle.std.proofs.Common.{ℕ, zero, suc, ◌+◌, ◌-◌, ◌^◌, ◌≡◌, ◌≤◌, ◌<◌, List, [], ◌∷◌, length, map, sum_by, Some, slice_get, refl, sym, ap, subst, ◌∙◌, arith}
+use Rattle.std.proofs.Common.{ℕ, zero, suc, ◌+◌, ◌-◌, ◌^◌, ◌≡◌, ◌≤◌, ◌<◌, List, [], ◌∷◌, length, map, sum_by, Some, slice_get, refl, sym, ap, ◌∙◌, arith}
 use Rattle.std.proofs.Math.Nat.{two-pow-succ}
 use Rattle.std.specs.Prelude.{Option, drop, get_or, is_some, unwrap_or}
 use Rattle.std.specs.List.Sorted.{IsNonDecreasingBy}

@@ -1,7 +1,6 @@
 -- What a request makes of the shard that it is on, and what its session is told.
-use Rattle.std.specs.Prelude.{ℕ, ℤ, pos, ◌≡◌, ◌-◌, ◌^◌, Bool, ◌==◌, ◌&&◌, IsTrue, MatchBool, List, Option, Some, None}
+use Rattle.std.specs.Prelude.{ℕ, ◌≡◌, ◌-◌, ◌^◌, Bool, ◌==◌, ◌&&◌, IsTrue, MatchBool, Option, Some, None}
 use Rattle.std.specs.Bool.{IsFalse}
-use Rattle.rows_model.specs.declared.keys.QKey.{QKey}
 use Rattle.rows_model.specs.declared.keys.Sid.{Sid}
 use Rattle.key_shard.specs.Answers.{IsAtHome, get_step, set_step}
 use Rattle.key_shard.specs.Past.{Terms, draws, next_token}

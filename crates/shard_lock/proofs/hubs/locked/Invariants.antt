@@ -1,4 +1,4 @@
-use Rattle.std.proofs.Common.{ℕ, ◌≡◌, ◌≤◌, ◌+◌, ◌^◌, All, length, vec_len, vec_capacity}
+use Rattle.std.proofs.Common.{◌≡◌, ◌≤◌, ◌+◌, ◌^◌, All, length, vec_len, vec_capacity}
 use Rattle.shard_lock.specs.Names.{ArePlaced, IsNamed}
 use Rattle.shard_lock.proofs.hubs.locked.Given as goal
 

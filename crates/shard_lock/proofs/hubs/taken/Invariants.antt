@@ -1,4 +1,4 @@
-use Rattle.std.proofs.Common.{ℕ, ◌≡◌, ◌≤◌, ◌+◌, ◌^◌, All, sum_by, vec_len, vec_capacity}
+use Rattle.std.proofs.Common.{◌≡◌, ◌≤◌, ◌+◌, ◌^◌, All, sum_by, vec_len, vec_capacity}
 use Rattle.shard_lock.specs.Names.{AreLegal, IsNamed}
 use Rattle.shard_lock.proofs.hubs.taken.Given as goal
 

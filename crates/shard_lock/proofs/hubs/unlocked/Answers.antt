@@ -1,4 +1,4 @@
-use Rattle.std.proofs.Common.{ℕ, ◌≡◌, ◌+◌, ◌^◌, ◌∙◌, List, length, sum_by, vec_len, rules, sym, ap, arith}
+use Rattle.std.proofs.Common.{ℕ, ◌≡◌, ◌^◌, ◌∙◌, length, vec_len, rules, sym, ap, arith}
 use Rattle.std.proofs.lemmas.List.Sorted.{IsNonDecreasingBy-from_sort_by_key, sum_by-IsPermutation}
 use Rattle.key_shard.specs.Shards.{ShardView}
 use Rattle.shard_lock.proofs.PowerLemmas.{are_placed}

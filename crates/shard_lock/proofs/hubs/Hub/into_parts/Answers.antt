@@ -1,4 +1,4 @@
-use Rattle.std.proofs.Common.{ℕ, ◌≡◌, ◌≤◌, length, sym, subst, ◌∙◌, arith}
+use Rattle.std.proofs.Common.{ℕ, ◌≡◌, length, sym, subst, ◌∙◌, arith}
 use Rattle.shard_lock.specs.Names.{HaveCount}
 use Rattle.shard_lock.proofs.PlaceLemmas.{are_all}
 use Rattle.shard_lock.proofs.hubs.Hub.into_parts.Goals as goal

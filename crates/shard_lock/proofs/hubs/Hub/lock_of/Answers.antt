@@ -1,4 +1,4 @@
-use Rattle.std.proofs.Common.{◌<◌, arith}
+use Rattle.std.proofs.Common.{arith}
 use Rattle.rows_model.proofs.PlacementLemmas.{shard_below}
 use Rattle.shard_lock.proofs.hubs.Hub.lock_of.Goals as goal
 

@@ -1,4 +1,4 @@
-use Rattle.std.proofs.Common.{ℕ, ◌≡◌, length, vec_len, sym, subst, ◌∙◌, arith}
+use Rattle.std.proofs.Common.{ℕ, ◌≡◌, length, vec_len, sym, subst, arith}
 use Rattle.shard_lock.specs.Names.{AreTokens, HaveCount}
 use Rattle.shard_lock.proofs.PlaceLemmas.{have_count}
 use Rattle.shard_lock.proofs.hubs.Hub.new.Goals as goal
