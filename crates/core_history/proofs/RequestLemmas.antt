@@ -1,5 +1,5 @@
 -- A request that was made on the shard of its key is the machine's event.
-use Rattle.std.proofs.Common.{ℕ, ℤ, ◌≡◌, pos, List, ◌∷◌, Option, Some, None, Ok, refl, sym, ap, subst, set, ◌∙◌}
+use Rattle.std.proofs.Common.{ℕ, ℤ, ◌≡◌, pos, List, ◌∷◌, Option, Ok, refl, sym, ap, subst, set, ◌∙◌}
 use Rattle.std.proofs.lemmas.List.{reverse-reverse}
 use Rattle.rows_model.specs.declared.keys.QKey.{QKey}
 use Rattle.rows_model.specs.declared.keys.Sid.{Sid}
@@ -12,7 +12,6 @@ use Rattle.key_shard.specs.declared.steps.Step.TheVariants as step
 use Rattle.key_shard.specs.declared.replies.Got.{Got}
 use Rattle.key_shard.specs.declared.replies.SetAnswer.{SetAnswer}
 use Rattle.key_shard.specs.declared.replies.QAnswer.{QAnswer}
-use Rattle.key_shard.specs.declared.replies.QAnswer.TheVariants as told
 use Rattle.key_shard.specs.declared.replies.Rel.{Rel}
 use Rattle.key_shard.specs.declared.replies.How.{How}
 use Rattle.key_shard.specs.declared.replies.How.TheVariants as how
