@@ -1,6 +1,6 @@
 -- What words say they say once: the row of a command, and how many bytes its block has.
-use Rattle.std.proofs.Common.{ℕ, ◌+◌, ◌==◌, ◌≡◌, ◌<◌, ◌≤◌, ◌⊎◌, ◌||◌, inl, inr, Bool, true, false, List, [], ◌∷◌, length, get_or, Option, Some, None, arith, refl, sym, ap, ◌∙◌, subst}
-use Rattle.std.specs.Prelude.{if◌then◌else◌, codes}
+use Rattle.std.proofs.Common.{ℕ, ◌+◌, ◌==◌, ◌≡◌, ◌<◌, ◌≤◌, ◌⊎◌, ◌||◌, inl, inr, Bool, true, false, List, [], ◌∷◌, length, take, get_or, Option, Some, None, arith, refl, sym, ap, ◌∙◌, subst}
+use Rattle.std.specs.Prelude.{if◌then◌else◌, codes, Result, Ok, Err, OnErr}
 use Rattle.case_tables.specs.Verbs.{Verb, IsRowOf, IsNoVerb, lease_rows, line_row, block_row}
 use Rattle.rows_model.specs.declared.keys.QKey.{QKey}
 use Rattle.rows_model.specs.declared.keys.Sid.{Sid}
@@ -10,6 +10,8 @@ use Rattle.mc_text.specs.declared.commands.Command.TheVariants.{Begin, IqGet, As
 use Rattle.mc_text.specs.declared.commands.Head.{Head}
 use Rattle.mc_text.specs.declared.commands.Head.TheVariants as head
 use Rattle.mc_text.specs.Commands.{verb_of, AreArgs, AreWords, AreUnknown, announced}
+use Rattle.mc_text.specs.Streams.{IsLine, HaveBody, WantsMemory}
+use Rattle.mc_text.specs.Words.{words_in}
 use Rattle.mc_text.specs.Parsing.{number_of, with_block}
 use Rattle.mc_text.proofs.VerbLemmas.{number_with, letters, number_back, verb_row}
 
@@ -34,7 +36,7 @@ spelled command [] h = absurd h
 spelled command (word ∷ args) h = inr (record { from = omega arith; word = word; args = args; words_are = refl; verb = h.0; says = h.1 })
 
 -- the row of a command in the table of verbs
-row_of : Command → Verb
+abbrev row_of : Command → Verb
 row_of (Begin role) = line_row 1 (codes "begin") 1
 row_of (IqGet key sid floor) = line_row 2 (codes "iqget") 3
 row_of (Ask key sid) = line_row 3 (codes "ask") 2
@@ -53,7 +55,6 @@ row_of Unknown = line_row 0 [] 0
 
 -- each verb is in the table
 in_table : (command : Command) → 1 ≤ number_of command → IsRowOf lease_rows (verb_of command) (row_of command)
-unfolding row_of
 in_table Unknown some = absurd (omega arith)
 in_table (Begin role) some = record { listed = (0, omega arith, refl); word_is = refl }
 in_table (IqGet key sid floor) some = record { listed = (1, omega arith, refl); word_is = refl }
@@ -127,3 +128,17 @@ any_block (head.Set key flags exptime bytes token stamp) block [] h = h
 any_block (head.Set key flags exptime bytes token stamp) block (word ∷ words) h = h
 any_block (head.Sar key flags exptime bytes sid) block [] h = h
 any_block (head.Sar key flags exptime bytes sid) block (word ∷ words) h = h
+
+-- a command with a block has a line whose row has one
+pub block_body : (front : Head) (words : List (List ℕ)) → AreWords (with_block front []) words → HaveBody words
+block_body (head.Set key flags exptime bytes token stamp) [] h = h
+block_body (head.Set key flags exptime bytes token stamp) (word ∷ words) h =
+    (row_of (IqSet key flags exptime bytes token stamp []), rw h.0 (in_table (IqSet key flags exptime bytes token stamp []) (omega arith)), refl)
+block_body (head.Sar key flags exptime bytes sid) [] h = h
+block_body (head.Sar key flags exptime bytes sid) (word ∷ words) h =
+    (row_of (Sar key flags exptime bytes sid []), rw h.0 (in_table (Sar key flags exptime bytes sid []) (omega arith)), refl)
+
+-- a stream whose first line has a block behind it
+pub block_wants : {A B : Type 0} (stream : List ℕ) (long : ℕ) (front : Head) (read : Result A B) → IsLine stream long → AreWords (with_block front []) (words_in (take long stream)) → OnErr read (WantsMemory stream)
+block_wants stream long front (Ok value) line says = tt
+block_wants stream long front (Err fault) line says = record { long = long; line = line; body = block_body front (words_in (take long stream)) says }

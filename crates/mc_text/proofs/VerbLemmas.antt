@@ -1,6 +1,6 @@
 -- A line says what the words behind its verb say, since a verb tells its row and a row its verb.
 use Rattle.std.proofs.Common.{ℕ, ◌+◌, ◌*◌, ◌==◌, ◌≡◌, ◌<◌, ◌≤◌, Bool, true, false, ◌&&◌, List, [], ◌∷◌, length, get_or, arith, refl, sym, ap, ◌∙◌, subst}
-use Rattle.std.specs.Prelude.{if◌then◌else◌, codes, nat_eq, nat_le, Result, Ok, Err, IfOk}
+use Rattle.std.specs.Prelude.{if◌then◌else◌, codes, nat_eq, nat_le, Result, Ok, Err, IfOk, OnErr}
 use Rattle.rows_model.specs.declared.refusals.Memory.{Memory}
 use Rattle.std.specs.List.{list_all}
 use Rattle.std.specs.Cmp.Lexicographic.{pointwise, same_text}
@@ -13,7 +13,7 @@ use Rattle.mc_text.specs.declared.commands.Command.TheVariants.{Begin, IqGet, As
 use Rattle.mc_text.specs.declared.lines.Said.{Said}
 use Rattle.mc_text.specs.declared.lines.Said.TheVariants.{Whole, Headed, Bad}
 use Rattle.mc_text.specs.Commands.{verb_of, AreArgs, AreWords, AreUnknown}
-use Rattle.mc_text.specs.Streams.{AreBad}
+use Rattle.mc_text.specs.Streams.{AreBad, has_body, HaveBody}
 use Rattle.mc_text.specs.Parsing.{number_of, IsSaid, IsUnsaid, with_block}
 use Rattle.mc_text.specs.Telling.{Tells, Told}
 
@@ -164,3 +164,9 @@ line_told words args word row table (Err fault) e t r h = h
 -- a line whose first word is no verb
 pub unknown_line : (words args : List (List ℕ)) (word : List ℕ) (table : List Verb) → words ≡ word ∷ args → table ≡ lease_rows → IsNoVerb table word → AreUnknown words
 unknown_line words args word table e t none = rw e (rw t at none)
+
+-- a line whose row has a transaction or a block
+pub body_line : (words args : List (List ℕ)) (word : List ℕ) (row : Verb) (table : List Verb) (read : Result Said Memory) → words ≡ word ∷ args → table ≡ lease_rows → IsRowOf table word row
+    → OnErr read (has_body row.number ≡ true) → OnErr read (HaveBody words)
+body_line words args word row table (Ok said) e t r h = h
+body_line words args word row table (Err fault) e t r h = rw e (row, rw t at r, h)

@@ -3,7 +3,7 @@ use Rattle.std.specs.Prelude.{ℕ, ◌+◌, ◌-◌, ◌^◌, ◌≡◌, List, [
 use Rattle.mc_text.specs.declared.commands.Command.{Command}
 use Rattle.mc_text.specs.declared.faults.FrameFault.{FrameFault}
 use Rattle.mc_text.specs.declared.faults.FrameFault.TheVariants.{BadLine, LongLine, BadBlock, BigBlock, Memory}
-use Rattle.mc_text.specs.Streams.{Item, command, bad_line, long_line, bad_block, big_block, Stands, IsOpen}
+use Rattle.mc_text.specs.Streams.{Item, command, bad_line, long_line, bad_block, big_block, Stands, IsOpen, WantsMemory}
 
 -- a framer: where in the stream the next command begins, stopping at 2^64-1, and the bytes that were fed from there on
 pub record Frames : Type 0 where
@@ -28,13 +28,13 @@ pub record Takes (old : Frames) (item : Item) (new : Frames) : Type 0 where
   pub stands : Stands old.rest item taken
   pub goes_on : new ≡ past old taken
 
--- what a fault says of the bytes: it stands first, at the place where they begin, and a bad line is taken; for want of memory nothing is told
+-- what a fault says of the bytes: it stands first, at the place where they begin, and a bad line is taken; memory is wanted for a line with a transaction or a block alone, and all stays
 abbrev pub Faults : Frames → FrameFault → Frames → Type 0
 Faults old (BadLine place) new = (place ≡ old.place) × Takes old bad_line new
 Faults old (LongLine place) new = (place ≡ old.place) × Takes old long_line new
 Faults old (BadBlock place) new = (place ≡ old.place) × Takes old bad_block new
 Faults old (BigBlock place) new = (place ≡ old.place) × Takes old big_block new
-Faults old Memory new = new ≡ old
+Faults old Memory new = WantsMemory old.rest × (new ≡ old)
 
 -- what was answered, and what is left
 abbrev pub Answers : Frames → Result (Option Command) FrameFault → Frames → Type 0

@@ -1,5 +1,5 @@
 -- What stands first in a stream of bytes: which command or fault, and how many bytes it takes.
-use Rattle.std.specs.Prelude.{ℕ, ◌+◌, ◌≡◌, ◌<◌, ◌≤◌, List, [], ◌∷◌, length, take, drop, slice_index, Option, Some, None}
+use Rattle.std.specs.Prelude.{ℕ, ◌+◌, ◌==◌, ◌||◌, Bool, true, ◌≡◌, ◌<◌, ◌≤◌, List, [], ◌∷◌, length, take, drop, slice_index, Option, Some, None}
 use Rattle.case_tables.specs.Verbs.{Verb, IsRowOf, lease_rows}
 use Rattle.mc_text.specs.declared.commands.Command.{Command}
 use Rattle.mc_text.specs.Words.{words_in}
@@ -88,6 +88,21 @@ pub data Item : Type 0 where
   long_line : Item
   bad_block : Item
   big_block : Item
+
+-- whether the command of a row has a transaction or a block: `stage`, `iqset`, `sql` and `sar`
+abbrev pub has_body : ℕ → Bool
+has_body number = (number == 4) || (number == 5) || (number == 9) || (number == 11)
+
+-- the first word is the verb of such a command
+abbrev pub HaveBody : List (List ℕ) → Type 0
+HaveBody [] = ⊥
+HaveBody (word ∷ words) = (row : Verb) × IsRowOf lease_rows word row × (has_body row.number ≡ true)
+
+-- the line that stands first begins with such a verb: no other is read with memory
+pub record WantsMemory (stream : List ℕ) : Type 0 where
+  pub long : ℕ
+  pub line : IsLine stream long
+  pub body : HaveBody (words_in (take long stream))
 
 -- this stands first in the stream, and takes so many bytes; the faults that last take none
 abbrev pub Stands : List ℕ → Item → ℕ → Type 0

@@ -1,9 +1,9 @@
 // What stands first in a stream: a command, a fault, or not enough to tell.
-ghost use Rattle.std.specs.Prelude.{◌≡◌, ◌+◌, ◌≤◌, [], ◌<◌, ◌^◌, length, take, IfSome, IfNone, IfOk};
+ghost use Rattle.std.specs.Prelude.{◌≡◌, ◌+◌, ◌≤◌, [], ◌<◌, ◌^◌, length, take, IfSome, IfNone, IfOk, OnErr};
 ghost use Rattle.std.specs.Bool.{MatchBool};
 ghost use Rattle.mc_text.specs.Words.{words_in};
 ghost use Rattle.mc_text.specs.Commands.{AreWords};
-ghost use Rattle.mc_text.specs.Streams.{EndsAt, IsLine};
+ghost use Rattle.mc_text.specs.Streams.{EndsAt, IsLine, WantsMemory};
 ghost use Rattle.mc_text.specs.Parsing.{with_block};
 ghost use Rattle.mc_text.specs.Telling.{Told, IsFront, IsEndless};
 
@@ -36,7 +36,8 @@ pub enum Front {
 
 /// What stands first in the stream.
 pub(crate) fn front_of(alloc: Global, stream: &[u8]) -> Result<Front, Memory>
-    ensures { IfOk result (λ front. IsFront stream.now front) }
+    ensures front { IfOk result (λ front. IsFront stream.now front) }
+    ensures memory { OnErr result (WantsMemory stream.now) }
 {
     match line_end(stream) {
         Some(long) => with_line(alloc, stream, long),
@@ -81,7 +82,8 @@ fn without_line(stream: &[u8]) -> Front
 // A stream whose first line is so long.
 fn with_line(alloc: Global, stream: &[u8], long: usize) -> Result<Front, Memory>
     requires { IsLine stream.now long }
-    ensures { IfOk result (λ front. IsFront stream.now front) }
+    ensures front { IfOk result (λ front. IsFront stream.now front) }
+    ensures memory { OnErr result (WantsMemory stream.now) }
 {
     match said_of(alloc, &stream[..long])? {
         Said::Whole { command } => Ok(Front::Command {
@@ -97,7 +99,8 @@ fn with_line(alloc: Global, stream: &[u8], long: usize) -> Result<Front, Memory>
 fn with_block(alloc: Global, stream: &[u8], long: usize, head: Head) -> Result<Front, Memory>
     requires line { IsLine stream.now long }
     requires says { AreWords (with_block head []) (words_in (take long stream.now)) }
-    ensures { IfOk result (λ front. IsFront stream.now front) }
+    ensures front { IfOk result (λ front. IsFront stream.now front) }
+    ensures memory { OnErr result (WantsMemory stream.now) }
 {
     let bytes = head.bytes();
     if bytes > BIGGEST_BLOCK {

@@ -1,11 +1,12 @@
 // What a line says, by its words.
-ghost use Rattle.std.specs.Prelude.{◌≡◌, ◌≤◌, [], Option, IfSome, IfNone, IfOk, MatchOption};
+ghost use Rattle.std.specs.Prelude.{◌≡◌, ◌≤◌, true, [], Option, IfSome, IfNone, IfOk, OnErr, MatchOption};
 ghost use Rattle.rows_model.specs.declared.keys.QKey.{QKey};
 ghost use Rattle.rows_model.specs.declared.keys.Sid.{Sid};
 ghost use Rattle.mc_text.specs.Words.{words_in, IsKey, IsSid};
 ghost use Rattle.mc_text.specs.declared.commands.Role.{Role};
 ghost use Rattle.mc_text.specs.declared.lines.Said.TheVariants.{Whole, Headed, Bad};
 ghost use Rattle.mc_text.specs.Commands.{Then, NoMore, role_word};
+ghost use Rattle.mc_text.specs.Streams.{has_body, HaveBody};
 ghost use Rattle.mc_text.specs.Parsing.{IsSaid, IsUnsaid, with_block};
 ghost use Rattle.mc_text.specs.Telling.{Tells, Told};
 
@@ -29,7 +30,8 @@ pub enum Said {
 
 /// What the line says, without the CR LF that ends it.
 pub(crate) fn said_of(alloc: Global, line: &[u8]) -> Result<Said, Memory>
-    ensures { IfOk result (λ said. Told (words_in line.now) said) }
+    ensures told { IfOk result (λ said. Told (words_in line.now) said) }
+    ensures memory { OnErr result (HaveBody (words_in line.now)) }
 {
     let Some((word, args)) = next_word(line) else {
         return Ok(Said::Whole {
@@ -48,7 +50,8 @@ pub(crate) fn said_of(alloc: Global, line: &[u8]) -> Result<Said, Memory>
 fn with_verb(alloc: Global, number: u8, args: &[u8]) -> Result<Said, Memory>
     requires from { 1 ≤ number }
     requires to { number ≤ 14 }
-    ensures { IfOk result (λ said. Tells number (words_in args.now) said) }
+    ensures tells { IfOk result (λ said. Tells number (words_in args.now) said) }
+    ensures memory { OnErr result (has_body number ≡ true) }
 {
     match number {
         1 => Ok(whole(begin_of(args))),
