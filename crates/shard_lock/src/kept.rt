@@ -1,5 +1,5 @@
 // What lies under the locks: a shard and the store, each with what is named of it.
-ghost use Rattle.std.specs.Prelude.{◌≡◌, ◌^◌, ◌↔◌, IfOk, OnOk, OnErr, IsTrue, length};
+ghost use Rattle.std.specs.Prelude.{◌≡◌, ◌↔◌, IfOk, OnOk, OnErr, IsTrue, length};
 ghost use Rattle.key_shard.specs.Answers.{IsAtHome, Legal, sweep_step};
 ghost use Rattle.key_shard.specs.Dues.{first_due};
 ghost use Rattle.key_shard.specs.Replies.{sweep_told};

@@ -1,6 +1,6 @@
 -- The ends of a load's run.
-use Rattle.std.proofs.Common.{ℕ, ◌≡◌, ◌+◌, ◌-◌, ◌^◌, ◌<◌, ◌≤◌, List, [], ◌∷◌, length, arith, refl, sym, ap, ◌∙◌, subst, inl, inr, All}
-use Rattle.std.specs.Prelude.{Bool, true, false, ◌⊎◌, ◌==◌, nat_lt, cond, Option, Some, None, Result, Ok, Err, IfOk, IfErr, slice_get, option_map, unwrap_or, is_some, get_or, position}
+use Rattle.std.proofs.Common.{ℕ, ◌≡◌, ◌+◌, ◌-◌, ◌^◌, ◌≤◌, List, [], ◌∷◌, length, arith, refl, sym, ap, ◌∙◌, subst, inl, inr, All}
+use Rattle.std.specs.Prelude.{Bool, true, false, ◌⊎◌, nat_lt, cond, Option, Some, None, Result, Ok, Err, IfOk, IfErr, slice_get, option_map, unwrap_or, is_some, get_or, position}
 use Rattle.std.specs.List.{position_from}
 use Rattle.std.proofs.lemmas.Iterator.Adapters.{position_from-zero}
 use Rattle.std.specs.Option.{ForSome}

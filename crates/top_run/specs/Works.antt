@@ -1,5 +1,5 @@
 -- What the run of a load prints and keeps.
-use Rattle.std.specs.Prelude.{ℕ, ◌≡◌, ◌≤◌, ◌-◌, ◌^◌, ◌==◌, ◌⊎◌, nat_lt, All, Bool, true, false, List, [], ◌∷◌, ◌++◌, length, position, count_by, Option, Some, None, Result, Ok, Err, slice_get, codes, decimal}
+use Rattle.std.specs.Prelude.{ℕ, ◌≡◌, ◌≤◌, ◌-◌, ◌^◌, ◌==◌, ◌⊎◌, nat_lt, Bool, true, false, List, [], ◌∷◌, ◌++◌, length, position, count_by, Option, Some, None, Result, Ok, Err, slice_get, codes, decimal}
 use Rattle.std.specs.Option.{ForSome}
 use Rattle.iq_outside.specs.Outside.{Rose}
 use Rattle.rows_model.specs.Key.{key_text}
@@ -8,7 +8,6 @@ use Rattle.key_shard.specs.declared.steps.Step.{Step}
 use Rattle.key_shard.specs.declared.steps.Step.TheVariants as step
 use Rattle.key_shard.specs.Answers.{Legal}
 use Rattle.key_shard.specs.Past.{Terms, draws}
-use Rattle.key_shard.specs.Shards.{ShardView}
 use Rattle.sql_keeper.specs.declared.stores.Commit.{Commit}
 use Rattle.sql_keeper.specs.Faults.{FewFailed}
 use Rattle.sql_keeper.specs.Log.{rows_after}

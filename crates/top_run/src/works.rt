@@ -1,6 +1,6 @@
 // The run of a load: its sessions over a hub, each worker in a thread of its own, and then the audit and
 // the summary.
-ghost use Rattle.std.specs.Prelude.{◌≡◌, ◌≢◌, ◌≤◌, ◌<◌, ◌-◌, ◌^◌, ℕ, [], List, Option, Some, None, All, IfOk, IfErr, IfSome, IsSome, count_by, length, map, position, vec_capacity, nat_lt};
+ghost use Rattle.std.specs.Prelude.{◌≡◌, ◌≢◌, ◌≤◌, ◌<◌, ℕ, [], List, Option, Some, None, All, IfOk, IfErr, IfSome, IsSome, count_by, length, map, position, vec_capacity, nat_lt};
 ghost use Rattle.std.specs.Bool.{IsFalse};
 ghost use Rattle.std.specs.Option.{ForSome};
 ghost use Rattle.rows_model.specs.Rows.{Tables};
