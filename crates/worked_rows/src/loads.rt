@@ -144,6 +144,19 @@ fn one_worker_writes_the_same_each_time(rt: HostRuntime) -> Result<(), Fail> {
 }
 
 #[test]
+fn one_worker_writes_a_large_load_the_same_twice(rt: HostRuntime) -> Result<(), Fail> {
+    let load = ["100000", "200000", "1", "8", "7"];
+    let (end, first) = work(&rt, rt.alloc(), &load, &[], &[])?;
+    assert_eq!(rt; end.status, Status::Done);
+    drop(end);
+    let (end, second) = work(&rt, rt.alloc(), &load, &[], &[])?;
+    assert_eq!(rt; end.status, Status::Done);
+    assert!(rt; first.as_slice().ends_with(b"\naudit clean\n"));
+    assert_eq!(rt; first.as_slice(), second.as_slice());
+    Ok(())
+}
+
+#[test]
 fn a_write_that_fails_cuts_the_summary(rt: HostRuntime) -> Result<(), Fail> {
     let load = ["3", "0", "1", "1", "1"];
     let (end, printed) = work(&rt, rt.alloc(), &load, &[2], &[])?;
