@@ -364,9 +364,15 @@ fn answers_whatever_the_pieces(rt: HostRuntime) -> Result<(), Fail> {
     Ok(())
 }
 
-// So many bytes of this value, and these behind them.
-fn padded(alloc: Global, head: &str, count: usize, behind: &str) -> Result<Vec<u8>, AllocError> {
-    let fill = vec![in alloc; b'a'; count]?;
+// A text, so many bytes of this value, and a text behind them.
+fn padded(
+    alloc: Global,
+    head: &str,
+    byte: u8,
+    count: usize,
+    behind: &str,
+) -> Result<Vec<u8>, AllocError> {
+    let fill = vec![in alloc; byte; count]?;
     let mut text = stream_of(alloc, head)?;
     text.extend_from_slice(fill.as_slice())?;
     text.extend_from_slice(stream_of(alloc, behind)?.as_slice())?;
@@ -375,31 +381,35 @@ fn padded(alloc: Global, head: &str, count: usize, behind: &str) -> Result<Vec<u
 
 #[test]
 fn lines_and_keys_and_blocks_are_bounded(rt: HostRuntime) -> Result<(), Fail> {
-    for (head, count, behind, want) in [
-        ("", 2048, ";", "unknown;left 0"),
-        ("", 2049, "", "left 2049"),
-        ("", 2048, "\r", "left 2049"),
-        ("", 2049, "\r", "LongLine { place: 0 };left 2050"),
-        ("", 2049, ";", "LongLine { place: 0 };left 2051"),
-        ("", 2050, "", "LongLine { place: 0 };left 2050"),
-        ("quit;", 2048, ";quit;", "quit;unknown;quit;left 0"),
+    for (head, byte, count, behind, want) in [
+        ("", b'a', 2048, ";", "unknown;left 0"),
+        ("", b'a', 2049, "", "left 2049"),
+        ("", b'a', 2048, "\r", "left 2049"),
+        ("", b'a', 2049, "\r", "LongLine { place: 0 };left 2050"),
+        ("", b'a', 2049, ";", "LongLine { place: 0 };left 2051"),
+        ("", b'a', 2050, "", "LongLine { place: 0 };left 2050"),
+        ("quit;", b'a', 2048, ";quit;", "quit;unknown;quit;left 0"),
         (
             "quit;",
+            b'a',
             2050,
             ";quit;",
             "quit;LongLine { place: 6 };left 2058",
         ),
-        ("ask ", 250, " 1;", "ask none 1;left 0"),
-        ("ask ", 251, " 1;", "bad line 0;left 0"),
-        ("iqset profile:2 0 0 1048576 1 0;", 3, "", "left 36"),
+        ("quit", b' ', 2044, ";", "quit;left 0"),
+        ("quit", b' ', 2045, ";", "LongLine { place: 0 };left 2051"),
+        ("ask ", b'a', 250, " 1;", "ask none 1;left 0"),
+        ("ask ", b'a', 251, " 1;", "bad line 0;left 0"),
+        ("iqset profile:2 0 0 1048576 1 0;", b'a', 3, "", "left 36"),
         (
             "iqset profile:2 0 0 1048577 1 0;",
+            b'a',
             3,
             "",
             "BigBlock { place: 0 };left 36",
         ),
     ] {
-        let stream = padded(rt.alloc(), head, count, behind)?;
+        let stream = padded(rt.alloc(), head, byte, count, behind)?;
         for piece in [65_536, 2049, 2048] {
             let told = stream_told(rt.alloc(), stream.as_slice(), piece)?;
             assert_eq!(rt;
@@ -425,6 +435,7 @@ fn a_block_may_be_a_mebibyte(rt: HostRuntime) -> Result<(), Fail> {
     let stream = padded(
         rt.alloc(),
         "iqset profile:2 0 0 1048576 1 0;",
+        b'a',
         1_048_576,
         ";quit;",
     )?;
