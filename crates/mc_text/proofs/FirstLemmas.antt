@@ -1,7 +1,7 @@
 -- What the first words are, and that they are none of a kind.
 use Rattle.std.proofs.Common.{ℕ, ◌≡◌, List, [], ◌∷◌, refl, sym, ap, ◌∙◌, subst, get_or}
-use Rattle.mc_text.specs.Commands.{Then, NoMore}
-use Rattle.mc_text.specs.Parsing.{IsFirst, IsNoFirst}
+use Rattle.mc_text.specs.Commands.{Then}
+use Rattle.mc_text.specs.Parsing.{IsNoFirst}
 
 -- the first of some words
 first_is : (a b : List ℕ) (xs ys : List (List ℕ)) → a ∷ xs ≡ b ∷ ys → a ≡ b

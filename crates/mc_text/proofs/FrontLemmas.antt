@@ -1,12 +1,12 @@
 -- What stands first in a stream whose first line announces a block.
-use Rattle.std.proofs.Common.{ℕ, ◌+◌, ◌-◌, ◌≡◌, ◌<◌, ◌≤◌, ◌⊎◌, inl, inr, List, [], length, take, drop, Option, Some, None, arith, refl, sym, ap, ◌∙◌, subst}
+use Rattle.std.proofs.Common.{ℕ, ◌+◌, ◌≡◌, ◌<◌, ◌≤◌, ◌⊎◌, inl, inr, List, [], length, take, drop, Option, Some, None, arith, sym, ◌∙◌, subst}
 use Rattle.std.proofs.lemmas.Bool.{cases_order}
 use Rattle.mc_text.specs.declared.commands.Command.{Command}
 use Rattle.mc_text.specs.declared.commands.Head.{Head}
 use Rattle.mc_text.specs.declared.commands.Head.TheVariants as head
 use Rattle.mc_text.specs.Words.{words_in}
 use Rattle.mc_text.specs.Commands.{AreWords, announced, block_of}
-use Rattle.mc_text.specs.Streams.{EndsAt, IsLine, IsBlock, block_size, IsCommand, Announces, Item, command, bad_line, long_line, bad_block, big_block, Stands, IsOpen}
+use Rattle.mc_text.specs.Streams.{EndsAt, IsLine, IsBlock, IsCommand, command, bad_line, long_line, bad_block, big_block, IsOpen}
 use Rattle.mc_text.specs.Parsing.{with_block}
 use Rattle.mc_text.proofs.OnceLemmas.{announced_once, any_block}
 

@@ -1,12 +1,12 @@
 -- Numbers of up to 20 digits, read one digit after another.
-use Rattle.std.proofs.Common.{ℕ, ℤ, pos, neg_ℤ, zero, suc, ◌+◌, ◌-◌, ◌*◌, ◌^◌, ◌≡◌, ◌<◌, ◌≤◌, Bool, true, false, not, List, [], ◌∷◌, ◌++◌, length, take, drop, get_or, take-suc, take_all, take-append-drop, Option, Some, None, arith, refl, sym, ap, ◌∙◌, add-one}
+use Rattle.std.proofs.Common.{ℕ, ◌+◌, ◌-◌, ◌*◌, ◌≡◌, ◌<◌, ◌≤◌, true, false, List, [], ◌∷◌, ◌++◌, length, take, drop, get_or, take-suc, take_all, take-append-drop, arith, refl, sym, ap, ◌∙◌, add-one}
 use Rattle.std.specs.List.{list_all}
 use Rattle.std.specs.Prelude.{nat_le, ◌&&◌}
 use Rattle.std.proofs.lemmas.Bool.{false≢true, and_parts}
 use Rattle.std.proofs.lemmas.Bool.Decides.{nat_tests}
 use Rattle.std.proofs.lemmas.List.Folds.{list_all_at, list_all-append}
 use Rattle.rows_model.specs.Shift.{is_digit, number_from}
-use Rattle.mc_text.specs.Words.{is_numeral, IsBelow, IsNumber, IsFlags, IsUnsigned, IsMinus, IsBy}
+use Rattle.mc_text.specs.Words.{is_numeral, IsBelow}
 
 -- digits, read after others
 number_behind : (xs ys : List ℕ) (front : ℕ) → number_from front (xs ++ ys) ≡ number_from (number_from front xs) ys

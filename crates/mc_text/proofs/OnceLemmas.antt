@@ -1,7 +1,7 @@
 -- What words say they say once: the row of a command, and how many bytes its block has.
-use Rattle.std.proofs.Common.{ℕ, ◌+◌, ◌==◌, ◌≡◌, ◌<◌, ◌≤◌, ◌⊎◌, ◌||◌, inl, inr, Bool, true, false, List, [], ◌∷◌, length, take, get_or, Option, Some, None, arith, refl, sym, ap, ◌∙◌, subst}
+use Rattle.std.proofs.Common.{ℕ, ◌==◌, ◌≡◌, ◌≤◌, ◌⊎◌, ◌||◌, inl, inr, List, [], ◌∷◌, take, get_or, Option, Some, None, arith, refl, sym, ap, ◌∙◌}
 use Rattle.std.specs.Prelude.{if◌then◌else◌, codes, Result, Ok, Err, OnErr}
-use Rattle.case_tables.specs.Verbs.{Verb, IsRowOf, IsNoVerb, lease_rows, line_row, block_row}
+use Rattle.case_tables.specs.Verbs.{Verb, IsRowOf, lease_rows, line_row, block_row}
 use Rattle.rows_model.specs.declared.keys.QKey.{QKey}
 use Rattle.rows_model.specs.declared.keys.Sid.{Sid}
 use Rattle.rows_model.specs.Shift.{number_from}
@@ -13,7 +13,7 @@ use Rattle.mc_text.specs.Commands.{verb_of, AreArgs, AreWords, AreUnknown, annou
 use Rattle.mc_text.specs.Streams.{IsLine, HaveBody, WantsMemory}
 use Rattle.mc_text.specs.Words.{words_in}
 use Rattle.mc_text.specs.Parsing.{number_of, with_block}
-use Rattle.mc_text.proofs.VerbLemmas.{number_with, letters, number_back, verb_row}
+use Rattle.mc_text.proofs.VerbLemmas.{number_with, letters, number_back}
 
 -- the words begin with the verb of a command, and these stand behind it
 pub record Spells (command : Command) (words : List (List ℕ)) : Type 0 where

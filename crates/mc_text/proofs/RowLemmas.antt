@@ -1,12 +1,10 @@
 -- The words of no command of a row, where they don't fit the one command of that row.
-use Rattle.std.proofs.Common.{ℕ, ℤ, ◌≡◌, List, Option}
+use Rattle.std.proofs.Common.{ℕ, ℤ, List, Option}
 use Rattle.rows_model.specs.declared.keys.QKey.{QKey}
 use Rattle.rows_model.specs.declared.keys.Sid.{Sid}
 use Rattle.rows_model.specs.declared.changes.Change.{Change}
-use Rattle.mc_text.specs.declared.commands.Command.{Command}
 use Rattle.mc_text.specs.declared.commands.Command.TheVariants.{Ask, Stage, IqSet, QaReg, QaRead, IqDelta, Sql, Dar, Sar, IqCommit}
-use Rattle.mc_text.specs.Words.{IsKey, IsSid}
-use Rattle.mc_text.specs.Commands.{Then, NoMore, AreArgs}
+use Rattle.mc_text.specs.Commands.{AreArgs}
 use Rattle.mc_text.specs.Parsing.{IsUnsaid}
 
 pub only_ask : (words : List (List ℕ)) → ((key : Option QKey) (sid : Sid) → AreArgs (Ask key sid) words → ⊥) → IsUnsaid 3 words

@@ -1,10 +1,10 @@
 -- What stands first in a stream: once, and whatever comes behind it.
-use Rattle.std.proofs.Common.{ℕ, zero, suc, ◌+◌, ◌≡◌, ◌<◌, ◌≤◌, ◌⊎◌, inl, inr, List, [], ◌∷◌, ◌++◌, length, take, drop, get_or, Option, Some, None, arith, refl, sym, ap, ◌∙◌, subst, append-nil}
+use Rattle.std.proofs.Common.{ℕ, ◌+◌, ◌≡◌, ◌<◌, ◌≤◌, List, [], ◌∷◌, ◌++◌, length, take, drop, Option, Some, None, arith, refl, sym, ap, ◌∙◌, subst}
 use Rattle.std.proofs.lemmas.List.{take-append-le, drop-append-le, get_or_append_left, drop-drop, length-append, length-drop}
 use Rattle.mc_text.specs.declared.commands.Command.{Command}
 use Rattle.mc_text.specs.Words.{words_in}
 use Rattle.mc_text.specs.Commands.{AreWords, announced, block_of}
-use Rattle.mc_text.specs.Streams.{EndsAt, IsLine, IsLong, IsBlock, block_size, IsCommand, AreBad, IsBadLine, Announces, HasBigBlock, HasBadBlock, Item, command, bad_line, long_line, bad_block, big_block, Stands, IsOpen, AreFirst}
+use Rattle.mc_text.specs.Streams.{EndsAt, IsLine, IsLong, IsBlock, block_size, IsCommand, AreBad, IsBadLine, Announces, Item, command, bad_line, long_line, bad_block, big_block, Stands, IsOpen, AreFirst}
 use Rattle.mc_text.specs.Laws.{StreamsTellItems}
 use Rattle.mc_text.proofs.OnceLemmas.{announced_once}
 use Rattle.mc_text.proofs.TellLemmas.{words_once}

@@ -1,5 +1,5 @@
 -- A line says what the words behind its verb say, since a verb tells its row and a row its verb.
-use Rattle.std.proofs.Common.{ℕ, ◌+◌, ◌*◌, ◌==◌, ◌≡◌, ◌<◌, ◌≤◌, Bool, true, false, ◌&&◌, List, [], ◌∷◌, length, get_or, arith, refl, sym, ap, ◌∙◌, subst}
+use Rattle.std.proofs.Common.{ℕ, ◌+◌, ◌*◌, ◌==◌, ◌≡◌, ◌≤◌, Bool, true, false, ◌&&◌, List, [], ◌∷◌, get_or, arith, refl, sym, ap, ◌∙◌}
 use Rattle.std.specs.Prelude.{if◌then◌else◌, codes, nat_eq, nat_le, Result, Ok, Err, IfOk, OnErr}
 use Rattle.rows_model.specs.declared.refusals.Memory.{Memory}
 use Rattle.std.specs.List.{list_all}
@@ -13,8 +13,8 @@ use Rattle.mc_text.specs.declared.commands.Command.TheVariants.{Begin, IqGet, As
 use Rattle.mc_text.specs.declared.lines.Said.{Said}
 use Rattle.mc_text.specs.declared.lines.Said.TheVariants.{Whole, Headed, Bad}
 use Rattle.mc_text.specs.Commands.{verb_of, AreArgs, AreWords, AreUnknown}
-use Rattle.mc_text.specs.Streams.{AreBad, has_body, HaveBody}
-use Rattle.mc_text.specs.Parsing.{number_of, IsSaid, IsUnsaid, with_block}
+use Rattle.mc_text.specs.Streams.{has_body, HaveBody}
+use Rattle.mc_text.specs.Parsing.{number_of, with_block}
 use Rattle.mc_text.specs.Telling.{Tells, Told}
 
 -- the first five letters of a word, as one number

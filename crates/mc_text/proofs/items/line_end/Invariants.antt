@@ -1,4 +1,3 @@
-use Rattle.std.proofs.Common.{◌≡◌}
 use Rattle.mc_text.specs.Telling.{IsEndless}
 use Rattle.mc_text.proofs.items.line_end.Given as goal
 
