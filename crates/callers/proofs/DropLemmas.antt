@@ -1,5 +1,6 @@
 -- The sweeper's drops in a run are final.
-use Rattle.std.proofs.Common.{◌≡◌, ℕ, ◌<◌, ◌⊎◌, Bool, inl, inr, List, [], ◌∷◌, ◌++◌, length, reverse, Option, Some, None, IsSome, slice_get, eq-eqb, refl, sym, ap, subst, ◌∙◌, arith}
+use Rattle.std.proofs.Common.{◌≡◌, ℕ, ◌<◌, ◌⊎◌, Bool, inl, inr, List, [], ◌∷◌, ◌++◌, length, reverse, Option, Some, None, IsSome, slice_get}
+use Rattle.std.proofs.Common.{eq-eqb, refl, sym, ap, subst, ◌∙◌, arith}
 use Rattle.std.specs.Prelude.{if◌then◌else◌, All}
 use Rattle.std.specs.List.{AllByRecursion}
 use Rattle.std.proofs.lemmas.List.{reverse-reverse}
@@ -85,7 +86,8 @@ drop-home shape (Take t said ∷ moves) before (event ∷ after) home key token 
 -- ---- the history around a drop
 
 -- the history at a place
-history-at : (shape : Shape) (past : List Event) (place : ℕ) (history : List Step) → slice_get (histories_of shape past) place ≡ Some history → history ≡ reverse (steps_of place past)
+history-at : (shape : Shape) (past : List Event) (place : ℕ) (history : List Step)
+    → slice_get (histories_of shape past) place ≡ Some history → history ≡ reverse (steps_of place past)
 history-at shape past place history is =
     let made = length-map-range_with_len (λ place. reverse (steps_of place past)) 0 shape.shards in
     let within : place < shape.shards = subst (λ (n : ℕ). place < n) made (slice_get_within (histories_of shape past) place history is) in
@@ -106,8 +108,10 @@ drops-final law shape moves log histories log_is are before after home key token
     let past = past_of shape moves in
     let final = law shape moves before after home key token s told is in
     let here : shard_of key shape.shards ≡ home = drop-home shape moves before after home key token (Some s) told is in
-    let whole : history ≡ reverse (steps_of home past) = history-at shape past home history (subst (λ (hs : List (List Step)). slice_get hs home ≡ Some history) are at) in
-    let around : steps_of home past ≡ steps_of home after ++ s ∷ steps_of home before = ap (steps_of home) is ∙ steps-around home before after (sweep.Drop key token) s told in
+    let whole : history ≡ reverse (steps_of home past) =
+    history-at shape past home history (subst (λ (hs : List (List Step)). slice_get hs home ≡ Some history) are at) in
+    let around : steps_of home past ≡ steps_of home after ++ s ∷ steps_of home before =
+    ap (steps_of home) is ∙ steps-around home before after (sweep.Drop key token) s told in
     let back : reverse history ≡ steps_of home past = ap reverse whole ∙ reverse-reverse (steps_of home past) in
     record {
       sid = final.sid;
@@ -125,9 +129,11 @@ drops-final law shape moves log histories log_is are before after home key token
         → All (IsHitSince key least) (reverse (steps_of home after))
     since here least h =
         all-turned (IsHitSince key least) (steps_of home after)
-        (All-from_recursion (IsHitSince key least) (steps_of home after) (subst (λ (place : ℕ). AllByRecursion (IsHitSince key least) (steps_of place after)) here h))
+        (All-from_recursion (IsHitSince key least) (steps_of home after)
+        (subst (λ (place : ℕ). AllByRecursion (IsHitSince key least) (steps_of place after)) here h))
 
-pub swept-run : SweepsAreFinal → (s : Status) (held : Held) (before after : Tells) (left : Left) (written : ℕ) → Ended s held before after left written → IsSome left.opening
+pub swept-run : SweepsAreFinal → (s : Status) (held : Held) (before after : Tells) (left : Left) (written : ℕ)
+    → Ended s held before after left written → IsSome left.opening
     → IsSweptRun before.left after.left left.log left.histories
 swept-run law s held before after left written h some = by (began-or-not s held before after left written h)
   where

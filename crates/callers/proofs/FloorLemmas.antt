@@ -18,14 +18,16 @@ use Rattle.key_shard.specs.declared.steps.Step.TheVariants.{Hit, Stored, Void}
 use Rattle.key_shard.specs.declared.replies.How.{How}
 use Rattle.key_shard.specs.Permit.{Permit}
 use Rattle.key_shard.specs.Past.{Terms, own_of, seen_by, holder_of, quar_of, recorded, entry, evicts}
-use Rattle.key_shard.specs.Answers.{Request, Get, Set, Quarantine, Release, Replace, IsLegalPast, found_step, get_by, miss_by, miss_step, quarantine_by, refused_step, release_by, replace_by, step_of}
+use Rattle.key_shard.specs.Answers.{Request, Get, Set, Quarantine, Release, Replace, IsLegalPast, found_step, get_by, miss_by, miss_step}
+use Rattle.key_shard.specs.Answers.{quarantine_by, refused_step, release_by, replace_by, step_of}
 use Rattle.callers.specs.Shards.{MeetsItsFloor, HitsMeetTheirFloors}
 
 meets-one : (b : Bool) (x y : Step) → (b ≡ true → MeetsItsFloor x) → MeetsItsFloor y → MeetsItsFloor (cond b x y)
 meets-one true x y mx my = mx refl
 meets-one false x y mx my = my
 
-meets-missed : (terms : Terms) (past : List Step) (key : QKey) (who : Sid) (floor now : ℕ) (v : Verdict) → MeetsItsFloor (miss_by terms past key who floor now v)
+meets-missed : (terms : Terms) (past : List Step) (key : QKey) (who : Sid) (floor now : ℕ) (v : Verdict)
+    → MeetsItsFloor (miss_by terms past key who floor now v)
 meets-missed terms past key who floor now verdicts.Give = tt
 meets-missed terms past key who floor now verdicts.Wait = tt
 meets-missed terms past key who floor now verdicts.Own = tt
@@ -34,13 +36,16 @@ meets-missed terms past key who floor now verdicts.Join = tt
 meets-missed terms past key who floor now verdicts.Same = tt
 meets-missed terms past key who floor now verdicts.Refuse = tt
 
-meets-found : (terms : Terms) (past : List Step) (key : QKey) (who : Sid) (floor now : ℕ) (o : Option (List ℕ × ℕ)) → MeetsItsFloor (found_step terms past key who floor now o)
+meets-found : (terms : Terms) (past : List Step) (key : QKey) (who : Sid) (floor now : ℕ) (o : Option (List ℕ × ℕ))
+    → MeetsItsFloor (found_step terms past key who floor now o)
 meets-found terms past key who floor now None =
     meets-missed terms past key who floor now (verdict (seen_by key who now past) read)
 meets-found terms past key who floor now (Some f) =
-    meets-one (nat_le floor f.1) (Hit key who floor f.0 f.1) (miss_step terms past key who floor now) (λ e. leb-true floor f.1 e) (meets-missed terms past key who floor now (verdict (seen_by key who now past) read))
+    meets-one (nat_le floor f.1) (Hit key who floor f.0 f.1) (miss_step terms past key who floor now)
+    (λ e. leb-true floor f.1 e) (meets-missed terms past key who floor now (verdict (seen_by key who now past) read))
 
-meets-got : (terms : Terms) (past : List Step) (key : QKey) (who : Sid) (floor now : ℕ) (o : Option Quar) → MeetsItsFloor (get_by terms past key who floor now o)
+meets-got : (terms : Terms) (past : List Step) (key : QKey) (who : Sid) (floor now : ℕ) (o : Option Quar)
+    → MeetsItsFloor (get_by terms past key who floor now o)
 meets-got terms past key who floor now (Some q) = tt
 meets-got terms past key who floor now None = meets-found terms past key who floor now (entry key past)
 
@@ -48,7 +53,8 @@ meets-refused : (key : QKey) (who : Sid) (mode : Mode) (o : Option Quar) → Mee
 meets-refused key who mode (Some q) = tt
 meets-refused key who mode None = tt
 
-meets-asked : (terms : Terms) (past : List Step) (key : QKey) (who : Sid) (mode : Mode) (shift : ℤ) (now : ℕ) (v : Verdict) → MeetsItsFloor (quarantine_by terms past key who mode shift now v)
+meets-asked : (terms : Terms) (past : List Step) (key : QKey) (who : Sid) (mode : Mode) (shift : ℤ) (now : ℕ) (v : Verdict)
+    → MeetsItsFloor (quarantine_by terms past key who mode shift now v)
 meets-asked terms past key who mode shift now verdicts.Give = tt
 meets-asked terms past key who mode shift now verdicts.Void = tt
 meets-asked terms past key who mode shift now verdicts.Join = tt
@@ -61,7 +67,8 @@ meets-released : (permit : Permit) (how : How) (o : Option Quar) → MeetsItsFlo
 meets-released permit how (Some q) = tt
 meets-released permit how None = tt
 
-meets-replaced : (terms : Terms) (past : List Step) (permit : Permit) (value : List ℕ) (stamp : ℕ) (o : Option Quar) → MeetsItsFloor (replace_by terms past permit value stamp o)
+meets-replaced : (terms : Terms) (past : List Step) (permit : Permit) (value : List ℕ) (stamp : ℕ) (o : Option Quar)
+    → MeetsItsFloor (replace_by terms past permit value stamp o)
 meets-replaced terms past permit value stamp (Some q) = tt
 meets-replaced terms past permit value stamp None = tt
 
@@ -83,4 +90,5 @@ meets-past terms (step ∷ past) h =
 pub hits-meet-their-floors : HitsMeetTheirFloors
 hits-meet-their-floors terms history h =
     subst (All MeetsItsFloor) (reverse-reverse history)
-    (All-permutation MeetsItsFloor (reverse history) (reverse (reverse history)) (IsPermutation-reverse (reverse history)) (meets-past terms (reverse history) h))
+    (All-permutation MeetsItsFloor (reverse history) (reverse (reverse history))
+    (IsPermutation-reverse (reverse history)) (meets-past terms (reverse history) h))

@@ -43,7 +43,8 @@ use Rattle.session_client.specs.Belongs.{Belongs, IsQuarantineOf}
 use Rattle.session_client.proofs.QuarantineLemmas.{quarantine_belongs}
 use Rattle.session_client.specs.Follows.{plan_of, sid_of, IsReady, Follows, IsRefreshing}
 use Rattle.session_client.specs.Plans.{mode_on}
-use Rattle.session_client.specs.Wants.{Given, Release, Keeps, Drops, Finishes, is_had, given, released, number_of, has_all, quarantine_as, quarantine_or_then, after_fault, finish, release_after, release_of, release_by, writing_of, wants}
+use Rattle.session_client.specs.Wants.{Given, Release, Keeps, Drops, Finishes, is_had, given, released, number_of, has_all, quarantine_as}
+use Rattle.session_client.specs.Wants.{quarantine_or_then, after_fault, finish, release_after, release_of, release_by, writing_of, wants}
 use Rattle.callers.specs.Quits.{IsQuit, IsGivingUp, AreReplies, IsUnderWay, IsQuarantineReply, HasSameEntries}
 
 -- ---- what a session that quits wants
@@ -103,7 +104,8 @@ up-next : (m : Mode) (txn : List Change) (heard : List Reply) (o : Option QKey) 
 up-next m txn heard None = tt
 up-next m txn heard (Some key) = up-quarantine (mode_on m key) key txn
 
-up-release : (m : Mode) (txn : List Change) (heard : List Reply) (o : Option ℕ) (one : Option Given) → o ≡ None → IsGivingUp (release_of txn (release_after false o) one)
+up-release : (m : Mode) (txn : List Change) (heard : List Reply) (o : Option ℕ) (one : Option Given)
+    → o ≡ None → IsGivingUp (release_of txn (release_after false o) one)
 up-release m txn heard (Some number) one none = absurd cc
 up-release m txn heard None None none = tt
 up-release m txn heard None (Some one) none = tt
@@ -114,7 +116,8 @@ asked-next : (m : Mode) (txn : List Change) (heard : List Reply) (o : Option QKe
 unfolding IsAsking
 asked-next m txn heard None is ask = absurd ask
 asked-next m txn heard (Some key) is ask =
-    ap (λ (b : Bool). if b then false else true) (lt-ltb (count_by is_had heard) (length (footprint txn)) (slice_get_within (footprint txn) (count_by is_had heard) key is))
+    ap (λ (b : Bool). if b then false else true)
+    (lt-ltb (count_by is_had heard) (length (footprint txn)) (slice_get_within (footprint txn) (count_by is_had heard) key is))
 
 no-finish : (m : Mode) (txn : List Change) (number : ℕ) (one : Given) → IsAsking (finish m txn number one) → ⊥
 unfolding IsAsking
@@ -151,13 +154,15 @@ asking m txn (reply.Staged value changes ∷ heard) ask = absurd ask
 asking m txn (reply.NotStaged fault changes ∷ heard) ask = absurd ask
 asking m txn (reply.NotCommitted fault changes grants ∷ heard) ask = absurd ask
 asking m txn (reply.Committed number changes grants ∷ heard) ask =
-    absurd (no-release txn (release_by false (reply.Committed number changes grants ∷ heard)) (slice_get (given (reply.Committed number changes grants ∷ heard)) (released (reply.Committed number changes grants ∷ heard))) ask)
+    absurd (no-release txn (release_by false (reply.Committed number changes grants ∷ heard))
+    (slice_get (given (reply.Committed number changes grants ∷ heard)) (released (reply.Committed number changes grants ∷ heard))) ask)
 asking m txn (reply.End was ∷ heard) ask =
     absurd (no-release txn (release_by false (reply.End was ∷ heard)) (slice_get (given (reply.End was ∷ heard)) (released (reply.End was ∷ heard))) ask)
 asking m txn (reply.Rel told ∷ heard) ask =
     absurd (no-release txn (release_by false (reply.Rel told ∷ heard)) (slice_get (given (reply.Rel told ∷ heard)) (released (reply.Rel told ∷ heard))) ask)
 asking m txn (reply.SarBack grant ∷ heard) ask =
-    absurd (no-release txn (release_by false (reply.SarBack grant ∷ heard)) (slice_get (given (reply.SarBack grant ∷ heard)) (released (reply.SarBack grant ∷ heard))) ask)
+    absurd (no-release txn (release_by false (reply.SarBack grant ∷ heard))
+    (slice_get (given (reply.SarBack grant ∷ heard)) (released (reply.SarBack grant ∷ heard))) ask)
 asking m txn (reply.Answer answer ∷ heard) ask = absurd ask
 asking m txn (reply.Set told ∷ heard) ask = absurd ask
 asking m txn (reply.Nothing ∷ heard) ask = absurd ask
@@ -167,7 +172,8 @@ record Up (m : Mode) (txn : List Change) (heard : List Reply) : Type 0 where
   up : IsGivingUp (wants (Quit m txn) false heard)
   none : number_of heard ≡ None
 
-after : (who : Sid) (m : Mode) (txn : List Change) (told : Reply) (heard : List Reply) → MayCome told → Belongs who (wants (Quit m txn) false heard) told → Up m txn heard → Up m txn (told ∷ heard)
+after : (who : Sid) (m : Mode) (txn : List Change) (told : Reply) (heard : List Reply)
+    → MayCome told → Belongs who (wants (Quit m txn) false heard) told → Up m txn heard → Up m txn (told ∷ heard)
 unfolding MayCome
 after who m txn (reply.Quar (quarantine.Granted grant old)) heard may b h =
     let all = reply.Quar (quarantine.Granted grant old) ∷ heard in
@@ -200,12 +206,14 @@ gives-up who (Quit m txn) heard quit h = (up-after who m txn heard h).up
 gives-up who other heard quit h = absurd quit
 
 -- so does one that is under way
-pub wants-up : (session : Session) (request : Wanted) → IsQuit (plan_of session) → (way : IsUnderWay session) → request ≡ wants (plan_of session) false way.heard → IsGivingUp request
+pub wants-up : (session : Session) (request : Wanted) → IsQuit (plan_of session)
+    → (way : IsUnderWay session) → request ≡ wants (plan_of session) false way.heard → IsGivingUp request
 wants-up session request quit way is =
     subst IsGivingUp (sym is) (gives-up (sid_of session) (plan_of session) way.heard quit way.replies)
 
 -- such a session goes on under way
-pub goes-on : (old wanting new : Session) (request : Wanted) (told : Reply) → (way : IsUnderWay old) → plan_of wanting ≡ plan_of old → sid_of wanting ≡ sid_of old
+pub goes-on : (old wanting new : Session) (request : Wanted) (told : Reply)
+    → (way : IsUnderWay old) → plan_of wanting ≡ plan_of old → sid_of wanting ≡ sid_of old
     → request ≡ wants (plan_of old) false way.heard → Follows wanting false way.heard
     → plan_of new ≡ plan_of wanting → sid_of new ≡ sid_of wanting → IsReady new
     → (Follows wanting false way.heard → Follows new false (told ∷ way.heard)) → Belongs (sid_of old) request told → IsUnderWay new
@@ -262,7 +270,8 @@ pub same-shard : (old new : ShardView) → new ≡ old → HasSameEntries (past_
 same-shard old new same key = ap (λ (shard : ShardView). entry key (past_of shard)) same
 
 -- the answer to a quarantine shows a step that leaves each entry
-asked-step : (old : ShardView) (s : Step) (told : QAnswer) → ShowsQuarantine old.terms (past_of old) s told → (key : QKey) → entry key (s ∷ past_of old) ≡ entry key (past_of old)
+asked-step : (old : ShardView) (s : Step) (told : QAnswer) → ShowsQuarantine old.terms (past_of old) s told
+    → (key : QKey) → entry key (s ∷ past_of old) ≡ entry key (past_of old)
 asked-step old (step.Granted on sid mode shift now token deadline) told shows key = refl
 asked-step old (step.Held on sid mode) told shows key = refl
 asked-step old (step.Refused on sid mode holder held) told shows key = refl

@@ -1,5 +1,6 @@
 -- What follows from how a run ended.
-use Rattle.std.proofs.Common.{◌≡◌, ℕ, ◌-◌, ◌^◌, ◌<◌, ◌⊎◌, ◌||◌, Bool, true, false, inl, inr, List, [], ◌∷◌, ◌++◌, length, map, reverse, Option, Some, None, IsSome, slice_get, refl, sym, ap, subst, ◌∙◌, append_assoc, append-nil, arith}
+use Rattle.std.proofs.Common.{◌≡◌, ℕ, ◌-◌, ◌^◌, ◌<◌, ◌⊎◌, ◌||◌, Bool, true, false, inl, inr, List, [], ◌∷◌, ◌++◌, length, map, reverse}
+use Rattle.std.proofs.Common.{Option, Some, None, IsSome, slice_get, refl, sym, ap, subst, ◌∙◌, append_assoc, append-nil, arith}
 use Rattle.std.specs.Prelude.{All, IfSome, min, nat_lt}
 use Rattle.std.specs.Option.{option_map}
 use Rattle.std.specs.List.{list_any}
@@ -35,7 +36,8 @@ use Rattle.core_history.specs.Machine.{Move, terms_of}
 use Rattle.core_history.specs.Truth.{IsTruePast}
 use Rattle.top_run.specs.declared.runs.Status.{Status}
 use Rattle.top_run.specs.declared.runs.Status.TheVariants as status
-use Rattle.top_run.specs.Runs.{calls_of, AreMoves, AreFirstMoves, past_of, out, Held, Tells, Left, IsRead, IsOpened, Keeps, IsWhole, IsCutOff, IsNotStarted, Ended}
+use Rattle.top_run.specs.Runs.{calls_of, AreMoves, AreFirstMoves, past_of, out, Held, Tells, Left, IsRead, IsOpened, Keeps, IsWhole}
+use Rattle.top_run.specs.Runs.{IsCutOff, IsNotStarted, Ended}
 use Rattle.callers.specs.Shards.{MeetsItsFloor, HitsMeetTheirFloors}
 use Rattle.callers.specs.Runs.{IsFreshRun, IsCleanLoad, HitsHoldCommits, AreAlike}
 
@@ -51,7 +53,8 @@ pub record Began (held : Held) (before after : Tells) (left : Left) : Type 0 whe
   pub made : AreFirstMoves acts moves
   pub keeps : Keeps shape opening moves after.rows left.log left.histories
 
-began-whole : (held : Held) (before after : Tells) (left : Left) (written : ℕ) (turns : List ℕ) → IsWhole held before after left written turns → Began held before after left
+began-whole : (held : Held) (before after : Tells) (left : Left) (written : ℕ) (turns : List ℕ)
+    → IsWhole held before after left written turns → Began held before after left
 began-whole held before after left written turns h = record {
   shape = h.shape;
   acts = h.acts;
@@ -78,7 +81,8 @@ began-cut-off held before after left written h = record {
 }
 
 -- a run began or it didn't
-pub began-or-not : (s : Status) (held : Held) (before after : Tells) (left : Left) (written : ℕ) → Ended s held before after left written → IsNotStarted before after left written ⊎ Began held before after left
+pub began-or-not : (s : Status) (held : Held) (before after : Tells) (left : Left) (written : ℕ)
+    → Ended s held before after left written → IsNotStarted before after left written ⊎ Began held before after left
 began-or-not status.Done held before after left written h = inr (began-whole held before after left written [] h)
 began-or-not status.Usage held before after left written h = inl h.1
 began-or-not (status.Script line kind) held before after left written h = inl h.2
@@ -98,7 +102,8 @@ some-at (Some x) h = (x, refl)
 some-at None h = absurd cc
 
 -- a run that began over a keeper that tells its rows is fresh
-fresh-began : (held : Held) (before after : Tells) (left : Left) (opening : Tables) → Began held before after left → held.place ≡ place.Fresh → IsSome after.rows → left.opening ≡ Some opening
+fresh-began : (held : Held) (before after : Tells) (left : Left) (opening : Tables)
+    → Began held before after left → held.place ≡ place.Fresh → IsSome after.rows → left.opening ≡ Some opening
     → IsFreshRun before.left after.left opening after.rows left.log left.histories
 fresh-began held before after left opening b new some is =
     let told = some-at after.rows some in
@@ -116,7 +121,8 @@ fresh-began held before after left opening b new some is =
     same-inside : (a b : Tables) → Some a ≡ Some b → a ≡ b
     same-inside a b e = cc
 
-pub fresh-run : (s : Status) (held : Held) (before after : Tells) (left : Left) (written : ℕ) → Ended s held before after left written → held.place ≡ place.Fresh → (IsSome left.opening → IsSome after.rows)
+pub fresh-run : (s : Status) (held : Held) (before after : Tells) (left : Left) (written : ℕ)
+    → Ended s held before after left written → held.place ≡ place.Fresh → (IsSome left.opening → IsSome after.rows)
     → IfSome left.opening (λ opening. IsFreshRun before.left after.left opening after.rows left.log left.histories)
 fresh-run s held before after left written h new started = by left.opening refl (began-or-not s held before after left written h)
   where
@@ -140,7 +146,8 @@ above-floors law s held before after left written h = by (began-or-not s held be
     by (inr b) = λ place d below. law (terms_of b.shape place) _ (b.keeps.legal place _ (slice_get-get_or left.histories place d below))
 
 -- each commit of a run is covered, whatever the keeper said
-pub covered-run : (s : Status) (held : Held) (before after : Tells) (left : Left) (written : ℕ) → Ended s held before after left written → Covered left.log left.histories
+pub covered-run : (s : Status) (held : Held) (before after : Tells) (left : Left) (written : ℕ)
+    → Ended s held before after left written → Covered left.log left.histories
 covered-run s held before after left written h = by (began-or-not s held before after left written h)
   where
     none-at : (log : List Commit) (place : ℕ) (commit : Commit) → log ≡ [] → slice_get log place ≡ Some commit → ⊥
@@ -201,7 +208,8 @@ hold-commits opening log histories fresh shard place history commit key value st
     let hit = Hit key b.reader b.floor value stamp in
     let release = Released key commit.sid b.token b.how in
     let past = reverse b.between ++ release ∷ reverse b.before in
-    let whole : IsFreshPast opening log (reverse history) = at-place (λ history. IsFreshPast opening log (reverse history)) histories shard history fresh there in
+    let whole : IsFreshPast opening log (reverse history) =
+    at-place (λ history. IsFreshPast opening log (reverse history)) histories shard history fresh there in
     let order : reverse history ≡ reverse b.after ++ hit ∷ past = ap reverse b.steps ∙ turned b.before b.between b.after release hit in
     let found = fresh-later opening log (reverse b.after) (hit ∷ past) (subst (IsFreshPast opening log) order whole) in
     let ended = any-behind (releases key commit.sid) (reverse b.between) release (reverse b.before) (releases-own key commit.sid b.token b.how) in
@@ -221,7 +229,8 @@ all-read rest (Some more) bytes e h =
     sym (append-nil bytes) ∙ ap (λ (m : List ℕ). bytes ++ m) (sym done) ∙ sym all
 
 -- two sources that tell the same bytes are read to the same text
-one-text : (old old' new new' : Option (List ℕ)) (text text' rest : List ℕ) → old ≡ Some rest → old' ≡ old → Takes old new text → AtEnd new → Takes old' new' text' → AtEnd new' → text' ≡ text
+one-text : (old old' new new' : Option (List ℕ)) (text text' rest : List ℕ)
+    → old ≡ Some rest → old' ≡ old → Takes old new text → AtEnd new → Takes old' new' text' → AtEnd new' → text' ≡ text
 one-text old old' new new' text text' rest is same h k h' k' =
     all-read rest new' text' (sym (same ∙ is) ∙ h') k' ∙ sym (all-read rest new text (sym is ∙ h) k)
 
@@ -243,14 +252,17 @@ gained old new printed none h = h ∙ ap (option_map (λ taken. taken ++ printed
 -- two runs of one text, both to the end and without a FAULT, came to the same
 wholes-alike : TextsTellScripts → RunsAreDetermined → (held held' : Held) (before after before' after' : Tells) (left left' : Left) (written written' : ℕ)
     → IsWhole held before after left written [] → IsWhole held' before' after' left' written' []
-    → held.place ≡ place.Fresh → held'.place ≡ place.Fresh → IsSome after.rows → IsSome after'.rows → IsSome before.left → before'.left ≡ before.left → before.taken ≡ Some [] → before'.taken ≡ Some []
+    → held.place ≡ place.Fresh → held'.place ≡ place.Fresh → IsSome after.rows
+    → IsSome after'.rows → IsSome before.left → before'.left ≡ before.left → before.taken ≡ Some [] → before'.taken ≡ Some []
     → AreAlike after after' left left' written written'
 wholes-alike texts law held held' before after before' after' left left' written written' h h' new new' some some' told same none none' =
     let rest = some-at before.left told in
     let rows = some-at after.rows some in
     let rows' = some-at after'.rows some' in
-    let text = one-text before.left before'.left after.left after'.left h.read.text h'.read.text rest.0 rest.1 same h.read.takes h.read.at_end h'.read.takes h'.read.at_end in
-    let script = texts.one_script h.read.text h.shape h'.shape h.acts h'.acts h.read.is_script (subst (λ (t : List ℕ). IsScript t h'.shape h'.acts) text h'.read.is_script) in
+    let text = one-text before.left before'.left after.left after'.left
+    h.read.text h'.read.text rest.0 rest.1 same h.read.takes h.read.at_end h'.read.takes h'.read.at_end in
+    let script = texts.one_script h.read.text h.shape h'.shape h.acts h'.acts h.read.is_script
+    (subst (λ (t : List ℕ). IsScript t h'.shape h'.acts) text h'.read.is_script) in
     let opening = h.opened.opened rows.0 rows.1 (start_tables h.shape.members) (h.opened.fresh new) in
     let opening' = h'.opened.opened rows'.0 rows'.1 (start_tables h'.shape.members) (h'.opened.fresh new') in
     let openings : h'.opening ≡ h.opening = opening' ∙ ap (λ (s : Shape). start_tables s.members) (sym script.0) ∙ sym opening in
@@ -265,7 +277,8 @@ wholes-alike texts law held held' before after before' after' left left' written
     law h.shape h.opening h'.moves h.moves (unreversed h'.moves h.moves (made ∙ sym h.made)) truth (h.keeps.truth rows.0 rows.1) (turns ∙ h.turns_are) in
     let logs : left'.log ≡ left.log = h'.keeps.log_is ∙ ap log_of (at' ∙ pasts) ∙ sym h.keeps.log_is in
     record {
-      bytes = gained before'.taken after'.taken (out h'.shape h'.moves) none' h'.prints.gains ∙ ap Some outs ∙ sym (gained before.taken after.taken (out h.shape h.moves) none h.prints.gains);
+      bytes = gained before'.taken after'.taken (out h'.shape h'.moves) none' h'.prints.gains
+          ∙ ap Some outs ∙ sym (gained before.taken after.taken (out h.shape h.moves) none h.prints.gains);
       counts = h'.prints.counted ∙ ap (λ (l : List ℕ). min (length l) (2 ^ 64 - 1)) outs ∙ sym h.prints.counted;
       openings = h'.opening_is ∙ ap Some openings ∙ sym h.opening_is;
       logs = logs;
@@ -275,11 +288,13 @@ wholes-alike texts law held held' before after before' after' left left' written
           ∙ ap (histories_of h.shape) (at' ∙ pasts)
           ∙ sym h.keeps.histories_are;
       rows =
-          rows'.1 ∙ ap Some (h'.keeps.rows_are rows'.0 rows'.1 ∙ ap (λ (o : Tables). rows_after o left'.log) openings ∙ ap (rows_after h.opening) logs ∙ sym (h.keeps.rows_are rows.0 rows.1))
+          rows'.1 ∙ ap Some (h'.keeps.rows_are rows'.0 rows'.1 ∙ ap (λ (o : Tables). rows_after o left'.log) openings
+          ∙ ap (rows_after h.opening) logs ∙ sym (h.keeps.rows_are rows.0 rows.1))
           ∙ sym rows.1;
     }
 
-pub two-alike : TextsTellScripts → RunsAreDetermined → (one two : Status) (held held' : Held) (before after before' after' : Tells) (left left' : Left) (written written' : ℕ)
+pub two-alike : TextsTellScripts → RunsAreDetermined
+    → (one two : Status) (held held' : Held) (before after before' after' : Tells) (left left' : Left) (written written' : ℕ)
     → Ended one held before after left written → Ended two held' before' after' left' written'
     → held.place ≡ place.Fresh → held'.place ≡ place.Fresh → (IsSome left.opening → IsSome after.rows) → (IsSome left'.opening → IsSome after'.rows)
     → IsSome before.left → before'.left ≡ before.left → before.taken ≡ Some [] → before'.taken ≡ Some []
@@ -300,7 +315,8 @@ clean_found false None finding.Clean h = refl
 clean_found false None (finding.Stale shard place) h = absurd cc
 clean_found false None (finding.Uncovered commit key) h = absurd cc
 
-clean_summed : (spec : WorkSpec) (held : Held) (before after : Tells) (left : Left) (written : ℕ) → held.place ≡ place.Fresh → IsSummed spec held before after left written status.Done
+clean_summed : (spec : WorkSpec) (held : Held) (before after : Tells) (left : Left) (written : ℕ)
+    → held.place ≡ place.Fresh → IsSummed spec held before after left written status.Done
     → IsCleanLoad spec before after left written
 clean_summed spec held before after left written new h =
     let clean = clean_found (nat_lt 0 h.failed) (first_spent left.histories) h.found h.ends in
@@ -317,6 +333,7 @@ clean_summed spec held before after left written new h =
 
 -- a load that ended Done had a clean audit
 pub load_done : (s : Status) (spec : WorkSpec) (held : Held) (before after : Tells) (left : Left) (written : ℕ)
-    → held.place ≡ place.Fresh → IsUnread before after × WorkEnded s spec held before after left written → s ≡ status.Done → IsCleanLoad spec before after left written
+    → held.place ≡ place.Fresh → IsUnread before after × WorkEnded s spec held before after left written
+    → s ≡ status.Done → IsCleanLoad spec before after left written
 load_done s spec held before after left written new h done =
     clean_summed spec held before after left written new (subst (λ (t : Status). WorkEnded t spec held before after left written) done h.1)

@@ -1,5 +1,6 @@
 -- Sessions that aren't open stay so, and commits that are admitted are covered.
-use Rattle.std.proofs.Common.{◌≡◌, ℕ, ◌≤◌, ◌-◌, ◌==◌, ◌||◌, Bool, true, false, if◌then◌else◌, List, [], ◌∷◌, length, Option, Some, None, refl, sym, ap, ◌∙◌, arith, subst}
+use Rattle.std.proofs.Common.{◌≡◌, ℕ, ◌≤◌, ◌-◌, ◌==◌, ◌||◌, Bool, true, false, if◌then◌else◌, List, [], ◌∷◌, length, Option, Some, None}
+use Rattle.std.proofs.Common.{refl, sym, ap, ◌∙◌, arith, subst}
 use Rattle.std.specs.Prelude.{Result, Ok, Err, IfErr, OnOk, OnErr, not, find}
 use Rattle.std.proofs.lemmas.Bool.{false≢true, and_parts, and_from, eqb-true, eq-eqb}
 use Rattle.std.proofs.lemmas.List.{length_push, length-set}
@@ -73,12 +74,14 @@ either-way true b h = refl
 either-way false b h = h
 
 -- what covers a key covers a key that is the same
-covered-same : (who : Sid) (grants : List Permit) (key other : QKey) → same_key key other ≡ true → is_covered who grants other ≡ true → is_covered who grants key ≡ true
+covered-same : (who : Sid) (grants : List Permit) (key other : QKey)
+    → same_key key other ≡ true → is_covered who grants other ≡ true → is_covered who grants key ≡ true
 covered-same who [] key other same h = h
 covered-same who (grant ∷ grants) key other same h =
     by (covers who other grant) refl (covered-same who grants key other same)
   where
-    by : (b : Bool) → covers who other grant ≡ b → (is_covered who grants other ≡ true → is_covered who grants key ≡ true) → is_covered who (grant ∷ grants) key ≡ true
+    by : (b : Bool) → covers who other grant ≡ b → (is_covered who grants other ≡ true → is_covered who grants key ≡ true)
+        → is_covered who (grant ∷ grants) key ≡ true
     by true e rest =
         let parts = and_parts (same_key other grant.key) (grant.sid.number == who.number) e in
         let here : covers who key grant ≡ true = and_from _ _ (same-across key other grant.key same parts.0) parts.1 in
@@ -92,13 +95,15 @@ left-out true k found h = (refl, h)
 left-out false k found h = absurd cc
 
 -- where no key is left uncovered each is covered
-covered-each : (who : Sid) (grants : List Permit) (keys : List QKey) (key : QKey) → find (λ k. not (is_covered who grants k)) keys ≡ None → has_key key keys ≡ true → is_covered who grants key ≡ true
+covered-each : (who : Sid) (grants : List Permit) (keys : List QKey) (key : QKey)
+    → find (λ k. not (is_covered who grants k)) keys ≡ None → has_key key keys ≡ true → is_covered who grants key ≡ true
 covered-each who grants [] key none has = absurd (false≢true has)
 covered-each who grants (k ∷ keys) key none has =
     let parts = left-out (is_covered who grants k) k (find (λ k. not (is_covered who grants k)) keys) none in
     by (same_key key k) refl parts.0 (covered-each who grants keys key parts.1)
   where
-    by : (b : Bool) → same_key key k ≡ b → is_covered who grants k ≡ true → (has_key key keys ≡ true → is_covered who grants key ≡ true) → is_covered who grants key ≡ true
+    by : (b : Bool) → same_key key k ≡ b → is_covered who grants k ≡ true
+        → (has_key key keys ≡ true → is_covered who grants key ≡ true) → is_covered who grants key ≡ true
     by true e here rest = covered-same who grants key k e here
     by false e here rest = rest (sym (ap (λ (b : Bool). b || has_key key keys) e) ∙ has)
 
@@ -125,7 +130,8 @@ closed-later law old over next who (Err memory) few over_is closed ok err =
     ap (λ (l : Ledger). is_open who l.sessions) err ∙ closed
 
 -- the log is as before when a session was ended, another began, and the commit of the first was refused
-pub log-kept : (old over next last : Ledger) (who : Sid) (grants : List Permit) (txn : List Change) (begun : Result Sid Memory) (made : Result ℕ (CommitFault × List Change))
+pub log-kept : (old over next last : Ledger) (who : Sid) (grants : List Permit)
+    (txn : List Change) (begun : Result Sid Memory) (made : Result ℕ (CommitFault × List Change))
     → over ≡ with_end who old → OnOk begun (next ≡ with_session true over) → OnErr begun (next ≡ over) → is_open who next.sessions ≡ false
     → OnOk made (commit_fault (is_open who next.sessions) who grants txn (length next.log) next.cap ≡ None)
     → IfErr made (λ back. last ≡ with_call (is_failure back.0) next)
@@ -133,7 +139,8 @@ pub log-kept : (old over next last : Ledger) (who : Sid) (grants : List Permit) 
 log-kept old over next last who grants txn begun (Ok number) over_is ok err closed admitted h =
     absurd (not-admitted (is_open who next.sessions) who grants txn (length next.log) next.cap closed admitted)
   where
-    not-admitted : (b : Bool) (who : Sid) (grants : List Permit) (txn : List Change) (count cap : ℕ) → b ≡ false → commit_fault b who grants txn count cap ≡ None → ⊥
+    not-admitted : (b : Bool) (who : Sid) (grants : List Permit) (txn : List Change) (count cap : ℕ)
+        → b ≡ false → commit_fault b who grants txn count cap ≡ None → ⊥
     not-admitted true who grants txn count cap e h = false≢true (sym e)
     not-admitted false who grants txn count cap e h = absurd cc
 log-kept old over next last who grants txn begun (Err back) over_is ok err closed admitted h =

@@ -1,5 +1,6 @@
 -- A get behind a writer's release hits what that left.
-use Rattle.std.proofs.Common.{◌≡◌, ℕ, ◌≤◌, ◌⊎◌, ◌||◌, Bool, true, false, inl, inr, List, [], ◌∷◌, ◌++◌, reverse, Option, Some, None, IsSome, option_map, refl, sym, ap, subst, ◌∙◌}
+use Rattle.std.proofs.Common.{◌≡◌, ℕ, ◌≤◌, ◌⊎◌, ◌||◌, Bool, true, false, inl, inr, List, [], ◌∷◌, ◌++◌, reverse, Option, Some, None, IsSome}
+use Rattle.std.proofs.Common.{option_map, refl, sym, ap, subst, ◌∙◌}
 use Rattle.std.specs.Prelude.{ℤ, nat_le, not, ◌&&◌, if◌then◌else◌, is_some, All, IfSome}
 use Rattle.std.specs.List.{AllByRecursion}
 use Rattle.std.proofs.lemmas.Bool.{le-leb}
@@ -23,7 +24,8 @@ use Rattle.key_shard.specs.declared.steps.Step.{Step}
 use Rattle.key_shard.specs.declared.steps.Step.TheVariants as step
 use Rattle.key_shard.specs.Permit.{Permit}
 use Rattle.key_shard.specs.Past.{Terms, own_of, seen_by, holder_of, quar_of, standing, recorded, entry, entry_ended, evicted_by, evicts, is_evicted}
-use Rattle.key_shard.specs.Answers.{Request, Get, Set, Quarantine, Release, Replace, IsLegalPast, found_step, get_by, get_step, miss_by, miss_step, quarantine_by, refused_step, release_by, replace_by, step_of}
+use Rattle.key_shard.specs.Answers.{Request, Get, Set, Quarantine, Release, Replace, IsLegalPast, found_step, get_by, get_step, miss_by}
+use Rattle.key_shard.specs.Answers.{miss_step, quarantine_by, refused_step, release_by, replace_by, step_of}
 use Rattle.sql_keeper.specs.declared.stores.Commit.{Commit}
 use Rattle.sql_keeper.specs.Fresh.{Fresh, IsFreshPast, IsFreshStep}
 use Rattle.session_client.specs.declared.plans.Shape.{Shape}
@@ -77,19 +79,22 @@ left-steps key (s ∷ steps) past h =
 
 -- ---- what a release wrote is the entry
 
-wrote-ended : (how : ends.Ended) (found : Option (List ℕ × ℕ)) (value : List ℕ) (stamp : ℕ) → LeavesValue how found value stamp → entry_ended how found ≡ Some (value, stamp)
+wrote-ended : (how : ends.Ended) (found : Option (List ℕ × ℕ)) (value : List ℕ) (stamp : ℕ)
+    → LeavesValue how found value stamp → entry_ended how found ≡ Some (value, stamp)
 wrote-ended Keep found value stamp h = absurd h
 wrote-ended Drop found value stamp h = absurd h
 wrote-ended (Put put stamped evicted) found value stamp h = let a = h.0 in let b = h.1 in cc
 wrote-ended (Shift by stamped) found value stamp h = h.1
 
-wrote-entry : (key : QKey) (writer : Sid) (token : ℕ) (how : ends.Ended) (past : List Step) (value : List ℕ) (stamp : ℕ) → LeavesValue how (entry key past) value stamp
+wrote-entry : (key : QKey) (writer : Sid) (token : ℕ) (how : ends.Ended) (past : List Step) (value : List ℕ) (stamp : ℕ)
+    → LeavesValue how (entry key past) value stamp
     → entry key (step.Released key writer token how ∷ past) ≡ Some (value, stamp)
 wrote-entry key writer token how past value stamp h =
     ap (λ (b : Bool). if b then entry_ended how (entry key past) else (if is_evicted key (evicted_by how) then None else entry key past)) (same_key-refl key)
     ∙ wrote-ended how (entry key past) value stamp h
 
-wrote-number : (log : List Commit) (key : QKey) (writer : Sid) (token : ℕ) (how : ends.Ended) (found : Option (List ℕ × ℕ)) (value : List ℕ) (stamp : ℕ) → LeavesValue how found value stamp
+wrote-number : (log : List Commit) (key : QKey) (writer : Sid) (token : ℕ) (how : ends.Ended) (found : Option (List ℕ × ℕ)) (value : List ℕ) (stamp : ℕ)
+    → LeavesValue how found value stamp
     → IsNumbered log (step.Released key writer token how) → IsCommitOf log writer stamp
 wrote-number log key writer token Keep found value stamp h is = absurd h
 wrote-number log key writer token Drop found value stamp h is = absurd h
@@ -133,7 +138,8 @@ missed-floor terms past key who floor least now none h =
     others_ways = (seen_by key who now past).others
 
     by : (o : Option Quar) → o ≡ None → (b : Bool)
-        → IsGetOf key who floor (miss_by terms past key who least now (if is_some (option_map (λ quar. way_of quar.mode) o) then verdicts.Own else if b then verdicts.Wait else verdicts.Give)) → least ≡ floor
+        → IsGetOf key who floor (miss_by terms past key who least now
+        (if is_some (option_map (λ quar. way_of quar.mode) o) then verdicts.Own else if b then verdicts.Wait else verdicts.Give)) → least ≡ floor
     by (Some q) e b h = absurd cc
     by None e true h = h.2
     by None e false h = h.2
@@ -143,8 +149,10 @@ hit-get : (terms : Terms) (past : List Step) (key : QKey) (who : Sid) (floor lea
     → own_of key who past ≡ None → entry key past ≡ Some (value, stamp) → floor ≤ stamp
     → IsGetOf key who floor (get_step terms past key who least now) → get_step terms past key who least now ≡ step.Hit key who floor value stamp
 hit-get terms past key who floor least now value stamp none stands low =
-    let Q : Option Quar → Type 0 = λ o. IsGetOf key who floor (get_by terms past key who least now o) → get_by terms past key who least now o ≡ step.Hit key who floor value stamp in
-    let F : Option (List ℕ × ℕ) → Type 0 = λ o. IsGetOf key who floor (found_step terms past key who least now o) → found_step terms past key who least now o ≡ step.Hit key who floor value stamp in
+    let Q : Option Quar → Type 0 = λ o. IsGetOf key who floor (get_by terms past key who least now o)
+    → get_by terms past key who least now o ≡ step.Hit key who floor value stamp in
+    let F : Option (List ℕ × ℕ) → Type 0 = λ o. IsGetOf key who floor (found_step terms past key who least now o)
+    → found_step terms past key who least now o ≡ step.Hit key who floor value stamp in
     subst Q (sym none) (subst F (sym stands) (by (nat_le least stamp) refl))
   where
     by : (b : Bool) → nat_le least stamp ≡ b
@@ -191,8 +199,10 @@ hit-step : (terms : Terms) (past : List Step) (request : Request) (key : QKey) (
     → IsGetOf key who floor (step_of terms past request) → step_of terms past request ≡ step.Hit key who floor value stamp
 hit-step terms past (Get on sid least now) key who floor value stamp none stands low h =
     let same = got-get terms past on sid least now key who floor (own_of on sid past) h in
-    let P : QKey → Type 0 = λ k. IsGetOf key who floor (get_step terms past k sid least now) → get_step terms past k sid least now ≡ step.Hit key who floor value stamp in
-    let S : Sid → Type 0 = λ s. IsGetOf key who floor (get_step terms past key s least now) → get_step terms past key s least now ≡ step.Hit key who floor value stamp in
+    let P : QKey → Type 0 = λ k. IsGetOf key who floor (get_step terms past k sid least now)
+    → get_step terms past k sid least now ≡ step.Hit key who floor value stamp in
+    let S : Sid → Type 0 = λ s. IsGetOf key who floor (get_step terms past key s least now)
+    → get_step terms past key s least now ≡ step.Hit key who floor value stamp in
     subst P (sym same.0) (subst S (sym same.1) (hit-get terms past key who floor least now value stamp none stands low)) h
 hit-step terms past (Set on token put stamped now) key who floor value stamp none stands low h =
     absurd (no-set (is_current token now (recorded on past)) key on who floor token now put stamped (evicts terms on past) h)
@@ -219,7 +229,8 @@ all-turned P xs h =
     All-permutation P xs (reverse xs) (IsPermutation-reverse xs) h
 
 -- each get behind a writer's release in what a run keeps hits what that left
-pub served : (shape : Shape) (opening : Tables) (moves : List Move) (rows : Option Tables) (log : List Commit) (histories : List (List Step)) → Keeps shape opening moves rows log histories
+pub served : (shape : Shape) (opening : Tables) (moves : List Move) (rows : Option Tables) (log : List Commit) (histories : List (List Step))
+    → Keeps shape opening moves rows log histories
     → Fresh opening log histories → HitsAfterWrites opening log histories
 served shape opening moves rows log histories keeps fresh shard history key writer value stamp reader floor s there b =
     let terms = terms_of shape shard in
@@ -234,10 +245,13 @@ served shape opening moves rows log histories keeps fresh shard history key writ
     let unheld : own_of key reader past ≡ None =
     ap (own_of key reader) (sym (reverse-middle b.before write b.between)) ∙ b.unheld in
     let hit : s ≡ step.Hit key reader floor value stamp =
-    legal.0.answer ∙ hit-step terms past legal.0.request key reader floor value stamp unheld stands b.low (subst (IsGetOf key reader floor) legal.0.answer b.asked) in
-    let numbers = every-later (IsNumbered log) (reverse b.after) (s ∷ past) (subst (AllByRecursion (IsNumbered log)) order (keeps.numbered shard history there)) in
+    legal.0.answer
+    ∙ hit-step terms past legal.0.request key reader floor value stamp unheld stands b.low (subst (IsGetOf key reader floor) legal.0.answer b.asked) in
+    let numbers =
+    every-later (IsNumbered log) (reverse b.after) (s ∷ past) (subst (AllByRecursion (IsNumbered log)) order (keeps.numbered shard history there)) in
     let number = every-later (IsNumbered log) (reverse b.between) earlier numbers.1 in
-    let whole : IsFreshPast opening log (reverse history) = at-place (λ history. IsFreshPast opening log (reverse history)) histories shard history fresh there in
+    let whole : IsFreshPast opening log (reverse history) =
+    at-place (λ history. IsFreshPast opening log (reverse history)) histories shard history fresh there in
     let now = fresh-later opening log (reverse b.after) (s ∷ past) (subst (IsFreshPast opening log) order whole) in
     let right = subst (IsFreshStep opening log past) hit now.0 in
     record {
@@ -246,7 +260,8 @@ served shape opening moves rows log histories keeps fresh shard history key writ
       right = right.right;
     }
 
-pub serve-run : (s : Status) (held : Held) (before after : Tells) (left : Left) (written : ℕ) → Ended s held before after left written → (IsSome left.opening → IsSome after.rows)
+pub serve-run : (s : Status) (held : Held) (before after : Tells) (left : Left) (written : ℕ)
+    → Ended s held before after left written → (IsSome left.opening → IsSome after.rows)
     → IfSome left.opening (λ opening. HitsAfterWrites opening left.log left.histories)
 serve-run s held before after left written h started = by left.opening refl (began-or-not s held before after left written h)
   where
@@ -260,7 +275,8 @@ serve-run s held before after left written h started = by left.opening refl (beg
     by (Some opening) is (inr b) =
         let told = some-at after.rows (started (subst (λ (o : Option Tables). IsSome o) (sym is) refl)) in
         let same : b.opening ≡ opening = same-inside b.opening opening (sym b.opening_is ∙ is) in
-        subst (λ (rows : Tables). HitsAfterWrites rows left.log left.histories) same (served b.shape b.opening b.moves after.rows left.log left.histories b.keeps (b.keeps.fresh told.0 told.1))
+        subst (λ (rows : Tables). HitsAfterWrites rows left.log left.histories) same
+        (served b.shape b.opening b.moves after.rows left.log left.histories b.keeps (b.keeps.fresh told.0 told.1))
       where
         same-inside : (a b : Tables) → Some a ≡ Some b → a ≡ b
         same-inside a b e = cc

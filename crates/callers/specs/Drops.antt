@@ -17,7 +17,8 @@ use Rattle.core_history.specs.Machine.{Move}
 use Rattle.core_history.specs.Sweeps.{IsHitSince}
 use Rattle.top_run.specs.Runs.{IsRead, AreFirstMoves, past_of}
 
--- A drop of the quarantine of this token from the key is final, in a run with this log, of which this is the history of the key's shard, the earliest step first. The log had so many commits at the drop.
+-- A drop of the quarantine of this token from the key is final, in a run with this log, of which this
+-- is the history of the key's shard, the earliest step first. The log had so many commits at the drop.
 pub record IsFinalDrop (key : QKey) (token : ℕ) (least : ℕ) (log : List Commit) (history : List Step) : Type 0 where
   pub sid : Sid
   pub earlier : List Step
@@ -38,7 +39,8 @@ DropsAreFinal past log histories =
     → slice_get histories home ≡ Some history
     → IsFinalDrop key token (length (log_of before)) log history
 
--- A run that began, whose drops are final: it made these moves, the latest first, which do what its script says, to the end or the first part of it, and its log and its histories are those after them.
+-- A run that began, whose drops are final: it made these moves, the latest first, which do what its
+-- script says, to the end or the first part of it, and its log and its histories are those after them.
 pub record IsSweptRun (left_old left_new : Option (List ℕ)) (log : List Commit) (histories : List (List Step)) : Type 0 where
   pub shape : Shape
   pub acts : List Act

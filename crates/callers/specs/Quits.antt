@@ -21,7 +21,8 @@ abbrev pub IsQuit : Plan → Type 0
 IsQuit (Quit mode txn) = Unit {0}
 IsQuit other = ⊥
 
--- A request of one that gives up: a quarantine, the end of one that leaves the value, to be ended at the store, or nothing. It gets, sets, drops, puts and shifts no value, and commits nothing.
+-- A request of one that gives up: a quarantine, the end of one that leaves the value, to be ended
+-- at the store, or nothing. It gets, sets, drops, puts and shifts no value, and commits nothing.
 abbrev pub IsGivingUp : Wanted → Type 0
 IsGivingUp (wanted.QaReg key) = Unit {0}
 IsGivingUp (wanted.QaRead key) = Unit {0}

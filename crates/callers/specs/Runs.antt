@@ -21,8 +21,10 @@ use Rattle.run_inputs.specs.declared.loads.WorkSpec.{WorkSpec}
 use Rattle.top_run.specs.Runs.{IsRead, Tells, Left}
 use Rattle.top_run.specs.Works.{IsTold}
 
--- A run over a keeper in memory, which began with these rows and has those at its end: it began with the rows of as many members as its script says, no hit is stale, each commit is covered, and the rows at the end are those after the log.
-pub record IsFreshRun (left_old left_new : Option (List ℕ)) (opening : Tables) (rows : Option Tables) (log : List Commit) (histories : List (List Step)) : Type 0 where
+-- A run over a keeper in memory, which began with these rows and has those at its end: it began with the rows of as many
+-- members as its script says, no hit is stale, each commit is covered, and the rows at the end are those after the log.
+pub record IsFreshRun (left_old left_new : Option (List ℕ)) (opening : Tables)
+    (rows : Option Tables) (log : List Commit) (histories : List (List Step)) : Type 0 where
   pub shape : Shape
   pub acts : List Act
   pub read : IsRead left_old left_new shape acts
@@ -31,7 +33,9 @@ pub record IsFreshRun (left_old left_new : Option (List ℕ)) (opening : Tables)
   pub covered : Covered log histories
   pub rows_are : rows ≡ Some (rows_after opening log)
 
--- A load of these words ended with a clean audit over these opening rows: its summary was written, no hit is stale, and each commit is covered. Where the keeper tells its rows, the opening rows are as many members as the load says, and no links.
+-- A load of these words ended with a clean audit over these opening rows: its
+-- summary was written, no hit is stale, and each commit is covered. Where the keeper
+-- tells its rows, the opening rows are as many members as the load says, and no links.
 pub record IsCleanLoad (spec : WorkSpec) (before after : Tells) (left : Left) (written : ℕ) : Type 0 where
   pub opening : Tables
   pub opening_is : left.opening ≡ Some opening
@@ -51,7 +55,8 @@ pub record IsHitBehind (history : List Step) (key : QKey) (writer : Sid) (value 
   pub after : List Step
   pub steps : history ≡ before ++ Released key writer token how ∷ (between ++ Hit key reader floor value stamp ∷ after)
 
--- Each hit behind a session's release of the key holds that session's commit, where that touches the key: it is among the first commits, as many as the stamp says, and the value is the key's answer after these.
+-- Each hit behind a session's release of the key holds that session's commit, where that touches the key:
+-- it is among the first commits, as many as the stamp says, and the value is the key's answer after these.
 abbrev pub HitsHoldCommits : Tables → List Commit → List (List Step) → Type 0
 HitsHoldCommits opening log histories =
     (shard place : ℕ) (history : List Step) (commit : Commit) (key : QKey) (value : List ℕ) (stamp : ℕ)
@@ -72,7 +77,8 @@ IsUnharmed (status.Spent shard) = ⊥
 IsUnharmed (status.Stale shard place) = ⊥
 IsUnharmed (status.Uncovered commit key) = ⊥
 
--- Two runs came to the same: their sinks tell the same bytes, as many were counted, their keepers tell the same rows, and they began with the same rows and leave the same log and histories.
+-- Two runs came to the same: their sinks tell the same bytes, as many were counted, their keepers
+-- tell the same rows, and they began with the same rows and leave the same log and histories.
 pub record AreAlike (after after' : Tells) (left left' : Left) (written written' : ℕ) : Type 0 where
   pub bytes : after'.taken ≡ after.taken
   pub counts : written' ≡ written

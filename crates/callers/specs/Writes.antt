@@ -46,8 +46,10 @@ IsGetOf key who floor (Again on sid least now standing) = (on ≡ key) × (sid �
 IsGetOf key who floor (Own on sid) = (on ≡ key) × (sid ≡ who)
 IsGetOf key who floor other = ⊥
 
--- A get behind a writer's release that left this value with this stamp, in a history that has the earliest step first: each step between them leaves the entry, the reader holds no quarantine of the key, and its floor is at most the stamp.
-pub record IsGetBehindWrite (history : List Step) (key : QKey) (writer : Sid) (value : List ℕ) (stamp : ℕ) (reader : Sid) (floor : ℕ) (step : Step) : Type 0 where
+-- A get behind a writer's release that left this value with this stamp, in a history that has the earliest step first:
+-- each step between them leaves the entry, the reader holds no quarantine of the key, and its floor is at most the stamp.
+pub record IsGetBehindWrite (history : List Step) (key : QKey)
+    (writer : Sid) (value : List ℕ) (stamp : ℕ) (reader : Sid) (floor : ℕ) (step : Step) : Type 0 where
   pub before : List Step
   pub token : ℕ
   pub how : Ended
@@ -61,7 +63,8 @@ pub record IsGetBehindWrite (history : List Step) (key : QKey) (writer : Sid) (v
   pub low : floor ≤ stamp
 
 -- The get is a hit of what was written: its stamp is the number of the writer's commit, and its value is the key's answer after as many commits.
-pub record IsServed (opening : Tables) (log : List Commit) (key : QKey) (writer : Sid) (value : List ℕ) (stamp : ℕ) (reader : Sid) (floor : ℕ) (step : Step) : Type 0 where
+pub record IsServed (opening : Tables) (log : List Commit) (key : QKey)
+    (writer : Sid) (value : List ℕ) (stamp : ℕ) (reader : Sid) (floor : ℕ) (step : Step) : Type 0 where
   pub hit : step ≡ Hit key reader floor value stamp
   pub number : IsCommitOf log writer stamp
   pub right : value ≡ answer key (state opening log stamp)

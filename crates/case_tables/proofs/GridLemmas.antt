@@ -13,7 +13,8 @@ length-row grid n r all within =
     grind (arith, nat_tests, list_all_at (λ row. length row == n) grid r [] within, all)
 
 -- the cell in range
-pub cell-within : (grid : List (List Verdict)) (n r c : ℕ) (d : Verdict) → IsTrue (list_all (λ row. length row == n) grid) → r < length grid → c < n → cell grid r c ≡ Some (get_or (get_or grid r []) c d)
+pub cell-within : (grid : List (List Verdict)) (n r c : ℕ) (d : Verdict)
+    → IsTrue (list_all (λ row. length row == n) grid) → r < length grid → c < n → cell grid r c ≡ Some (get_or (get_or grid r []) c d)
 cell-within grid n r c d all within inside =
     let long = length-row grid n r all within in
     rw (slice_get-get_or grid r [] within) (slice_get-get_or (get_or grid r []) c d (omega arith))

@@ -2,7 +2,8 @@
 use Rattle.std.proofs.Common.{◌≡◌, Bool, true, false, Option, Some, None, List, [], ◌∷◌, map, refl}
 use Rattle.std.specs.List.{list_all, list_any, slice_get}
 use Rattle.case_tables.specs.declared.grids.Verdict.{Verdict}
-use Rattle.case_tables.specs.Compatibility.{Way, invalidate, refresh, delta, Request, read, quarantine, Holding, is_invalidate, is_refresh, verdict, row_of, column_of, cell}
+use Rattle.case_tables.specs.Compatibility.{Way, invalidate, refresh, delta, Request, read, quarantine, Holding, is_invalidate, is_refresh}
+use Rattle.case_tables.specs.Compatibility.{verdict, row_of, column_of, cell}
 
 -- each request once, in the order of the columns
 abbrev pub requests : List Request
@@ -19,20 +20,23 @@ holding own others reading = record { own = own; others = others; reading = read
 -- one holding for each row, in the order of the rows
 abbrev pub holdings : List Holding
 holdings =
-    holding None [] false ∷ holding None [] true ∷ holding None (invalidate ∷ []) false ∷ holding None (refresh ∷ []) false ∷ holding None (delta ∷ []) false ∷ holding (Some invalidate) [] false ∷ holding (Some refresh) [] false ∷ holding (Some delta) [] false ∷ []
+    holding None [] false ∷ holding None [] true ∷ holding None (invalidate ∷ []) false ∷ holding None (refresh ∷ []) false
+    ∷ holding None (delta ∷ []) false ∷ holding (Some invalidate) [] false ∷ holding (Some refresh) [] false ∷ holding (Some delta) [] false ∷ []
 
 -- the grid that the rules make
 abbrev pub rules_grid : List (List Verdict)
 rules_grid = map verdicts holdings
 
 -- beside others, a row is known by whether all invalidate, and else whether one refreshes
-row-beside : (w : Way) (ws : List Way) (reading all any : Bool) → list_all is_invalidate (w ∷ ws) ≡ all → list_any is_refresh (w ∷ ws) ≡ any → slice_get rules_grid (row_of (holding None (w ∷ ws) reading)) ≡ Some (verdicts (holding None (w ∷ ws) reading))
+row-beside : (w : Way) (ws : List Way) (reading all any : Bool) → list_all is_invalidate (w ∷ ws) ≡ all
+    → list_any is_refresh (w ∷ ws) ≡ any → slice_get rules_grid (row_of (holding None (w ∷ ws) reading)) ≡ Some (verdicts (holding None (w ∷ ws) reading))
 row-beside w ws reading true any a b = rw a refl
 row-beside w ws reading false true a b = rw (a, b) refl
 row-beside w ws reading false false a b = rw (a, b) refl
 
 -- the row of what stands has the rules' verdicts on it
-row-verdicts : (own : Option Way) (others : List Way) (reading : Bool) → slice_get rules_grid (row_of (holding own others reading)) ≡ Some (verdicts (holding own others reading))
+row-verdicts : (own : Option Way) (others : List Way) (reading : Bool)
+    → slice_get rules_grid (row_of (holding own others reading)) ≡ Some (verdicts (holding own others reading))
 row-verdicts (Some invalidate) others reading = refl
 row-verdicts (Some refresh) others reading = refl
 row-verdicts (Some delta) others reading = refl

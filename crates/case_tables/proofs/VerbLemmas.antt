@@ -10,7 +10,8 @@ abbrev some_row : Row
 some_row = record { word = word.Begin; fields = 0; block = false; number = 0 }
 
 -- a table has no row with a word that none of its rows has
-pub no_verb : (rows : List Row) (word : List ℕ) → ((i : ℕ) (d : Row) → i < length rows → text_of (slice_index_or rows i d).word ≡ word → ⊥) → IsNoVerb (map told rows) word
+pub no_verb : (rows : List Row) (word : List ℕ) → ((i : ℕ) (d : Row) → i < length rows → text_of (slice_index_or rows i d).word ≡ word → ⊥)
+    → IsNoVerb (map told rows) word
 no_verb rows word none row h =
     let (k, within, at) = h.listed in
     let inside : k < length rows = omega (arith, length-map rows told) in

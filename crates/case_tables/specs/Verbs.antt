@@ -61,4 +61,6 @@ block_row number word fields = record { word = word; fields = fields; block = tr
 -- the verbs of the lease commands
 abbrev pub lease_rows : List Verb
 lease_rows =
-    line_row 1 (codes "begin") 1 ∷ line_row 2 (codes "iqget") 3 ∷ line_row 3 (codes "ask") 2 ∷ line_row 4 (codes "stage") 3 ∷ block_row 5 (codes "iqset") 6 ∷ line_row 6 (codes "qareg") 2 ∷ line_row 7 (codes "qaread") 2 ∷ line_row 8 (codes "iqdelta") 3 ∷ line_row 9 (codes "sql") 2 ∷ line_row 10 (codes "dar") 2 ∷ block_row 11 (codes "sar") 5 ∷ line_row 12 (codes "iqcommit") 2 ∷ line_row 13 (codes "iqabort") 1 ∷ line_row 14 (codes "quit") 0 ∷ []
+    line_row 1 (codes "begin") 1 ∷ line_row 2 (codes "iqget") 3 ∷ line_row 3 (codes "ask") 2 ∷ line_row 4 (codes "stage") 3 ∷ block_row 5 (codes "iqset") 6
+    ∷ line_row 6 (codes "qareg") 2 ∷ line_row 7 (codes "qaread") 2 ∷ line_row 8 (codes "iqdelta") 3 ∷ line_row 9 (codes "sql") 2 ∷ line_row 10 (codes "dar") 2
+    ∷ block_row 11 (codes "sar") 5 ∷ line_row 12 (codes "iqcommit") 2 ∷ line_row 13 (codes "iqabort") 1 ∷ line_row 14 (codes "quit") 0 ∷ []

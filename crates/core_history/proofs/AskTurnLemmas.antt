@@ -47,9 +47,11 @@ mode_is Delta e = absurd (false≢true e)
 
 joins_alone : (mode : Mode) (quars : List Quar) → MayJoin mode quars → mode ≢ Invalidate → quars ≡ []
 joins_alone mode quars (inl none) other = none
-joins_alone mode quars (inr all) other = absurd (other (mode_is mode (and_elim (is_invalidate (way_of mode)) (list_all is_invalidate (map (λ quar. way_of quar.mode) quars)) all).0))
+joins_alone mode quars (inr all) other =
+    absurd (other (mode_is mode (and_elim (is_invalidate (way_of mode)) (list_all is_invalidate (map (λ quar. way_of quar.mode) quars)) all).0))
 
-each_invalidates : (quars : List Quar) → list_all is_invalidate (map (λ quar. way_of quar.mode) quars) ≡ true → AllByRecursion (λ quar. quar.mode ≡ Invalidate) quars
+each_invalidates : (quars : List Quar) → list_all is_invalidate (map (λ quar. way_of quar.mode) quars) ≡ true
+    → AllByRecursion (λ quar. quar.mode ≡ Invalidate) quars
 each_invalidates [] all = tt
 each_invalidates (quar ∷ quars) all =
     let parts = and_elim (is_invalidate (way_of quar.mode)) (list_all is_invalidate (map (λ q. way_of q.mode) quars)) all in
@@ -57,7 +59,8 @@ each_invalidates (quar ∷ quars) all =
 
 joins_others : (mode : Mode) (quars : List Quar) → MayJoin mode quars → AllByRecursion (λ quar. quar.mode ≡ Invalidate) quars
 joins_others mode quars (inl none) = subst (AllByRecursion (λ quar. quar.mode ≡ Invalidate)) (sym none) tt
-joins_others mode quars (inr all) = each_invalidates quars (and_elim (is_invalidate (way_of mode)) (list_all is_invalidate (map (λ quar. way_of quar.mode) quars)) all).1
+joins_others mode quars (inr all) =
+    each_invalidates quars (and_elim (is_invalidate (way_of mode)) (list_all is_invalidate (map (λ quar. way_of quar.mode) quars)) all).1
 
 -- what a writer asks for next, in the mode and with the shift that its plan has for the key
 pub record IsAsked (shape : Shape) (world : World) (n : ℕ) (plan : Plan) (request : Wanted) (key : QKey) (mode : Mode) (shift : ℤ) : Type 0 where
@@ -69,9 +72,11 @@ pub record IsAsked (shape : Shape) (world : World) (n : ℕ) (plan : Plan) (requ
   pub fits : FitsShift mode shift
 
 -- it is granted or refused
-pub ask-turn : (shape : Shape) (world : World) (who : Sid) (plan : Plan) (request : Wanted) (key : QKey) (mode : Mode) (shift : ℤ) → Inner shape world → IsWriter shape world who.number plan
+pub ask-turn : (shape : Shape) (world : World) (who : Sid) (plan : Plan) (request : Wanted) (key : QKey) (mode : Mode) (shift : ℤ)
+    → Inner shape world → IsWriter shape world who.number plan
     → IsAsked shape world who.number plan request key mode shift
-    → Inner shape (with_event world (quarantined_on shape world who request key mode shift)) × IsGoodEvent shape world.past (quarantined_on shape world who request key mode shift)
+    → Inner shape (with_event world (quarantined_on shape world who request key mode shift))
+    × IsGoodEvent shape world.past (quarantined_on shape world who request key mode shift)
 ask-turn shape world who plan request key mode shift inner w asked =
     verdict_cases P terms steps key who mode shift now
     (λ none join is. (granted_inner is, granted_good join))
@@ -122,7 +127,8 @@ ask-turn shape world who plan request key mode shift inner w asked =
       no_end = refl;
     }
 
-    granted_inner : granted_step terms steps key who mode shift now ≡ quarantine_step terms steps key who mode shift now → Inner shape (with_event world (Event-of (granted_step terms steps key who mode shift now)))
+    granted_inner : granted_step terms steps key who mode shift now ≡ quarantine_step terms steps key who mode shift now
+        → Inner shape (with_event world (Event-of (granted_step terms steps key who mode shift now)))
     granted_inner is =
         let token = next_token terms steps in
         let deadline = deadline_at terms now in
@@ -132,12 +138,15 @@ ask-turn shape world who plan request key mode shift inner w asked =
         let told = reply.Quar (quarantine.Granted grant old) in
         let event = Stepped home who request s told in
         let covered : covers who key grant ≡ true = and_intro _ _ (same_key-refl key) (eq-eqb who.number who.number refl) in
-        stepped-inner shape world home who request s told inner (record { request = Quarantine key who mode shift now; at_home = refl; owed = asked.fits; answer = is })
-        (subst (λ l. is_covered who (granted l) key ≡ true) (sym (told-mine who told heard)) (any-back (covers who key) (granted heard) (grant ∷ []) (or_inl (covers who key grant) false covered)))
+        stepped-inner shape world home who request s told inner
+        (record { request = Quarantine key who mode shift now; at_home = refl; owed = asked.fits; answer = is })
+        (subst (λ l. is_covered who (granted l) key ≡ true) (sym (told-mine who told heard))
+        (any-back (covers who key) (granted heard) (grant ∷ []) (or_inl (covers who key grant) false covered)))
         (record { plan = plan; at = w.at; may = w.may; in_mode = asked.in_mode; by = asked.by })
         refl (counted-granted shape.shards key who request mode shift now token deadline home old)
         (λ n other g own. stood-granted shape home who request key who mode shift now token deadline told past asked.none n g)
-        (w.stays event told (writer-granted shape past who request key mode shift now heard (writing_of plan) asked.none asked.at asked.in_mode asked.asks w.writer))
+        (w.stays event told (writer-granted shape past who request key mode shift now heard
+        (writing_of plan) asked.none asked.at asked.in_mode asked.asks w.writer))
 
     refused_inner : (quar : Quar) → step.Refused key who mode quar.sid quar.mode ≡ quarantine_step terms steps key who mode shift now
         → Inner shape (with_event world (Event-of (step.Refused key who mode quar.sid quar.mode)))
@@ -147,5 +156,6 @@ ask-turn shape world who plan request key mode shift inner w asked =
         let event = Stepped home who request s told in
         let answers : Answers terms steps s = record { request = Quarantine key who mode shift now; at_home = refl; owed = asked.fits; answer = is } in
         quiet-inner shape world home who request s told inner answers tt asked.none refl refl
-        (w.stays event told (writer-mild shape event past who.number told heard (writing_of plan) (record { brings = refl; had = refl; release = refl; commit = refl }) (draws-late shape past home s answers)
+        (w.stays event told (writer-mild shape event past who.number told heard
+        (writing_of plan) (record { brings = refl; had = refl; release = refl; commit = refl }) (draws-late shape past home s answers)
         (λ g own. stood-quiet shape home who request s told past tt asked.none who.number g) (λ e. absurd (false≢true e)) w.writer))

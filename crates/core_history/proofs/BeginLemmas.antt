@@ -1,5 +1,7 @@
 -- How a core follows a session that begins.
-use Rattle.std.proofs.Common.{ℕ, zero, suc, ◌+◌, ◌-◌, ◌≡◌, ◌<◌, ◌≤◌, ◌==◌, ◌&&◌, ◌||◌, Bool, true, false, not, cond, List, [], ◌∷◌, ◌++◌, length, map, count_by, Option, Some, None, IsSome, slice_get, refl, sym, ap, subst, ◌∙◌, ⊎_elim, length-append, arith}
+use Rattle.std.proofs.Common.{ℕ, zero, suc, ◌+◌, ◌-◌, ◌≡◌, ◌<◌, ◌≤◌, ◌==◌, ◌&&◌, ◌||◌, Bool, true, false, not, cond, List, [], ◌∷◌, ◌++◌}
+use Rattle.std.proofs.Common.{length, map, count_by, Option, Some, None, IsSome, slice_get, refl, sym, ap, subst, ◌∙◌, ⊎_elim}
+use Rattle.std.proofs.Common.{length-append, arith}
 use Rattle.std.specs.List.{list_any}
 use Rattle.std.proofs.lemmas.Bool.{cases_lt, eqb-true, false_from_ne_true}
 use Rattle.std.proofs.lemmas.List.Folds.{list_any-append}
@@ -25,9 +27,11 @@ use Rattle.expiry_sweeper.specs.declared.sweepers.Sweeper.{Sweeper}
 use Rattle.session_client.specs.declared.sessions.Session.{Session}
 use Rattle.key_shard.specs.Shards.{ShardView}
 use Rattle.core_history.specs.Cores.{Origin, CoreView, HasShards, HasPhases, HasSweeper, RoseBy, IsAt, AreFollowing}
-use Rattle.core_history.specs.Events.{Event, Stepped, Called, Ticked, Swept, told_by, told_in, told_to, swept_in, ends_told, ends_swept, ends_in, ended_of, was_ended, has_committed}
+use Rattle.core_history.specs.Events.{Event, Stepped, Called, Ticked, Swept, told_by, told_in, told_to, swept_in, ends_told, ends_swept}
+use Rattle.core_history.specs.Events.{ends_in, ended_of, was_ended, has_committed}
 use Rattle.core_history.specs.Lines.{is_fault}
-use Rattle.core_history.specs.Machine.{World, Move, Begin, Take, Said, is_writer, is_open, begun, event_of, wanted_of, sweep_of, swept_next, turn_event, world_of}
+use Rattle.core_history.specs.Machine.{World, Move, Begin, Take, Said, is_writer, is_open, begun, event_of, wanted_of, sweep_of, swept_next}
+use Rattle.core_history.specs.Machine.{turn_event, world_of}
 use Rattle.core_history.proofs.CoresLemmas.{NoneUnbegun, follow_begun, none_begun, plans_begun}
 use Rattle.core_history.proofs.EventLemmas.{committed-told}
 use Rattle.core_history.proofs.FoundLemmas.{EndsHeard, ends_heard, none-behind}
@@ -104,7 +108,8 @@ never_ended shape (Take turn said ∷ moves) n none =
     let event = turn_event shape (world_of shape moves) turn said in
     let before : told_to n past ≡ [] = none-behind (told_in n event) (told_to n past) none in
     list_any-append (λ other. other == n) (ends_in event) (ended_of past)
-    ∙ ap (λ (b : Bool). b || was_ended n past) (not_ended_in n event (none-front (told_in n event) (told_to n past) none) (spares shape moves n turn said before))
+    ∙ ap (λ (b : Bool). b || was_ended n past)
+    (not_ended_in n event (none-front (told_in n event) (told_to n past) none) (spares shape moves n turn said before))
     ∙ never_ended shape moves n before
 
 beyond : {X : Type 0} (xs : List X) (place : ℕ) → length xs ≤ place → slice_get xs place ≡ None
@@ -137,7 +142,8 @@ phases_begun phases world plan has none unended =
 
     before : (who : Sid) → 1 ≤ who.number → who.number - 1 < length phases → may_commit who (phases ++ first ∷ []) ≡ is_open (begun world plan) who
     before who some within =
-        ap may (phase_there who.number (phases ++ first ∷ []) some ∙ slice_get_push phases first (who.number - 1) within ∙ sym (phase_there who.number phases some))
+        ap may (phase_there who.number (phases ++ first ∷ []) some ∙ slice_get_push phases first (who.number - 1) within
+        ∙ sym (phase_there who.number phases some))
         ∙ has.opens who some
         ∙ ap (state who) (sym (slice_get_push world.plans plan (who.number - 1) (omega (arith, has.count, within))))
 
@@ -151,12 +157,14 @@ phases_begun phases world plan has none unended =
         let unheard : told_to who.number world.past ≡ [] = subst (λ (n : ℕ). told_to n world.past ≡ []) number none in
         let still : was_ended who.number world.past ≡ false = subst (λ (n : ℕ). was_ended n world.past ≡ false) number unended in
         ap may (phase_there who.number (phases ++ first ∷ []) some ∙ here) ∙ may_first (writes plan)
-        ∙ sym (ap (state who) there ∙ ap (λ (b : Bool). writes plan && not b && not (was_ended who.number world.past)) (never_committed who.number world.past unheard)
+        ∙ sym (ap (state who) there
+        ∙ ap (λ (b : Bool). writes plan && not b && not (was_ended who.number world.past)) (never_committed who.number world.past unheard)
         ∙ ap (λ (b : Bool). writes plan && true && not b) still ∙ alone (writes plan))
 
     later : (who : Sid) → 1 ≤ who.number → length phases + 1 ≤ who.number - 1 → may_commit who (phases ++ first ∷ []) ≡ is_open (begun world plan) who
     later who some far =
-        ap may (phase_there who.number (phases ++ first ∷ []) some ∙ beyond (phases ++ first ∷ []) (who.number - 1) (omega (arith, length-append phases (first ∷ []), far)))
+        ap may (phase_there who.number (phases ++ first ∷ []) some
+        ∙ beyond (phases ++ first ∷ []) (who.number - 1) (omega (arith, length-append phases (first ∷ []), far)))
         ∙ sym (ap (state who) (beyond (world.plans ++ plan ∷ []) (who.number - 1) (omega (arith, length-append world.plans (plan ∷ []), has.count, far))))
 
     from : (who : Sid) → 1 ≤ who.number → length phases ≤ who.number - 1 → may_commit who (phases ++ first ∷ []) ≡ is_open (begun world plan) who
@@ -165,7 +173,9 @@ phases_begun phases world plan has none unended =
 -- a session began
 pub core_begun : (old new : CoreView) (origin : Origin) (moves : List Move) (plan : Plan) (session : Session) → IsAt old origin moves → IsPlan plan
     → plan_of session ≡ plan → (sid_of session).number ≡ length old.sessions + 1 → IsReady session → Follows session false [] →
-    new.sessions ≡ old.sessions ++ session ∷ [] → new.shards ≡ old.shards → new.sweeper ≡ old.sweeper → new.clock ≡ old.clock → new.store.ledger ≡ with_session (writes plan) old.store.ledger → new.store.told ≡ old.store.told → new.store.faults ≡ old.store.faults → IsAt new origin (Begin plan ∷ moves)
+    new.sessions ≡ old.sessions ++ session ∷ [] → new.shards ≡ old.shards → new.sweeper ≡ old.sweeper → new.clock ≡ old.clock
+    → new.store.ledger ≡ with_session (writes plan) old.store.ledger
+    → new.store.told ≡ old.store.told → new.store.faults ≡ old.store.faults → IsAt new origin (Begin plan ∷ moves)
 core_begun old new origin moves plan session at is_plan plan_is number ready follows sessions shards sweeper now ledger told faults =
     let world = world_of origin.shape moves in
     let count : length old.sessions ≡ length world.plans = sym (length-map old.sessions plan_of) ∙ ap (λ (l : List Plan). length l) at.sessions.plans in
@@ -193,7 +203,8 @@ core_begun old new origin moves plan session at is_plan plan_is number ready fol
       };
       clock = now ∙ at.clock;
       sweeper = subst (λ (s : Sweeper). HasSweeper s origin.shape world.past) (sym sweeper) at.sweeper;
-      phases = subst P (sym (ap (λ (l : Ledger). l.sessions) ledger)) (phases_begun old.store.ledger.sessions world plan at.phases none (never_ended origin.shape moves (length world.plans + 1) none));
+      phases = subst P (sym (ap (λ (l : Ledger). l.sessions) ledger))
+          (phases_begun old.store.ledger.sessions world plan at.phases none (never_ended origin.shape moves (length world.plans + 1) none));
       sessions = record {
         plans = ap (map plan_of) sessions ∙ plans_begun old.sessions session world.plans plan at.sessions.plans plan_is;
         following = subst S (sym sessions) (follow_begun old.sessions session world.past at.sessions.following at.sessions.unbegun ready number follows);

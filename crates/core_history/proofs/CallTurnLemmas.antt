@@ -1,5 +1,6 @@
 -- A turn in which a writer asks the store keeps the facts: for its commit, for an answer, or to be ended.
-use Rattle.std.proofs.Common.{ℕ, ◌≡◌, ◌+◌, ◌==◌, Bool, true, false, not, cond, List, [], ◌∷◌, length, find, Option, Some, None, refl, ap, subst, ◌∙◌, inl, inr, ◌⊎◌}
+use Rattle.std.proofs.Common.{ℕ, ◌≡◌, ◌+◌, ◌==◌, Bool, true, false, not, cond, List, [], ◌∷◌, length, find, Option, Some, None, refl, ap}
+use Rattle.std.proofs.Common.{subst, ◌∙◌, inl, inr, ◌⊎◌}
 use Rattle.std.proofs.lemmas.Bool.{false≢true, eqb-true, eq-eqb}
 use Rattle.rows_model.specs.declared.keys.QKey.{QKey}
 use Rattle.rows_model.specs.declared.keys.Sid.{Sid}
@@ -40,26 +41,32 @@ use Rattle.core_history.proofs.ReadTurnLemmas.{After}
 use Rattle.core_history.proofs.WritingLemmas.{IsWriter, open-uncommitted, open-closed, shut-closed, granted-stands}
 
 -- a call of a writer's that brings it no grant and no commit
-call-turn : (shape : Shape) (world : World) (who : Sid) (plan : Plan) (request : Wanted) (told : Reply) → Inner shape world → IsWriter shape world who.number plan → Mild told
+call-turn : (shape : Shape) (world : World) (who : Sid) (plan : Plan) (request : Wanted) (told : Reply)
+    → Inner shape world → IsWriter shape world who.number plan → Mild told
     → (is_ending (told ∷ told_to who.number world.past) ≡ true → closed who.number (Called who request told ∷ world.past) ≡ true)
     → Inner shape (with_event world (Called who request told))
 call-turn shape world who plan request told inner w mild ending =
     let event = Called who request told in
     mild-inner shape world who request told inner mild.brings mild.commit
-    (w.stays event told (writer-mild shape event world.past who.number told (told_to who.number world.past) (writing_of plan) mild tt (λ grant own. stood-called shape who request told world.past who.number grant) ending w.writer))
+    (w.stays event told (writer-mild shape event world.past who.number told
+    (told_to who.number world.past) (writing_of plan) mild tt (λ grant own. stood-called shape who request told world.past who.number grant) ending w.writer))
 
 -- it is ended at the store, whether or not it was open: it is closed then
-pub end-turn : (shape : Shape) (world : World) (who : Sid) (said : Said) (plan : Plan) → Inner shape world → IsWriter shape world who.number plan → After shape world who said wanted.End
+pub end-turn : (shape : Shape) (world : World) (who : Sid) (said : Said) (plan : Plan)
+    → Inner shape world → IsWriter shape world who.number plan → After shape world who said wanted.End
 end-turn shape world who said plan inner w = by (is_open world who) refl
   where
-    ended : (b : Bool) → closed who.number (Called who wanted.End (reply.End b) ∷ world.past) ≡ true → Inner shape (with_event world (Called who wanted.End (reply.End b)))
+    ended : (b : Bool) → closed who.number (Called who wanted.End (reply.End b) ∷ world.past) ≡ true
+        → Inner shape (with_event world (Called who wanted.End (reply.End b)))
     ended b shut =
         call-turn shape world who plan wanted.End (reply.End b) inner w (record { brings = refl; had = refl; release = refl; commit = refl }) (λ _. shut)
 
-    by : (b : Bool) → is_open world who ≡ b → Inner shape (with_event world (Called who wanted.End (reply.End b))) × IsGoodEvent shape world.past (Called who wanted.End (reply.End b))
+    by : (b : Bool) → is_open world who ≡ b → Inner shape (with_event world (Called who wanted.End (reply.End b)))
+        × IsGoodEvent shape world.past (Called who wanted.End (reply.End b))
     by true is =
         let event = Called who wanted.End (reply.End true) in
-        let mine : was_ended who.number (event ∷ world.past) ≡ true = or_inl (who.number == who.number) (was_ended who.number world.past) (eq-eqb who.number who.number refl) in (
+        let mine : was_ended who.number (event ∷ world.past) ≡ true =
+        or_inl (who.number == who.number) (was_ended who.number world.past) (eq-eqb who.number who.number refl) in (
           ended true (or_inr (has_committed who.number (event ∷ world.past)) (was_ended who.number (event ∷ world.past)) mine),
           λ logged. not_both (logged-committed who.number world.past logged) (open-uncommitted world who is),
         )
@@ -67,23 +74,45 @@ end-turn shape world who said plan inner w = by (is_open world who) refl
         (ended false (closed-more who.number (Called who wanted.End (reply.End false)) world.past (shut-closed world who plan w.at w.may is)), tt)
 
 -- it wants nothing
-pub nothing-turn : (shape : Shape) (world : World) (who : Sid) (said : Said) (plan : Plan) → Inner shape world → IsWriter shape world who.number plan → After shape world who said wanted.Nothing
-nothing-turn shape world who said plan inner w =
-    (call-turn shape world who plan wanted.Nothing reply.Nothing inner w (record { brings = refl; had = refl; release = refl; commit = refl }) (λ e. absurd (false≢true e)), tt)
+pub nothing-turn : (shape : Shape) (world : World) (who : Sid) (said : Said) (plan : Plan)
+    → Inner shape world → IsWriter shape world who.number plan → After shape world who said wanted.Nothing
+nothing-turn shape world who said plan inner w = (
+  call-turn shape world who plan wanted.Nothing reply.Nothing inner w
+      (record { brings = refl; had = refl; release = refl; commit = refl }) (λ e. absurd (false≢true e)),
+  tt,
+)
 
 -- it asks for the answer that its transaction would leave
-pub staged-turn : (shape : Shape) (world : World) (who : Sid) (said : Said) (plan : Plan) (key : QKey) (txn : List Change) → Inner shape world → IsWriter shape world who.number plan
+pub staged-turn : (shape : Shape) (world : World) (who : Sid) (said : Said) (plan : Plan) (key : QKey) (txn : List Change)
+    → Inner shape world → IsWriter shape world who.number plan
     → After shape world who said (wanted.Staged key txn)
 staged-turn shape world who said plan key txn inner w = by said
   where
     request : Wanted
     request = wanted.Staged key txn
 
-    by : (s : Said) → Inner shape (with_event world (Called who request (staged_told txn s))) × IsGoodEvent shape world.past (Called who request (staged_told txn s))
-    by (Value value) = (call-turn shape world who plan request (reply.Staged value txn) inner w (record { brings = refl; had = refl; release = refl; commit = refl }) (λ e. absurd (false≢true e)), tt)
-    by (Rejected index) = (call-turn shape world who plan request (reply.NotStaged (after.Rejected index) txn) inner w (record { brings = refl; had = refl; release = refl; commit = refl }) (λ e. absurd (false≢true e)), tt)
-    by Made = (call-turn shape world who plan request (reply.NotStaged after.Failed txn) inner w (record { brings = refl; had = refl; release = refl; commit = refl }) (λ e. absurd (false≢true e)), tt)
-    by Failed = (call-turn shape world who plan request (reply.NotStaged after.Failed txn) inner w (record { brings = refl; had = refl; release = refl; commit = refl }) (λ e. absurd (false≢true e)), tt)
+    by : (s : Said) → Inner shape (with_event world (Called who request (staged_told txn s)))
+        × IsGoodEvent shape world.past (Called who request (staged_told txn s))
+    by (Value value) = (
+      call-turn shape world who plan request (reply.Staged value txn) inner w
+          (record { brings = refl; had = refl; release = refl; commit = refl }) (λ e. absurd (false≢true e)),
+      tt,
+    )
+    by (Rejected index) = (
+      call-turn shape world who plan request (reply.NotStaged (after.Rejected index) txn) inner w
+          (record { brings = refl; had = refl; release = refl; commit = refl }) (λ e. absurd (false≢true e)),
+      tt,
+    )
+    by Made = (
+      call-turn shape world who plan request (reply.NotStaged after.Failed txn) inner w
+          (record { brings = refl; had = refl; release = refl; commit = refl }) (λ e. absurd (false≢true e)),
+      tt,
+    )
+    by Failed = (
+      call-turn shape world who plan request (reply.NotStaged after.Failed txn) inner w
+          (record { brings = refl; had = refl; release = refl; commit = refl }) (λ e. absurd (false≢true e)),
+      tt,
+    )
 
 -- no first fault: the session is open and each key that is touched is covered
 found_none : (p : QKey → Bool) (key : QKey) (keys : List QKey) → find (λ k. not (p k)) keys ≡ None → has_key key keys ≡ true → p key ≡ true
@@ -111,7 +140,8 @@ covered-stands : (shape : Shape) (world : World) (who : Sid) (plan : Plan) (txn 
     → stands_for who (standing key (steps_of (shard_of key shape.shards) world.past)) ≡ true
 covered-stands shape world who plan txn w still none key touched =
     let heard = told_to who.number world.past in
-    granted-stands shape world.past who heard (writing_of plan) w.writer still key (found_none (is_covered who (granted heard)) key (footprint txn) none ((footprints_are_exact_is txn).exact key ∙ touched))
+    granted-stands shape world.past who heard (writing_of plan) w.writer still key
+    (found_none (is_covered who (granted heard)) key (footprint txn) none ((footprints_are_exact_is txn).exact key ∙ touched))
 
 -- it is committed, or the commit is refused
 pub commit-turn : (shape : Shape) (world : World) (who : Sid) (said : Said) (plan : Plan) → Inner shape world → IsWriter shape world who.number plan
@@ -137,12 +167,17 @@ commit-turn shape world who said plan inner w = by (commit_fault (is_open world 
     request = wanted.Commit txn lent
 
     refused : (fault : CommitFault)
-        → Inner shape (with_event world (Called who request (reply.NotCommitted fault txn lent))) × IsGoodEvent shape past (Called who request (reply.NotCommitted fault txn lent))
-    refused fault =
-        (call-turn shape world who plan request (reply.NotCommitted fault txn lent) inner w (record { brings = refl; had = refl; release = refl; commit = refl }) (λ e. absurd (false≢true e)), tt)
+        → Inner shape (with_event world (Called who request (reply.NotCommitted fault txn lent)))
+        × IsGoodEvent shape past (Called who request (reply.NotCommitted fault txn lent))
+    refused fault = (
+      call-turn shape world who plan request (reply.NotCommitted fault txn lent) inner w
+          (record { brings = refl; had = refl; release = refl; commit = refl }) (λ e. absurd (false≢true e)),
+      tt,
+    )
 
     made : commit_fault (is_open world who) who (granted heard) txn count log_cap ≡ None
-        → Inner shape (with_event world (Called who request (reply.Committed (count + 1) txn lent))) × IsGoodEvent shape past (Called who request (reply.Committed (count + 1) txn lent))
+        → Inner shape (with_event world (Called who request (reply.Committed (count + 1) txn lent)))
+        × IsGoodEvent shape past (Called who request (reply.Committed (count + 1) txn lent))
     made none =
         let told = reply.Committed (count + 1) txn lent in
         let event = Called who request told in
@@ -150,23 +185,27 @@ commit-turn shape world who said plan inner w = by (commit_fault (is_open world 
         let still = open-closed world who parts.0 in
         let stands = covered-stands shape world who plan txn w still parts.1 in (
           called-inner shape world who request told inner refl
-              (λ n shut. choose (λ l. was_committed l ≡ false) (who.number == n) (told ∷ []) [] (λ same. absurd (not_both shut (subst (λ m. closed m past ≡ false) (eqb-true who.number n same) still))) (λ _. refl))
+              (λ n shut. choose (λ l. was_committed l ≡ false) (who.number == n)
+              (told ∷ []) [] (λ same. absurd (not_both shut (subst (λ m. closed m past ≡ false) (eqb-true who.number n same) still))) (λ _. refl))
               stands (record { plan = plan; at = w.at; changes = refl })
               (w.stays event told (writer-committed shape past who request txn lent heard (writing_of plan) w.writer)),
           record {
             opened = λ over. not_both (over-closed who.number past over) still;
-            granted = λ key touched. quarantined-granted key who (steps_of (shard_of key shape.shards) past) (granted_standing key who (steps_of (shard_of key shape.shards) past) (stands key touched));
+            granted = λ key touched. quarantined-granted key who (steps_of (shard_of key shape.shards) past)
+                (granted_standing key who (steps_of (shard_of key shape.shards) past) (stands key touched));
           },
         )
 
     answered : (s : Said) → commit_fault (is_open world who) who (granted heard) txn count log_cap ≡ None
-        → Inner shape (with_event world (Called who request (commit_said count txn lent s))) × IsGoodEvent shape past (Called who request (commit_said count txn lent s))
+        → Inner shape (with_event world (Called who request (commit_said count txn lent s)))
+        × IsGoodEvent shape past (Called who request (commit_said count txn lent s))
     answered Made none = made none
     answered (Rejected index) none = refused (faults.Rejected index)
     answered (Value value) none = refused faults.KeepFault
     answered Failed none = refused faults.KeepFault
 
     by : (o : Option CommitFault) → commit_fault (is_open world who) who (granted heard) txn count log_cap ≡ o
-        → Inner shape (with_event world (Called who request (commit_by count txn lent said o))) × IsGoodEvent shape past (Called who request (commit_by count txn lent said o))
+        → Inner shape (with_event world (Called who request (commit_by count txn lent said o)))
+        × IsGoodEvent shape past (Called who request (commit_by count txn lent said o))
     by (Some fault) e = refused fault
     by None e = answered said e

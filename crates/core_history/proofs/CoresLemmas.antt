@@ -1,5 +1,7 @@
 -- How a core follows a session that begins, and each turn.
-use Rattle.std.proofs.Common.{ℕ, min, ◌+◌, ◌-◌, ◌^◌, ◌≡◌, ◌≢◌, ◌<◌, ◌≤◌, ◌==◌, Bool, true, false, cond, List, [], ◌∷◌, ◌++◌, length, map, Option, Some, option_map, IsTrue, Result, Ok, Err, MatchResult, IfOk, OnOk, OnErr, ◌⊎◌, inl, inr, zero, suc, eq-eqb, rules, slice_get, set, refl, sym, ap, subst, ⊎_elim, ◌∙◌, length-append, arith}
+use Rattle.std.proofs.Common.{ℕ, min, ◌+◌, ◌-◌, ◌^◌, ◌≡◌, ◌≢◌, ◌<◌, ◌≤◌, ◌==◌, Bool, true, false, cond, List, [], ◌∷◌, ◌++◌, length, map}
+use Rattle.std.proofs.Common.{Option, Some, option_map, IsTrue, Result, Ok, Err, MatchResult, IfOk, OnOk, OnErr, ◌⊎◌, inl, inr, zero, suc}
+use Rattle.std.proofs.Common.{eq-eqb, rules, slice_get, set, refl, sym, ap, subst, ⊎_elim, ◌∙◌, length-append, arith}
 use Rattle.std.specs.List.{list_any}
 use Rattle.std.proofs.lemmas.Bool.{eqb-true, cases_Bool, cases_lt, false≢true}
 use Rattle.std.proofs.lemmas.List.{map-append}
@@ -30,7 +32,8 @@ use Rattle.sql_keeper.specs.Stores.{StoreView}
 use Rattle.core_history.specs.declared.told.Told.{Told}
 use Rattle.core_history.specs.Cores.{Origin, CoreView, HasShards, HasStore, AreFollowing, HasKept, HasPhases, HasSessions, HasSweeper, IsAt}
 use Rattle.core_history.specs.Events.{Event, Ticked, told_in, told_to, swept_in, sweeps_of, now_of, reply_in}
-use Rattle.core_history.specs.Machine.{World, wanted_by, wanted_of, event_of, sweep_of, swept_next, later, turn_event, out_of, Said, Failed, Move, Take, world_of}
+use Rattle.core_history.specs.Machine.{World, wanted_by, wanted_of, event_of, sweep_of, swept_next, later, turn_event, out_of, Said, Failed}
+use Rattle.core_history.specs.Machine.{Move, Take, world_of}
 use Rattle.core_history.specs.Requests.{IsGrantOut, IsOutWhereReleased, IsWaiting, Stands, TakesTurn, TakesOne, after}
 use Rattle.core_history.specs.Sweeping.{IsNumbered, TakesSweep}
 use Rattle.core_history.specs.Told.{IsToldOf}
@@ -202,13 +205,15 @@ waits_there core origin moves who session at some found =
       sid = sid_is (sid_of session) who (following.1 ∙ number);
       heard = told_to who.number world.past;
       follows = subst F number following.2;
-      released = out_there core.shards origin.shape world who _ at.kept.shards (grant_facts origin.shape moves shards at.kept.plans) (wants_is world who core.sessions session at.sessions.plans found);
+      released = out_there core.shards origin.shape world who _ at.kept.shards
+          (grant_facts origin.shape moves shards at.kept.plans) (wants_is world who core.sessions session at.sessions.plans found);
     }
 
 -- what is so after a turn
 abbrev pub TakesStep : Origin → List Move → Turn → CoreView → Result Told Memory → Type 0
 TakesStep origin moves turn new result =
-    MatchResult result (λ told. (said : Said) × IsAt new origin (Take turn said ∷ moves) × IsToldOf (turn_event origin.shape (world_of origin.shape moves) turn said) told)
+    MatchResult result (λ told. (said : Said) × IsAt new origin (Take turn said ∷ moves)
+    × IsToldOf (turn_event origin.shape (world_of origin.shape moves) turn said) told)
     (λ _. HasKept new origin moves ⊎ ((said : Said) × HasKept new origin (Take turn said ∷ moves)))
 
 -- a turn whose event was made, and its line told unless memory ran out
@@ -251,8 +256,10 @@ turn_taken old new origin moves who result at some begun sweeper now takes = by 
     found : (session : Session) × (slice_get old.sessions (who.number - 1) ≡ Some session)
     found = there old.sessions (who.number - 1) (omega (arith, some, begun))
 
-    one : (after : Session) × (new.sessions ≡ set old.sessions (who.number - 1) after) × (plan_of after ≡ plan_of found.0) × (sid_of after ≡ sid_of found.0) × OnOk result (IsReady after)
-        × ((origin : Origin) (world : World) (heard : List Reply) → Stands old.shards old.store origin world → old.clock ≡ now_of world.past → Follows found.0 false heard → TakesTurn origin world who (wants (plan_of found.0) false heard) heard new.shards new.store after result)
+    one : (after : Session) × (new.sessions ≡ set old.sessions (who.number - 1) after)
+        × (plan_of after ≡ plan_of found.0) × (sid_of after ≡ sid_of found.0) × OnOk result (IsReady after)
+        × ((origin : Origin) (world : World) (heard : List Reply) → Stands old.shards old.store origin world → old.clock ≡ now_of world.past
+        → Follows found.0 false heard → TakesTurn origin world who (wants (plan_of found.0) false heard) heard new.shards new.store after result)
     one = takes found.0 found.1
 
     number : who.number - 1 + 1 ≡ who.number
@@ -266,7 +273,8 @@ turn_taken old new origin moves who result at some begun sweeper now takes = by 
 
     taken : TakesTurn origin world who (wanted_of world who) heard new.shards new.store one.0 result
     taken =
-        subst (λ (w : Wanted). TakesTurn origin world who w heard new.shards new.store one.0 result) (wants_is world who old.sessions found.0 at.sessions.plans found.1)
+        subst (λ (w : Wanted). TakesTurn origin world who w heard new.shards new.store one.0 result)
+        (wants_is world who old.sessions found.0 at.sessions.plans found.1)
         (one.5 origin world heard (at.kept.shards, (at.kept.store, at.phases)) at.clock follows)
 
     kept : (said : Said) → Stands new.shards new.store origin (after world (event_of origin.shape world who (wanted_of world who) said))
@@ -289,11 +297,13 @@ turn_taken old new origin moves who result at some begun sweeper now takes = by 
           record {
             kept = kept t.0 t.2;
             clock = now ∙ at.clock ∙ sym (is.clock world.past);
-            sweeper = subst (λ (s : Sweeper). HasSweeper s origin.shape (event ∷ world.past)) (sym sweeper) (sweeper_same old.sweeper origin.shape world.past event is.swept at.sweeper);
+            sweeper = subst (λ (s : Sweeper). HasSweeper s origin.shape (event ∷ world.past))
+                (sym sweeper) (sweeper_same old.sweeper origin.shape world.past event is.swept at.sweeper);
             phases = t.2.1.1;
             sessions = record {
               plans = ap (map plan_of) one.1 ∙ plans_turn old.sessions (who.number - 1) one.0 found.0 found.1 one.2 ∙ at.sessions.plans;
-              following = subst S (sym one.1) (follow_turn old.sessions who.number one.0 answer world.past event at.sessions.following some begun tells ready sid t.3);
+              following =
+                  subst S (sym one.1) (follow_turn old.sessions who.number one.0 answer world.past event at.sessions.following some begun tells ready sid t.3);
               unbegun = subst N (sym one.1) (none_turn old.sessions who.number one.0 answer world.past event at.sessions.unbegun begun tells);
               nobody = still_told who.number 0 answer world.past event tells (omega (arith, some)) ∙ at.sessions.nobody;
             };
@@ -324,17 +334,23 @@ tick_taken old new origin moves by result at store shards sessions sweeper now l
     kept = record {
       plans = at.kept.plans;
       fit = at.kept.fit;
-      shards = subst (λ (xs : List ShardView). HasShards xs origin.shape (event ∷ world.past)) (sym shards) (shards_ticked old.shards origin.shape world.past (later by world.past) at.kept.shards);
-      store = subst (λ (s : StoreView). HasStore s origin (event ∷ world.past)) (sym store) (store_quiet old.store origin world.past event at.kept.store (quiet_tick (later by world.past)));
+      shards = subst (λ (xs : List ShardView). HasShards xs origin.shape (event ∷ world.past))
+          (sym shards) (shards_ticked old.shards origin.shape world.past (later by world.past) at.kept.shards);
+      store = subst (λ (s : StoreView). HasStore s origin (event ∷ world.past))
+          (sym store) (store_quiet old.store origin world.past event at.kept.store (quiet_tick (later by world.past)));
     }
 
     ticked : IsAt new origin (Take (turn.Tick by) Failed ∷ moves)
     ticked = record {
       kept = kept;
       clock = clock;
-      sweeper = subst (λ (s : Sweeper). HasSweeper s origin.shape (event ∷ world.past)) (sym sweeper) (sweeper_same old.sweeper origin.shape world.past event refl at.sweeper);
-      phases = subst (λ (s : StoreView). HasPhases s.ledger.sessions (after world event)) (sym store) (phases_same old.store.ledger.sessions world event at.phases refl refl);
-      sessions = subst (λ (xs : List Session). HasSessions xs (after world event)) (sym sessions) (sessions_same old.sessions world event (λ number. refl) at.sessions);
+      sweeper = subst (λ (s : Sweeper). HasSweeper s origin.shape (event ∷ world.past))
+          (sym sweeper) (sweeper_same old.sweeper origin.shape world.past event refl at.sweeper);
+      phases = subst (λ (s : StoreView). HasPhases s.ledger.sessions (after world event))
+          (sym store) (phases_same old.store.ledger.sessions world event at.phases refl refl);
+      sessions =
+          subst (λ (xs : List Session). HasSessions xs (after world event))
+          (sym sessions) (sessions_same old.sessions world event (λ number. refl) at.sessions);
     }
 
 -- no session is told anything of a step of the sweeper's
@@ -376,7 +392,8 @@ sweep_taken old new origin moves result at sessions now takes =
       clock = now ∙ at.clock ∙ sym (unmoved origin.shape world request);
       sweeper = takes.1;
       phases = takes.0.1.1;
-      sessions = subst (λ (xs : List Session). HasSessions xs (after world (sweep_of origin.shape world request))) (sym sessions) (sessions_same old.sessions world (sweep_of origin.shape world request) (untold origin.shape world request) at.sessions);
+      sessions = subst (λ (xs : List Session). HasSessions xs (after world (sweep_of origin.shape world request)))
+          (sym sessions) (sessions_same old.sessions world (sweep_of origin.shape world request) (untold origin.shape world request) at.sessions);
     }
 
 -- a claim by cases gives each of its cases

@@ -1,5 +1,6 @@
 -- Two runs of one script take the same turns: move by move, the latest first.
-use Rattle.std.proofs.Common.{◌≡◌, ℕ, suc, ◌+◌, ◌<◌, ◌==◌, ◌||◌, Bool, true, false, cond, List, [], ◌∷◌, ◌++◌, length, map, count_by, Option, Some, None, Result, Ok, refl, sym, ap, subst, ◌∙◌, append-nil, length-append, eq-eqb, arith, rules}
+use Rattle.std.proofs.Common.{◌≡◌, ℕ, suc, ◌+◌, ◌<◌, ◌==◌, ◌||◌, Bool, true, false, cond, List, [], ◌∷◌, ◌++◌, length, map, count_by}
+use Rattle.std.proofs.Common.{Option, Some, None, Result, Ok, refl, sym, ap, subst, ◌∙◌, append-nil, length-append, eq-eqb, arith, rules}
 use Rattle.std.specs.List.{list_any}
 use Rattle.std.proofs.lemmas.Bool.{false≢true}
 use Rattle.std.proofs.lemmas.List.{append_cancel_right}
@@ -19,7 +20,8 @@ use Rattle.session_client.specs.declared.plans.Turn.TheVariants as turn
 use Rattle.session_client.specs.declared.replies.Wanted.{Wanted}
 use Rattle.session_client.specs.declared.replies.Wanted.TheVariants as wanted
 use Rattle.core_history.specs.Events.{Event, Called, log_of}
-use Rattle.core_history.specs.Machine.{World, Move, Begin, Take, Said, Value, Made, Rejected, is_open, log_cap, begun, taken, turn_event, event_of, wanted_of, ask_told, staged_told, commit_said, commit_by, world_of}
+use Rattle.core_history.specs.Machine.{World, Move, Begin, Take, Said, Value, Made, Rejected, is_open, log_cap, begun, taken, turn_event}
+use Rattle.core_history.specs.Machine.{event_of, wanted_of, ask_told, staged_told, commit_said, commit_by, world_of}
 use Rattle.core_history.specs.Truth.{IsTrueReply, IsTrueEvent, IsTruePast}
 use Rattle.core_history.specs.Lines.{tells_fault, is_fault, fault_turns}
 use Rattle.core_history.specs.Determined.{call_of, Turns, Adds, RunsAreDetermined}
@@ -79,7 +81,8 @@ said_same rows request count txn grants other another one two same = refl
 
 by_same : (rows : Tables) (request : Wanted) (count : ℕ) (txn : List Change) (grants : GrantsView) (one two : Said) (fault : Option CommitFault)
     → IsTrueReply rows request (commit_by count txn grants one fault) → IsTrueReply rows request (commit_by count txn grants two fault)
-    → tells_fault (commit_by count txn grants one fault) ≡ tells_fault (commit_by count txn grants two fault) → commit_by count txn grants one fault ≡ commit_by count txn grants two fault
+    → tells_fault (commit_by count txn grants one fault) ≡ tells_fault (commit_by count txn grants two fault)
+    → commit_by count txn grants one fault ≡ commit_by count txn grants two fault
 by_same rows request count txn grants one two (Some fault) true_one true_two same = refl
 by_same rows request count txn grants one two None true_one true_two same =
     said_same rows request count txn grants one two true_one true_two same
@@ -147,7 +150,8 @@ module _ (shape : Shape) (opening : Tables) where
       let same : turn ≡ again = cc in
       let rest = worlds_same moves others (tails (Turns turn) (Turns again) _ _ calls) one.1 two.1 (tails _ _ _ _ faults) in
       let P : Turn → Type 0 =
-      λ t. IsTrueTurn other t word → is_fault (turned world turn said) ≡ is_fault (turned other t word) → taken shape world turn said ≡ taken shape other t word in
+      λ t. IsTrueTurn other t word → is_fault (turned world turn said) ≡ is_fault (turned other t word)
+      → taken shape world turn said ≡ taken shape other t word in
       subst P same (turn_same world other turn said word rest one.0) two.0 (heads _ _ _ _ faults)
 
 -- two runs of one script take as many turns
@@ -202,9 +206,11 @@ marks_same (event ∷ one) (other ∷ two) count same =
     by true true n m xs ys e low high same = (append_cancel_right xs ys ((n + 1) ∷ []) (same ∙ ap (λ k. ys ++ (k + 1) ∷ []) (sym e)), refl)
     by false false n m xs ys e low high same = (append_cancel_right xs ys [] same, refl)
     by true false n m xs ys e low high same =
-        absurd (false≢true (sym high ∙ ap (λ l. list_any (λ k. k == m + 1) l) (sym (append-nil ys) ∙ sym same) ∙ ap (λ k. list_any (λ j. j == k + 1) (xs ++ (n + 1) ∷ [])) (sym e) ∙ last_of n xs))
+        absurd (false≢true (sym high ∙ ap (λ l. list_any (λ k. k == m + 1) l) (sym (append-nil ys) ∙ sym same)
+        ∙ ap (λ k. list_any (λ j. j == k + 1) (xs ++ (n + 1) ∷ [])) (sym e) ∙ last_of n xs))
     by false true n m xs ys e low high same =
-        absurd (false≢true (sym low ∙ ap (λ l. list_any (λ k. k == n + 1) l) (sym (append-nil xs) ∙ same) ∙ ap (λ k. list_any (λ j. j == k + 1) (ys ++ (m + 1) ∷ [])) e ∙ last_of m ys))
+        absurd (false≢true (sym low ∙ ap (λ l. list_any (λ k. k == n + 1) l) (sym (append-nil xs) ∙ same)
+        ∙ ap (λ k. list_any (λ j. j == k + 1) (ys ++ (m + 1) ∷ [])) e ∙ last_of m ys))
 
 -- as many turns were answered FAULT as there are FAULT lines
 pub turns_count : (past : List Event) → length (fault_turns past) ≡ count_by is_fault past
@@ -220,4 +226,5 @@ turns_count (event ∷ past) =
 
 pub runs_determined : RunsAreDetermined
 runs_determined shape opening moves others calls one two turns =
-    ap (λ w. w.past) (worlds_same shape opening moves others calls one two (marks_same (world_of shape moves).past (world_of shape others).past (turns_same shape moves others calls) turns))
+    ap (λ w. w.past) (worlds_same shape opening moves others calls one two
+    (marks_same (world_of shape moves).past (world_of shape others).past (turns_same shape moves others calls) turns))

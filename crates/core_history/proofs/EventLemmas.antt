@@ -1,5 +1,6 @@
 -- What an event adds to what sessions are told, to the log, and to the steps of each shard.
-use Rattle.std.proofs.Common.{ℕ, ◌≡◌, ◌==◌, Bool, true, false, cond, ◌&&◌, ◌||◌, List, [], ◌∷◌, ◌++◌, count_by, Option, Some, None, refl, sym, ap, subst, ◌∙◌, inl, inr, arith}
+use Rattle.std.proofs.Common.{ℕ, ◌≡◌, ◌==◌, Bool, true, false, cond, ◌&&◌, ◌||◌, List, [], ◌∷◌, ◌++◌, count_by, Option, Some, None, refl}
+use Rattle.std.proofs.Common.{sym, ap, subst, ◌∙◌, inl, inr, arith}
 use Rattle.std.specs.List.{list_any}
 use Rattle.std.proofs.lemmas.Bool.{eq-eqb, eqb-true, false≢true}
 use Rattle.std.proofs.lemmas.List.Folds.{list_any-append}
@@ -23,11 +24,14 @@ use Rattle.session_client.specs.declared.replies.Reply.TheVariants as reply
 use Rattle.session_client.specs.declared.replies.Wanted.{Wanted}
 use Rattle.session_client.specs.Wants.{grants_in, granted, is_commit, was_committed}
 use Rattle.session_client.proofs.WantCases.{grants-append}
-use Rattle.core_history.specs.Events.{Event, Stepped, Called, Ticked, Swept, steps_in, steps_of, told_by, told_in, told_to, commits_told, commits_in, log_of, ends_in, ended_of, known_of, was_ended, has_committed}
-use Rattle.core_history.proofs.ListLemmas.{choose, or_inl, or_inr, or_elim, not_both, any-front, any-back, any-at, place_of, count-append, count-cons, tick, zero_if}
+use Rattle.core_history.specs.Events.{Event, Stepped, Called, Ticked, Swept, steps_in, steps_of, told_by, told_in, told_to, commits_told}
+use Rattle.core_history.specs.Events.{commits_in, log_of, ends_in, ended_of, known_of, was_ended, has_committed}
+use Rattle.core_history.proofs.ListLemmas.{choose, or_inl, or_inr, or_elim, not_both, any-front, any-back, any-at, place_of, count-append}
+use Rattle.core_history.proofs.ListLemmas.{count-cons, tick, zero_if}
 
 -- a sweep that makes no step leaves the steps
-pub unmade-steps : (home place : ℕ) (request : SweepWanted) (told : SweepReply) (past : List Event) → steps_of home (Swept place request None told ∷ past) ≡ steps_of home past
+pub unmade-steps : (home place : ℕ) (request : SweepWanted) (told : SweepReply) (past : List Event)
+    → steps_of home (Swept place request None told ∷ past) ≡ steps_of home past
 unmade-steps home place request told past = by (place == home)
   where
     by : (b : Bool) → cond b [] [] ++ steps_of home past ≡ steps_of home past
@@ -54,7 +58,8 @@ commit_is n who told = by told (who.number == n) refl
     both told true e = ap (λ c. c || false) (sym e)
     both told false e = refl
 
-    by : (told : Reply) (b : Bool) → (who.number == n) ≡ b → list_any (λ commit. commit.sid.number == n) (commits_told who told) ≡ list_any is_commit (cond b (told ∷ []) [])
+    by : (told : Reply) (b : Bool) → (who.number == n) ≡ b
+        → list_any (λ commit. commit.sid.number == n) (commits_told who told) ≡ list_any is_commit (cond b (told ∷ []) [])
     by (reply.Committed number txn grants) true e = ap (λ b. b || false) e
     by (reply.Committed number txn grants) false e = ap (λ b. b || false) e
     by (reply.Got found) b e = both (reply.Got found) b refl
@@ -98,7 +103,8 @@ closed n past = has_committed n past || was_ended n past
 pub closed-more : (n : ℕ) (event : Event) (past : List Event) → closed n past ≡ true → closed n (event ∷ past) ≡ true
 closed-more n event past h =
     elim (or_elim (has_committed n past) (was_ended n past) h) [
-      | inl committed ↦ or_inl (has_committed n (event ∷ past)) (was_ended n (event ∷ past)) (any-front (λ commit. commit.sid.number == n) (log_of past) (commits_in event) committed)
+      | inl committed ↦ or_inl (has_committed n (event ∷ past)) (was_ended n (event ∷ past))
+          (any-front (λ commit. commit.sid.number == n) (log_of past) (commits_in event) committed)
       | inr ended ↦ or_inr (has_committed n (event ∷ past)) (was_ended n (event ∷ past)) (any-back (λ other. other == n) (ends_in event) (ended_of past) ended)
     ]
 
@@ -154,7 +160,8 @@ IsLate event past = (n : ℕ) → closed n past ≡ true → was_committed (told
 told-mild : (n : ℕ) (who : Sid) (told : Reply) → is_commit told ≡ false → was_committed (told_by n who told) ≡ false
 told-mild n who told mild = told-cases (λ l. was_committed l ≡ false) n who told refl (λ _. ap (λ b. b || false) mild)
 
-pub late-stepped : (place : ℕ) (who : Sid) (request : Wanted) (s : Step) (told : Reply) (past : List Event) → is_commit told ≡ false → IsLate (Stepped place who request s told) past
+pub late-stepped : (place : ℕ) (who : Sid) (request : Wanted) (s : Step) (told : Reply) (past : List Event)
+    → is_commit told ≡ false → IsLate (Stepped place who request s told) past
 late-stepped place who request s told past mild n h = told-mild n who told mild
 
 pub late-called : (who : Sid) (request : Wanted) (told : Reply) (past : List Event) → is_commit told ≡ false → IsLate (Called who request told) past
@@ -173,14 +180,16 @@ IsKnown past (step.Released key sid token how) =
     (closed sid.number past ≡ true) × (how ≡ ended.Keep → has_committed sid.number past ≡ false)
 IsKnown past other = Unit {0}
 
-pub uncommitted-more : (n : ℕ) (event : Event) (past : List Event) → was_committed (told_in n event) ≡ false → has_committed n past ≡ false → has_committed n (event ∷ past) ≡ false
+pub uncommitted-more : (n : ℕ) (event : Event) (past : List Event)
+    → was_committed (told_in n event) ≡ false → has_committed n past ≡ false → has_committed n (event ∷ past) ≡ false
 uncommitted-more n event past new old =
     committed-told n (event ∷ past) ∙ list_any-append is_commit (told_in n event) (told_to n past)
     ∙ ap (λ b. b || was_committed (told_to n past)) new ∙ sym (committed-told n past) ∙ old
 
 pub known-more : (event : Event) (past : List Event) → IsLate event past → (s : Step) → IsKnown past s → IsKnown (event ∷ past) s
 known-more event past late (step.Granted key sid mode shift now token deadline) h =
-    subst (λ g. is_covered sid g key ≡ true) (sym (grants-append (told_in sid.number event) (told_to sid.number past))) (any-front (covers sid key) (granted (told_to sid.number past)) (granted (told_in sid.number event)) h)
+    subst (λ g. is_covered sid g key ≡ true) (sym (grants-append (told_in sid.number event) (told_to sid.number past)))
+    (any-front (covers sid key) (granted (told_to sid.number past)) (granted (told_in sid.number event)) h)
 known-more event past late (step.Released key sid token how) h =
     (closed-more sid.number event past h.0, λ kept. uncommitted-more sid.number event past (late sid.number h.0) (h.1 kept))
 known-more event past late (step.Hit key sid floor value stamp) h = tt
@@ -196,7 +205,8 @@ known-more event past late (step.Gone key sid token) h = tt
 -- an event adds as many grants to the steps as to what is told
 abbrev pub IsCounted : ℕ → Event → Type 0
 IsCounted shards event =
-    (key : QKey) (who : Sid) → count_by (quarantines key who) (steps_in (shard_of key shards) event) ≡ count_by (covers who key) (granted (told_in who.number event))
+    (key : QKey) (who : Sid) → count_by (quarantines key who) (steps_in (shard_of key shards) event)
+    ≡ count_by (covers who key) (granted (told_in who.number event))
 
 pub counts-more : (shards : ℕ) (event : Event) (past : List Event) → IsCounted shards event → (key : QKey) (who : Sid)
     → count_by (quarantines key who) (steps_of (shard_of key shards) past) ≡ count_by (covers who key) (granted (told_to who.number past))
@@ -216,7 +226,8 @@ no_step : (b : Bool) (p : Step → Bool) (s : Step) → p s ≡ false → count_
 no_step true p s e = let a = count-cons p s [] in let b = zero_if (p s) e in omega (arith, a, b)
 no_step false p s e = refl
 
-pub counted-mild : (shards place : ℕ) (who : Sid) (request : Wanted) (s : Step) (told : Reply) → ((key : QKey) (by : Sid) → quarantines key by s ≡ false) → grants_in told ≡ []
+pub counted-mild : (shards place : ℕ) (who : Sid) (request : Wanted) (s : Step) (told : Reply)
+    → ((key : QKey) (by : Sid) → quarantines key by s ≡ false) → grants_in told ≡ []
     → IsCounted shards (Stepped place who request s told)
 counted-mild shards place who request s told none mild key by =
     no_step (place == shard_of key shards) (quarantines key by) s (none key by) ∙ sym (ap (count_by (covers by key)) (no_grants by.number who told mild))
@@ -231,7 +242,8 @@ pub counted-unmade : (shards place : ℕ) (request : SweepWanted) (told : SweepR
 counted-unmade shards place request told key by =
     choose (λ l. count_by (quarantines key by) l ≡ 0) (place == shard_of key shards) [] [] (λ _. refl) (λ _. refl)
 
-pub counted-swept : (shards place : ℕ) (request : SweepWanted) (s : Step) (told : SweepReply) → ((key : QKey) (by : Sid) → quarantines key by s ≡ false) → IsCounted shards (Swept place request (Some s) told)
+pub counted-swept : (shards place : ℕ) (request : SweepWanted) (s : Step) (told : SweepReply)
+    → ((key : QKey) (by : Sid) → quarantines key by s ≡ false) → IsCounted shards (Swept place request (Some s) told)
 counted-swept shards place request s told none key by =
     no_step (place == shard_of key shards) (quarantines key by) s (none key by)
 
@@ -254,11 +266,13 @@ same_ticks false false true h = refl
 same_ticks false false false h = refl
 
 pub counted-granted : (shards : ℕ) (key : QKey) (who : Sid) (request : Wanted) (mode : _) (shift : _) (now token deadline place : ℕ) (old : _)
-    → IsCounted shards (Stepped (shard_of key shards) who request (step.Granted key who mode shift now token deadline) (reply.Quar (quarantine.Granted (record { shard = place; key = key; sid = who; mode = mode; token = token }) old)))
+    → IsCounted shards (Stepped (shard_of key shards) who request (step.Granted key who mode shift now token deadline)
+    (reply.Quar (quarantine.Granted (record { shard = place; key = key; sid = who; mode = mode; token = token }) old)))
 counted-granted shards key who request mode shift now token deadline place old on by =
     let s = step.Granted key who mode shift now token deadline in
     let grant : Permit = record { shard = place; key = key; sid = who; mode = mode; token = token } in
     count_one (quarantines on by) (shard_of key shards == shard_of on shards) s
-    ∙ same_ticks (shard_of key shards == shard_of on shards) (same_key on key) (who.number == by.number) (λ same. eq-eqb _ _ (ap (λ k. shard_of k shards) (sym (same_key-true on key same))))
+    ∙ same_ticks (shard_of key shards == shard_of on shards) (same_key on key)
+    (who.number == by.number) (λ same. eq-eqb _ _ (ap (λ k. shard_of k shards) (sym (same_key-true on key same))))
     ∙ sym (count_one (covers by on) (who.number == by.number) grant)
     ∙ sym (ap (count_by (covers by on)) (granted_one (who.number == by.number) grant old))

@@ -1,5 +1,6 @@
 -- A quarantine that isn't to invalidate has its key for itself: each good step keeps that, and what its session writes then is held.
-use Rattle.std.proofs.Common.{ℕ, ◌≡◌, ◌≢◌, ◌+◌, ◌≤◌, ◌==◌, ◌&&◌, Bool, true, false, not, cond, List, [], ◌∷◌, ◌++◌, length, filter, find, Option, Some, None, refl, sym, ap, subst, ◌∙◌, ◌⊎◌, inl, inr, ⊎_elim, ◌<◌, eq-eqb, eqb-true, arith}
+use Rattle.std.proofs.Common.{ℕ, ◌≡◌, ◌≢◌, ◌+◌, ◌≤◌, ◌==◌, ◌&&◌, Bool, true, false, not, cond, List, [], ◌∷◌, ◌++◌, length, filter, find}
+use Rattle.std.proofs.Common.{Option, Some, None, refl, sym, ap, subst, ◌∙◌, ◌⊎◌, inl, inr, ⊎_elim, ◌<◌, eq-eqb, eqb-true, arith}
 use Rattle.std.specs.List.{AllByRecursion}
 use Rattle.std.proofs.lemmas.Bool.{false≢true}
 use Rattle.rows_model.specs.declared.keys.QKey.{QKey}
@@ -186,7 +187,8 @@ found-all P p (x ∷ xs) y all e = by (p x) (λ h. found-all P p xs y all.1 h) e
     by false rest e = rest e
 
 -- a session writes under the quarantine that has the key for itself
-pub record WritesAlone (events : List Event) (on : QKey) (sid : Sid) (token place : ℕ) (commit : Commit) (marks : List Mark) (now : Option (List ℕ × ℕ)) (quars : List Quar) : Type 0 where
+pub record WritesAlone (events : List Event) (on : QKey) (sid : Sid)
+    (token place : ℕ) (commit : Commit) (marks : List Mark) (now : Option (List ℕ × ℕ)) (quars : List Quar) : Type 0 where
   pub quar : Quar
   pub only : quars ≡ quar ∷ []
   pub who : quar.sid.number ≡ sid.number
@@ -231,7 +233,8 @@ pub writes_held : (events : List Event) (steps : List Step) (on : QKey) (sid : S
 writes_held events steps on sid token mode stamp other writes ruled alone =
     let it = writes_alone events steps on sid token mode stamp other writes alone in
     let marks = marks_of on steps in
-    let held = put_is_held on it.quar.sid.number token writes.place writes.commit it.alone.then_marks marks it.alone.then_known (known_of events) it.alone.moment it.alone.since it.alone.more ruled it.own in
+    let held = put_is_held on it.quar.sid.number token writes.place writes.commit it.alone.then_marks marks it.alone.then_known
+    (known_of events) it.alone.moment it.alone.since it.alone.more ruled it.own in
     let H : ℕ → Type 0 = λ n. IsHeld on (Wrote (writes.place + 1) ∷ Ended n token ∷ marks) (known_of events) (writes.place + 1) in
     let S : ℕ → Type 0 = λ n. IsHeld on (Wrote n ∷ Ended sid.number token ∷ marks) (known_of events) n in
     (inl (record { place = writes.place; commit = writes.commit; at = writes.logged; own = writes.own }), subst S (sym writes.stamp_is) (subst H it.who held))
@@ -241,16 +244,19 @@ gone_reader : (b : Bool) (quars : List Quar) (lease : Option ReadLease) → (qua
 gone_reader true quars lease apart = inr refl
 gone_reader false quars lease apart = apart
 
-granted_reader : (b : Bool) (quars more : List Quar) (lease : Option ReadLease) → (quars ≡ []) ⊎ (lease ≡ None) → (cond b more quars ≡ []) ⊎ (cond b None lease ≡ None)
+granted_reader : (b : Bool) (quars more : List Quar) (lease : Option ReadLease)
+    → (quars ≡ []) ⊎ (lease ≡ None) → (cond b more quars ≡ []) ⊎ (cond b None lease ≡ None)
 granted_reader true quars more lease apart = inr refl
 granted_reader false quars more lease apart = apart
 
-released_reader : (b : Bool) (p : Quar → Bool) (quars : List Quar) (lease : Option ReadLease) → (quars ≡ []) ⊎ (lease ≡ None) → (cond b (filter p quars) quars ≡ []) ⊎ (lease ≡ None)
+released_reader : (b : Bool) (p : Quar → Bool) (quars : List Quar) (lease : Option ReadLease)
+    → (quars ≡ []) ⊎ (lease ≡ None) → (cond b (filter p quars) quars ≡ []) ⊎ (lease ≡ None)
 released_reader true p quars lease (inl e) = inl (ap (filter p) e)
 released_reader false p quars lease (inl e) = inl e
 released_reader b p quars lease (inr e) = inr e
 
-leased_reader : (b : Bool) (quars : List Quar) (new lease : Option ReadLease) → (b ≡ true → quars ≡ []) → (quars ≡ []) ⊎ (lease ≡ None) → (quars ≡ []) ⊎ (cond b new lease ≡ None)
+leased_reader : (b : Bool) (quars : List Quar) (new lease : Option ReadLease)
+    → (b ≡ true → quars ≡ []) → (quars ≡ []) ⊎ (lease ≡ None) → (quars ≡ []) ⊎ (cond b new lease ≡ None)
 leased_reader true quars new lease free apart = inl (free refl)
 leased_reader false quars new lease free apart = apart
 
@@ -260,8 +266,10 @@ apart_step events steps who (step.Lease on sid floor now token deadline) key goo
     leased_reader (same_key key on) (standing key steps) (Some (record { sid = sid; token = token; deadline = deadline })) (recorded key steps)
     (λ same. subst (λ k. standing k steps ≡ []) (sym (same_key-true key on same)) good) apart
 apart_step events steps who (step.Granted on sid mode shift now token deadline) key good apart =
-    granted_reader (same_key key on) (standing key steps) (standing key steps ++ record { sid = sid; mode = mode; token = token; deadline = deadline; shift = shift } ∷ []) (recorded key steps) apart
-apart_step events steps who (step.Stored on token now value stamp evicted) key good apart = gone_reader (same_key key on) (standing key steps) (recorded key steps) apart
+    granted_reader (same_key key on) (standing key steps) (standing key steps
+    ++ record { sid = sid; mode = mode; token = token; deadline = deadline; shift = shift } ∷ []) (recorded key steps) apart
+apart_step events steps who (step.Stored on token now value stamp evicted) key good apart =
+    gone_reader (same_key key on) (standing key steps) (recorded key steps) apart
 apart_step events steps who (step.Released on sid token how) key good apart =
     released_reader (same_key key on) (λ quar. not (has_token token quar)) (standing key steps) (recorded key steps) apart
 apart_step events steps who (step.Hit on sid floor value stamp) key good apart = apart
@@ -291,7 +299,8 @@ module _ (events after : List Event) (steps : List Step) where
 
   mild : (key : QKey) (more : List Mark) (later : Option (List ℕ × ℕ)) → IsBefore key → FindsSame key → ((who token : ℕ) → Has (Granted who token) more → ⊥)
       → StaysOrGoes (entry key steps) later → Alone key (standing key steps) more later
-  mild key more later is finds none stays = alone-moved key (standing key steps) events after more (marks_of key steps) (known_of events) (entry key steps) later finds none stays is.alone
+  mild key more later is finds none stays =
+      alone-moved key (standing key steps) events after more (marks_of key steps) (known_of events) (entry key steps) later finds none stays is.alone
 
   -- a quarantine is granted on the key
   granted_here : (on : QKey) (sid : Sid) (mode : Mode) (new : Quar) → IsBefore on → new.sid ≡ sid → new.mode ≡ mode → IsGoodGrant events steps on sid mode
@@ -329,7 +338,8 @@ module _ (events after : List Event) (steps : List Step) where
   granted_on : (key on : QKey) (sid : Sid) (mode : Mode) (new : Quar) (b : Bool) → same_key key on ≡ b → IsBefore key → new.sid ≡ sid → new.mode ≡ mode
       → IsGoodGrant events steps on sid mode
       → ((token : ℕ) → (same_key key on && (new.token == token)) ≡ false → found_at key token after ≡ found_at key token events)
-      → ((token : ℕ) → (same_key key on && (new.token == token)) ≡ true → found_at key token after ≡ Some (record { commits = length (log_of events); entry = entry key steps }))
+      → ((token : ℕ) → (same_key key on && (new.token == token)) ≡ true
+      → found_at key token after ≡ Some (record { commits = length (log_of events); entry = entry key steps }))
       → Alone key (cond b (standing key steps ++ new ∷ []) (standing key steps)) (cond b (Granted new.sid.number new.token ∷ []) []) (entry key steps)
   granted_on key on sid mode new true same is whose in_mode good finds gives =
       granted_here key sid mode new is whose in_mode (subst (λ k. IsGoodGrant events steps k sid mode) (sym (same_key-true key on same)) good)
@@ -352,7 +362,8 @@ module _ (events after : List Event) (steps : List Step) where
       free : standing key steps ≡ []
       free = ⊎_elim (λ e. e) (λ none. none_some sets.lease (sym reads ∙ none)) is.apart
 
-      by : AreAlone key (standing key steps) events (marks_of key steps) (known_of events) (entry key steps) → Alone key (standing key steps) (Wrote stamp ∷ []) (Some (value, stamp))
+      by : AreAlone key (standing key steps) events (marks_of key steps) (known_of events) (entry key steps)
+          → Alone key (standing key steps) (Wrote stamp ∷ []) (Some (value, stamp))
       by (inl all) = inl all
       by (inr one) = inl (subst AllInvalidate (sym free) tt)
   stored_on key on who token value stamp gone false same is sets finds =
@@ -366,19 +377,23 @@ module _ (events after : List Event) (steps : List Step) where
   Writes on sid token (ended.Shift by stamp) = WritesOwn events steps on sid token Delta stamp
 
   -- the quarantine of the token was alone, and is gone
-  written_here : (key : QKey) (sid : Sid) (token : ℕ) (mode : Mode) (stamp : ℕ) (more : List Mark) (later : Option (List ℕ × ℕ)) → mode ≢ Invalidate → IsBefore key
+  written_here : (key : QKey) (sid : Sid) (token : ℕ) (mode : Mode) (stamp : ℕ) (more : List Mark) (later : Option (List ℕ × ℕ))
+      → mode ≢ Invalidate → IsBefore key
       → WritesOwn events steps key sid token mode stamp → Alone key (filter (λ quar. not (has_token token quar)) (standing key steps)) more later
   written_here key sid token mode stamp more later other is writes =
       let it = writes_alone events steps key sid token mode stamp other writes is.alone in
-      let left : filter (λ quar. not (has_token token quar)) (it.quar ∷ []) ≡ [] = ap (λ b. cond (not b) (it.quar ∷ []) []) (eq-eqb it.quar.token token it.token_is) in
+      let left : filter (λ quar. not (has_token token quar)) (it.quar ∷ []) ≡ [] =
+      ap (λ b. cond (not b) (it.quar ∷ []) []) (eq-eqb it.quar.token token it.token_is) in
       inl (subst AllInvalidate (sym (ap (filter (λ quar. not (has_token token quar))) it.only ∙ left)) tt)
 
   -- the quarantine of a token ends, and the entry stays or goes
-  ended_here : (key : QKey) (token : ℕ) (more : List Mark) (later : Option (List ℕ × ℕ)) → IsBefore key → FindsSame key → ((who t : ℕ) → Has (Granted who t) more → ⊥)
+  ended_here : (key : QKey) (token : ℕ) (more : List Mark) (later : Option (List ℕ × ℕ))
+      → IsBefore key → FindsSame key → ((who t : ℕ) → Has (Granted who t) more → ⊥)
       → StaysOrGoes (entry key steps) later → Alone key (filter (λ quar. not (has_token token quar)) (standing key steps)) more later
   ended_here key token more later is finds none stays = by (mild key more later is finds none stays)
     where
-      left : (quar : Quar) (b : Bool) → IsAlone key quar after (more ++ marks_of key steps) (known_of events) later → Alone key (cond (not b) (quar ∷ []) []) more later
+      left : (quar : Quar) (b : Bool) → IsAlone key quar after (more ++ marks_of key steps) (known_of events) later
+          → Alone key (cond (not b) (quar ∷ []) []) more later
       left quar true alone = inl tt
       left quar false alone = inr (record { quar = quar; only = refl; alone = alone })
 
@@ -388,7 +403,8 @@ module _ (events after : List Event) (steps : List Step) where
           subst (λ l. Alone key (filter (λ quar. not (has_token token quar)) l) more later) (sym one.only) (left one.quar (one.quar.token == token) one.alone)
 
   released_here : (key : QKey) (sid : Sid) (token : ℕ) (how : Ends) → IsBefore key → Writes key sid token how → FindsSame key
-      → Alone key (filter (λ quar. not (has_token token quar)) (standing key steps)) (writes_by how ++ Ended sid.number token ∷ []) (entry_ended how (entry key steps))
+      → Alone key (filter (λ quar. not (has_token token quar)) (standing key steps))
+      (writes_by how ++ Ended sid.number token ∷ []) (entry_ended how (entry key steps))
   released_here key sid token ended.Keep is writes finds =
       ended_here key token (Ended sid.number token ∷ []) (entry key steps) is finds (λ who t h. no_grant who t sid.number token ended.Keep h) (inl refl)
   released_here key sid token ended.Drop is writes finds =
@@ -396,17 +412,21 @@ module _ (events after : List Event) (steps : List Step) where
   released_here key sid token (ended.Put value stamp evicted) is writes finds =
       written_here key sid token Refresh stamp (Wrote stamp ∷ Ended sid.number token ∷ []) (Some (value, stamp)) (λ e. cc) is writes
   released_here key sid token (ended.Shift by stamp) is writes finds =
-      written_here key sid token Delta stamp (Wrote stamp ∷ Ended sid.number token ∷ []) (entry_ended (ended.Shift by stamp) (entry key steps)) (λ e. cc) is writes
+      written_here key sid token Delta stamp (Wrote stamp ∷ Ended sid.number token
+      ∷ []) (entry_ended (ended.Shift by stamp) (entry key steps)) (λ e. cc) is writes
 
-  released_on : (key on : QKey) (sid : Sid) (token : ℕ) (how : Ends) (gone b : Bool) → same_key key on ≡ b → IsBefore key → Writes on sid token how → FindsSame key
-      → Alone key (cond b (filter (λ quar. not (has_token token quar)) (standing key steps)) (standing key steps)) (cond b (writes_by how ++ Ended sid.number token ∷ []) [])
+  released_on : (key on : QKey) (sid : Sid) (token : ℕ) (how : Ends) (gone b : Bool)
+      → same_key key on ≡ b → IsBefore key → Writes on sid token how → FindsSame key
+      → Alone key (cond b (filter (λ quar. not (has_token token quar)) (standing key steps)) (standing key steps))
+      (cond b (writes_by how ++ Ended sid.number token ∷ []) [])
       (cond b (entry_ended how (entry key steps)) (cond gone None (entry key steps)))
   released_on key on sid token how gone true same is writes finds =
       released_here key sid token how is (subst (λ k. Writes k sid token how) (sym (same_key-true key on same)) writes) finds
   released_on key on sid token how gone false same is writes finds =
       mild key [] (cond gone None (entry key steps)) is finds (λ by at h. h) (goes gone (entry key steps))
 
-  writes_of : (who : Sid) (on : QKey) (sid : Sid) (token : ℕ) (how : Ends) → IsGoodStep events steps who (step.Released on sid token how) → Writes on sid token how
+  writes_of : (who : Sid) (on : QKey) (sid : Sid) (token : ℕ) (how : Ends)
+      → IsGoodStep events steps who (step.Released on sid token how) → Writes on sid token how
   writes_of who on sid token ended.Keep good = tt
   writes_of who on sid token ended.Drop good = tt
   writes_of who on sid token (ended.Put value stamp evicted) good = good.writes
@@ -418,7 +438,8 @@ module _ (events after : List Event) (steps : List Step) where
       → ((token : ℕ) → grants_as key token s ≡ true → found_at key token after ≡ Some (record { commits = length (log_of events); entry = entry key steps }))
       → AreAlone key (standing key (s ∷ steps)) after (marks_of key (s ∷ steps)) (known_of events) (entry key (s ∷ steps))
   alone_step who (step.Granted on sid mode shift now token deadline) key good is finds gives =
-      granted_on key on sid mode (record { sid = sid; mode = mode; token = token; deadline = deadline; shift = shift }) (same_key key on) refl is refl refl good finds gives
+      granted_on key on sid mode (record { sid = sid; mode = mode; token = token; deadline = deadline; shift = shift })
+      (same_key key on) refl is refl refl good finds gives
   alone_step who (step.Stored on token now value stamp evicted) key good is finds gives =
       stored_on key on who token value stamp (is_evicted key evicted) (same_key key on) refl is good (λ t. finds t refl)
   alone_step who (step.Released on sid token how) key good is finds gives =

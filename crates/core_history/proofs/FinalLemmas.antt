@@ -29,8 +29,10 @@ use Rattle.session_client.specs.declared.plans.Turn.{Turn}
 use Rattle.session_client.specs.declared.plans.Turn.TheVariants as turn
 use Rattle.session_client.specs.declared.replies.Wanted.{Wanted}
 use Rattle.session_client.specs.declared.replies.Wanted.TheVariants as wanted
-use Rattle.core_history.specs.Events.{Event, Stepped, Called, Ticked, Swept, steps_in, steps_of, swept_in, sweeps_of, commits_in, log_of, ends_in, ended_of, known_of}
-use Rattle.core_history.specs.Machine.{World, Move, Begin, Take, Said, terms_of, is_open, scan_told, event_of, wanted_of, sweep_of, swept_next, turn_event, world_of}
+use Rattle.core_history.specs.Events.{Event, Stepped, Called, Ticked, Swept, steps_in, steps_of, swept_in, sweeps_of, commits_in, log_of}
+use Rattle.core_history.specs.Events.{ends_in, ended_of, known_of}
+use Rattle.core_history.specs.Machine.{World, Move, Begin, Take, Said, terms_of, is_open, scan_told, event_of, wanted_of, sweep_of}
+use Rattle.core_history.specs.Machine.{swept_next, turn_event, world_of}
 use Rattle.core_history.specs.Freshness.{IsCommitOf}
 use Rattle.core_history.specs.Sweeps.{IsHitSince, AreHitsSince, WasEnded, SweepsAreFinal}
 use Rattle.core_history.proofs.EventLemmas.{unmade-steps}
@@ -98,8 +100,10 @@ sweep_drop shape world (sweep.Drop on gone) home key token s told wants e =
     let t : gone ≡ token = cc in
     let at : shard_of on shape.shards ≡ home = cc in
     let made : sweep_step (steps_at shape world.past on) on gone ≡ Some s = cc in
-    made_drop shape world home key token s (quar_of key token (steps_at shape world.past key)) (wants ∙ same) refl (subst (λ k. shard_of k shape.shards ≡ home) k at)
-    (subst (λ k. sweep_step (steps_at shape world.past k) k token ≡ Some s) k (subst (λ (t : ℕ). sweep_step (steps_at shape world.past on) on t ≡ Some s) t made))
+    made_drop shape world home key token s (quar_of key token (steps_at shape world.past key)) (wants
+    ∙ same) refl (subst (λ k. shard_of k shape.shards ≡ home) k at)
+    (subst (λ k. sweep_step (steps_at shape world.past k) k token
+    ≡ Some s) k (subst (λ (t : ℕ). sweep_step (steps_at shape world.past on) on t ≡ Some s) t made))
 
 turn_drop : (shape : Shape) (world : World) (turn : Turn) (said : Said) (home : ℕ) (key : QKey) (token : ℕ) (s : Step) (told : SweepReply)
     → turn_event shape world turn said ≡ Swept home (sweep.Drop key token) (Some s) told → IsDrop shape world home key token s
@@ -398,5 +402,6 @@ sweeps_final shape moves before after home key token s told e =
       gone = done.gone;
       since_drop = done.hits;
       since_end = λ end. weaker shape key token (length (log_of end.earlier)) all after (ended_before shape key token done.sid before end) done.hits;
-      since_commit = λ number commit. weaker shape key token number all after (committed_before shape key token moves s before after done number commit) done.hits;
+      since_commit =
+          λ number commit. weaker shape key token number all after (committed_before shape key token moves s before after done number commit) done.hits;
     }

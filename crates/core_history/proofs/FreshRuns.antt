@@ -1,5 +1,6 @@
 -- Every run keeps the rule of each key and its entries held, and where its replies were true it is fresh: by its moves, the latest first.
-use Rattle.std.proofs.Common.{ℕ, ◌+◌, ◌-◌, ◌≡◌, ◌<◌, true, ◌==◌, ◌&&◌, List, [], ◌∷◌, reverse, length, All, Option, Some, None, slice_get, refl, sym, subst, ⊎_elim, arith}
+use Rattle.std.proofs.Common.{ℕ, ◌+◌, ◌-◌, ◌≡◌, ◌<◌, true, ◌==◌, ◌&&◌, List, [], ◌∷◌, reverse, length, All, Option, Some, None, slice_get}
+use Rattle.std.proofs.Common.{refl, sym, subst, ⊎_elim, arith}
 use Rattle.std.specs.List.{range_with_len, list_any, AllByRecursion}
 use Rattle.std.proofs.lemmas.List.{reverse-reverse}
 use Rattle.std.proofs.lemmas.List.Elements.{All-map, All-nil}
@@ -46,7 +47,8 @@ run_holds shape (Take turn said ∷ moves) =
     good_holds shape world.past (turn_event shape world turn said) (taken-inner shape world turn said (inner_of shape moves)).1 (run_holds shape moves)
 
 -- each plan that was begun is one that a session takes
-plans_are : (shape : Shape) (moves : List Move) → HasPlans moves → (place : ℕ) (plan : Plan) → slice_get (world_of shape moves).plans place ≡ Some plan → IsPlan plan
+plans_are : (shape : Shape) (moves : List Move) → HasPlans moves
+    → (place : ℕ) (plan : Plan) → slice_get (world_of shape moves).plans place ≡ Some plan → IsPlan plan
 plans_are shape [] plans place plan at = absurd cc
 plans_are shape (Begin new ∷ moves) plans place plan at =
     ⊎_elim
@@ -69,7 +71,8 @@ run_log opening shape moves plans fit word = record {
   fit = fit;
   ids = λ place commit at.
       let planned = (inner_of shape moves).logged place commit at in
-      subst (λ (txn : List Change). All HasIds txn) (sym planned.changes) (plan_ids planned.plan (plans_are shape moves plans (commit.sid.number - 1) planned.plan planned.at));
+      subst (λ (txn : List Change). All HasIds txn) (sym planned.changes)
+      (plan_ids planned.plan (plans_are shape moves plans (commit.sid.number - 1) planned.plan planned.at));
   applied = true_applied opening (world_of shape moves).past word;
 }
 
@@ -80,10 +83,12 @@ run_rights opening shape [] plans fit word = start_rights opening shape
 run_rights opening shape (Begin plan ∷ moves) plans fit word = run_rights opening shape moves plans.1 fit word
 run_rights opening shape (Take turn said ∷ moves) plans fit word =
     let world = world_of shape moves in
-    good_rights opening shape world.past (turn_event shape world turn said) (run_log opening shape moves plans fit word.1) (taken-inner shape world turn said (inner_of shape moves)).1 word.0
+    good_rights opening shape world.past (turn_event shape world turn said)
+    (run_log opening shape moves plans fit word.1) (taken-inner shape world turn said (inner_of shape moves)).1 word.0
     (run_holds shape moves) (run_rights opening shape moves plans fit word.1)
 
-module _ (opening : Tables) (shape : Shape) (world : World) (holds : Holds shape world.past (known_of world.past)) (rights : Rights opening shape world.past (log_of world.past)) where
+module _ (opening : Tables) (shape : Shape) (world : World) (holds : Holds shape world.past (known_of world.past))
+    (rights : Rights opening shape world.past (log_of world.past)) where
   answer_of : (key : QKey) (found : Option (List ℕ × ℕ)) → IsEntryHeld key (marks_of key (steps_on shape world key)) (known_of world.past) found
       → IsEntryRight (answer_after opening key) (log_of world.past) found → IsAnswer opening (log_of world.past) key found
   answer_of key None held right = tt
@@ -91,17 +96,21 @@ module _ (opening : Tables) (shape : Shape) (world : World) (holds : Holds shape
 
   stood_for : (who token : ℕ) (quars : List Quar) → stands_as who token quars ≡ true → list_any (λ quar. quar.sid.number == who) quars ≡ true
   stood_for who token quars h =
-      any-weaker (λ quar. (quar.sid.number == who) && (quar.token == token)) (λ quar. quar.sid.number == who) quars (λ quar both. (and_elim (quar.sid.number == who) (quar.token == token) both).0) h
+      any-weaker (λ quar. (quar.sid.number == who) && (quar.token == token))
+      (λ quar. quar.sid.number == who) quars (λ quar both. (and_elim (quar.sid.number == who) (quar.token == token) both).0) h
 
-  pending_of : (key : QKey) (found : Option (List ℕ × ℕ)) → entry key (steps_on shape world key) ≡ found → ArePending (log_of world.past) key (standing key (steps_on shape world key)) found
+  pending_of : (key : QKey) (found : Option (List ℕ × ℕ)) → entry key (steps_on shape world key) ≡ found
+      → ArePending (log_of world.past) key (standing key (steps_on shape world key)) found
   pending_of key None is = tt
   pending_of key (Some found) is = λ place commit at late touched.
       let marks = marks_of key (steps_on shape world key) in
       let held = subst (IsEntryHeld key marks (known_of world.past)) is (holds.held key) in
-      let stands = lacking_stands key marks (known_of world.past) None (standing key (steps_on shape world key)) (entry key (steps_on shape world key)) found.1 (holds.ruled key) (holds.tied key) held place commit at late touched in
+      let stands = lacking_stands key marks (known_of world.past) None (standing key (steps_on shape world key))
+      (entry key (steps_on shape world key)) found.1 (holds.ruled key) (holds.tied key) held place commit at late touched in
       stood_for commit.sid.number stands.0 (standing key (steps_on shape world key)) stands.1
 
-  current_of : (key : QKey) (lease : ReadLease) (least : ℕ) (leased : IsLeased key lease.token world.past (marks_of key (steps_on shape world key)) (known_of world.past))
+  current_of : (key : QKey) (lease : ReadLease) (least : ℕ)
+      (leased : IsLeased key lease.token world.past (marks_of key (steps_on shape world key)) (known_of world.past))
       → least ≡ length leased.then_known.log → (answers : List Answer) → AllByRecursion (IsBetween least (length (log_of world.past))) answers
       → AllByRecursion (IsRightAnswer opening (log_of world.past) key) answers → AllByRecursion (IsCurrent opening (log_of world.past) key least) answers
   current_of key lease least leased is [] between right = tt
@@ -111,7 +120,8 @@ module _ (opening : Tables) (shape : Shape) (world : World) (holds : Holds shape
       within = between.0.1;
       right = right.0.1;
       latest = λ place commit at late. not_true (touches commit.txn key) (λ touched.
-          stored_is_latest key leased.then_marks (marks_of key (steps_on shape world key)) leased.then_known (known_of world.past) answered.stamp leased.moment leased.since leased.more (holds.ruled key) (let h = between.0.0 in omega (arith, h, is)) place commit at late touched);
+          stored_is_latest key leased.then_marks (marks_of key (steps_on shape world key)) leased.then_known (known_of world.past)
+          answered.stamp leased.moment leased.since leased.more (holds.ruled key) (let h = between.0.0 in omega (arith, h, is)) place commit at late touched);
     },
     current_of key lease least leased is answers between.1 right.1,
   )
@@ -127,8 +137,10 @@ module _ (opening : Tables) (shape : Shape) (world : World) (holds : Holds shape
             ⊎_elim
             (λ mine. absurd mine)
             (λ known. absurd (omega (arith, known, late)))
-            (known_then key None leased.then_marks (marks_of key (steps_on shape world key)) leased.then_known (known_of world.past) leased.moment leased.since leased.more (holds.ruled key) place commit at touched));
-        held = λ number. current_of key lease least leased refl (answers_under key lease.token number world.past) (holds.asked key lease.token number least leased.leased).1 (rights.answers key lease.token number);
+            (known_then key None leased.then_marks (marks_of key (steps_on shape world key)) leased.then_known
+            (known_of world.past) leased.moment leased.since leased.more (holds.ruled key) place commit at touched));
+        held = λ number. current_of key lease least leased refl (answers_under key lease.token number world.past)
+            (holds.asked key lease.token number least leased.leased).1 (rights.answers key lease.token number);
       }
 
   pub facts_from : IsTrueLog opening (log_of world.past) → GrantFacts shape world → Facts opening shape world

@@ -45,7 +45,8 @@ pub record SetsTold (past : List Event) (steps : List Step) (who : Sid) (on : QK
   pub value_is : value ≡ answered.value
   pub stamp_is : stamp ≡ answered.stamp
 
--- A quarantine that isn't to invalidate is granted where nothing stands, one that is beside others of its kind alone, and each to a session that hasn't committed.
+-- A quarantine that isn't to invalidate is granted where nothing stands, one that
+-- is beside others of its kind alone, and each to a session that hasn't committed.
 pub record IsGoodGrant (past : List Event) (steps : List Step) (on : QKey) (sid : Sid) (mode : Mode) : Type 0 where
   pub alone : mode ≢ Invalidate → standing on steps ≡ []
   pub joins : AllByRecursion (λ quar. quar.mode ≡ Invalidate) (standing on steps)
@@ -78,7 +79,8 @@ pub record ShiftsOwn (past : List Event) (steps : List Step) (on : QKey) (sid : 
   pub counts : is_count on ≡ true
   pub by_is : by ≡ delta_of on writes.commit.txn
 
--- A step is good: a hit is the entry, what is stored was told, a lease is given where nothing stands, whose quarantine ends is over, without a commit where the value is kept, and what is put or shifted is the session's own.
+-- A step is good: a hit is the entry, what is stored was told, a lease is given where nothing stands, whose
+-- quarantine ends is over, without a commit where the value is kept, and what is put or shifted is the session's own.
 abbrev pub IsGoodStep : List Event → List Step → Sid → Step → Type 0
 IsGoodStep past steps who (step.Stored on token now value stamp evicted) = SetsTold past steps who on token value stamp
 IsGoodStep past steps who (step.Lease on sid floor now token deadline) = standing on steps ≡ []

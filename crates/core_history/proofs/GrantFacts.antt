@@ -48,9 +48,11 @@ pub record GrantFacts (shape : Shape) (world : World) : Type 0 where
   -- each commit was quarantined on every key when it was made
   pub quarantined : AreQuarantined shape world.past
   -- a grant that is to be released is out
-  pub out : (who : Sid) (grant : Permit) → IsReleaseOf grant (wanted_of world who) → list_any (same_permit grant) (out_of shape (shard_of grant.key shape.shards) world.past) ≡ true
+  pub out : (who : Sid) (grant : Permit) → IsReleaseOf grant (wanted_of world who)
+      → list_any (same_permit grant) (out_of shape (shard_of grant.key shape.shards) world.past) ≡ true
   -- the old value that a session keeps for a quarantine to refresh is what that quarantine found
-  pub kept : (key : QKey) (quar : Quar) (found : Found) → quar_of key quar.token (steps_on shape world key) ≡ Some quar → found_at key quar.token world.past ≡ Some found
+  pub kept : (key : QKey) (quar : Quar) (found : Found) → quar_of key quar.token (steps_on shape world key) ≡ Some quar
+      → found_at key quar.token world.past ≡ Some found
       → (place : ℕ) (one : Given) → slice_get (given (told_to quar.sid.number world.past)) place ≡ Some one
       → one.permit.key ≡ key → one.permit.token ≡ quar.token → quar.mode ≡ Refresh → one.old ≡ found.entry
   -- whose quarantine the sweeper is to drop may commit no more

@@ -1,5 +1,6 @@
 -- The facts of grants hold of every world, and so every run is lawful.
-use Rattle.std.proofs.Common.{ℕ, ◌≡◌, ◌≢◌, ◌<◌, ◌≤◌, ◌==◌, true, false, List, [], ◌∷◌, length, reverse, count_by, Option, Some, None, slice_get, pos_of_ne-zero, refl, sym, ap, subst, ◌∙◌, inl, inr, ◌⊎◌, arith}
+use Rattle.std.proofs.Common.{ℕ, ◌≡◌, ◌≢◌, ◌<◌, ◌≤◌, ◌==◌, true, false, List, [], ◌∷◌, length, reverse, count_by, Option, Some, None}
+use Rattle.std.proofs.Common.{slice_get, pos_of_ne-zero, refl, sym, ap, subst, ◌∙◌, inl, inr, ◌⊎◌, arith}
 use Rattle.std.specs.List.{list_any}
 use Rattle.std.proofs.lemmas.Bool.{false≢true}
 use Rattle.std.proofs.lemmas.Option.{slice_get-get_or}
@@ -49,7 +50,8 @@ use Rattle.core_history.proofs.NumberedLemmas.{runs_numbered}
 use Rattle.core_history.proofs.WorldLemmas.{idle-grants, inner_of}
 
 -- quarantines stand apart from readers
-apart-key : (shape : Shape) (world : World) (key : QKey) → StandsWell (terms_of shape (shard_of key shape.shards)) (steps_on shape world key) key → AreApart (steps_on shape world key) key
+apart-key : (shape : Shape) (world : World) (key : QKey) → StandsWell (terms_of shape (shard_of key shape.shards)) (steps_on shape world key) key
+    → AreApart (steps_on shape world key) key
 apart-key shape world key well = record {
   no_reader = λ quar quars e. by quar quars e well.apart;
   alone = alone (terms_of shape (shard_of key shape.shards)) (steps_on shape world key) key well;
@@ -86,7 +88,8 @@ once-key : (shape : Shape) (world : World) → Inner shape world → (key : QKey
 once-key shape world inner key who =
     let heard = told_to who.number world.past in
     let a = inner.counts key who in
-    let b : count_by (covers who key) (granted heard) ≤ 1 = session-cases shape world.past who.number heard (count_by (covers who key) (granted heard) ≤ 1) (plan_at who.number world.plans) (inner.sessions who.number)
+    let b : count_by (covers who key) (granted heard) ≤ 1 =
+    session-cases shape world.past who.number heard (count_by (covers who key) (granted heard) ≤ 1) (plan_at who.number world.plans) (inner.sessions who.number)
     (λ none. none-once who key (granted heard) none) (λ plan is w. writer-once shape world.past who heard (writing_of plan) key w) in
     omega (arith, a, b)
 
@@ -95,11 +98,14 @@ none-covered : (who : Sid) (key : QKey) (grants : List Permit) → grants ≡ []
 none-covered who key grants e h = false≢true (sym (ap (λ l. is_covered who l key) e) ∙ h)
 
 open-stands : (shape : Shape) (world : World) (who : Sid) (key : QKey) → Inner shape world
-    → is_covered who (granted (told_to who.number world.past)) key ≡ true → is_open world who ≡ true → stands_for who (standing key (steps_on shape world key)) ≡ true
+    → is_covered who (granted (told_to who.number world.past)) key ≡ true
+    → is_open world who ≡ true → stands_for who (standing key (steps_on shape world key)) ≡ true
 open-stands shape world who key inner covered is_so =
     let heard = told_to who.number world.past in
-    session-cases shape world.past who.number heard (stands_for who (standing key (steps_on shape world key)) ≡ true) (plan_at who.number world.plans) (inner.sessions who.number)
-    (λ none. absurd (none-covered who key (granted heard) none covered)) (λ plan is w. granted-stands shape world.past who heard (writing_of plan) w (open-closed world who is_so) key covered)
+    session-cases shape world.past who.number heard (stands_for who (standing key (steps_on shape world key))
+    ≡ true) (plan_at who.number world.plans) (inner.sessions who.number)
+    (λ none. absurd (none-covered who key (granted heard) none covered))
+    (λ plan is w. granted-stands shape world.past who heard (writing_of plan) w (open-closed world who is_so) key covered)
 
 known-ordered : (shape : Shape) (world : World) → Inner shape world → (s : Step) → IsKnown world.past s → IsOrdered shape world s
 known-ordered shape world inner (step.Granted key sid mode shift now token deadline) h =
@@ -121,7 +127,8 @@ IsOutFor shape world grant request =
     IsReleaseOf grant request → list_any (same_permit grant) (out_of shape (shard_of grant.key shape.shards) world.past) ≡ true
 
 -- the grant that a session is to release next is out
-given-out : (shape : Shape) (world : World) (n : ℕ) (grant : Permit) (writing : Writing) (one : Given) → Writer shape world.past n (told_to n world.past) writing
+given-out : (shape : Shape) (world : World) (n : ℕ) (grant : Permit) (writing : Writing) (one : Given)
+    → Writer shape world.past n (told_to n world.past) writing
     → slice_get (given (told_to n world.past)) (released (told_to n world.past)) ≡ Some one → one.permit ≡ grant
     → list_any (same_permit grant) (out_of shape (shard_of grant.key shape.shards) world.past) ≡ true
 given-out shape world n grant writing one w at same =
@@ -139,7 +146,8 @@ writer-out : (shape : Shape) (world : World) (n : ℕ) (grant : Permit) (writing
     → IsOutFor shape world grant (write_wants writing false (told_to n world.past))
 writer-out shape world n grant writing w =
     write_cases (IsOutFor shape world grant) writing false (told_to n world.past)
-    (λ key at asks h. absurd (asks-none (mode_on writing.mode key) key writing.txn grant h)) (λ going h. absurd h) (λ key looks asks none h. absurd h) (λ key looks going h. absurd h) (λ going h. absurd h)
+    (λ key at asks h. absurd (asks-none (mode_on writing.mode key) key writing.txn grant h))
+    (λ going h. absurd h) (λ key looks asks none h. absurd h) (λ key looks going h. absurd h) (λ going h. absurd h)
     (λ one at ending none same. given-out shape world n grant writing one w at same)
     (λ one at ending same. given-out shape world n grant writing one w at same)
     (λ one number at ending told fits same. given-out shape world n grant writing one w at same)
@@ -163,7 +171,8 @@ no_grant i grant e = cc
 some_found : {a b : Found} → Some a ≡ Some b → a ≡ b
 some_found e = cc
 
-kept-found : (shape : Shape) (world : World) → Inner shape world → (key : QKey) (quar : Quar) (found : Found) → quar_of key quar.token (steps_on shape world key) ≡ Some quar
+kept-found : (shape : Shape) (world : World) → Inner shape world
+    → (key : QKey) (quar : Quar) (found : Found) → quar_of key quar.token (steps_on shape world key) ≡ Some quar
     → found_at key quar.token world.past ≡ Some found → (place : ℕ) (one : Given) → slice_get (given (told_to quar.sid.number world.past)) place ≡ Some one
     → one.permit.key ≡ key → one.permit.token ≡ quar.token → quar.mode ≡ Refresh → one.old ≡ found.entry
 kept-found shape world inner key quar found stands at_grant place one at on_key of_token refresh =
@@ -175,9 +184,11 @@ kept-found shape world inner key quar found stands at_grant place one at on_key 
     (λ none. absurd (no_grant place one.permit (sym (ap (λ l. slice_get l place) none) ∙ here)))
     (λ plan is w.
     let same : planned.plan ≡ plan = some_plan (sym planned.at ∙ is) in
-    let mode : one.permit.mode ≡ Refresh = (w.fits place one.permit here).in_mode ∙ ap (mode_on (mode_of plan)) on_key ∙ ap (λ p. mode_on (mode_of p) key) (sym same) ∙ sym planned.in_mode ∙ refresh in
+    let mode : one.permit.mode ≡ Refresh = (w.fits place one.permit here).in_mode
+    ∙ ap (mode_on (mode_of plan)) on_key ∙ ap (λ p. mode_on (mode_of p) key) (sym same) ∙ sym planned.in_mode ∙ refresh in
     let old = w.olds place one at in
-    let its : old.found ≡ found = some_found (sym old.at ∙ ap (λ k. found_at k one.permit.token world.past) on_key ∙ ap (λ t. found_at key t world.past) of_token ∙ at_grant) in
+    let its : old.found ≡ found =
+    some_found (sym old.at ∙ ap (λ k. found_at k one.permit.token world.past) on_key ∙ ap (λ t. found_at key t world.past) of_token ∙ at_grant) in
     old.old mode ∙ ap (λ (f : Found). f.entry) its)
 
 -- whose quarantine the sweeper is to drop is closed
@@ -202,7 +213,8 @@ facts_of shape world inner = record {
   legal = inner.legal;
   apart = λ key. apart-key shape world key (stands_well shape world inner key);
   once = once-key shape world inner;
-  order = λ place within. All-from_recursion (IsOrdered shape world) (steps_of place world.past) (every-weaker (IsKnown world.past) (IsOrdered shape world) (steps_of place world.past) (known-ordered shape world inner) (inner.known place));
+  order = λ place within. All-from_recursion (IsOrdered shape world) (steps_of place world.past)
+      (every-weaker (IsKnown world.past) (IsOrdered shape world) (steps_of place world.past) (known-ordered shape world inner) (inner.known place));
   quarantined = inner.quarantined;
   out = λ who grant release. session-out shape world who.number grant (plan_at who.number world.plans) (inner.sessions who.number) release;
   kept = kept-found shape world inner;
@@ -214,18 +226,24 @@ pub grant_facts : (shape : Shape) (moves : List Move) → shape.shards ≢ 0 →
 grant_facts shape moves some plans = facts_of shape (world_of shape moves) (inner_of shape moves)
 
 -- the history of a shard, among those of all
-pub history-at : (shape : Shape) (past : List Event) (place : ℕ) → place < shape.shards → slice_get (histories_of shape past) place ≡ Some (reverse (steps_of place past))
+pub history-at : (shape : Shape) (past : List Event) (place : ℕ)
+    → place < shape.shards → slice_get (histories_of shape past) place ≡ Some (reverse (steps_of place past))
 history-at shape past place within =
     let f : ℕ → List Step = λ p. reverse (steps_of p past) in
     let len = length-map-range_with_len f 0 shape.shards in
-    slice_get-get_or (histories_of shape past) place [] (omega (arith, len, within)) ∙ ap (λ h. Some h) (get_or-map-range_with_len f 0 shape.shards place place [] within (omega arith))
+    slice_get-get_or (histories_of shape past) place [] (omega (arith, len, within))
+    ∙ ap (λ h. Some h) (get_or-map-range_with_len f 0 shape.shards place place [] within (omega arith))
 
 covered_is : (shape : Shape) (past : List Event) → shape.shards ≢ 0 → IsCovered shape past → Covered (log_of past) (histories_of shape past)
 covered_is shape past some covered place commit key at touched =
     let home = shard_of key shape.shards in
     let f : ℕ → List Step = λ p. reverse (steps_of p past) in
-    let len : length (histories_of shape past) ≡ shape.shards = length-map-range_with_len f 0 shape.shards in
-    (reverse (steps_of home past), ap (λ count. slice_get (histories_of shape past) (shard_of key count)) len ∙ history-at shape past home (shard_below key shape.shards (pos_of_ne-zero some)), any-reverse (quarantines key commit.sid) (steps_of home past) (covered place commit key at touched))
+    let len : length (histories_of shape past) ≡ shape.shards = length-map-range_with_len f 0 shape.shards in (
+      reverse (steps_of home past),
+      ap (λ count. slice_get (histories_of shape past) (shard_of key count)) len
+          ∙ history-at shape past home (shard_below key shape.shards (pos_of_ne-zero some)),
+      any-reverse (quarantines key commit.sid) (steps_of home past) (covered place commit key at touched),
+    )
 
 pub runs_are_lawful_is : RunsAreLawful
 runs_are_lawful_is shape moves some plans =

@@ -1,5 +1,7 @@
--- The rule, the tie and held entries of every key, leases that are moments, and quarantines that have their key for themselves, are kept by each good event, whatever the keeper says.
-use Rattle.std.proofs.Common.{ℕ, ◌≡◌, ◌≤◌, Bool, true, false, cond, ◌==◌, ◌&&◌, List, [], ◌∷◌, ◌++◌, length, Option, Some, None, append-nil, refl, sym, ap, subst, ◌∙◌, ◌⊎◌, inl, inr, ⊎_elim, arith}
+-- The rule, the tie and held entries of every key, leases that are moments, and quarantines
+-- that have their key for themselves, are kept by each good event, whatever the keeper says.
+use Rattle.std.proofs.Common.{ℕ, ◌≡◌, ◌≤◌, Bool, true, false, cond, ◌==◌, ◌&&◌, List, [], ◌∷◌, ◌++◌, length, Option, Some, None, append-nil}
+use Rattle.std.proofs.Common.{refl, sym, ap, subst, ◌∙◌, ◌⊎◌, inl, inr, ⊎_elim, arith}
 use Rattle.std.specs.List.{AllByRecursion}
 use Rattle.std.proofs.lemmas.Bool.{eqb-true, eq-eqb, false≢true}
 use Rattle.rows_model.specs.declared.keys.QKey.{QKey}
@@ -77,11 +79,13 @@ pub record Holds (shape : Shape) (past : List Event) (known : Known) : Type 0 wh
   pub ruled : (key : QKey) → IsRuled key (marks_of key (steps_at shape past key)) known
   pub tied : (key : QKey) → IsTied (marks_of key (steps_at shape past key)) None (standing key (steps_at shape past key)) (entry key (steps_at shape past key))
   pub held : (key : QKey) → IsEntryHeld key (marks_of key (steps_at shape past key)) known (entry key (steps_at shape past key))
-  pub leased : (key : QKey) (lease : ReadLease) → recorded key (steps_at shape past key) ≡ Some lease → IsLeased key lease.token past (marks_of key (steps_at shape past key)) known
+  pub leased : (key : QKey) (lease : ReadLease) → recorded key (steps_at shape past key) ≡ Some lease
+      → IsLeased key lease.token past (marks_of key (steps_at shape past key)) known
   pub asked : (key : QKey) (token number least : ℕ) → leased_at key token past ≡ Some least
       → (least ≤ length known.log) × AllByRecursion (IsBetween least (length known.log)) (answers_under key token number past)
   pub apart : (key : QKey) → HasNoReader key (steps_at shape past key)
-  pub alone : (key : QKey) → AreAlone key (standing key (steps_at shape past key)) past (marks_of key (steps_at shape past key)) known (entry key (steps_at shape past key))
+  pub alone : (key : QKey)
+      → AreAlone key (standing key (steps_at shape past key)) past (marks_of key (steps_at shape past key)) known (entry key (steps_at shape past key))
   pub grants : (key : QKey) (token : ℕ) (found : Found) → found_at key token past ≡ Some found → IsFound (length known.log) found
   pub homes : (place : ℕ) → AllByRecursion (IsHome shape place) (steps_of place past)
 
@@ -105,7 +109,8 @@ abbrev pub Gives : QKey → ReadLease → Step → Type 0
 Gives key lease (step.Lease on sid floor now token deadline) = (same_key key on ≡ true) × (token ≡ lease.token)
 Gives key lease other = ⊥
 
-lease_cases : (key on : QKey) (lease new : ReadLease) (past : List Step) (sid : Sid) (floor now token deadline : ℕ) (b : Bool) → same_key key on ≡ b → new.token ≡ token
+lease_cases : (key on : QKey) (lease new : ReadLease) (past : List Step) (sid : Sid) (floor now token deadline : ℕ) (b : Bool)
+    → same_key key on ≡ b → new.token ≡ token
     → cond b (Some new) (recorded key past) ≡ Some lease
     → IsKeptLease key lease past (step.Lease on sid floor now token deadline) ⊎ ((same_key key on ≡ true) × (token ≡ lease.token))
 lease_cases key on lease new past sid floor now token deadline true same mine e =
@@ -117,7 +122,8 @@ lease_cases key on lease new past sid floor now token deadline false same mine e
       grants_none = λ who t h. subst (λ b. Has (Granted who t) (cond b (Leased token ∷ []) [])) same h;
     })
 
-grant_cases : (key on : QKey) (lease : ReadLease) (past : List Step) (number token : ℕ) (b : Bool) → same_key key on ≡ b → cond b None (recorded key past) ≡ Some lease
+grant_cases : (key on : QKey) (lease : ReadLease) (past : List Step) (number token : ℕ) (b : Bool)
+    → same_key key on ≡ b → cond b None (recorded key past) ≡ Some lease
     → (recorded key past ≡ Some lease) × ((who t : ℕ) → Has (Granted who t) (cond (same_key key on) (Granted number token ∷ []) []) → ⊥)
 grant_cases key on lease past number token true same e = absurd cc
 grant_cases key on lease past number token false same e = (e, λ who t h. subst (λ b. Has (Granted who t) (cond b (Granted number token ∷ []) [])) same h)
@@ -127,7 +133,8 @@ store_cases : (key on : QKey) (lease : ReadLease) (past : List Step) (stamp : �
 store_cases key on lease past stamp true same e = absurd cc
 store_cases key on lease past stamp false same e = (e, λ who t h. subst (λ b. Has (Granted who t) (cond b (Wrote stamp ∷ []) [])) same h)
 
-pub recorded_cases : (key : QKey) (lease : ReadLease) (past : List Step) (s : Step) → recorded key (s ∷ past) ≡ Some lease → IsKeptLease key lease past s ⊎ Gives key lease s
+pub recorded_cases : (key : QKey) (lease : ReadLease) (past : List Step) (s : Step)
+    → recorded key (s ∷ past) ≡ Some lease → IsKeptLease key lease past s ⊎ Gives key lease s
 recorded_cases key lease past (step.Lease on sid floor now token deadline) e =
     lease_cases key on lease (record { sid = sid; token = token; deadline = deadline }) past sid floor now token deadline (same_key key on) refl refl e
 recorded_cases key lease past (step.Granted on sid mode shift now token deadline) e =
@@ -172,7 +179,8 @@ not_so true h = absurd (h refl)
 not_so false h = refl
 
 -- what is stored was told under the lease that is recorded: the moment of that lease, and a stamp between then and now
-between_told : (least most : ℕ) (answered : Answer) (answers : List Answer) → AllByRecursion (IsBetween least most) answers → IsTold answered answers → IsBetween least most answered
+between_told : (least most : ℕ) (answered : Answer) (answers : List Answer)
+    → AllByRecursion (IsBetween least most) answers → IsTold answered answers → IsBetween least most answered
 between_told least most answered (first ∷ answers) h (inl e) = subst (IsBetween least most) e h.0
 between_told least most answered (first ∷ answers) h (inr t) = between_told least most answered answers h.1 t
 between_told least most answered [] h t = absurd t
@@ -188,11 +196,13 @@ set_held shape past who on token value stamp holds sets =
     record {
       within = let h = stamped.1 in omega (arith, h, is);
       pending = λ place commit by at late touched ended.
-          stored_is_latest on lease.then_marks (marks_of on (steps_at shape past on)) lease.then_known (known_of past) stamp lease.moment lease.since lease.more (holds.ruled on) (let h = stamped.0 in omega (arith, h, is)) place commit at late touched;
+          stored_is_latest on lease.then_marks (marks_of on (steps_at shape past on)) lease.then_known
+          (known_of past) stamp lease.moment lease.since lease.more (holds.ruled on) (let h = stamped.0 in omega (arith, h, is)) place commit at late touched;
     }
 
 -- so a good step is honest
-honest_is : (shape : Shape) (past : List Event) (who : Sid) (s : Step) → Holds shape past (known_of past) → IsGoodStep past (steps_at shape past (key_of s)) who s
+honest_is : (shape : Shape) (past : List Event) (who : Sid) (s : Step)
+    → Holds shape past (known_of past) → IsGoodStep past (steps_at shape past (key_of s)) who s
     → IsHonest (known_of past) (steps_at shape past (key_of s)) s
 honest_is shape past who (step.Stored on token now value stamp evicted) holds good = set_held shape past who on token value stamp holds good
 honest_is shape past who (step.Released on sid token ended.Keep) holds good = good
@@ -211,7 +221,8 @@ honest_is shape past who (step.Held on sid mode) holds good = tt
 honest_is shape past who (step.Refused on sid mode holder held) holds good = tt
 honest_is shape past who (step.Gone on sid token) holds good = tt
 
-module _ (shape : Shape) (past : List Event) (who : Sid) (request : Wanted) (s : Step) (told : Reply) (holds : Holds shape past (known_of past)) (good : IsGoodStep past (steps_at shape past (key_of s)) who s) (own : EndsItsOwn (steps_at shape past (key_of s)) s) where
+module _ (shape : Shape) (past : List Event) (who : Sid) (request : Wanted) (s : Step) (told : Reply) (holds : Holds shape past (known_of past))
+    (good : IsGoodStep past (steps_at shape past (key_of s)) who s) (own : EndsItsOwn (steps_at shape past (key_of s)) s) where
   abbrev place : ℕ
   place = shard_of (key_of s) shape.shards
 
@@ -219,16 +230,19 @@ module _ (shape : Shape) (past : List Event) (who : Sid) (request : Wanted) (s :
   event = Stepped place who request s told
 
   -- at another shard, and at this one
-  at_shard : (P : QKey → List Step → Type 0) (key : QKey) → (place ≡ shard_of key shape.shards → P key (s ∷ steps_at shape past key)) → P key (steps_at shape past key)
+  at_shard : (P : QKey → List Step → Type 0) (key : QKey)
+      → (place ≡ shard_of key shape.shards → P key (s ∷ steps_at shape past key)) → P key (steps_at shape past key)
       → P key (steps_at shape (event ∷ past) key)
   at_shard P key here there =
-      choose (λ l. P key (l ++ steps_at shape past key)) (place == shard_of key shape.shards) (s ∷ []) [] (λ same. here (eqb-true place (shard_of key shape.shards) same)) (λ other. there)
+      choose (λ l. P key (l ++ steps_at shape past key)) (place == shard_of key shape.shards)
+      (s ∷ []) [] (λ same. here (eqb-true place (shard_of key shape.shards) same)) (λ other. there)
 
   honest : (key : QKey) → place ≡ shard_of key shape.shards → IsHonest (known_of past) (steps_at shape past key) s
   honest key same = subst (λ (p : ℕ). IsHonest (known_of past) (steps_of p past) s) same (honest_is shape past who s holds good)
 
   kept : (key : QKey) → place ≡ shard_of key shape.shards
-      → IsRuled key (marks_of key (s ∷ steps_at shape past key)) (known_of past) × IsEntryHeld key (marks_of key (s ∷ steps_at shape past key)) (known_of past) (entry key (s ∷ steps_at shape past key))
+      → IsRuled key (marks_of key (s ∷ steps_at shape past key)) (known_of past)
+      × IsEntryHeld key (marks_of key (s ∷ steps_at shape past key)) (known_of past) (entry key (s ∷ steps_at shape past key))
   kept key same = steps_keep key (known_of past) (steps_at shape past key) s (honest key same) (holds.ruled key) (holds.held key)
 
   good_at : (key : QKey) → place ≡ shard_of key shape.shards → IsGoodStep past (steps_at shape past key) who s
@@ -236,15 +250,18 @@ module _ (shape : Shape) (past : List Event) (who : Sid) (request : Wanted) (s :
 
   not_granted : (key : QKey) (token : ℕ) → (place == shard_of key shape.shards) ≡ false → grants_as key token s ≡ false
   not_granted key token other =
-      not_so (grants_as key token s) (λ gives. not_both (eq-eqb place (shard_of key shape.shards) (ap (λ k. shard_of k shape.shards) (sym (grants-on key token s gives)))) other)
+      not_so (grants_as key token s)
+      (λ gives. not_both (eq-eqb place (shard_of key shape.shards) (ap (λ k. shard_of k shape.shards) (sym (grants-on key token s gives)))) other)
 
-  held_within : (key : QKey) (found : Option (List ℕ × ℕ)) → IsEntryHeld key (marks_of key (steps_at shape past key)) (known_of past) found → IsWithin (length (log_of past)) found
+  held_within : (key : QKey) (found : Option (List ℕ × ℕ)) → IsEntryHeld key (marks_of key (steps_at shape past key)) (known_of past) found
+      → IsWithin (length (log_of past)) found
   held_within key None held = tt
   held_within key (Some found) held = held.within
 
   not_leased : (key : QKey) (token : ℕ) → (place == shard_of key shape.shards) ≡ false → leases key token s ≡ false
   not_leased key token other =
-      not_so (leases key token s) (λ gives. not_both (eq-eqb place (shard_of key shape.shards) (ap (λ k. shard_of k shape.shards) (sym (leases-on key token s gives)))) other)
+      not_so (leases key token s)
+      (λ gives. not_both (eq-eqb place (shard_of key shape.shards) (ap (λ k. shard_of k shape.shards) (sym (leases-on key token s gives)))) other)
 
   same_lease : (key : QKey) (lease : ReadLease) (marks : List Mark) → leases key lease.token s ≡ false → ((by t : ℕ) → Has (Granted by t) marks → ⊥)
       → IsLeased key lease.token past (marks_of key (steps_at shape past key)) (known_of past)
@@ -261,14 +278,17 @@ module _ (shape : Shape) (past : List Event) (who : Sid) (request : Wanted) (s :
   pub stepped_holds : Holds shape (event ∷ past) (known_of past)
   stepped_holds = record {
     ruled = λ key. at_shard (λ k l. IsRuled k (marks_of k l) (known_of past)) key (λ same. (kept key same).0) (holds.ruled key);
-    tied = λ key. at_shard (λ k l. IsTied (marks_of k l) None (standing k l) (entry k l)) key (λ same. steps_tie key None (steps_at shape past key) s (subst (λ (p : ℕ). EndsItsOwn (steps_of p past) s) same own) (holds.tied key)) (holds.tied key);
+    tied = λ key. at_shard (λ k l. IsTied (marks_of k l) None (standing k l) (entry k l)) key
+        (λ same. steps_tie key None (steps_at shape past key) s (subst (λ (p : ℕ). EndsItsOwn (steps_of p past) s) same own) (holds.tied key)) (holds.tied key);
     held = λ key. at_shard (λ k l. IsEntryHeld k (marks_of k l) (known_of past) (entry k l)) key (λ same. (kept key same).1) (holds.held key);
     leased = λ key lease is. leased_after key lease (place == shard_of key shape.shards) refl is;
     asked = λ key token number least is. asked_after key token number least (leases key token s) refl is;
-    apart = λ key. at_shard HasNoReader key (λ same. apart_step past (steps_at shape past key) who s key (good_at key same) (holds.apart key)) (holds.apart key);
+    apart =
+        λ key. at_shard HasNoReader key (λ same. apart_step past (steps_at shape past key) who s key (good_at key same) (holds.apart key)) (holds.apart key);
     alone = λ key. alone_after key (place == shard_of key shape.shards) refl;
     grants = λ key token found is. grants_after key token found (grants_as key token s) refl is;
-    homes = λ at. choose (λ l. AllByRecursion (IsHome shape at) (l ++ steps_of at past)) (place == at) (s ∷ []) [] (λ same. (eqb-true place at same, holds.homes at)) (λ other. holds.homes at);
+    homes = λ at. choose (λ l. AllByRecursion (IsHome shape at) (l ++ steps_of at past))
+        (place == at) (s ∷ []) [] (λ same. (eqb-true place at same, holds.homes at)) (λ other. holds.homes at);
   }
     where
       given : (key : QKey) (lease : ReadLease) (x : Step) → (x ≡ s) → place ≡ shard_of key shape.shards → Gives key lease x
@@ -278,9 +298,12 @@ module _ (shape : Shape) (past : List Event) (who : Sid) (request : Wanted) (s :
           let G : Step → Type 0 = λ y. IsGoodStep past (steps_at shape past (key_of y)) who y in
           let free : standing on (steps_at shape past on) ≡ [] = subst G (sym is) good in
           let none : standing key (steps_at shape past key) ≡ [] = subst (λ q. standing q (steps_at shape past q) ≡ []) (sym k) free in
-          let gives_it : leases key lease.token s ≡ true = subst (λ y. leases key lease.token y ≡ true) is (and_both gives.0 (eq-eqb token lease.token gives.1)) in
-          let moment = moment-of-none key (marks_of key (steps_at shape past key)) (known_of past) None (entry key (steps_at shape past key)) (holds.ruled key) (subst (λ l. IsTied (marks_of key (steps_at shape past key)) None l (entry key (steps_at shape past key))) none (holds.tied key)) in
-          subst (λ b. IsLeased key lease.token (event ∷ past) (cond b (Leased token ∷ []) [] ++ marks_of key (steps_at shape past key)) (known_of past)) (sym gives.0) (record {
+          let gives_it : leases key lease.token s ≡ true =
+          subst (λ y. leases key lease.token y ≡ true) is (and_both gives.0 (eq-eqb token lease.token gives.1)) in
+          let moment = moment-of-none key (marks_of key (steps_at shape past key)) (known_of past) None (entry key (steps_at shape past key)) (holds.ruled key)
+          (subst (λ l. IsTied (marks_of key (steps_at shape past key)) None l (entry key (steps_at shape past key))) none (holds.tied key)) in
+          subst (λ b. IsLeased key lease.token (event ∷ past) (cond b (Leased token ∷ []) [] ++ marks_of key (steps_at shape past key)) (known_of past))
+          (sym gives.0) (record {
             then_marks = marks_of key (steps_at shape past key);
             then_known = known_of past;
             leased = ap (λ b. cond b (Some (length (log_of past))) (leased_at key lease.token past)) gives_it;
@@ -307,7 +330,8 @@ module _ (shape : Shape) (past : List Event) (who : Sid) (request : Wanted) (s :
       leased_after key lease false here e =
           same_lease key lease [] (not_leased key lease.token here) (λ by t h. h) (holds.leased key lease e)
 
-      asked_after : (key : QKey) (token number least : ℕ) (b : Bool) → leases key token s ≡ b → cond b (Some (length (log_of past))) (leased_at key token past) ≡ Some least
+      asked_after : (key : QKey) (token number least : ℕ) (b : Bool)
+          → leases key token s ≡ b → cond b (Some (length (log_of past))) (leased_at key token past) ≡ Some least
           → (least ≤ length (log_of past)) × AllByRecursion (IsBetween least (length (log_of past))) (cond b [] (answers_under key token number past))
       asked_after key token number least true gives e =
           let is : length (log_of past) ≡ least = cc in (omega (arith, is), tt)
@@ -317,30 +341,36 @@ module _ (shape : Shape) (past : List Event) (who : Sid) (request : Wanted) (s :
       now_found key = record { commits = length (log_of past); entry = entry key (steps_of place past) }
 
       alone_after : (key : QKey) (b : Bool) → (place == shard_of key shape.shards) ≡ b
-          → AreAlone key (standing key (cond b (s ∷ []) [] ++ steps_at shape past key)) (event ∷ past) (marks_of key (cond b (s ∷ []) [] ++ steps_at shape past key)) (known_of past) (entry key (cond b (s ∷ []) [] ++ steps_at shape past key))
+          → AreAlone key (standing key (cond b (s ∷ []) [] ++ steps_at shape past key)) (event
+          ∷ past) (marks_of key (cond b (s ∷ []) [] ++ steps_at shape past key)) (known_of past) (entry key (cond b (s ∷ []) [] ++ steps_at shape past key))
       alone_after key true here =
           let same = eqb-true place (shard_of key shape.shards) here in
           alone_step past (event ∷ past) (steps_at shape past key) who s key (good_at key same)
           (record { ruled = holds.ruled key; tied = holds.tied key; held = holds.held key; apart = holds.apart key; alone = holds.alone key })
           (λ token e. ap (λ b. cond b (Some (now_found key)) (found_at key token past)) e)
-          (λ token e. ap (λ b. cond b (Some (now_found key)) (found_at key token past)) e ∙ ap (λ (p : ℕ). Some (record { commits = length (log_of past); entry = entry key (steps_of p past) })) same)
+          (λ token e. ap (λ b. cond b (Some (now_found key)) (found_at key token past)) e
+          ∙ ap (λ (p : ℕ). Some (record { commits = length (log_of past); entry = entry key (steps_of p past) })) same)
       alone_after key false other =
-          alone-after key (standing key (steps_at shape past key)) past (event ∷ past) (marks_of key (steps_at shape past key)) (known_of past) (entry key (steps_at shape past key))
+          alone-after key (standing key (steps_at shape past key)) past
+          (event ∷ past) (marks_of key (steps_at shape past key)) (known_of past) (entry key (steps_at shape past key))
           (λ token. ap (λ b. cond b (Some (now_found key)) (found_at key token past)) (not_granted key token other)) (holds.alone key)
 
-      grants_after : (key : QKey) (token : ℕ) (found : Found) (b : Bool) → grants_as key token s ≡ b → cond b (Some (now_found key)) (found_at key token past) ≡ Some found
+      grants_after : (key : QKey) (token : ℕ) (found : Found) (b : Bool)
+          → grants_as key token s ≡ b → cond b (Some (now_found key)) (found_at key token past) ≡ Some found
           → IsFound (length (log_of past)) found
       grants_after key token found true gives e =
           let home = ap (λ k. shard_of k shape.shards) (grants-on key token s gives) in
           let is : now_found key ≡ found = cc in
           subst (IsFound (length (log_of past))) is (
             omega arith,
-            subst (λ (p : ℕ). IsWithin (length (log_of past)) (entry key (steps_of p past))) home (held_within key (entry key (steps_at shape past key)) (holds.held key)),
+            subst (λ (p : ℕ). IsWithin (length (log_of past)) (entry key (steps_of p past))) home
+                (held_within key (entry key (steps_at shape past key)) (holds.held key)),
           )
       grants_after key token found false gives e = holds.grants key token found e
 
 -- as much, or more, is known
-grow_holds : (shape : Shape) (past : List Event) (known new : Known) → IsMore known new → ((key : QKey) → IsRuled key (marks_of key (steps_at shape past key)) new)
+grow_holds : (shape : Shape) (past : List Event) (known new : Known)
+    → IsMore known new → ((key : QKey) → IsRuled key (marks_of key (steps_at shape past key)) new)
     → Holds shape past known → Holds shape past new
 grow_holds shape past known new grows ruled holds = record {
   ruled = ruled;
@@ -355,10 +385,14 @@ grow_holds shape past known new grows ruled holds = record {
     more = more-trans was.more grows;
   };
   asked = λ key token number least is.
-      let was = holds.asked key token number least is in
-      (omega (arith, was.0, longer), every-weaker (IsBetween least (length known.log)) (IsBetween least (length new.log)) (answers_under key token number past) (λ a h. (h.0, let le = h.1 in omega (arith, le, longer))) was.1);
+      let was = holds.asked key token number least is in (
+        omega (arith, was.0, longer),
+        every-weaker (IsBetween least (length known.log))
+            (IsBetween least (length new.log)) (answers_under key token number past) (λ a h. (h.0, let le = h.1 in omega (arith, le, longer))) was.1,
+      );
   apart = holds.apart;
-  alone = λ key. alone-more key (standing key (steps_at shape past key)) past (marks_of key (steps_at shape past key)) known new (entry key (steps_at shape past key)) grows (holds.alone key);
+  alone = λ key. alone-more key (standing key (steps_at shape past key)) past
+      (marks_of key (steps_at shape past key)) known new (entry key (steps_at shape past key)) grows (holds.alone key);
   grants = λ key token found is. let was = holds.grants key token found is in (let le = was.0 in omega (arith, le, longer), was.1);
   homes = holds.homes;
 }
@@ -399,7 +433,8 @@ same_holds shape past after known same holds = record {
       (holds.asked key token number least (sym (same.leased key token) ∙ is));
   apart = λ key. subst (HasNoReader key) (at key) (holds.apart key);
   alone = λ key. subst (λ l. AreAlone key (standing key l) after (marks_of key l) known (entry key l)) (at key)
-      (alone-after key (standing key (steps_at shape past key)) past after (marks_of key (steps_at shape past key)) known (entry key (steps_at shape past key)) (same.found key) (holds.alone key));
+      (alone-after key (standing key (steps_at shape past key)) past after
+      (marks_of key (steps_at shape past key)) known (entry key (steps_at shape past key)) (same.found key) (holds.alone key));
   grants = λ key token found is. holds.grants key token found (sym (same.found key token) ∙ is);
   homes = λ place. subst (AllByRecursion (IsHome shape place)) (sym (same.steps place)) (holds.homes place);
 }
@@ -431,7 +466,8 @@ same-swept past shard request told = record {
 
 -- a sweep that drops is as a session's release
 pub same-dropped : (past : List Event) (shard : ℕ) (on : QKey) (sid : Sid) (token : ℕ) (request : SweepWanted) (told : SweepReply)
-    → IsSamePast (Stepped shard sid wanted.Nothing (step.Released on sid token ended.Drop) reply.Nothing ∷ past) (Swept shard request (Some (step.Released on sid token ended.Drop)) told ∷ past)
+    → IsSamePast (Stepped shard sid wanted.Nothing (step.Released on sid token ended.Drop) reply.Nothing
+    ∷ past) (Swept shard request (Some (step.Released on sid token ended.Drop)) told ∷ past)
 same-dropped past shard on sid token request told =
     record { steps = λ place. refl; leased = λ key t. refl; under = λ key t number. refl; found = λ key t. refl }
 
@@ -440,10 +476,12 @@ called_holds : (shape : Shape) (past : List Event) (who : Sid) (request : Wanted
     → ((key : QKey) → IsRuled key (marks_of key (steps_at shape past key)) known) → ((key : QKey) (number : ℕ) → answers_in key number who told ≡ [])
     → Holds shape past (known_of past) → Holds shape (Called who request told ∷ past) known
 called_holds shape past who request told known grows ruled none holds =
-    same_holds shape past (Called who request told ∷ past) known (same-called past who request told none) (grow_holds shape past (known_of past) known grows ruled holds)
+    same_holds shape past (Called who request told ∷ past) known
+    (same-called past who request told none) (grow_holds shape past (known_of past) known grows ruled holds)
 
 -- the answer of a reply, if it is to the key
-one_between : (least most : ℕ) (answered : Answer) (b : Bool) → IsBetween least most answered → AllByRecursion (IsBetween least most) (cond b (answered ∷ []) [])
+one_between : (least most : ℕ) (answered : Answer) (b : Bool)
+    → IsBetween least most answered → AllByRecursion (IsBetween least most) (cond b (answered ∷ []) [])
 one_between least most answered true h = (h, tt)
 one_between least most answered false h = tt
 
@@ -467,16 +505,19 @@ answer_holds shape past who request answered known stamp holds = record {
       let le = was.0 in (
         le,
         every-append (IsBetween least (length known.log)) (answers_in key number who (reply.Answer answered)) (answers_under key token number past)
-            (one_between least (length known.log) answered ((who.number == number) && same_key key answered.key) (omega (arith, stamp, le), omega (arith, stamp))) was.1,
+            (one_between least (length known.log) answered ((who.number == number) && same_key key answered.key)
+            (omega (arith, stamp, le), omega (arith, stamp))) was.1,
       );
   apart = holds.apart;
-  alone = λ key. alone-after key (standing key (steps_at shape past key)) past (Called who request (reply.Answer answered) ∷ past) (marks_of key (steps_at shape past key)) known (entry key (steps_at shape past key)) (λ token. refl) (holds.alone key);
+  alone = λ key. alone-after key (standing key (steps_at shape past key)) past (Called who request (reply.Answer answered)
+      ∷ past) (marks_of key (steps_at shape past key)) known (entry key (steps_at shape past key)) (λ token. refl) (holds.alone key);
   grants = holds.grants;
   homes = holds.homes;
 }
 
 -- nothing told of leaves what is known
-known_same : (past : List Event) (commits : List Commit) (ends : List ℕ) → commits ≡ [] → ends ≡ [] → known_of past ≡ record { log = log_of past ++ commits; ended = ends ++ ended_of past }
+known_same : (past : List Event) (commits : List Commit) (ends : List ℕ)
+    → commits ≡ [] → ends ≡ [] → known_of past ≡ record { log = log_of past ++ commits; ended = ends ++ ended_of past }
 known_same past commits ends no_commit no_end =
     ap (λ l. record { log = l; ended = ended_of past }) (sym (append-nil (log_of past)))
     ∙ ap (λ l. record { log = log_of past ++ l; ended = ended_of past }) (sym no_commit)
@@ -487,28 +528,33 @@ ended_holds : (shape : Shape) (past after : List Event) (who : ℕ) → (IsLogge
     → Holds shape after (record { log = log_of past ++ []; ended = who ∷ ended_of past })
 ended_holds shape past after who ongoing holds =
     subst (Holds shape after) (ap (λ l. record { log = l; ended = who ∷ ended_of past }) (sym (append-nil (log_of past))))
-    (grow_holds shape after (known_of past) (with_end (known_of past) who) (more-end (known_of past) who) (λ key. ends_keep key (marks_of key (steps_at shape after key)) (known_of past) who ongoing (holds.ruled key)) holds)
+    (grow_holds shape after (known_of past) (with_end (known_of past) who)
+    (more-end (known_of past) who) (λ key. ends_keep key (marks_of key (steps_at shape after key)) (known_of past) who ongoing (holds.ruled key)) holds)
 
 -- what the sweeper ends
-swept_end : (shape : Shape) (past after : List Event) (request : SweepWanted) (told : SweepReply) → IsGoodEnd past request told → Holds shape after (known_of past)
+swept_end : (shape : Shape) (past after : List Event) (request : SweepWanted) (told : SweepReply)
+    → IsGoodEnd past request told → Holds shape after (known_of past)
     → Holds shape after (record { log = log_of past ++ []; ended = ends_swept request told ++ ended_of past })
 swept_end shape past after (sweep.End who) (sweeps.Ended true) good holds = ended_holds shape past after who.number good holds
 swept_end shape past after request told good holds = subst (Holds shape after) (known_same past [] [] refl refl) holds
 
 -- what the sweeper drops
-swept_step : (shape : Shape) (past : List Event) (shard : ℕ) (request : SweepWanted) (made : Option Step) (told : SweepReply) → IsGoodSweep shape past shard made
+swept_step : (shape : Shape) (past : List Event) (shard : ℕ) (request : SweepWanted) (made : Option Step) (told : SweepReply)
+    → IsGoodSweep shape past shard made
     → Holds shape past (known_of past) → Holds shape (Swept shard request made told ∷ past) (known_of past)
 swept_step shape past shard request None told good holds =
     same_holds shape past (Swept shard request None told ∷ past) (known_of past) (same-swept past shard request told) holds
 swept_step shape past shard request (Some (step.Released on sid token ended.Drop)) told good holds =
     let s = step.Released on sid token ended.Drop in
-    same_holds shape (Stepped shard sid wanted.Nothing s reply.Nothing ∷ past) (Swept shard request (Some s) told ∷ past) (known_of past) (same-dropped past shard on sid token request told)
+    same_holds shape (Stepped shard sid wanted.Nothing s reply.Nothing
+    ∷ past) (Swept shard request (Some s) told ∷ past) (known_of past) (same-dropped past shard on sid token request told)
     (subst (λ (p : ℕ). Holds shape (Stepped p sid wanted.Nothing s reply.Nothing ∷ past) (known_of past)) (sym good.home)
     (stepped_holds shape past sid wanted.Nothing s reply.Nothing holds good.over (subst (λ (p : ℕ). EndsItsOwn (steps_of p past) s) good.home good.own)))
 swept_step shape past shard request (Some other) told good holds = absurd good
 
 -- each good event keeps what holds
-pub good_holds : (shape : Shape) (past : List Event) (event : Event) → IsGoodEvent shape past event → Holds shape past (known_of past) → Holds shape (event ∷ past) (known_of (event ∷ past))
+pub good_holds : (shape : Shape) (past : List Event) (event : Event)
+    → IsGoodEvent shape past event → Holds shape past (known_of past) → Holds shape (event ∷ past) (known_of (event ∷ past))
 good_holds shape past (Stepped place who request s told) good holds =
     subst (Holds shape (Stepped place who request s told ∷ past)) (known_same past (commits_told who told) (ends_told who told) good.no_commit good.no_end)
     (subst (λ (p : ℕ). Holds shape (Stepped p who request s told ∷ past) (known_of past)) (sym good.home)
@@ -518,24 +564,34 @@ good_holds shape past (Stepped place who request s told) good holds =
 good_holds shape past (Called who request (reply.Committed number txn grants)) good holds =
     let commit : Commit = record { sid = who; txn = txn } in
     called_holds shape past who request (reply.Committed number txn grants) (with_commit (known_of past) commit) (more-commit (known_of past) commit)
-    (λ key. commits_keep key (marks_of key (steps_at shape past key)) (known_of past) commit good.opened (good.granted key) (holds.ruled key)) (λ key number. refl) holds
+    (λ key. commits_keep key (marks_of key (steps_at shape past key)) (known_of past) commit good.opened (good.granted key) (holds.ruled key))
+    (λ key number. refl) holds
 good_holds shape past (Called who request (reply.End true)) good holds =
     let after = Called who request (reply.End true) ∷ past in
-    ended_holds shape past after who.number good (same_holds shape past after (known_of past) (same-called past who request (reply.End true) (λ key number. refl)) holds)
+    ended_holds shape past after who.number good
+    (same_holds shape past after (known_of past) (same-called past who request (reply.End true) (λ key number. refl)) holds)
 good_holds shape past (Called who request (reply.Answer answered)) good holds =
-    subst (Holds shape (Called who request (reply.Answer answered) ∷ past)) (known_same past [] [] refl refl) (answer_holds shape past who request answered (known_of past) good holds)
+    subst (Holds shape (Called who request (reply.Answer answered) ∷ past))
+    (known_same past [] [] refl refl) (answer_holds shape past who request answered (known_of past) good holds)
 good_holds shape past (Called who request told) good holds =
     subst (Holds shape (Called who request told ∷ past)) (known_same past [] [] refl refl)
     (same_holds shape past (Called who request told ∷ past) (known_of past) (same-called past who request told (λ key number. refl)) holds)
 good_holds shape past (Ticked now) good holds =
-    subst (Holds shape (Ticked now ∷ past)) (known_same past [] [] refl refl) (same_holds shape past (Ticked now ∷ past) (known_of past) (same-ticked past now) holds)
+    subst (Holds shape (Ticked now ∷ past)) (known_same past [] [] refl refl)
+    (same_holds shape past (Ticked now ∷ past) (known_of past) (same-ticked past now) holds)
 good_holds shape past (Swept place request made told) good holds =
     swept_end shape past (Swept place request made told ∷ past) request told good.1 (swept_step shape past place request made told good.0 holds)
 
 -- at the start nothing is marked or known
 pub start_holds : (shape : Shape) → Holds shape [] (known_of [])
 start_holds shape = record {
-  ruled = λ key. record { over = λ who token h. absurd h; once = λ i j a b at. cc; apart = λ place commit at h. absurd h; covered = λ place commit at. cc; wrote = λ stamp h. absurd h };
+  ruled = λ key. record {
+    over = λ who token h. absurd h;
+    once = λ i j a b at. cc;
+    apart = λ place commit at h. absurd h;
+    covered = λ place commit at. cc;
+    wrote = λ stamp h. absurd h;
+  };
   tied = λ key. record { granted = λ who token h. absurd h; stamped = tt };
   held = λ key. tt;
   leased = λ key lease is. cc;

@@ -1,5 +1,6 @@
 -- The facts that hold of every world, and what of an event keeps them.
-use Rattle.std.proofs.Common.{ℕ, ◌≡◌, ◌≤◌, ◌==◌, Bool, true, false, cond, List, [], ◌∷◌, ◌++◌, count_by, Option, Some, None, slice_get, append-nil, refl, sym, ap, subst, ◌∙◌, inl, inr, arith}
+use Rattle.std.proofs.Common.{ℕ, ◌≡◌, ◌≤◌, ◌==◌, Bool, true, false, cond, List, [], ◌∷◌, ◌++◌, count_by, Option, Some, None, slice_get}
+use Rattle.std.proofs.Common.{append-nil, refl, sym, ap, subst, ◌∙◌, inl, inr, arith}
 use Rattle.std.specs.List.{AllByRecursion, list_any}
 use Rattle.std.proofs.lemmas.Bool.{cases_Bool, false≢true, eqb-true, eq-eqb}
 use Rattle.rows_model.specs.declared.keys.QKey.{QKey}
@@ -41,8 +42,11 @@ use Rattle.core_history.proofs.GrantFacts.{IsDrawnBelow}
 use Rattle.core_history.proofs.ListLemmas.{every-weaker, every-append, any-back, push-place}
 use Rattle.core_history.proofs.GoodEvents.{IsTold}
 use Rattle.core_history.proofs.KeyLemmas.{IsQuietStep, quiet-grants, granted_standing, answers-draw, next-append}
-use Rattle.core_history.proofs.EventLemmas.{closed, closed-more, unmade-steps, IsLate, late-stepped, late-called, late-ticked, late-swept, IsKnown, known-more, IsCounted, counts-more, counted-mild, counted-called, counted-ticked, counted-swept, counted-unmade, told-mine, told-other}
-use Rattle.core_history.proofs.SessionLemmas.{Keeps, ReleasesNone, DrawsLate, IsLateDraw, Writer, writer-more, maybe-step, late-draw, stood-quiet, stood-called, stood-ticked, stood-unmade, stood-swept, leaves-ended}
+use Rattle.core_history.proofs.EventLemmas.{closed, closed-more, unmade-steps, IsLate, late-stepped, late-called, late-ticked, late-swept}
+use Rattle.core_history.proofs.EventLemmas.{IsKnown, known-more, IsCounted, counts-more, counted-mild, counted-called, counted-ticked}
+use Rattle.core_history.proofs.EventLemmas.{counted-swept, counted-unmade, told-mine, told-other}
+use Rattle.core_history.proofs.SessionLemmas.{Keeps, ReleasesNone, DrawsLate, IsLateDraw, Writer, writer-more, maybe-step, late-draw}
+use Rattle.core_history.proofs.SessionLemmas.{stood-quiet, stood-called, stood-ticked, stood-unmade, stood-swept, leaves-ended}
 use Rattle.core_history.proofs.PlannedLemmas.{GrantsPlanned, ArePlanned, IsPlannedReply, IsPlannedEvent, quiet-planned, mild-planned, logged-more}
 use Rattle.core_history.proofs.SweepingLemmas.{IsSweeping, due-more, sweeping-more}
 
@@ -58,7 +62,8 @@ IsHolding key n past heard = Unit {0}
 -- what a reader of this key was told
 abbrev pub IsReader : Shape → List Event → ℕ → List Reply → QKey → Type 0
 IsReader shape past n heard key =
-    AllByRecursion (IsDrawnBelow (next_token (terms_of shape (shard_of key shape.shards)) (steps_of (shard_of key shape.shards) past))) heard × (granted heard ≡ []) × IsHolding key n past heard
+    AllByRecursion (IsDrawnBelow (next_token (terms_of shape (shard_of key shape.shards)) (steps_of (shard_of key shape.shards) past))) heard
+    × (granted heard ≡ []) × IsHolding key n past heard
 
 -- what a session was told, by its plan: nothing without one
 abbrev pub IsSession : Shape → List Event → ℕ → List Reply → Option Plan → Type 0
@@ -78,7 +83,8 @@ pub record Inner (shape : Shape) (world : World) : Type 0 where
   pub legal : (place : ℕ) → IsLegalPast (terms_of shape place) (steps_of place world.past)
   pub known : (place : ℕ) → AllByRecursion (IsKnown world.past) (steps_of place world.past)
   pub planned : (place : ℕ) → AllByRecursion (GrantsPlanned world.plans) (steps_of place world.past)
-  pub counts : (key : QKey) (who : Sid) → count_by (quarantines key who) (steps_of (shard_of key shape.shards) world.past) ≡ count_by (covers who key) (granted (told_to who.number world.past))
+  pub counts : (key : QKey) (who : Sid)
+      → count_by (quarantines key who) (steps_of (shard_of key shape.shards) world.past) ≡ count_by (covers who key) (granted (told_to who.number world.past))
   pub covered : IsCovered shape world.past
   pub logged : ArePlanned world.plans (log_of world.past)
   pub quarantined : AreQuarantined shape world.past
@@ -117,7 +123,8 @@ told-back answered (x ∷ xs) ys h = inr (told-back answered xs ys h)
 
 -- what is held under a lease stays so
 holding-more : (shape : Shape) (event : Event) (past : List Event) (key : QKey) (n : ℕ) (heard : List Reply) → DrawsLate shape past event
-    → AllByRecursion (IsDrawnBelow (next_token (terms_of shape (shard_of key shape.shards)) (steps_of (shard_of key shape.shards) past))) heard → IsHolding key n past heard
+    → AllByRecursion (IsDrawnBelow (next_token (terms_of shape (shard_of key shape.shards)) (steps_of (shard_of key shape.shards) past))) heard
+    → IsHolding key n past heard
     → IsHolding key n (event ∷ past) heard
 holding-more shape (Stepped place who request s told) past key n (reply.Answer answered ∷ reply.Got (got.Lease token) ∷ heard) late drawn h =
     subst (λ b. IsTold answered (cond b [] (answers_under key token n past))) (sym (late key token drawn.1.0).0) h
@@ -127,24 +134,28 @@ holding-more shape (Ticked now) past key n (reply.Answer answered ∷ reply.Got 
 holding-more shape (Swept place request made told) past key n (reply.Answer answered ∷ reply.Got (got.Lease token) ∷ heard) late drawn h = h
 holding-more shape event past key n heard late drawn h = tt
 
-pub reader-more : (shape : Shape) (event : Event) (past : List Event) (n : ℕ) (heard : List Reply) (key : QKey) → DrawsLate shape past event → IsReader shape past n heard key
+pub reader-more : (shape : Shape) (event : Event) (past : List Event) (n : ℕ) (heard : List Reply) (key : QKey)
+    → DrawsLate shape past event → IsReader shape past n heard key
     → IsReader shape (event ∷ past) n heard key
 reader-more shape event past n heard key late h =
     let home = shard_of key shape.shards in
     let low = next_token (terms_of shape home) (steps_of home past) in
     let high = next_token (terms_of shape home) (steps_of home (event ∷ past)) in (
-      every-weaker (IsDrawnBelow low) (IsDrawnBelow high) heard (drawn-weaker low high (next-append (terms_of shape home) (steps_in home event) (steps_of home past))) h.0,
+      every-weaker (IsDrawnBelow low) (IsDrawnBelow high) heard
+          (drawn-weaker low high (next-append (terms_of shape home) (steps_in home event) (steps_of home past))) h.0,
       h.1,
       holding-more shape event past key n heard late h.0 h.2,
     )
 
 -- what a session was told stays so
-pub session-more : (shape : Shape) (event : Event) (past : List Event) (n : ℕ) (heard : List Reply) (plan : Option Plan) → DrawsLate shape past event → Keeps shape event past n
+pub session-more : (shape : Shape) (event : Event) (past : List Event) (n : ℕ) (heard : List Reply) (plan : Option Plan)
+    → DrawsLate shape past event → Keeps shape event past n
     → IsSession shape past n heard plan → IsSession shape (event ∷ past) n heard plan
 session-more shape event past n heard None late keeps h = h
 session-more shape event past n heard (Some (Read key floor)) late keeps h = reader-more shape event past n heard key late h
 session-more shape event past n heard (Some (Write mode txn)) late keeps h = writer-more shape event past n heard (writing_of (Write mode txn)) late keeps h
-session-more shape event past n heard (Some (Look mode key txn)) late keeps h = writer-more shape event past n heard (writing_of (Look mode key txn)) late keeps h
+session-more shape event past n heard (Some (Look mode key txn)) late keeps h =
+    writer-more shape event past n heard (writing_of (Look mode key txn)) late keeps h
 session-more shape event past n heard (Some (Quit mode txn)) late keeps h = writer-more shape event past n heard (writing_of (Quit mode txn)) late keeps h
 session-more shape event past n heard (Some (Skip key txn)) late keeps h = writer-more shape event past n heard (writing_of (Skip key txn)) late keeps h
 
@@ -156,22 +167,27 @@ covered-told shape past who (reply.Committed number txn grants) quarantined cove
       | inl before ↦ covered place commit key before touched
       | inr last ↦
           let steps = steps_of (shard_of key shape.shards) past in
-          subst (λ (c : Commit). touches c.txn key ≡ true → list_any (quarantines key c.sid) steps ≡ true) last.1 (λ mine. granted_standing key who steps (quarantined key mine)) touched
+          subst (λ (c : Commit). touches c.txn key ≡ true
+          → list_any (quarantines key c.sid) steps ≡ true) last.1 (λ mine. granted_standing key who steps (quarantined key mine)) touched
     ]
-covered-told shape past who other quarantined covered place commit key at touched = covered place commit key (sym (ap (λ l. slice_get l place) (append-nil (log_of past))) ∙ at) touched
+covered-told shape past who other quarantined covered place commit key at touched =
+    covered place commit key (sym (ap (λ l. slice_get l place) (append-nil (log_of past))) ∙ at) touched
 
 covered-in : (shape : Shape) (event : Event) (past : List Event) → IsQuarantinedEvent shape past event → IsCovered shape past
     → (place : ℕ) (commit : Commit) (key : QKey) → slice_get (log_of (event ∷ past)) place ≡ Some commit → touches commit.txn key ≡ true
     → list_any (quarantines key commit.sid) (steps_of (shard_of key shape.shards) past) ≡ true
 covered-in shape (Stepped place who request s told) past quarantined covered = covered-told shape past who told quarantined covered
 covered-in shape (Called who request told) past quarantined covered = covered-told shape past who told quarantined covered
-covered-in shape (Ticked now) past quarantined covered = λ place commit key at. covered place commit key (sym (ap (λ l. slice_get l place) (append-nil (log_of past))) ∙ at)
-covered-in shape (Swept shard request made told) past quarantined covered = λ place commit key at. covered place commit key (sym (ap (λ l. slice_get l place) (append-nil (log_of past))) ∙ at)
+covered-in shape (Ticked now) past quarantined covered =
+    λ place commit key at. covered place commit key (sym (ap (λ l. slice_get l place) (append-nil (log_of past))) ∙ at)
+covered-in shape (Swept shard request made told) past quarantined covered =
+    λ place commit key at. covered place commit key (sym (ap (λ l. slice_get l place) (append-nil (log_of past))) ∙ at)
 
 covered-more : (shape : Shape) (event : Event) (past : List Event) → IsQuarantinedEvent shape past event → IsCovered shape past → IsCovered shape (event ∷ past)
 covered-more shape event past quarantined covered place commit key at touched =
     let home = shard_of key shape.shards in
-    any-back (quarantines key commit.sid) (steps_in home event) (steps_of home past) (covered-in shape event past quarantined covered place commit key at touched)
+    any-back (quarantines key commit.sid) (steps_in home event) (steps_of home past)
+    (covered-in shape event past quarantined covered place commit key at touched)
 
 -- what an event has to bring
 record Brings (shape : Shape) (world : World) (event : Event) : Type 0 where
@@ -213,17 +229,20 @@ sessions-turn shape world event who told inner late keeps mine n =
     elim (cases_Bool (who.number == n)) [
       | inl same ↦ subst O (eqb-true who.number n same) (subst M (sym (told-mine who told (told_to who.number past))) mine)
       | inr other ↦ subst S (sym (told-other n who told (told_to n past) other))
-          (session-more shape event past n (told_to n past) (plan_at n world.plans) late (keeps n (λ e. false≢true (sym other ∙ eq-eqb who.number n e))) (inner.sessions n))
+          (session-more shape event past n (told_to n past) (plan_at n world.plans) late
+          (keeps n (λ e. false≢true (sym other ∙ eq-eqb who.number n e))) (inner.sessions n))
     ]
 
-sessions-still : (shape : Shape) (world : World) (event : Event) → Inner shape world → DrawsLate shape world.past event → ((n : ℕ) → Keeps shape event world.past n)
+sessions-still : (shape : Shape) (world : World) (event : Event)
+    → Inner shape world → DrawsLate shape world.past event → ((n : ℕ) → Keeps shape event world.past n)
     → (n : ℕ) → IsSession shape (event ∷ world.past) n (told_to n world.past) (plan_at n world.plans)
 sessions-still shape world event inner late keeps n =
     session-more shape event world.past n (told_to n world.past) (plan_at n world.plans) late (keeps n) (inner.sessions n)
 
 -- a call of the store, or none
 pub called-inner : (shape : Shape) (world : World) (who : Sid) (request : Wanted) (told : Reply) → Inner shape world → grants_in told ≡ []
-    → IsLate (Called who request told) world.past → IsQuarantinedReply shape world.past who told → IsPlannedReply world.plans who told → HasHeard shape world (Called who request told) who told
+    → IsLate (Called who request told) world.past → IsQuarantinedReply shape world.past who told
+    → IsPlannedReply world.plans who told → HasHeard shape world (Called who request told) who told
     → Inner shape (with_event world (Called who request told))
 called-inner shape world who request told inner brings late quarantined planned mine =
     let event = Called who request told in
@@ -244,10 +263,12 @@ mild-quarantined shape past who (reply.Committed number txn grants) mild = cc
 mild-quarantined shape past who other mild = tt
 
 -- a call that commits nothing
-pub mild-inner : (shape : Shape) (world : World) (who : Sid) (request : Wanted) (told : Reply) → Inner shape world → grants_in told ≡ [] → is_commit told ≡ false
+pub mild-inner : (shape : Shape) (world : World) (who : Sid) (request : Wanted) (told : Reply)
+    → Inner shape world → grants_in told ≡ [] → is_commit told ≡ false
     → HasHeard shape world (Called who request told) who told → Inner shape (with_event world (Called who request told))
 mild-inner shape world who request told inner brings mild mine =
-    called-inner shape world who request told inner brings (late-called who request told world.past mild) (mild-quarantined shape world.past who told mild) (mild-planned world.plans who told mild) mine
+    called-inner shape world who request told inner brings (late-called who request told world.past mild)
+    (mild-quarantined shape world.past who told mild) (mild-planned world.plans who told mild) mine
 
 -- a step that answers a request draws late
 pub draws-late : (shape : Shape) (past : List Event) (home : ℕ) (s : Step) → Answers (terms_of shape home) (steps_of home past) s → IsLateDraw shape past s
@@ -271,7 +292,8 @@ legal-more shape world home s inner answers place =
 pub stepped-inner : (shape : Shape) (world : World) (home : ℕ) (who : Sid) (request : Wanted) (s : Step) (told : Reply) → Inner shape world
     → Answers (terms_of shape home) (steps_of home world.past) s → IsKnown (Stepped home who request s told ∷ world.past) s → GrantsPlanned world.plans s
     → is_commit told ≡ false → IsCounted shape.shards (Stepped home who request s told)
-    → ((n : ℕ) → (who.number ≡ n → ⊥) → Keeps shape (Stepped home who request s told) world.past n) → HasHeard shape world (Stepped home who request s told) who told
+    → ((n : ℕ) → (who.number ≡ n → ⊥) → Keeps shape (Stepped home who request s told) world.past n)
+    → HasHeard shape world (Stepped home who request s told) who told
     → Inner shape (with_event world (Stepped home who request s told))
 stepped-inner shape world home who request s told inner answers known planned mild counted keeps mine =
     let event = Stepped home who request s told in
@@ -299,13 +321,17 @@ pub quiet-inner : (shape : Shape) (world : World) (home : ℕ) (who : Sid) (requ
     → Answers (terms_of shape home) (steps_of home world.past) s → IsQuietStep s → ReleasesNone request → is_commit told ≡ false → grants_in told ≡ []
     → HasHeard shape world (Stepped home who request s told) who told → Inner shape (with_event world (Stepped home who request s told))
 quiet-inner shape world home who request s told inner answers quiet none mild brings mine =
-    stepped-inner shape world home who request s told inner answers (quiet-known (Stepped home who request s told ∷ world.past) s quiet) (quiet-planned world.plans s quiet) mild
-    (counted-mild shape.shards home who request s told (quiet-grants s quiet) brings) (λ n other grant own. stood-quiet shape home who request s told world.past quiet none n grant) mine
+    stepped-inner shape world home who request s told inner answers
+    (quiet-known (Stepped home who request s told ∷ world.past) s quiet) (quiet-planned world.plans s quiet) mild
+    (counted-mild shape.shards home who request s told (quiet-grants s quiet) brings)
+    (λ n other grant own. stood-quiet shape home who request s told world.past quiet none n grant) mine
 
 -- what stands on a key
-pub stands_well : (shape : Shape) (world : World) → Inner shape world → (key : QKey) → StandsWell (terms_of shape (shard_of key shape.shards)) (steps_of (shard_of key shape.shards) world.past) key
+pub stands_well : (shape : Shape) (world : World) → Inner shape world
+    → (key : QKey) → StandsWell (terms_of shape (shard_of key shape.shards)) (steps_of (shard_of key shape.shards) world.past) key
 stands_well shape world inner key =
-    legal_stands_well (terms_of shape (shard_of key shape.shards)) (steps_of (shard_of key shape.shards) world.past) (inner.legal (shard_of key shape.shards)) key
+    legal_stands_well (terms_of shape (shard_of key shape.shards))
+    (steps_of (shard_of key shape.shards) world.past) (inner.legal (shard_of key shape.shards)) key
 
 -- the clock
 pub ticked-inner : (shape : Shape) (world : World) (now : ℕ) → Inner shape world → Inner shape (with_event world (Ticked now))
@@ -325,7 +351,8 @@ ticked-inner shape world now inner =
 
 -- a sweep that makes no step
 pub unmade-inner : (shape : Shape) (world : World) (place : ℕ) (request : SweepWanted) (told : SweepReply) → Inner shape world
-    → IsSweeping shape world.plans (Swept place request None told ∷ world.past) (told ∷ sweeps_of world.past) → Inner shape (with_event world (Swept place request None told))
+    → IsSweeping shape world.plans (Swept place request None told ∷ world.past) (told ∷ sweeps_of world.past)
+    → Inner shape (with_event world (Swept place request None told))
 unmade-inner shape world place request told inner sweeping =
     let event = Swept place request None told in
     inner-event shape world event inner (record {
@@ -345,20 +372,24 @@ unmade-inner shape world place request told inner sweeping =
     none-made P false = tt
 
 -- a scan
-pub scanned-inner : (shape : Shape) (world : World) (place : ℕ) (told : SweepReply) → Inner shape world → IsSweeping shape world.plans world.past (told ∷ sweeps_of world.past)
+pub scanned-inner : (shape : Shape) (world : World) (place : ℕ) (told : SweepReply)
+    → Inner shape world → IsSweeping shape world.plans world.past (told ∷ sweeps_of world.past)
     → Inner shape (with_event world (Swept place (sweep.Scan place) None told))
 scanned-inner shape world place told inner sweeping =
     unmade-inner shape world place (sweep.Scan place) told inner
     (sweeping-more shape world.plans (Swept place (sweep.Scan place) None told) world.past (told ∷ sweeps_of world.past) tt sweeping)
 
 -- the end of the session of what was found
-pub ended-inner : (shape : Shape) (world : World) (who : Sid) (was : Bool) (due : Due) (before : List SweepReply) → Inner shape world → sweeps_of world.past ≡ sweeps.Found due ∷ before
-    → closed due.sid.number (Swept 0 (sweep.End who) None (sweeps.Ended was) ∷ world.past) ≡ true → Inner shape (with_event world (Swept 0 (sweep.End who) None (sweeps.Ended was)))
+pub ended-inner : (shape : Shape) (world : World) (who : Sid) (was : Bool) (due : Due) (before : List SweepReply)
+    → Inner shape world → sweeps_of world.past ≡ sweeps.Found due ∷ before
+    → closed due.sid.number (Swept 0 (sweep.End who) None (sweeps.Ended was) ∷ world.past) ≡ true
+    → Inner shape (with_event world (Swept 0 (sweep.End who) None (sweeps.Ended was)))
 ended-inner shape world who was due before inner found shut =
     let event = Swept 0 (sweep.End who) None (sweeps.Ended was) in
     let is = subst (IsSweeping shape world.plans world.past) found inner.sweeping in
     unmade-inner shape world 0 (sweep.End who) (sweeps.Ended was) inner
-    (subst (λ l. IsSweeping shape world.plans (event ∷ world.past) (sweeps.Ended was ∷ l)) (sym found) (due-more shape world.plans event world.past due tt is, shut))
+    (subst (λ l. IsSweeping shape world.plans (event ∷ world.past) (sweeps.Ended was ∷ l))
+    (sym found) (due-more shape world.plans event world.past due tt is, shut))
 
 -- a drop of what no longer stands
 pub gone-inner : (shape : Shape) (world : World) (key : QKey) (token : ℕ) (rel : Rel) → Inner shape world
@@ -368,7 +399,8 @@ gone-inner shape world key token rel inner = unmade-inner shape world (shard_of 
 -- a drop of the quarantine of a session that is closed
 pub dropped-inner : (shape : Shape) (world : World) (key : QKey) (token : ℕ) (quar : Quar) (rel : Rel) → Inner shape world
     → quar_of key token (steps_of (shard_of key shape.shards) world.past) ≡ Some quar → closed quar.sid.number world.past ≡ true
-    → Inner shape (with_event world (Swept (shard_of key shape.shards) (sweep.Drop key token) (Some (step.Released key quar.sid token ended.Drop)) (sweeps.Dropped rel)))
+    → Inner shape
+    (with_event world (Swept (shard_of key shape.shards) (sweep.Drop key token) (Some (step.Released key quar.sid token ended.Drop)) (sweeps.Dropped rel)))
 dropped-inner shape world key token quar rel inner stands shut =
     let home = shard_of key shape.shards in
     let past = world.past in

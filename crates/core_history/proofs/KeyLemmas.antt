@@ -1,5 +1,6 @@
 -- Which steps leave what stands on a key, that what stands was granted, and which tokens steps draw.
-use Rattle.std.proofs.Common.{ℕ, ◌≡◌, ◌<◌, ◌≤◌, ◌+◌, ◌==◌, Bool, true, false, not, cond, ◌&&◌, ◌||◌, List, [], ◌∷◌, ◌++◌, filter, find, Some, refl, sym, ap, subst, ◌∙◌, inl, inr, ◌⊎◌, arith}
+use Rattle.std.proofs.Common.{ℕ, ◌≡◌, ◌<◌, ◌≤◌, ◌+◌, ◌==◌, Bool, true, false, not, cond, ◌&&◌, ◌||◌, List, [], ◌∷◌, ◌++◌, filter, find}
+use Rattle.std.proofs.Common.{Some, refl, sym, ap, subst, ◌∙◌, inl, inr, ◌⊎◌, arith}
 use Rattle.std.specs.List.{AllByRecursion, list_any}
 use Rattle.std.proofs.lemmas.Bool.{false≢true, eqb-true}
 use Rattle.std.proofs.lemmas.List.Folds.{list_any-append}
@@ -22,7 +23,8 @@ use Rattle.key_shard.proofs.PermitLemmas.{is_of_permit, find_permit}
 use Rattle.key_shard.proofs.PlaceLemmas.{ended-adds_none}
 use Rattle.sql_keeper.specs.Fresh.{quarantines}
 use Rattle.core_history.specs.Facts.{grants_as}
-use Rattle.core_history.proofs.ListLemmas.{choose, or_inl, or_inr, or_elim, and_elim, not_true, any-filter, every-weaker, every-append, every-filter, every-found, find-front, count-append, every-any}
+use Rattle.core_history.proofs.ListLemmas.{choose, or_inl, or_inr, or_elim, and_elim, not_true, any-filter, every-weaker, every-append}
+use Rattle.core_history.proofs.ListLemmas.{every-filter, every-found, find-front, count-append, every-any}
 
 -- a step that neither grants nor ends a quarantine
 abbrev pub IsQuietStep : Step → Type 0
@@ -44,7 +46,8 @@ quiet-out (step.Granted on sid mode shift now token deadline) quiet terms out = 
 quiet-out other quiet terms out = refl
 
 -- a session whose quarantine stands was granted it
-any_pushed : (who : Sid) (quars : List Quar) (quar : Quar) → list_any (is_of who) (quars ++ quar ∷ []) ≡ true → (list_any (is_of who) quars ≡ true) ⊎ (is_of who quar ≡ true)
+any_pushed : (who : Sid) (quars : List Quar) (quar : Quar) → list_any (is_of who) (quars ++ quar ∷ []) ≡ true
+    → (list_any (is_of who) quars ≡ true) ⊎ (is_of who quar ≡ true)
 any_pushed who quars quar h =
     elim (or_elim (list_any (is_of who) quars) (is_of who quar || false) (sym (list_any-append (is_of who) quars (quar ∷ [])) ∙ h)) [
       | inl old ↦ inl old
@@ -64,18 +67,21 @@ any_kept p q (quar ∷ quars) h =
     ])
     (λ _ some. or_inr (p quar) (list_any p quars) (any_kept p q quars some)) h
 
-pub granted_standing : (key : QKey) (who : Sid) (past : List Step) → list_any (is_of who) (standing key past) ≡ true → list_any (quarantines key who) past ≡ true
+pub granted_standing : (key : QKey) (who : Sid) (past : List Step)
+    → list_any (is_of who) (standing key past) ≡ true → list_any (quarantines key who) past ≡ true
 granted_standing key who [] h = h
 granted_standing key who (step.Granted on sid mode shift now token deadline ∷ past) h =
     let quar : Quar = record { sid = sid; mode = mode; token = token; deadline = deadline; shift = shift } in
-    choose (λ l. list_any (is_of who) l ≡ true → (same_key key on && (sid.number == who.number) || list_any (quarantines key who) past) ≡ true) (same_key key on) (standing key past ++ quar ∷ []) (standing key past)
+    choose (λ l. list_any (is_of who) l ≡ true → (same_key key on && (sid.number == who.number) || list_any (quarantines key who) past)
+    ≡ true) (same_key key on) (standing key past ++ quar ∷ []) (standing key past)
     (λ same some. elim (any_pushed who (standing key past) quar some) [
       | inl old ↦ or_inr _ _ (granted_standing key who past old)
       | inr new ↦ or_inl _ _ (ap (λ b. b && (sid.number == who.number)) same ∙ new)
     ])
     (λ _ some. or_inr _ _ (granted_standing key who past some)) h
 granted_standing key who (step.Released on sid token how ∷ past) h =
-    choose (λ l. list_any (is_of who) l ≡ true → list_any (quarantines key who) past ≡ true) (same_key key on) (filter (λ quar. not (has_token token quar)) (standing key past)) (standing key past)
+    choose (λ l. list_any (is_of who) l ≡ true
+    → list_any (quarantines key who) past ≡ true) (same_key key on) (filter (λ quar. not (has_token token quar)) (standing key past)) (standing key past)
     (λ _ some. granted_standing key who past (any_kept (is_of who) (λ quar. not (has_token token quar)) (standing key past) some))
     (λ _ some. granted_standing key who past some) h
 granted_standing key who (step.Hit on sid floor value stamp ∷ past) h = granted_standing key who past h
@@ -116,7 +122,8 @@ standing-every P key (step.Held on sid mode ∷ past) h = standing-every P key p
 standing-every P key (step.Refused on sid mode holder held ∷ past) h = standing-every P key past h.1
 standing-every P key (step.Gone on sid token ∷ past) h = standing-every P key past h.1
 
-pub quar-every : (P : QKey → Quar → Type 0) (key : QKey) (token : ℕ) (past : List Step) (quar : Quar) → AllByRecursion (GrantsSo P) past → quar_of key token past ≡ Some quar → P key quar × (quar.token ≡ token)
+pub quar-every : (P : QKey → Quar → Type 0) (key : QKey) (token : ℕ) (past : List Step) (quar : Quar)
+    → AllByRecursion (GrantsSo P) past → quar_of key token past ≡ Some quar → P key quar × (quar.token ≡ token)
 quar-every P key token past quar h found =
     let is = every-found (P key) (has_token token) (standing key past) quar (standing-every P key past h) found in
     (is.0, eqb-true quar.token token is.1)
@@ -125,7 +132,8 @@ quar-every P key token past quar h found =
 same_quar : {a b : Quar} → Some a ≡ Some b → a ≡ b
 same_quar e = cc
 
-pub stays-apart : (grant : Permit) (gone : ℕ) (quar : Quar) (quars : List Quar) → AllOfOwnToken quars → list_any (is_of_permit grant) quars ≡ true → find (has_token gone) quars ≡ Some quar
+pub stays-apart : (grant : Permit) (gone : ℕ) (quar : Quar) (quars : List Quar)
+    → AllOfOwnToken quars → list_any (is_of_permit grant) quars ≡ true → find (has_token gone) quars ≡ Some quar
     → (quar.sid.number ≡ grant.sid.number → ⊥) → list_any (is_of_permit grant) (filter (λ q. not (has_token gone q)) quars) ≡ true
 stays-apart grant gone quar quars distinct mine found other =
     any-filter (is_of_permit grant) (λ q. not (has_token gone q)) quars (each quars) mine
@@ -138,11 +146,14 @@ stays-apart grant gone quar quars distinct mine found other =
 
     each : (l : List Quar) → AllByRecursion (λ q. is_of_permit grant q ≡ true → not (has_token gone q) ≡ true) l
     each [] = tt
-    each (q ∷ l) =
-        ((λ is. ap not (not_true (has_token gone q) (λ same. apart (sym (eqb-true q.token grant.token (and_elim _ _ is).1) ∙ eqb-true q.token gone same)))), each l)
+    each (q ∷ l) = (
+      (λ is. ap not (not_true (has_token gone q) (λ same. apart (sym (eqb-true q.token grant.token (and_elim _ _ is).1) ∙ eqb-true q.token gone same)))),
+      each l,
+    )
 
 -- no step brings back a quarantine of a token that it doesn't grant
-pub quar-old : (s : Step) (key : QKey) (token : ℕ) (past : List Step) (quar : Quar) → grants_as key token s ≡ false → quar_of key token (s ∷ past) ≡ Some quar → quar_of key token past ≡ Some quar
+pub quar-old : (s : Step) (key : QKey) (token : ℕ) (past : List Step) (quar : Quar)
+    → grants_as key token s ≡ false → quar_of key token (s ∷ past) ≡ Some quar → quar_of key token past ≡ Some quar
 quar-old (step.Granted on sid mode shift now given deadline) key token past quar none =
     let new : Quar = record { sid = sid; mode = mode; token = given; deadline = deadline; shift = shift } in
     let xs = standing key past in
@@ -196,10 +207,13 @@ grants-below terms [] legal = tt
 grants-below terms (s ∷ past) legal =
     let next = next_token terms past in
     let high = next_token terms (s ∷ past) in
-    let more = next-append terms (s ∷ []) past in
-    (here s (answers-draw terms past s legal.0) (next_drawn terms s past), every-weaker (GrantsSo (IsBelow next)) (GrantsSo (IsBelow high)) past (grants-later next high more) (grants-below terms past legal.1))
+    let more = next-append terms (s ∷ []) past in (
+      here s (answers-draw terms past s legal.0) (next_drawn terms s past),
+      every-weaker (GrantsSo (IsBelow next)) (GrantsSo (IsBelow high)) past (grants-later next high more) (grants-below terms past legal.1),
+    )
   where
-    here : (x : Step) → DrawsNext terms (next_token terms past) x → next_token terms (s ∷ past) ≡ next_token terms past + cond (draws x) 1 0 → GrantsSo (IsBelow (next_token terms (s ∷ past))) x
+    here : (x : Step) → DrawsNext terms (next_token terms past) x
+        → next_token terms (s ∷ past) ≡ next_token terms past + cond (draws x) 1 0 → GrantsSo (IsBelow (next_token terms (s ∷ past))) x
     here (step.Granted on sid mode shift now token deadline) drawn one = let is = drawn.0 in omega (arith, is, one)
     here other drawn one = tt
 
@@ -207,7 +221,8 @@ grants-below terms (s ∷ past) legal =
 abbrev OfOne : Permit → QKey → Quar → Type 0
 OfOne grant key quar = key ≡ grant.key → quar.token ≡ grant.token → quar.sid ≡ grant.sid
 
-grant-token : (grant : Permit) (on : QKey) (sid : Sid) (token : ℕ) → (same_key grant.key on && (grant.sid.number == sid.number) && (grant.token == token)) ≡ true → grant.token ≡ token
+grant-token : (grant : Permit) (on : QKey) (sid : Sid) (token : ℕ)
+    → (same_key grant.key on && (grant.sid.number == sid.number) && (grant.token == token)) ≡ true → grant.token ≡ token
 grant-token grant on sid token is = eqb-true grant.token token (and_elim _ _ is).1
 
 grant-below : (next : ℕ) (grant : Permit) (s : Step) → GrantsSo (IsBelow next) s → grants grant s ≡ true → grant.token < next
@@ -215,7 +230,8 @@ grant-below next grant (step.Granted on sid mode shift now token deadline) below
     let same = grant-token grant on sid token is in omega (arith, same, below)
 grant-below next grant other below is = absurd (false≢true is)
 
-was-below : (next : ℕ) (grant : Permit) (past : List Step) → AllByRecursion (GrantsSo (IsBelow next)) past → list_any (grants grant) past ≡ true → grant.token < next
+was-below : (next : ℕ) (grant : Permit) (past : List Step) → AllByRecursion (GrantsSo (IsBelow next)) past
+    → list_any (grants grant) past ≡ true → grant.token < next
 was-below next grant past below was =
     let found = every-any (GrantsSo (IsBelow next)) (grants grant) past below was in
     grant-below next grant found.0 found.1 found.2
@@ -239,7 +255,8 @@ grants-next : (terms : Terms) (grant : Permit) (next : ℕ) (s : Step) → Draws
 grants-next terms grant next (step.Granted on sid mode shift now token deadline) drawn is = grant-token grant on sid token is ∙ drawn.0
 grants-next terms grant next other drawn is = absurd (false≢true is)
 
-of_one : (terms : Terms) (past : List Step) (grant : Permit) → IsLegalPast terms past → list_any (grants grant) past ≡ true → AllByRecursion (GrantsSo (OfOne grant)) past
+of_one : (terms : Terms) (past : List Step) (grant : Permit)
+    → IsLegalPast terms past → list_any (grants grant) past ≡ true → AllByRecursion (GrantsSo (OfOne grant)) past
 of_one terms [] grant legal was = tt
 of_one terms (s ∷ past) grant legal was =
     let next = next_token terms past in
@@ -247,13 +264,17 @@ of_one terms (s ∷ past) grant legal was =
     let below = grants-below terms past legal.1 in
     elim (or_elim (grants grant s) (list_any (grants grant) past) was) [
       | inl here ↦
-          let is = grants-next terms grant next s draws_next here in
-          (one-here grant s here, every-weaker (GrantsSo (IsBelow next)) (GrantsSo (OfOne grant)) past (λ x low. one-earlier grant x (subst (λ n. GrantsSo (IsBelow n) x) (sym is) low)) below)
+          let is = grants-next terms grant next s draws_next here in (
+            one-here grant s here,
+            every-weaker (GrantsSo (IsBelow next))
+                (GrantsSo (OfOne grant)) past (λ x low. one-earlier grant x (subst (λ n. GrantsSo (IsBelow n) x) (sym is) low)) below,
+          )
       | inr there ↦ (one-later grant terms next s draws_next (was-below next grant past below there), of_one terms past grant legal.1 there)
     ]
 
 -- a quarantine that stands under the token of a grant is of the grant's session
-pub was-quar : (terms : Terms) (past : List Step) (grant : Permit) (quar : Quar) → IsLegalPast terms past → list_any (grants grant) past ≡ true → quar_of grant.key grant.token past ≡ Some quar
+pub was-quar : (terms : Terms) (past : List Step) (grant : Permit) (quar : Quar)
+    → IsLegalPast terms past → list_any (grants grant) past ≡ true → quar_of grant.key grant.token past ≡ Some quar
     → quar.sid ≡ grant.sid
 was-quar terms past grant quar legal was found =
     let is = quar-every (OfOne grant) grant.key grant.token past quar (of_one terms past grant legal was) found in

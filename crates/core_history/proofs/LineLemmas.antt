@@ -10,7 +10,8 @@ joined word [] = sym (append-nil word)
 joined word (next ∷ words) = ap (λ (l : List ℕ). word ++ 32 ∷ l) (joined next words)
 
 -- the words of a request, and then those of its reply, put behind a word, and the line's end
-pub line_pushed : (word : List ℕ) (asked told : List (List ℕ)) (with_asked with_told text : List ℕ) → with_asked ≡ word ++ spaced asked → with_told ≡ with_asked ++ spaced told →
+pub line_pushed : (word : List ℕ) (asked told : List (List ℕ)) (with_asked with_told text : List ℕ)
+    → with_asked ≡ word ++ spaced asked → with_told ≡ with_asked ++ spaced told →
     text ≡ with_told ++ 10 ∷ [] → text ≡ line (word ∷ asked ++ told)
 line_pushed word asked told with_asked with_told text first then last =
     last ∙ ap (λ (l : List ℕ). l ++ 10 ∷ [])

@@ -1,5 +1,6 @@
 -- Tests, counts and places of lists.
-use Rattle.std.proofs.Common.{ℕ, zero, suc, ◌≡◌, ◌+◌, ◌≤◌, Bool, true, false, cond, ◌&&◌, ◌||◌, List, [], ◌∷◌, ◌++◌, length, filter, find, count_by, reverse, Some, None, slice_get, refl, sym, ap, subst, ◌∙◌, inl, inr, ◌⊎◌, arith}
+use Rattle.std.proofs.Common.{ℕ, zero, suc, ◌≡◌, ◌+◌, ◌≤◌, Bool, true, false, cond, ◌&&◌, ◌||◌, List, [], ◌∷◌, ◌++◌, length, filter, find}
+use Rattle.std.proofs.Common.{count_by, reverse, Some, None, slice_get, refl, sym, ap, subst, ◌∙◌, inl, inr, ◌⊎◌, arith}
 use Rattle.std.specs.List.{AllByRecursion, list_any}
 use Rattle.std.proofs.lemmas.Bool.{cases_Bool, false≢true}
 use Rattle.std.proofs.lemmas.List.Folds.{list_any-append}
@@ -59,12 +60,15 @@ every-any P p (x ∷ xs) h e =
       | inr there ↦ every-any P p xs h.1 there
     ]
 
-pub any-filter : {X : Type 0} (p q : X → Bool) (xs : List X) → AllByRecursion (λ x. p x ≡ true → q x ≡ true) xs → list_any p xs ≡ true → list_any p (filter q xs) ≡ true
+pub any-filter : {X : Type 0} (p q : X → Bool) (xs : List X)
+    → AllByRecursion (λ x. p x ≡ true → q x ≡ true) xs → list_any p xs ≡ true → list_any p (filter q xs) ≡ true
 any-filter p q [] h e = e
 any-filter p q (x ∷ xs) h e =
     elim (or_elim (p x) (list_any p xs) e) [
-      | inl here ↦ choose (λ l. list_any p l ≡ true) (q x) (x ∷ filter q xs) (filter q xs) (λ _. or_inl (p x) (list_any p (filter q xs)) here) (λ no_q. absurd (not_both (h.0 here) no_q))
-      | inr there ↦ choose (λ l. list_any p l ≡ true) (q x) (x ∷ filter q xs) (filter q xs) (λ _. or_inr (p x) (list_any p (filter q xs)) (any-filter p q xs h.1 there)) (λ _. any-filter p q xs h.1 there)
+      | inl here ↦ choose (λ l. list_any p l ≡ true) (q x) (x ∷ filter q xs)
+          (filter q xs) (λ _. or_inl (p x) (list_any p (filter q xs)) here) (λ no_q. absurd (not_both (h.0 here) no_q))
+      | inr there ↦ choose (λ l. list_any p l ≡ true) (q x) (x ∷ filter q xs)
+          (filter q xs) (λ _. or_inr (p x) (list_any p (filter q xs)) (any-filter p q xs h.1 there)) (λ _. any-filter p q xs h.1 there)
     ]
 
 pub any-front : {X : Type 0} (p : X → Bool) (xs ys : List X) → list_any p xs ≡ true → list_any p (xs ++ ys) ≡ true
@@ -96,7 +100,8 @@ any-at p (y ∷ xs) zero x h e = or_inl (p y) (list_any p xs) (let same : y ≡ 
 any-at p (y ∷ xs) (suc i) x h e = or_inr (p y) (list_any p xs) (any-at p xs i x h e)
 
 -- the place of what is in a list with one more: an old one, or the end
-pub push-place : {X : Type 0} (xs : List X) (y : X) (i : ℕ) (x : X) → slice_get (xs ++ y ∷ []) i ≡ Some x → (slice_get xs i ≡ Some x) ⊎ ((i ≡ length xs) × (y ≡ x))
+pub push-place : {X : Type 0} (xs : List X) (y : X) (i : ℕ) (x : X)
+    → slice_get (xs ++ y ∷ []) i ≡ Some x → (slice_get xs i ≡ Some x) ⊎ ((i ≡ length xs) × (y ≡ x))
 push-place [] y zero x h = inr (refl, cc)
 push-place [] y (suc i) x h = cc
 push-place (z ∷ xs) y zero x h = inl h
@@ -122,7 +127,8 @@ pub find-front : {X : Type 0} (p : X → Bool) (xs : List X) (y x : X) → p y �
 find-front p [] y x none h = let empty : find p (y ∷ []) ≡ None = ap (λ b. cond b (Some y) None) none in cc
 find-front p (z ∷ xs) y x none h = by (p z) (find-front p xs y x none) h
   where
-    by : (b : Bool) → (find p (xs ++ y ∷ []) ≡ Some x → find p xs ≡ Some x) → cond b (Some z) (find p (xs ++ y ∷ [])) ≡ Some x → cond b (Some z) (find p xs) ≡ Some x
+    by : (b : Bool) → (find p (xs ++ y ∷ []) ≡ Some x → find p xs ≡ Some x)
+        → cond b (Some z) (find p (xs ++ y ∷ [])) ≡ Some x → cond b (Some z) (find p xs) ≡ Some x
     by true rest h = h
     by false rest h = rest h
 
@@ -175,12 +181,14 @@ some-count p (x ∷ xs) h =
     ]
 
 -- what passes at one place at most is counted once at most
-pub count-once : {X : Type 0} (p : X → Bool) (xs : List X) → ((i j : ℕ) (x y : X) → slice_get xs i ≡ Some x → slice_get xs j ≡ Some y → p x ≡ true → p y ≡ true → i ≡ j) → count_by p xs ≤ 1
+pub count-once : {X : Type 0} (p : X → Bool) (xs : List X)
+    → ((i j : ℕ) (x y : X) → slice_get xs i ≡ Some x → slice_get xs j ≡ Some y → p x ≡ true → p y ≡ true → i ≡ j) → count_by p xs ≤ 1
 count-once p [] one = omega arith
 count-once p (x ∷ xs) one =
     elim (cases_Bool (p x)) [
       | inl here ↦
-          let no_more : list_any p xs ≡ false = not_true (list_any p xs) (λ more. let found = place_of p xs more in let e = one 0 (suc found.0) x found.1 refl found.2 here found.3 in absurd (omega (arith, e))) in
+          let no_more : list_any p xs ≡ false = not_true (list_any p xs) (λ more. let found = place_of p xs more in
+          let e = one 0 (suc found.0) x found.1 refl found.2 here found.3 in absurd (omega (arith, e))) in
           elim (cases_Bool (list_any p xs)) [
             | inl more ↦ absurd (not_both more no_more)
             | inr none ↦ let z = count-none xs none in let e = count-cons p x xs in let k = one_if (p x) here in omega (arith, z, e, k)

@@ -54,7 +54,9 @@ IsAtStore (wanted.Abort grant) = ⊥
 IsAtStore wanted.Nothing = Unit {0}
 
 -- a turn that tells what a step shows on the shard of a key is quiet
-quiet_at : (shape : Shape) (world : World) (who : Sid) (request : Wanted) (key : QKey) (made s : Step) → IsQuiet (Stepped (shard_of key shape.shards) who request made (shown (terms_of shape (shard_of key shape.shards)) (steps_of (shard_of key shape.shards) world.past) s))
+quiet_at : (shape : Shape) (world : World) (who : Sid) (request : Wanted) (key : QKey) (made s : Step)
+    → IsQuiet (Stepped (shard_of key shape.shards) who request made
+    (shown (terms_of shape (shard_of key shape.shards)) (steps_of (shard_of key shape.shards) world.past) s))
 quiet_at shape world who request key made s =
     let home = shard_of key shape.shards in
     quiet_shown home who request made (terms_of shape home) (steps_of home world.past) s
@@ -77,7 +79,8 @@ quiet_request shape world who (wanted.Abort grant) on = quiet_at shape world who
 quiet_request shape world who wanted.Nothing on = absurd on
 
 -- a request at the store leaves the shards
-same_shards : (shards : List ShardView) (shape : Shape) (world : World) (who : Sid) (request : Wanted) (said : Said) → IsAtStore request → HasShards shards shape world.past → HasShards shards shape (event_of shape world who request said ∷ world.past)
+same_shards : (shards : List ShardView) (shape : Shape) (world : World) (who : Sid) (request : Wanted) (said : Said)
+    → IsAtStore request → HasShards shards shape world.past → HasShards shards shape (event_of shape world who request said ∷ world.past)
 same_shards shards shape world who (wanted.Get key floor) said at has = absurd at
 same_shards shards shape world who (wanted.Ask key) said at has = shards_called shards shape world.past who (wanted.Ask key) _ has
 same_shards shards shape world who (wanted.Staged key txn) said at has = shards_called shards shape world.past who (wanted.Staged key txn) _ has
@@ -93,15 +96,21 @@ same_shards shards shape world who (wanted.Apply grant stamp) said at has = absu
 same_shards shards shape world who (wanted.Abort grant) said at has = absurd at
 same_shards shards shape world who wanted.Nothing said at has = shards_called shards shape world.past who wanted.Nothing _ has
 
-pub makes_step : (origin : Origin) (world : World) (who : Sid) (request : Wanted) (shards : List ShardView) (store : StoreView) (result : Result Reply Memory) → IsOnShard request → StandsStore store origin world →
+pub makes_step : (origin : Origin) (world : World) (who : Sid) (request : Wanted) (shards : List ShardView) (store : StoreView) (result : Result Reply Memory)
+    → IsOnShard request → StandsStore store origin world →
     MakesStep origin.shape world who request shards result → Makes origin world who request shards store result
 makes_step origin world who request shards store (Ok told) on stands made =
     let event = event_of origin.shape world who request Failed in
-    let quiet = quiet_request origin.shape world who request on in
-    (Failed, made.0, (made.1, (store_quiet store origin world.past event stands.0 quiet, phases_same store.ledger.sessions world event stands.1 quiet.commits quiet.ends)))
+    let quiet = quiet_request origin.shape world who request on in (
+      Failed,
+      made.0,
+      (made.1, (store_quiet store origin world.past event stands.0 quiet, phases_same store.ledger.sessions world event stands.1 quiet.commits quiet.ends)),
+    )
 makes_step origin world who request shards store (Err memory) on stands made = (made, stands)
 
-pub makes_call : (origin : Origin) (world : World) (who : Sid) (request : Wanted) (shards : List ShardView) (store : StoreView) (result : Result Reply Memory) → IsAtStore request → HasShards shards origin.shape world.past →
+pub makes_call : (origin : Origin) (world : World) (who : Sid) (request : Wanted) (shards : List ShardView) (store : StoreView) (result : Result Reply Memory)
+    → IsAtStore request → HasShards shards origin.shape world.past →
     MakesCall origin world who request store result → Makes origin world who request shards store result
-makes_call origin world who request shards store (Ok told) at has made = (made.0, made.1, (same_shards shards origin.shape world who request made.0 at has, made.2))
+makes_call origin world who request shards store (Ok told) at has made =
+    (made.0, made.1, (same_shards shards origin.shape world who request made.0 at has, made.2))
 makes_call origin world who request shards store (Err memory) at has made = (has, made)

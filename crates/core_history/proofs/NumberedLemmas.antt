@@ -28,7 +28,8 @@ numbered-more log more (step.Released on sid token (ended.Shift by stamp)) h = c
 numbered-more log more other h = tt
 
 -- what a session writes has the number of its commit, and so a good step is numbered
-writes-numbered : (past : List Event) (steps : List Step) (on : QKey) (sid : Sid) (token : ℕ) (mode : Mode) (stamp : ℕ) → WritesOwn past steps on sid token mode stamp
+writes-numbered : (past : List Event) (steps : List Step) (on : QKey) (sid : Sid) (token : ℕ) (mode : Mode) (stamp : ℕ)
+    → WritesOwn past steps on sid token mode stamp
     → IsCommitOf (log_of past) sid stamp
 writes-numbered past steps on sid token mode stamp writes = record {
   place = writes.place;
@@ -39,7 +40,8 @@ writes-numbered past steps on sid token mode stamp writes = record {
 }
 
 good-numbered : (past : List Event) (steps : List Step) (who : Sid) (s : Step) → IsGoodStep past steps who s → IsNumbered (log_of past) s
-good-numbered past steps who (step.Released on sid token (ended.Put value stamp evicted)) good = writes-numbered past steps on sid token Refresh stamp good.writes
+good-numbered past steps who (step.Released on sid token (ended.Put value stamp evicted)) good =
+    writes-numbered past steps on sid token Refresh stamp good.writes
 good-numbered past steps who (step.Released on sid token (ended.Shift by stamp)) good = writes-numbered past steps on sid token Delta stamp good.writes
 good-numbered past steps who other good = tt
 
@@ -47,7 +49,8 @@ good-numbered past steps who other good = tt
 event-numbered : (shape : Shape) (past : List Event) (event : Event) → IsGoodEvent shape past event → (place : ℕ)
     → AllByRecursion (IsNumbered (log_of past)) (steps_in place event)
 event-numbered shape past (Stepped home who request s told) good place =
-    choose (AllByRecursion (IsNumbered (log_of past))) (home == place) (s ∷ []) [] (λ _. (good-numbered past (steps_of home past) who s good.good, tt)) (λ _. tt)
+    choose (AllByRecursion (IsNumbered (log_of past))) (home == place)
+    (s ∷ []) [] (λ _. (good-numbered past (steps_of home past) who s good.good, tt)) (λ _. tt)
 event-numbered shape past (Called who request told) good place = tt
 event-numbered shape past (Ticked now) good place = tt
 event-numbered shape past (Swept home request None told) good place =
@@ -66,5 +69,7 @@ runs_numbered shape (Take turn said ∷ moves) place =
     let past = world.past in
     let event = turn_event shape world turn said in
     let good : IsGoodEvent shape past event = (taken-inner shape world turn said (inner_of shape moves)).1 in
-    every-weaker (IsNumbered (log_of past)) (IsNumbered (log_of (event ∷ past))) (steps_of place (event ∷ past)) (numbered-more (log_of past) (commits_in event))
-    (every-append (IsNumbered (log_of past)) (steps_in place event) (steps_of place past) (event-numbered shape past event good place) (runs_numbered shape moves place))
+    every-weaker (IsNumbered (log_of past)) (IsNumbered (log_of (event ∷ past)))
+    (steps_of place (event ∷ past)) (numbered-more (log_of past) (commits_in event))
+    (every-append (IsNumbered (log_of past)) (steps_in place event)
+    (steps_of place past) (event-numbered shape past event good place) (runs_numbered shape moves place))

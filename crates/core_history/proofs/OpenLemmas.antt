@@ -1,5 +1,7 @@
 -- Which sessions are open, at the store and by the events.
-use Rattle.std.proofs.Common.{ℕ, zero, suc, ◌-◌, ◌≡◌, ◌≢◌, ◌<◌, ◌≤◌, ◌==◌, ◌&&◌, ◌||◌, Bool, true, false, not, cond, if◌then◌else◌, List, [], ◌∷◌, ◌++◌, length, Some, None, slice_get, refl, sym, ap, subst, ◌∙◌, ⊎_elim, append-nil, length-set, arith, rules, eq-eqb}
+use Rattle.std.proofs.Common.{ℕ, zero, suc, ◌-◌, ◌≡◌, ◌≢◌, ◌<◌, ◌≤◌, ◌==◌, ◌&&◌, ◌||◌, Bool, true, false, not, cond, if◌then◌else◌, List}
+use Rattle.std.proofs.Common.{[], ◌∷◌, ◌++◌, length, Some, None, slice_get, refl, sym, ap, subst, ◌∙◌, ⊎_elim, append-nil, length-set}
+use Rattle.std.proofs.Common.{arith, rules, eq-eqb}
 use Rattle.std.specs.List.{list_any}
 use Rattle.std.proofs.lemmas.Bool.{eqb-true, cases_Bool, false≢true}
 use Rattle.std.proofs.lemmas.List.Folds.{list_any-append}
@@ -73,7 +75,8 @@ phase_other : (who other : Sid) (phase : Phase) (phases : List Phase) → 1 ≤ 
     → may_commit other (with_phase who phase phases) ≡ may_commit other phases
 phase_other who other phase phases some more apart =
     let differ : who.number - 1 ≢ other.number - 1 = λ e. false≢true (sym apart ∙ eq-eqb who.number other.number (omega arith)) in
-    ap may (phase_there other.number (with_phase who phase phases) more ∙ slice_get-set_other phases (who.number - 1) (other.number - 1) phase differ ∙ sym (phase_there other.number phases more))
+    ap may (phase_there other.number (with_phase who phase phases) more
+    ∙ slice_get-set_other phases (who.number - 1) (other.number - 1) phase differ ∙ sym (phase_there other.number phases more))
 
 length_phase : (who : Sid) (phase : Phase) (phases : List Phase) → length (with_phase who phase phases) ≡ length phases
 length_phase who phase phases = length-set phases (who.number - 1) phase
@@ -126,7 +129,8 @@ phases_committed phases world who txn grants number has some is_so =
         let there : may_commit other (with_phase who Committed phases) ≡ false =
         subst P (sid_is who other n) (phase_same who Committed phases some (open_within who phases is_so some)) in
         there
-        ∙ sym (ap (λ (b : Bool). opened writer b (was_ended other.number (event ∷ world.past))) closed ∙ no_more writer (not (was_ended other.number (event ∷ world.past))))
+        ∙ sym (ap (λ (b : Bool). opened writer b (was_ended other.number (event ∷ world.past))) closed
+        ∙ no_more writer (not (was_ended other.number (event ∷ world.past))))
 
     others : (other : Sid) → 1 ≤ other.number → (who.number == other.number) ≡ false
         → may_commit other (with_phase who Committed phases) ≡ is_open (after world event) other
@@ -140,7 +144,8 @@ phases_committed phases world who txn grants number has some is_so =
 
 -- the sessions after an event that tells whether one was open, and ends it if it was
 phases_closed : (phases : List Phase) (world : World) (who : Sid) (event : Bool → Event) → HasPhases phases world → 1 ≤ who.number →
-    ((was : Bool) → commits_in (event was) ≡ []) → ends_in (event true) ≡ who.number ∷ [] → ends_in (event false) ≡ [] → HasPhases (ended who phases) (after world (event (is_open world who)))
+    ((was : Bool) → commits_in (event was) ≡ []) → ends_in (event true) ≡ who.number ∷ []
+    → ends_in (event false) ≡ [] → HasPhases (ended who phases) (after world (event (is_open world who)))
 phases_closed phases world who event has some no_commit one_end no_end = by (is_open world who) (has.opens who some)
   where
     committed_as : (n : ℕ) → has_committed n (event true ∷ world.past) ≡ has_committed n world.past
@@ -160,7 +165,8 @@ phases_closed phases world who event has some no_commit one_end no_end = by (is_
     as_before : (other : Sid) → (who.number == other.number) ≡ false → is_open (after world (event true)) other ≡ is_open world other
     as_before other apart =
         let writer = is_writer (plan_at other.number world.plans) in
-        ap (opened writer (has_committed other.number (event true ∷ world.past))) (ended_as other.number ∙ ap (λ (b : Bool). b || was_ended other.number world.past) apart)
+        ap (opened writer (has_committed other.number (event true ∷ world.past))) (ended_as other.number
+        ∙ ap (λ (b : Bool). b || was_ended other.number world.past) apart)
         ∙ ap (λ (b : Bool). opened writer b (was_ended other.number world.past)) (committed_as other.number)
 
     by : (was : Bool) → may_commit who phases ≡ was → HasPhases (ended who phases) (after world (event was))
@@ -171,7 +177,8 @@ phases_closed phases world who event has some no_commit one_end no_end = by (is_
         subst P (sym here) (record {
           count = length_phase who Ended phases ∙ has.count;
           opens = λ other more. ⊎_elim
-              (λ same. subst Q (sid_is who other (eqb-true who.number other.number same)) (phase_same who Ended phases some (open_within who phases is_so some)) ∙ sym (closed other same))
+              (λ same. subst Q (sid_is who other (eqb-true who.number other.number same)) (phase_same who Ended phases some (open_within who phases is_so some))
+              ∙ sym (closed other same))
               (λ apart. phase_other who other Ended phases some more apart ∙ has.opens other more ∙ sym (as_before other apart))
               (cases_Bool (who.number == other.number));
         })

@@ -60,14 +60,17 @@ mild-planned plans who (reply.Committed number txn grants) mild = cc
 mild-planned plans who other mild = tt
 
 -- each quarantine that stands is planned
-pub planned-standing : (plans : List Plan) (key : QKey) (past : List Step) → AllByRecursion (GrantsPlanned plans) past → AllByRecursion (IsPlanned plans key) (standing key past)
+pub planned-standing : (plans : List Plan) (key : QKey) (past : List Step)
+    → AllByRecursion (GrantsPlanned plans) past → AllByRecursion (IsPlanned plans key) (standing key past)
 planned-standing plans key past h = standing-every (IsPlanned plans) key past h
 
-pub planned-quar : (plans : List Plan) (key : QKey) (token : ℕ) (past : List Step) (quar : Quar) → AllByRecursion (GrantsPlanned plans) past → quar_of key token past ≡ Some quar → IsPlanned plans key quar
+pub planned-quar : (plans : List Plan) (key : QKey) (token : ℕ) (past : List Step) (quar : Quar)
+    → AllByRecursion (GrantsPlanned plans) past → quar_of key token past ≡ Some quar → IsPlanned plans key quar
 planned-quar plans key token past quar h found = (quar-every (IsPlanned plans) key token past quar h found).0
 
 -- the log after an event
-told-planned : (plans : List Plan) (who : Sid) (told : Reply) (log : List Commit) → IsPlannedReply plans who told → ArePlanned plans log → ArePlanned plans (log ++ commits_told who told)
+told-planned : (plans : List Plan) (who : Sid) (told : Reply) (log : List Commit)
+    → IsPlannedReply plans who told → ArePlanned plans log → ArePlanned plans (log ++ commits_told who told)
 told-planned plans who (reply.Committed number txn grants) log new old place commit at =
     elim (push-place log (record { sid = who; txn = txn }) place commit at) [
       | inl before ↦ old place commit before
@@ -75,11 +78,13 @@ told-planned plans who (reply.Committed number txn grants) log new old place com
     ]
 told-planned plans who other log new old place commit at = old place commit (sym (ap (λ l. slice_get l place) (append-nil log)) ∙ at)
 
-pub logged-more : (plans : List Plan) (event : Event) (past : List Event) → IsPlannedEvent plans event → ArePlanned plans (log_of past) → ArePlanned plans (log_of (event ∷ past))
+pub logged-more : (plans : List Plan) (event : Event) (past : List Event)
+    → IsPlannedEvent plans event → ArePlanned plans (log_of past) → ArePlanned plans (log_of (event ∷ past))
 logged-more plans (Stepped place who request s told) past new old = told-planned plans who told (log_of past) new old
 logged-more plans (Called who request told) past new old = told-planned plans who told (log_of past) new old
 logged-more plans (Ticked now) past new old = λ place commit at. old place commit (sym (ap (λ l. slice_get l place) (append-nil (log_of past))) ∙ at)
-logged-more plans (Swept shard request made told) past new old = λ place commit at. old place commit (sym (ap (λ l. slice_get l place) (append-nil (log_of past))) ∙ at)
+logged-more plans (Swept shard request made told) past new old =
+    λ place commit at. old place commit (sym (ap (λ l. slice_get l place) (append-nil (log_of past))) ∙ at)
 
 -- with one plan more
 pub plan-stays : (n : ℕ) (plans : List Plan) (more found : Plan) → plan_at n plans ≡ Some found → plan_at n (plans ++ more ∷ []) ≡ Some found

@@ -1,5 +1,6 @@
 -- A turn of a reader, or of no session, keeps the facts; and so does a get of any session's.
-use Rattle.std.proofs.Common.{ℕ, ◌≡◌, ◌<◌, ◌==◌, true, false, cond, List, [], ◌∷◌, ◌++◌, length, Option, Some, None, append-nil, refl, sym, ap, subst, ◌∙◌, inl, arith}
+use Rattle.std.proofs.Common.{ℕ, ◌≡◌, ◌<◌, ◌==◌, true, false, cond, List, [], ◌∷◌, ◌++◌, length, Option, Some, None, append-nil, refl, sym}
+use Rattle.std.proofs.Common.{ap, subst, ◌∙◌, inl, arith}
 use Rattle.std.proofs.lemmas.Bool.{false≢true, eq-eqb, eqb-true}
 use Rattle.rows_model.specs.declared.keys.QKey.{QKey}
 use Rattle.rows_model.specs.declared.keys.Sid.{Sid}
@@ -43,7 +44,8 @@ After shape world who said request =
     Inner shape (with_event world (event_of shape world who request said)) × IsGoodEvent shape world.past (event_of shape world who request said)
 
 -- a session that wants nothing
-pub idle-turn : (shape : Shape) (world : World) (who : Sid) (said : Said) → Inner shape world → HasHeard shape world (Called who wanted.Nothing reply.Nothing) who reply.Nothing
+pub idle-turn : (shape : Shape) (world : World) (who : Sid) (said : Said)
+    → Inner shape world → HasHeard shape world (Called who wanted.Nothing reply.Nothing) who reply.Nothing
     → After shape world who said wanted.Nothing
 idle-turn shape world who said inner mine = (mild-inner shape world who wanted.Nothing reply.Nothing inner refl refl mine, tt)
 
@@ -52,7 +54,8 @@ abbrev pub TakesGot : Shape → World → Sid → QKey → ℕ → Type 0
 TakesGot shape world who key floor =
     let home = shard_of key shape.shards in
     (s : Step) (found : Got) → IsQuietStep s → IsLateDraw shape world.past s
-    → IsDrawnBelow (next_token (terms_of shape home) (steps_of home (Stepped home who (wanted.Get key floor) s (reply.Got found) ∷ world.past))) (reply.Got found)
+    → IsDrawnBelow (next_token (terms_of shape home) (steps_of home (Stepped home who (wanted.Get key floor) s (reply.Got found) ∷ world.past)))
+    (reply.Got found)
     → HasHeard shape world (Stepped home who (wanted.Get key floor) s (reply.Got found)) who (reply.Got found)
 
 -- a get, of whichever session
@@ -60,10 +63,19 @@ pub got-turn : (shape : Shape) (world : World) (who : Sid) (said : Said) (key : 
     → After shape world who said (wanted.Get key floor)
 got-turn shape world who said key floor inner takes =
     got_cases P terms steps key who floor now
-    (λ value stamp found is. (told (step.Hit key who floor value stamp) (got.Hit value stamp) is tt tt, record { home = refl; good = found; own = tt; no_commit = refl; no_end = refl }))
+    (λ value stamp found is. (
+      told (step.Hit key who floor value stamp) (got.Hit value stamp) is tt tt,
+      record { home = refl; good = found; own = tt; no_commit = refl; no_end = refl },
+    ))
     (λ is. (told (step.Own key who) got.Own is tt tt, record { home = refl; good = tt; own = tt; no_commit = refl; no_end = refl }))
-    (λ stands is. (told (step.Again key who floor now stands) (got.Again stands) is tt tt, record { home = refl; good = tt; own = tt; no_commit = refl; no_end = refl }))
-    (λ none is. (told (step.Lease key who floor now token deadline) (got.Lease token) is tt low, record { home = refl; good = none; own = tt; no_commit = refl; no_end = refl }))
+    (λ stands is. (
+      told (step.Again key who floor now stands) (got.Again stands) is tt tt,
+      record { home = refl; good = tt; own = tt; no_commit = refl; no_end = refl },
+    ))
+    (λ none is. (
+      told (step.Lease key who floor now token deadline) (got.Lease token) is tt low,
+      record { home = refl; good = none; own = tt; no_commit = refl; no_end = refl },
+    ))
     refl
   where
     past : List Event
@@ -91,23 +103,28 @@ got-turn shape world who said key floor inner takes =
     request = wanted.Get key floor
 
     P : Step → Type 0
-    P s = s ≡ get_step terms steps key who floor now → Inner shape (with_event world (Stepped home who request s (shown terms steps s))) × IsGoodEvent shape past (Stepped home who request s (shown terms steps s))
+    P s = s ≡ get_step terms steps key who floor now → Inner shape (with_event world (Stepped home who request s (shown terms steps s)))
+        × IsGoodEvent shape past (Stepped home who request s (shown terms steps s))
 
     told : (s : Step) (found : Got) → s ≡ get_step terms steps key who floor now → IsQuietStep s
         → IsDrawnBelow (next_token terms (steps_of home (Stepped home who request s (reply.Got found) ∷ past))) (reply.Got found)
         → Inner shape (with_event world (Stepped home who request s (reply.Got found)))
     told s found is quiet drawn =
         let answers : Answers terms steps s = record { request = Get key who floor now; at_home = refl; owed = tt; answer = is } in
-        quiet-inner shape world home who request s (reply.Got found) inner answers quiet (λ t x out. refl) refl refl (takes s found quiet (draws-late shape past home s answers) drawn)
+        quiet-inner shape world home who request s (reply.Got found) inner answers quiet
+        (λ t x out. refl) refl refl (takes s found quiet (draws-late shape past home s answers) drawn)
 
     low : token < next_token terms (steps_of home (Stepped home who request (step.Lease key who floor now token deadline) (reply.Got (got.Lease token)) ∷ past))
     low =
         let s = step.Lease key who floor now token deadline in
-        maybe-step (λ l. token < next_token terms l) (home == home) s steps (λ _. let one = count-cons draws s steps in omega (arith, one)) (λ other. absurd (not_both (eq-eqb home home refl) other))
+        maybe-step (λ l. token < next_token terms l) (home == home) s steps (λ _. let one = count-cons draws s steps in
+        omega (arith, one)) (λ other. absurd (not_both (eq-eqb home home refl) other))
 
 -- what a reader is told
-told-reader : (shape : Shape) (world : World) (event : Event) (who : Sid) (told : Reply) (key : QKey) (floor : ℕ) → Inner shape world → plan_at who.number world.plans ≡ Some (Read key floor)
-    → DrawsLate shape world.past event → IsDrawnBelow (next_token (terms_of shape (shard_of key shape.shards)) (steps_of (shard_of key shape.shards) (event ∷ world.past))) told
+told-reader : (shape : Shape) (world : World) (event : Event) (who : Sid) (told : Reply) (key : QKey) (floor : ℕ)
+    → Inner shape world → plan_at who.number world.plans ≡ Some (Read key floor)
+    → DrawsLate shape world.past event
+    → IsDrawnBelow (next_token (terms_of shape (shard_of key shape.shards)) (steps_of (shard_of key shape.shards) (event ∷ world.past))) told
     → grants_in told ≡ [] → IsHolding key who.number (event ∷ world.past) (told ∷ told_to who.number world.past) → HasHeard shape world event who told
 told-reader shape world event who told key floor inner plan late drawn brings holding =
     let n = who.number in
@@ -117,18 +134,21 @@ told-reader shape world event who told key floor inner plan late drawn brings ho
     let old = reader-more shape event world.past n heard key late (subst S plan (inner.sessions n)) in
     subst T (sym plan) ((drawn, old.0), ap (λ l. granted heard ++ l) brings ∙ append-nil (granted heard) ∙ old.1, holding)
 
-get-turn : (shape : Shape) (world : World) (who : Sid) (said : Said) (key : QKey) (floor : ℕ) → Inner shape world → plan_at who.number world.plans ≡ Some (Read key floor)
+get-turn : (shape : Shape) (world : World) (who : Sid) (said : Said) (key : QKey) (floor : ℕ)
+    → Inner shape world → plan_at who.number world.plans ≡ Some (Read key floor)
     → After shape world who said (wanted.Get key floor)
 get-turn shape world who said key floor inner plan =
     got-turn shape world who said key floor inner
-    (λ s found quiet late drawn. told-reader shape world (Stepped (shard_of key shape.shards) who (wanted.Get key floor) s (reply.Got found)) who (reply.Got found) key floor inner plan late drawn refl tt)
+    (λ s found quiet late drawn. told-reader shape world (Stepped (shard_of key shape.shards) who (wanted.Get key floor) s (reply.Got found)) who
+    (reply.Got found) key floor inner plan late drawn refl tt)
 
 -- the lease that a current token is of
 lease_of : (token now : ℕ) (lease : Option ReadLease) → is_current token now lease ≡ true → (found : ReadLease) × (lease ≡ Some found) × (found.token ≡ token)
 lease_of token now None e = absurd (false≢true e)
 lease_of token now (Some lease) e = (lease, refl, eqb-true lease.token token (and_elim (lease.token == token) _ e).0)
 
-set-turn : (shape : Shape) (world : World) (who : Sid) (said : Said) (key : QKey) (floor : ℕ) (token : ℕ) (answer : Answer) (rest : List Reply) → Inner shape world
+set-turn : (shape : Shape) (world : World) (who : Sid) (said : Said) (key : QKey) (floor : ℕ) (token : ℕ) (answer : Answer) (rest : List Reply)
+    → Inner shape world
     → plan_at who.number world.plans ≡ Some (Read key floor) → told_to who.number world.past ≡ reply.Answer answer ∷ reply.Got (got.Lease token) ∷ rest
     → After shape world who said (wanted.Set key token answer.value answer.stamp)
 set-turn shape world who said key floor token answer rest inner plan heard =
@@ -174,9 +194,11 @@ set-turn shape world who said key floor token answer rest inner plan heard =
         subst (IsHolding key who.number past) heard (subst S plan (inner.sessions who.number)).2
 
     P : Step → Type 0
-    P s = s ≡ set_step terms steps key token answer.value answer.stamp now → Inner shape (with_event world (Stepped home who request s (shown terms steps s))) × IsGoodEvent shape past (Stepped home who request s (shown terms steps s))
+    P s = s ≡ set_step terms steps key token answer.value answer.stamp now → Inner shape (with_event world (Stepped home who request s (shown terms steps s)))
+        × IsGoodEvent shape past (Stepped home who request s (shown terms steps s))
 
-    told : (s : Step) (found : SetAnswer) → s ≡ set_step terms steps key token answer.value answer.stamp now → IsQuietStep s → Inner shape (with_event world (Stepped home who request s (reply.Set found)))
+    told : (s : Step) (found : SetAnswer) → s ≡ set_step terms steps key token answer.value answer.stamp now
+        → IsQuietStep s → Inner shape (with_event world (Stepped home who request s (reply.Set found)))
     told s found is quiet =
         let answers : Answers terms steps s = record { request = Set key token answer.value answer.stamp now; at_home = refl; owed = tt; answer = is } in
         let event = Stepped home who request s (reply.Set found) in
@@ -187,10 +209,13 @@ set-turn shape world who said key floor token answer rest inner plan heard =
 ask-holding : (key : QKey) (who : Sid) (request : Wanted) (past : List Event) (answered : Answer) (heard : List Reply) → key ≡ answered.key
     → IsHolding key who.number (Called who request (reply.Answer answered) ∷ past) (reply.Answer answered ∷ heard)
 ask-holding key who request past answered (reply.Got (got.Lease token) ∷ heard) same =
-    subst (λ b. IsTold answered (cond b (answered ∷ []) [] ++ answers_under key token who.number past)) (sym (and_intro (who.number == who.number) (same_key key answered.key) (eq-eqb who.number who.number refl) (subst (λ k. same_key key k ≡ true) same (same_key-refl key)))) (inl refl)
+    subst (λ b. IsTold answered (cond b (answered ∷ []) [] ++ answers_under key token who.number past))
+    (sym (and_intro (who.number == who.number) (same_key key answered.key)
+    (eq-eqb who.number who.number refl) (subst (λ k. same_key key k ≡ true) same (same_key-refl key)))) (inl refl)
 ask-holding key who request past answered heard same = tt
 
-ask-turn : (shape : Shape) (world : World) (who : Sid) (said : Said) (key : QKey) (floor : ℕ) → Inner shape world → plan_at who.number world.plans ≡ Some (Read key floor)
+ask-turn : (shape : Shape) (world : World) (who : Sid) (said : Said) (key : QKey) (floor : ℕ)
+    → Inner shape world → plan_at who.number world.plans ≡ Some (Read key floor)
     → After shape world who said (wanted.Ask key)
 ask-turn shape world who said key floor inner plan = by said
   where
@@ -199,21 +224,27 @@ ask-turn shape world who said key floor inner plan = by said
         → Inner shape (with_event world (Called who (wanted.Ask key) told))
     after told brings mild drawn holding =
         let event = Called who (wanted.Ask key) told in
-        mild-inner shape world who (wanted.Ask key) told inner brings mild (told-reader shape world event who told key floor inner plan tt (drawn _) brings holding)
+        mild-inner shape world who (wanted.Ask key) told inner brings mild
+        (told-reader shape world event who told key floor inner plan tt (drawn _) brings holding)
 
     by : (said : Said)
-        → Inner shape (with_event world (Called who (wanted.Ask key) (ask_told world.past key said))) × IsGoodEvent shape world.past (Called who (wanted.Ask key) (ask_told world.past key said))
+        → Inner shape (with_event world (Called who (wanted.Ask key) (ask_told world.past key said)))
+        × IsGoodEvent shape world.past (Called who (wanted.Ask key) (ask_told world.past key said))
     by (Value value) =
-        let answered : Answer = record { key = key; value = value; stamp = length (log_of world.past) } in
-        (after (reply.Answer answered) refl refl (λ next. tt) (ask-holding key who (wanted.Ask key) world.past answered (told_to who.number world.past) refl), refl)
+        let answered : Answer = record { key = key; value = value; stamp = length (log_of world.past) } in (
+          after (reply.Answer answered) refl refl (λ next. tt) (ask-holding key who (wanted.Ask key) world.past answered (told_to who.number world.past) refl),
+          refl,
+        )
     by Made = (after _ refl refl (λ next. tt) tt, tt)
     by (Rejected index) = (after _ refl refl (λ next. tt) tt, tt)
     by Failed = (after _ refl refl (λ next. tt) tt, tt)
 
-pub read-turn : (shape : Shape) (world : World) (who : Sid) (said : Said) (key : QKey) (floor : ℕ) → Inner shape world → plan_at who.number world.plans ≡ Some (Read key floor)
+pub read-turn : (shape : Shape) (world : World) (who : Sid) (said : Said) (key : QKey) (floor : ℕ)
+    → Inner shape world → plan_at who.number world.plans ≡ Some (Read key floor)
     → After shape world who said (read_wants key floor (told_to who.number world.past))
 read-turn shape world who said key floor inner plan =
     let idle = Called who wanted.Nothing reply.Nothing in
-    read_cases (After shape world who said) key floor (told_to who.number world.past) (get-turn shape world who said key floor inner plan) (ask-turn shape world who said key floor inner plan)
+    read_cases (After shape world who said) key floor (told_to who.number world.past)
+    (get-turn shape world who said key floor inner plan) (ask-turn shape world who said key floor inner plan)
     (λ token answer rest heard. set-turn shape world who said key floor token answer rest inner plan heard)
     (idle-turn shape world who said inner (told-reader shape world idle who reply.Nothing key floor inner plan tt tt refl tt))

@@ -37,7 +37,8 @@ use Rattle.session_client.proofs.WantCases.{given-granted, none-uncommitted}
 use Rattle.core_history.specs.Events.{Event, Stepped, steps_of, told_to, log_of, ended_of, has_committed}
 use Rattle.core_history.specs.Machine.{World, Said, terms_of, plan_at, shown, put_step}
 use Rattle.core_history.proofs.GoodEvents.{IsGoodStep, IsGoodEvent, WritesOwn}
-use Rattle.core_history.proofs.EventLemmas.{closed, closed-more, closed-over, ended-among, committed-told, uncommitted-more, late-stepped, counted-mild, IsKnown}
+use Rattle.core_history.proofs.EventLemmas.{closed, closed-more, closed-over, ended-among, committed-told, uncommitted-more, late-stepped}
+use Rattle.core_history.proofs.EventLemmas.{counted-mild, IsKnown}
 use Rattle.core_history.proofs.SessionLemmas.{ReturnsGrant, LeavesOpen, leaves-quiet, leaves-ended, stood-returned, IsNumber}
 use Rattle.core_history.proofs.WriterLemmas.{writer-released}
 use Rattle.core_history.proofs.PlannedLemmas.{GrantsPlanned}
@@ -62,10 +63,12 @@ released_event shape world who request grant s =
 
 abbrev Becomes : Shape → World → Sid → Wanted → Permit → Step → Type 0
 Becomes shape world who request grant s =
-    Inner shape (with_event world (released_event shape world who request grant s)) × IsGoodEvent shape world.past (released_event shape world who request grant s)
+    Inner shape (with_event world (released_event shape world who request grant s))
+    × IsGoodEvent shape world.past (released_event shape world who request grant s)
 
 -- a release that grants nothing, and leaves what stands for sessions that aren't closed
-returned-inner : (shape : Shape) (world : World) (who : Sid) (plan : Plan) (request : Wanted) (one : Given) (s : Step) (told : Rel) → Inner shape world → IsWriter shape world who.number plan
+returned-inner : (shape : Shape) (world : World) (who : Sid) (plan : Plan) (request : Wanted) (one : Given) (s : Step) (told : Rel)
+    → Inner shape world → IsWriter shape world who.number plan
     → IsDueNext shape world who.number request one → Answers (terms_of shape (shard_of one.permit.key shape.shards)) (steps_for shape world one.permit) s
     → IsKnown (Stepped (shard_of one.permit.key shape.shards) who request s (reply.Rel told) ∷ world.past) s → GrantsPlanned world.plans s
     → ((key : QKey) (by : Sid) → quarantines key by s ≡ false) → LeavesOpen shape world.past (shard_of one.permit.key shape.shards) s
@@ -78,25 +81,34 @@ returned-inner shape world who plan request one s told inner w due answers known
     let event = Stepped home who request s (reply.Rel told) in
     let at = given-granted heard (released heard) one due.at in
     let mine = (w.writer.fits (released heard) grant at).own in
-    stepped-inner shape world home who request s (reply.Rel told) inner answers known planned refl (counted-mild shape.shards home who request s (reply.Rel told) none refl)
-    (λ n other g own. stood-returned shape home who request s (reply.Rel told) past grant due.returns leaves n g (λ same. other (sym mine ∙ ap (λ (p : Permit). p.sid.number) same ∙ own)))
-    (w.stays event (reply.Rel told) (writer-released shape past home who request s told grant heard (writing_of plan) due.returns (draws-late shape past home s answers) at due.shut w.writer))
+    stepped-inner shape world home who request s (reply.Rel told) inner answers known planned refl
+    (counted-mild shape.shards home who request s (reply.Rel told) none refl)
+    (λ n other g own. stood-returned shape home who request s (reply.Rel told) past grant due.returns leaves n g
+    (λ same. other (sym mine ∙ ap (λ (p : Permit). p.sid.number) same ∙ own)))
+    (w.stays event (reply.Rel told)
+    (writer-released shape past home who request s told grant heard (writing_of plan) due.returns (draws-late shape past home s answers) at due.shut w.writer))
 
 -- the quarantine is gone
-gone-turn : (shape : Shape) (world : World) (who : Sid) (plan : Plan) (request : Wanted) (one : Given) → Inner shape world → IsWriter shape world who.number plan
+gone-turn : (shape : Shape) (world : World) (who : Sid) (plan : Plan) (request : Wanted) (one : Given)
+    → Inner shape world → IsWriter shape world who.number plan
     → IsDueNext shape world who.number request one
-    → Answers (terms_of shape (shard_of one.permit.key shape.shards)) (steps_for shape world one.permit) (step.Gone one.permit.key one.permit.sid one.permit.token)
+    → Answers (terms_of shape (shard_of one.permit.key shape.shards))
+    (steps_for shape world one.permit) (step.Gone one.permit.key one.permit.sid one.permit.token)
     → Becomes shape world who request one.permit (step.Gone one.permit.key one.permit.sid one.permit.token)
 gone-turn shape world who plan request one inner w due answers =
     let s = step.Gone one.permit.key one.permit.sid one.permit.token in (
-      returned-inner shape world who plan request one s rel.Gone inner w due answers tt tt (λ k v. refl) (leaves-quiet shape world.past (shard_of one.permit.key shape.shards) s tt),
+      returned-inner shape world who plan request one s rel.Gone inner w due answers tt tt
+          (λ k v. refl) (leaves-quiet shape world.past (shard_of one.permit.key shape.shards) s tt),
       record { home = refl; good = tt; own = tt; no_commit = refl; no_end = refl },
     )
 
 -- the quarantine ends
-ended-turn : (shape : Shape) (world : World) (who : Sid) (plan : Plan) (request : Wanted) (one : Given) (quar : Quar) (how : Ended) → Inner shape world → IsWriter shape world who.number plan
-    → IsDueNext shape world who.number request one → quar_of one.permit.key one.permit.token (steps_for shape world one.permit) ≡ Some quar → quar.sid.number ≡ who.number
-    → Answers (terms_of shape (shard_of one.permit.key shape.shards)) (steps_for shape world one.permit) (step.Released one.permit.key quar.sid one.permit.token how)
+ended-turn : (shape : Shape) (world : World) (who : Sid) (plan : Plan) (request : Wanted) (one : Given) (quar : Quar) (how : Ended)
+    → Inner shape world → IsWriter shape world who.number plan
+    → IsDueNext shape world who.number request one → quar_of one.permit.key one.permit.token (steps_for shape world one.permit) ≡ Some quar
+    → quar.sid.number ≡ who.number
+    → Answers (terms_of shape (shard_of one.permit.key shape.shards))
+    (steps_for shape world one.permit) (step.Released one.permit.key quar.sid one.permit.token how)
     → (how ≡ ended.Keep → has_committed who.number world.past ≡ false)
     → IsGoodStep world.past (steps_for shape world one.permit) who (step.Released one.permit.key quar.sid one.permit.token how)
     → Becomes shape world who request one.permit (step.Released one.permit.key quar.sid one.permit.token how)
@@ -114,14 +126,19 @@ ended-turn shape world who plan request one quar how inner w due found mine answ
     let C : ℕ → Type 0 = λ n. (closed n (event ∷ past) ≡ true) × (how ≡ ended.Keep → has_committed n (event ∷ past) ≡ false) in
     let shut : closed quar.sid.number past ≡ true = subst (λ n. closed n past ≡ true) (sym mine) due.shut in (
       returned-inner shape world who plan request one s (rel.Released (evicted_by how)) inner w due answers
-          (subst C (sym mine) (closed-more who.number event past due.shut, λ k. uncommitted-more who.number event past (late-stepped home who request s told past refl who.number due.shut) (kept k)))
+          (subst C (sym mine) (
+            closed-more who.number event past due.shut,
+            λ k. uncommitted-more who.number event past (late-stepped home who request s told past refl who.number due.shut) (kept k),
+          ))
           tt (λ k v. refl) (leaves-ended shape past home key quar.sid token how quar (distinct terms steps key well) found shut),
       record { home = refl; good = good; own = λ by stands. sym (own_token terms steps key by token quar well stands found); no_commit = refl; no_end = refl },
     )
 
 -- the grant that is due next, where its quarantine stands, and that it was granted
-due-mine : (shape : Shape) (world : World) (who : Sid) (plan : Plan) (request : Wanted) (one : Given) (quar : Quar) → Inner shape world → IsWriter shape world who.number plan
-    → IsDueNext shape world who.number request one → quar_of one.permit.key one.permit.token (steps_for shape world one.permit) ≡ Some quar → IsMine who.number plan one.permit quar
+due-mine : (shape : Shape) (world : World) (who : Sid) (plan : Plan) (request : Wanted) (one : Given) (quar : Quar)
+    → Inner shape world → IsWriter shape world who.number plan
+    → IsDueNext shape world who.number request one → quar_of one.permit.key one.permit.token (steps_for shape world one.permit) ≡ Some quar
+    → IsMine who.number plan one.permit quar
 due-mine shape world who plan request one quar inner w due found =
     let heard = told_to who.number world.past in
     stands-mine shape world who plan (released heard) one.permit quar inner w (given-granted heard (released heard) one due.at) (omega arith) found
@@ -133,7 +150,8 @@ due-was shape world who plan request one w due =
     (w.writer.stood (released heard) one.permit (given-granted heard (released heard) one due.at) (omega arith)).was
 
 -- a release that keeps, drops or shifts the value
-release-turn : (shape : Shape) (world : World) (who : Sid) (plan : Plan) (request : Wanted) (one : Given) (how : How) → Inner shape world → IsWriter shape world who.number plan
+release-turn : (shape : Shape) (world : World) (who : Sid) (plan : Plan) (request : Wanted) (one : Given) (how : How)
+    → Inner shape world → IsWriter shape world who.number plan
     → IsDueNext shape world who.number request one → FitsMode one.permit.mode how
     → ((quar : Quar) → ended_as quar how ≡ ended.Keep → has_committed who.number world.past ≡ false)
     → ((quar : Quar) → quar_of one.permit.key one.permit.token (steps_for shape world one.permit) ≡ Some quar → IsMine who.number plan one.permit quar
@@ -145,11 +163,21 @@ release-turn shape world who plan request one how inner w due fits kept good =
     let m = due-mine shape world who plan request one quar inner w due found in
     let M : Mode → Type 0 = λ mode. FitsMode mode how in
     ended-turn shape world who plan request one quar (ended_as quar how) inner w due found m.own
-    (record { request = Release grant how; at_home = refl; owed = subst (OwesRelease steps grant how) (sym found) (m.of, subst M (sym m.of.mode) fits); answer = is })
+    (record {
+      request = Release grant how;
+      at_home = refl;
+      owed = subst (OwesRelease steps grant how) (sym found) (m.of, subst M (sym m.of.mode) fits);
+      answer = is;
+    })
     (kept quar) (good quar found m))
     (λ none is.
     gone-turn shape world who plan request one inner w due
-    (record { request = Release grant how; at_home = refl; owed = subst (OwesRelease steps grant how) (sym none) (due-was shape world who plan request one w due); answer = is }))
+    (record {
+      request = Release grant how;
+      at_home = refl;
+      owed = subst (OwesRelease steps grant how) (sym none) (due-was shape world who plan request one w due);
+      answer = is;
+    }))
     refl
   where
     grant : Permit
@@ -162,11 +190,15 @@ release-turn shape world who plan request one how inner w due fits kept good =
     P s = s ≡ release_step steps grant how → Becomes shape world who request grant s
 
 -- a release with a new value
-replace-turn : (shape : Shape) (world : World) (who : Sid) (plan : Plan) (request : Wanted) (one : Given) (value : List ℕ) (stamp : ℕ) → Inner shape world → IsWriter shape world who.number plan
+replace-turn : (shape : Shape) (world : World) (who : Sid) (plan : Plan) (request : Wanted) (one : Given) (value : List ℕ) (stamp : ℕ)
+    → Inner shape world → IsWriter shape world who.number plan
     → IsDueNext shape world who.number request one → one.permit.mode ≡ Refresh
     → ((quar : Quar) → quar_of one.permit.key one.permit.token (steps_for shape world one.permit) ≡ Some quar → IsMine who.number plan one.permit quar
-    → IsGoodStep world.past (steps_for shape world one.permit) who (step.Released one.permit.key quar.sid one.permit.token (ended.Put value stamp (evicts (terms_of shape (shard_of one.permit.key shape.shards)) one.permit.key (steps_for shape world one.permit)))))
-    → Becomes shape world who request one.permit (replace_step (terms_of shape (shard_of one.permit.key shape.shards)) (steps_for shape world one.permit) one.permit value stamp)
+    → IsGoodStep world.past (steps_for shape world one.permit) who
+    (step.Released one.permit.key quar.sid one.permit.token
+    (ended.Put value stamp (evicts (terms_of shape (shard_of one.permit.key shape.shards)) one.permit.key (steps_for shape world one.permit)))))
+    → Becomes shape world who request one.permit
+    (replace_step (terms_of shape (shard_of one.permit.key shape.shards)) (steps_for shape world one.permit) one.permit value stamp)
 replace-turn shape world who plan request one value stamp inner w due fits good =
     replace_cases P terms steps grant value stamp
     (λ quar found is.
@@ -176,7 +208,12 @@ replace-turn shape world who plan request one value stamp inner w due fits good 
     (λ e. cc) (good quar found m))
     (λ none is.
     gone-turn shape world who plan request one inner w due
-    (record { request = Replace grant value stamp; at_home = refl; owed = subst (OwesReplace steps grant) (sym none) (due-was shape world who plan request one w due); answer = is }))
+    (record {
+      request = Replace grant value stamp;
+      at_home = refl;
+      owed = subst (OwesReplace steps grant) (sym none) (due-was shape world who plan request one w due);
+      answer = is;
+    }))
     refl
   where
     grant : Permit
@@ -192,16 +229,20 @@ replace-turn shape world who plan request one value stamp inner w due fits good 
     P s = s ≡ replace_step terms steps grant value stamp → Becomes shape world who request grant s
 
 -- the value is kept by a session that hasn't committed
-pub abort-turn : (shape : Shape) (world : World) (who : Sid) (said : Said) (plan : Plan) (one : Given) → Inner shape world → IsWriter shape world who.number plan
-    → IsDueNext shape world who.number (wanted.Abort one.permit) one → number_of (told_to who.number world.past) ≡ None → After shape world who said (wanted.Abort one.permit)
+pub abort-turn : (shape : Shape) (world : World) (who : Sid) (said : Said) (plan : Plan) (one : Given)
+    → Inner shape world → IsWriter shape world who.number plan
+    → IsDueNext shape world who.number (wanted.Abort one.permit) one
+    → number_of (told_to who.number world.past) ≡ None → After shape world who said (wanted.Abort one.permit)
 abort-turn shape world who said plan one inner w due none =
     let never : has_committed who.number world.past ≡ false = committed-told who.number world.past ∙ none-uncommitted (told_to who.number world.past) none in
     release-turn shape world who plan (wanted.Abort one.permit) one hows.Keep inner w due tt (λ quar e. never)
     (λ quar found m. subst (λ n. IsAmong n (ended_of world.past)) (sym m.own) (ended-among who.number world.past due.shut never))
 
 -- the value is dropped, whatever the session asked for
-dropped-turn : (shape : Shape) (world : World) (who : Sid) (plan : Plan) (request : Wanted) (one : Given) → Inner shape world → IsWriter shape world who.number plan
-    → IsDueNext shape world who.number request one → Becomes shape world who request one.permit (release_step (steps_for shape world one.permit) one.permit hows.Drop)
+dropped-turn : (shape : Shape) (world : World) (who : Sid) (plan : Plan) (request : Wanted) (one : Given)
+    → Inner shape world → IsWriter shape world who.number plan
+    → IsDueNext shape world who.number request one
+    → Becomes shape world who request one.permit (release_step (steps_for shape world one.permit) one.permit hows.Drop)
 dropped-turn shape world who plan request one inner w due =
     release-turn shape world who plan request one hows.Drop inner w due tt (λ quar e. cc)
     (λ quar found m. closed-over quar.sid.number world.past (subst (λ n. closed n world.past ≡ true) (sym m.own) due.shut))
@@ -221,15 +262,18 @@ delta-counts Delta key e = by (is_count key) refl
     by false is = let clash : Invalidate ≡ Delta = sym (ap (λ b. cond b Delta Invalidate) is) ∙ e in cc
 
 -- the session's commit is the one of its number, and has the changes of its plan
-own-changes : (shape : Shape) (world : World) (n number : ℕ) (plan : Plan) → Inner shape world → IsWriter shape world n plan → (own : IsNumber (log_of world.past) n number) → own.commit.txn ≡ changes_of plan
+own-changes : (shape : Shape) (world : World) (n number : ℕ) (plan : Plan)
+    → Inner shape world → IsWriter shape world n plan → (own : IsNumber (log_of world.past) n number) → own.commit.txn ≡ changes_of plan
 own-changes shape world n number plan inner w own =
     let logged = inner.logged own.place own.commit own.at in
     let one : logged.plan ≡ plan = some_plan (sym logged.at ∙ ap (λ m. plan_at m world.plans) own.own ∙ w.at) in
     logged.changes ∙ ap changes_of one
 
 -- so the session writes under its quarantine with that number
-writes-own : (shape : Shape) (world : World) (n number : ℕ) (plan : Plan) (grant : Permit) (quar : Quar) (mode : Mode) → quar_of grant.key grant.token (steps_for shape world grant) ≡ Some quar
-    → IsMine n plan grant quar → grant.mode ≡ mode → IsNumber (log_of world.past) n number → WritesOwn world.past (steps_for shape world grant) grant.key quar.sid grant.token mode number
+writes-own : (shape : Shape) (world : World) (n number : ℕ) (plan : Plan) (grant : Permit) (quar : Quar) (mode : Mode)
+    → quar_of grant.key grant.token (steps_for shape world grant) ≡ Some quar
+    → IsMine n plan grant quar → grant.mode ≡ mode → IsNumber (log_of world.past) n number
+    → WritesOwn world.past (steps_for shape world grant) grant.key quar.sid grant.token mode number
 writes-own shape world n number plan grant quar mode found m in_mode own = record {
   quar = quar;
   stands = found;
@@ -243,7 +287,8 @@ writes-own shape world n number plan grant quar mode found m in_mode own = recor
 }
 
 -- the value is shifted by what the session's commit adds to it
-pub apply-turn : (shape : Shape) (world : World) (who : Sid) (said : Said) (plan : Plan) (one : Given) (number : ℕ) → Inner shape world → IsWriter shape world who.number plan
+pub apply-turn : (shape : Shape) (world : World) (who : Sid) (said : Said) (plan : Plan) (one : Given) (number : ℕ)
+    → Inner shape world → IsWriter shape world who.number plan
     → IsDueNext shape world who.number (wanted.Apply one.permit number) one → number_of (told_to who.number world.past) ≡ Some number → one.permit.mode ≡ Delta
     → After shape world who said (wanted.Apply one.permit number)
 unfolding writes-own
@@ -254,7 +299,8 @@ apply-turn shape world who said plan one number inner w due told delta =
     (λ quar found m. record {
       writes = writes-own shape world who.number number plan grant quar Delta found m delta own;
       counts = delta-counts (mode_of plan) grant.key (sym m.in_mode ∙ delta);
-      by_is = m.by ∙ ap (λ mode. shift_in mode grant.key (changes_of plan)) delta ∙ ap (λ txn. shift_in Delta grant.key txn) (sym (own-changes shape world who.number number plan inner w own));
+      by_is = m.by ∙ ap (λ mode. shift_in mode grant.key (changes_of plan)) delta
+          ∙ ap (λ txn. shift_in Delta grant.key txn) (sym (own-changes shape world who.number number plan inner w own));
     })
 
 -- a new value is the old one refreshed
@@ -264,7 +310,8 @@ new-is key txn None value e = cc
 new-is key txn (Some old) value e = (old, refl, e)
 
 -- the new value is put, or the old one dropped where there is no new one
-pub sar-turn : (shape : Shape) (world : World) (who : Sid) (said : Said) (plan : Plan) (one : Given) (number : ℕ) → Inner shape world → IsWriter shape world who.number plan
+pub sar-turn : (shape : Shape) (world : World) (who : Sid) (said : Said) (plan : Plan) (one : Given) (number : ℕ)
+    → Inner shape world → IsWriter shape world who.number plan
     → IsDueNext shape world who.number (wanted.Sar one.permit (new_value one.permit.key (changes_of plan) one.old) number) one
     → number_of (told_to who.number world.past) ≡ Some number → one.permit.mode ≡ Refresh
     → After shape world who said (wanted.Sar one.permit (new_value one.permit.key (changes_of plan) one.old) number)

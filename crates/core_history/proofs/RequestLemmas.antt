@@ -58,7 +58,8 @@ tells_set terms past (step.Refused key sid mode holder held) answer h = absurd h
 tells_set terms past (step.Released key sid token how) answer h = absurd h
 tells_set terms past (step.Gone key sid token) answer h = absurd h
 
-tells_quarantine : (terms : Terms) (past : List Step) (s : Step) (answer : QAnswer) → ShowsQuarantine terms past s answer → reply.Quar answer ≡ shown terms past s
+tells_quarantine : (terms : Terms) (past : List Step) (s : Step) (answer : QAnswer)
+    → ShowsQuarantine terms past s answer → reply.Quar answer ≡ shown terms past s
 tells_quarantine terms past (step.Hit key sid floor value stamp) answer h = absurd h
 tells_quarantine terms past (step.Lease key sid floor now token deadline) answer h = absurd h
 tells_quarantine terms past (step.Again key sid floor now standing) answer h = absurd h
@@ -85,76 +86,116 @@ tells_release terms past (step.Released key sid token how) answer h = ap reply.R
 tells_release terms past (step.Gone key sid token) answer h = ap reply.Rel h
 
 -- what follows a shard's own past is what follows the steps on it
-shown_is : (shape : Shape) (past : List Event) (key : QKey) (place : ℕ) (shard : ShardView) (g : Terms → List Step → Reply) → IsShardOf shape past key place shard → g shard.terms (past_of shard) ≡ g (terms_of shape (shard_of key shape.shards)) (steps_of (shard_of key shape.shards) past)
+shown_is : (shape : Shape) (past : List Event) (key : QKey) (place : ℕ) (shard : ShardView) (g : Terms → List Step → Reply)
+    → IsShardOf shape past key place shard
+    → g shard.terms (past_of shard) ≡ g (terms_of shape (shard_of key shape.shards)) (steps_of (shard_of key shape.shards) past)
 shown_is shape past key place shard g is =
-    ap (λ (v : ShardView). g v.terms (past_of v)) is.same ∙ ap (λ (steps : List Step). g (terms_of shape (shard_of key shape.shards)) steps) (reverse-reverse (steps_of (shard_of key shape.shards) past))
+    ap (λ (v : ShardView). g v.terms (past_of v)) is.same
+    ∙ ap (λ (steps : List Step). g (terms_of shape (shard_of key shape.shards)) steps) (reverse-reverse (steps_of (shard_of key shape.shards) past))
 
 -- the shard of the key made the step, and told what it shows
-step_made : (shape : Shape) (world : World) (who : Sid) (request : Wanted) (key : QKey) (f : Terms → List Step → Step) (shards : List ShardView) (place : ℕ) (shard new : ShardView) (told : Reply) →
-    event_of shape world who request Failed ≡ stepped_on shape world.past who request key f → HasShards shards shape world.past → IsShardOf shape world.past key place shard →
-    new ≡ grown shard request (f shard.terms (past_of shard)) → told ≡ shown shard.terms (past_of shard) (f shard.terms (past_of shard)) → MakesStep shape world who request (set shards place new) (Ok told)
+step_made : (shape : Shape) (world : World) (who : Sid) (request : Wanted)
+    (key : QKey) (f : Terms → List Step → Step) (shards : List ShardView) (place : ℕ) (shard new : ShardView) (told : Reply) →
+    event_of shape world who request Failed ≡ stepped_on shape world.past who request key f
+    → HasShards shards shape world.past → IsShardOf shape world.past key place shard →
+    new ≡ grown shard request (f shard.terms (past_of shard)) → told ≡ shown shard.terms (past_of shard) (f shard.terms (past_of shard))
+    → MakesStep shape world who request (set shards place new) (Ok told)
 step_made shape world who request key f shards place shard new told event has is grew tells =
     let g : Terms → List Step → Reply = λ terms steps. shown terms steps (f terms steps) in
-    let P : Event → Type 0 = λ e. HasShards (set shards place new) shape (e ∷ world.past) in
-    (tells ∙ shown_is shape world.past key place shard g is ∙ ap reply_in (sym event), subst P (sym event) (shards_made shape world.past who request key f shards place shard new has is grew))
+    let P : Event → Type 0 = λ e. HasShards (set shards place new) shape (e ∷ world.past) in (
+      tells ∙ shown_is shape world.past key place shard g is
+          ∙ ap reply_in (sym event),
+      subst P (sym event) (shards_made shape world.past who request key f shards place shard new has is grew),
+    )
 
-pub got_made : (shape : Shape) (world : World) (who : Sid) (key : QKey) (floor now : ℕ) (shards : List ShardView) (place : ℕ) (shard new : ShardView) (answer : Got) → now ≡ now_of world.past → HasShards shards shape world.past → IsShardOf shape world.past key place shard →
-    new ≡ stepped shard (get_step shard.terms (past_of shard) key who floor now) → ShowsGot (get_step shard.terms (past_of shard) key who floor now) answer → MakesStep shape world who (wanted.Get key floor) (set shards place new) (Ok (reply.Got answer))
+pub got_made : (shape : Shape) (world : World) (who : Sid) (key : QKey) (floor now : ℕ) (shards : List ShardView)
+    (place : ℕ) (shard new : ShardView) (answer : Got) → now ≡ now_of world.past
+    → HasShards shards shape world.past → IsShardOf shape world.past key place shard →
+    new ≡ stepped shard (get_step shard.terms (past_of shard) key who floor now) → ShowsGot (get_step shard.terms (past_of shard) key who floor now) answer
+    → MakesStep shape world who (wanted.Get key floor) (set shards place new) (Ok (reply.Got answer))
 got_made shape world who key floor now shards place shard new answer time has is grew shows =
     let f : ℕ → Terms → List Step → Step = λ n terms steps. get_step terms steps key who floor n in
-    step_made shape world who (wanted.Get key floor) key (f now) shards place shard new (reply.Got answer) (ap (λ (n : ℕ). stepped_on shape world.past who (wanted.Get key floor) key (f n)) (sym time)) has is grew
+    step_made shape world who (wanted.Get key floor) key (f now) shards place shard new
+    (reply.Got answer) (ap (λ (n : ℕ). stepped_on shape world.past who (wanted.Get key floor) key (f n)) (sym time)) has is grew
     (tells_got shard.terms (past_of shard) _ answer shows)
 
-pub set_made : (shape : Shape) (world : World) (who : Sid) (key : QKey) (token : ℕ) (value : List ℕ) (stamp now : ℕ) (shards : List ShardView) (place : ℕ) (shard new : ShardView) (answer : SetAnswer) → now ≡ now_of world.past → HasShards shards shape world.past → IsShardOf shape world.past key place shard →
-    new ≡ stepped shard (set_step shard.terms (past_of shard) key token value stamp now) → ShowsSet (set_step shard.terms (past_of shard) key token value stamp now) answer → MakesStep shape world who (wanted.Set key token value stamp) (set shards place new) (Ok (reply.Set answer))
+pub set_made : (shape : Shape) (world : World) (who : Sid) (key : QKey) (token : ℕ) (value : List ℕ) (stamp now : ℕ) (shards : List ShardView) (place : ℕ)
+    (shard new : ShardView) (answer : SetAnswer) → now ≡ now_of world.past → HasShards shards shape world.past → IsShardOf shape world.past key place shard →
+    new ≡ stepped shard (set_step shard.terms (past_of shard) key token value stamp now)
+    → ShowsSet (set_step shard.terms (past_of shard) key token value stamp now) answer
+    → MakesStep shape world who (wanted.Set key token value stamp) (set shards place new) (Ok (reply.Set answer))
 set_made shape world who key token value stamp now shards place shard new answer time has is grew shows =
     let f : ℕ → Terms → List Step → Step = λ n terms steps. set_step terms steps key token value stamp n in
-    step_made shape world who (wanted.Set key token value stamp) key (f now) shards place shard new (reply.Set answer) (ap (λ (n : ℕ). stepped_on shape world.past who (wanted.Set key token value stamp) key (f n)) (sym time)) has is grew
+    step_made shape world who (wanted.Set key token value stamp) key (f now) shards place shard new
+    (reply.Set answer) (ap (λ (n : ℕ). stepped_on shape world.past who (wanted.Set key token value stamp) key (f n)) (sym time)) has is grew
     (tells_set shard.terms (past_of shard) _ answer shows)
 
 -- a quarantine is the event of its mode, and its grant is out afterwards
-quarantine_in : (shape : Shape) (world : World) (who : Sid) (key : QKey) (mode : Mode) (by : ℤ) (now : ℕ) (shards : List ShardView) (place : ℕ) (shard new : ShardView) (told : Reply) → FitsShift mode by → now ≡ now_of world.past → HasShards shards shape world.past → IsShardOf shape world.past key place shard →
-    new ≡ stepped shard (quarantine_step shard.terms (past_of shard) key who mode by now) → told ≡ shown shard.terms (past_of shard) (quarantine_step shard.terms (past_of shard) key who mode by now) → MakesStep shape world who (quarantined_as mode key by) (set shards place new) (Ok told)
+quarantine_in : (shape : Shape) (world : World) (who : Sid) (key : QKey) (mode : Mode) (by : ℤ) (now : ℕ) (shards : List ShardView) (place : ℕ)
+    (shard new : ShardView) (told : Reply) → FitsShift mode by → now ≡ now_of world.past
+    → HasShards shards shape world.past → IsShardOf shape world.past key place shard →
+    new ≡ stepped shard (quarantine_step shard.terms (past_of shard) key who mode by now)
+    → told ≡ shown shard.terms (past_of shard) (quarantine_step shard.terms (past_of shard) key who mode by now)
+    → MakesStep shape world who (quarantined_as mode key by) (set shards place new) (Ok told)
 quarantine_in shape world who key Invalidate by now shards place shard new told fits time has is grew tells =
     let f : ℤ → ℕ → Terms → List Step → Step = λ z n terms steps. quarantine_step terms steps key who Invalidate z n in
     let E : ℤ → ℕ → Event = λ z n. stepped_on shape world.past who (wanted.QaReg key) key (f z n) in
-    step_made shape world who (wanted.QaReg key) key (f by now) shards place shard new told (ap (λ (n : ℕ). E (pos 0) n) (sym time) ∙ ap (λ (z : ℤ). E z now) (sym fits)) has is grew tells
+    step_made shape world who (wanted.QaReg key) key (f by now) shards place shard new told (ap (λ (n : ℕ). E (pos 0) n) (sym time)
+    ∙ ap (λ (z : ℤ). E z now) (sym fits)) has is grew tells
 quarantine_in shape world who key Refresh by now shards place shard new told fits time has is grew tells =
     let f : ℤ → ℕ → Terms → List Step → Step = λ z n terms steps. quarantine_step terms steps key who Refresh z n in
     let E : ℤ → ℕ → Event = λ z n. stepped_on shape world.past who (wanted.QaRead key) key (f z n) in
-    step_made shape world who (wanted.QaRead key) key (f by now) shards place shard new told (ap (λ (n : ℕ). E (pos 0) n) (sym time) ∙ ap (λ (z : ℤ). E z now) (sym fits)) has is grew tells
+    step_made shape world who (wanted.QaRead key) key (f by now) shards place shard new told (ap (λ (n : ℕ). E (pos 0) n) (sym time)
+    ∙ ap (λ (z : ℤ). E z now) (sym fits)) has is grew tells
 quarantine_in shape world who key Delta by now shards place shard new told fits time has is grew tells =
     let f : ℕ → Terms → List Step → Step = λ n terms steps. quarantine_step terms steps key who Delta by n in
-    step_made shape world who (wanted.Delta key by) key (f now) shards place shard new told (ap (λ (n : ℕ). stepped_on shape world.past who (wanted.Delta key by) key (f n)) (sym time)) has is grew tells
+    step_made shape world who (wanted.Delta key by) key (f now) shards place shard new told
+    (ap (λ (n : ℕ). stepped_on shape world.past who (wanted.Delta key by) key (f n)) (sym time)) has is grew tells
 
-pub quarantine_made : (shape : Shape) (world : World) (who : Sid) (key : QKey) (mode : Mode) (by : ℤ) (now : ℕ) (shards : List ShardView) (place : ℕ) (shard new : ShardView) (answer : QAnswer) → FitsShift mode by → now ≡ now_of world.past → HasShards shards shape world.past → IsShardOf shape world.past key place shard →
-    new ≡ stepped shard (quarantine_step shard.terms (past_of shard) key who mode by now) → ShowsQuarantine shard.terms (past_of shard) (quarantine_step shard.terms (past_of shard) key who mode by now) answer → MakesStep shape world who (quarantined_as mode key by) (set shards place new) (Ok (reply.Quar answer))
+pub quarantine_made : (shape : Shape) (world : World) (who : Sid) (key : QKey) (mode : Mode) (by : ℤ) (now : ℕ) (shards : List ShardView) (place : ℕ)
+    (shard new : ShardView) (answer : QAnswer) → FitsShift mode by
+    → now ≡ now_of world.past → HasShards shards shape world.past → IsShardOf shape world.past key place shard →
+    new ≡ stepped shard (quarantine_step shard.terms (past_of shard) key who mode by now)
+    → ShowsQuarantine shard.terms (past_of shard) (quarantine_step shard.terms (past_of shard) key who mode by now) answer
+    → MakesStep shape world who (quarantined_as mode key by) (set shards place new) (Ok (reply.Quar answer))
 quarantine_made shape world who key mode by now shards place shard new answer fits time has is grew shows =
-    quarantine_in shape world who key mode by now shards place shard new (reply.Quar answer) fits time has is grew (tells_quarantine shard.terms (past_of shard) _ answer shows)
+    quarantine_in shape world who key mode by now shards place shard new
+    (reply.Quar answer) fits time has is grew (tells_quarantine shard.terms (past_of shard) _ answer shows)
 
 -- a release is the event of how it is made, and its grant is out no more
-release_in : (shape : Shape) (world : World) (who : Sid) (grant : Permit) (way : How) (shards : List ShardView) (place : ℕ) (shard new : ShardView) (told : Reply) → HasShards shards shape world.past → IsShardOf shape world.past grant.key place shard →
-    new ≡ returned shard grant (release_step (past_of shard) grant way) → told ≡ shown shard.terms (past_of shard) (release_step (past_of shard) grant way) → MakesStep shape world who (released_as grant way) (set shards place new) (Ok told)
+release_in : (shape : Shape) (world : World) (who : Sid) (grant : Permit) (way : How) (shards : List ShardView)
+    (place : ℕ) (shard new : ShardView) (told : Reply) → HasShards shards shape world.past → IsShardOf shape world.past grant.key place shard →
+    new ≡ returned shard grant (release_step (past_of shard) grant way) → told ≡ shown shard.terms (past_of shard) (release_step (past_of shard) grant way)
+    → MakesStep shape world who (released_as grant way) (set shards place new) (Ok told)
 release_in shape world who grant how.Keep shards place shard new told has is grew tells =
-    step_made shape world who (wanted.Abort grant) grant.key (λ terms steps. release_step steps grant how.Keep) shards place shard new told refl has is grew tells
+    step_made shape world who (wanted.Abort grant) grant.key
+    (λ terms steps. release_step steps grant how.Keep) shards place shard new told refl has is grew tells
 release_in shape world who grant how.Drop shards place shard new told has is grew tells =
     step_made shape world who (wanted.Dar grant) grant.key (λ terms steps. release_step steps grant how.Drop) shards place shard new told refl has is grew tells
 release_in shape world who grant (how.Shift stamp) shards place shard new told has is grew tells =
-    step_made shape world who (wanted.Apply grant stamp) grant.key (λ terms steps. release_step steps grant (how.Shift stamp)) shards place shard new told refl has is grew tells
+    step_made shape world who (wanted.Apply grant stamp) grant.key
+    (λ terms steps. release_step steps grant (how.Shift stamp)) shards place shard new told refl has is grew tells
 
-pub release_made : (shape : Shape) (world : World) (who : Sid) (grant : Permit) (way : How) (shards : List ShardView) (place : ℕ) (shard new : ShardView) (answer : Rel) → HasShards shards shape world.past → IsShardOf shape world.past grant.key place shard →
-    new ≡ returned shard grant (release_step (past_of shard) grant way) → ShowsRelease (release_step (past_of shard) grant way) answer → MakesStep shape world who (released_as grant way) (set shards place new) (Ok (reply.Rel answer))
+pub release_made : (shape : Shape) (world : World) (who : Sid) (grant : Permit) (way : How) (shards : List ShardView)
+    (place : ℕ) (shard new : ShardView) (answer : Rel) → HasShards shards shape world.past → IsShardOf shape world.past grant.key place shard →
+    new ≡ returned shard grant (release_step (past_of shard) grant way) → ShowsRelease (release_step (past_of shard) grant way) answer
+    → MakesStep shape world who (released_as grant way) (set shards place new) (Ok (reply.Rel answer))
 release_made shape world who grant way shards place shard new answer has is grew shows =
     release_in shape world who grant way shards place shard new (reply.Rel answer) has is grew (tells_release shard.terms (past_of shard) _ answer shows)
 
-pub sar_made : (shape : Shape) (world : World) (who : Sid) (grant : Permit) (value : Option (List ℕ)) (stamp : ℕ) (shards : List ShardView) (place : ℕ) (shard new : ShardView) (answer : Rel) → HasShards shards shape world.past → IsShardOf shape world.past grant.key place shard →
-    new ≡ returned shard grant (put_step shard.terms (past_of shard) grant value stamp) → ShowsRelease (put_step shard.terms (past_of shard) grant value stamp) answer → MakesStep shape world who (wanted.Sar grant value stamp) (set shards place new) (Ok (reply.Rel answer))
+pub sar_made : (shape : Shape) (world : World) (who : Sid) (grant : Permit) (value : Option (List ℕ)) (stamp : ℕ) (shards : List ShardView)
+    (place : ℕ) (shard new : ShardView) (answer : Rel) → HasShards shards shape world.past → IsShardOf shape world.past grant.key place shard →
+    new ≡ returned shard grant (put_step shard.terms (past_of shard) grant value stamp)
+    → ShowsRelease (put_step shard.terms (past_of shard) grant value stamp) answer
+    → MakesStep shape world who (wanted.Sar grant value stamp) (set shards place new) (Ok (reply.Rel answer))
 sar_made shape world who grant value stamp shards place shard new answer has is grew shows =
-    step_made shape world who (wanted.Sar grant value stamp) grant.key (λ terms steps. put_step terms steps grant value stamp) shards place shard new (reply.Rel answer) refl has is grew
+    step_made shape world who (wanted.Sar grant value stamp) grant.key
+    (λ terms steps. put_step terms steps grant value stamp) shards place shard new (reply.Rel answer) refl has is grew
     (tells_release shard.terms (past_of shard) _ answer shows)
 
 -- and so it belongs to that request
-pub quarantine_belongs : (terms : Terms) (past : List Step) (key : QKey) (who : Sid) (mode : Mode) (by : ℤ) (now : ℕ) (answer : QAnswer) → ShowsQuarantine terms past (quarantine_step terms past key who mode by now) answer → Belongs who (quarantined_as mode key by) (reply.Quar answer)
+pub quarantine_belongs : (terms : Terms) (past : List Step) (key : QKey) (who : Sid) (mode : Mode) (by : ℤ) (now : ℕ) (answer : QAnswer)
+    → ShowsQuarantine terms past (quarantine_step terms past key who mode by now) answer → Belongs who (quarantined_as mode key by) (reply.Quar answer)
 quarantine_belongs terms past key who Invalidate by now answer shows = quarantine_answers terms past key who Invalidate by now answer shows
 quarantine_belongs terms past key who Refresh by now answer shows = quarantine_answers terms past key who Refresh by now answer shows
 quarantine_belongs terms past key who Delta by now answer shows = quarantine_answers terms past key who Delta by now answer shows

@@ -1,5 +1,6 @@
 -- Where the keeper's word is true, entries, answers and hits are right, and each good event keeps that.
-use Rattle.std.proofs.Common.{ℕ, ◌≡◌, ◌≤◌, Bool, true, false, cond, ◌==◌, ◌&&◌, ◌||◌, List, [], ◌∷◌, ◌++◌, length, length-append, Option, Some, None, option_map, decimal, ℤ, append-nil, refl, sym, ap, subst, ◌∙◌, inl, inr, ⊎_elim, arith}
+use Rattle.std.proofs.Common.{ℕ, ◌≡◌, ◌≤◌, Bool, true, false, cond, ◌==◌, ◌&&◌, ◌||◌, List, [], ◌∷◌, ◌++◌, length, length-append, Option}
+use Rattle.std.proofs.Common.{Some, None, option_map, decimal, ℤ, append-nil, refl, sym, ap, subst, ◌∙◌, inl, inr, ⊎_elim, arith}
 use Rattle.std.specs.List.{AllByRecursion, list_any}
 use Rattle.std.proofs.lemmas.Bool.{eqb-true, true≢false}
 use Rattle.rows_model.specs.declared.keys.QKey.{QKey}
@@ -58,11 +59,13 @@ pub record Rights (opening : Tables) (shape : Shape) (past : List Event) (log : 
   pub found : (key : QKey) (token : ℕ) (found : Found) → found_at key token past ≡ Some found → IsEntryRight (answer_after opening key) log found.entry
 
 module _ (opening : Tables) (log : List Commit) where
-  none_or_kept : (key : QKey) (b : Bool) (found : Option (List ℕ × ℕ)) → IsEntryRight (answer_after opening key) log found → IsEntryRight (answer_after opening key) log (cond b None found)
+  none_or_kept : (key : QKey) (b : Bool) (found : Option (List ℕ × ℕ))
+      → IsEntryRight (answer_after opening key) log found → IsEntryRight (answer_after opening key) log (cond b None found)
   none_or_kept key true found h = tt
   none_or_kept key false found h = h
 
-  stored_or_kept : (key on : QKey) (value : List ℕ) (stamp : ℕ) (b : Bool) (found : Option (List ℕ × ℕ)) → (b ≡ true → key ≡ on) → IsRight (answer_after opening on) log value stamp
+  stored_or_kept : (key on : QKey) (value : List ℕ) (stamp : ℕ) (b : Bool) (found : Option (List ℕ × ℕ))
+      → (b ≡ true → key ≡ on) → IsRight (answer_after opening on) log value stamp
       → IsEntryRight (answer_after opening key) log found → IsEntryRight (answer_after opening key) log (cond b (Some (value, stamp)) found)
   stored_or_kept key on value stamp true found same h k =
       subst (λ (q : QKey). IsRight (answer_after opening q) log value stamp) (sym (same refl)) h
@@ -115,7 +118,8 @@ told_right P answered (first ∷ answers) h (inr t) = told_right P answered answ
 told_right P answered [] h t = absurd t
 
 -- what a session writes under the quarantine that has the key for itself is right
-module _ (opening : Tables) (shape : Shape) (past : List Event) (holds : Holds shape past (known_of past)) (rights : Rights opening shape past (log_of past)) (true_log : IsTrueLog opening (log_of past)) where
+module _ (opening : Tables) (shape : Shape) (past : List Event)
+    (holds : Holds shape past (known_of past)) (rights : Rights opening shape past (log_of past)) (true_log : IsTrueLog opening (log_of past)) where
   put_right : (on : QKey) (sid : Sid) (token : ℕ) (value : List ℕ) (stamp : ℕ) → PutsNew past (steps_at shape past on) on sid token value stamp
       → IsRight (answer_after opening on) (log_of past) value stamp
   put_right on sid token value stamp good =
@@ -124,13 +128,18 @@ module _ (opening : Tables) (shape : Shape) (past : List Event) (holds : Holds s
       let it = writes_alone past steps on sid token Refresh stamp (λ e. cc) writes (holds.alone on) in
       let moment = it.alone in
       let same : moment.found ≡ good.found = some_same (sym moment.granted ∙ ap (λ t. found_at on t past) it.token_is ∙ good.at_grant) in
-      let held : IsHeld on moment.then_marks moment.then_known good.old.1 = subst (IsEntryHeld on moment.then_marks moment.then_known) (ap (λ (f : Found). f.entry) same ∙ good.found_is) moment.held in
-      let right : IsRight (answer_after opening on) (log_of past) good.old.0 good.old.1 = subst (IsEntryRight (answer_after opening on) (log_of past)) good.found_is (rights.found on token good.found good.at_grant) in
-      let then_right : IsRight (answer_after opening on) moment.then_known.log good.old.0 good.old.1 = right ∙ ap (answer_after opening on) (more-take moment.more good.old.1 held.within) in
+      let held : IsHeld on moment.then_marks moment.then_known good.old.1 =
+      subst (IsEntryHeld on moment.then_marks moment.then_known) (ap (λ (f : Found). f.entry) same ∙ good.found_is) moment.held in
+      let right : IsRight (answer_after opening on) (log_of past) good.old.0 good.old.1 =
+      subst (IsEntryRight (answer_after opening on) (log_of past)) good.found_is (rights.found on token good.found good.at_grant) in
+      let then_right : IsRight (answer_after opening on) moment.then_known.log good.old.0 good.old.1 =
+      right ∙ ap (answer_after opening on) (more-take moment.more good.old.1 held.within) in
       let R : ℕ → Type 0 = λ n. IsRight (answer_after opening on) (log_of past) value n in
       subst R (sym writes.stamp_is)
-      (put_is_right on it.quar.sid.number writes.place good.old.1 writes.commit moment.then_marks (marks_of on steps) moment.then_known (known_of past) (answer_after opening on) (λ txn old. refreshed on old txn) good.old.0 value
-      moment.moment held then_right moment.since moment.more (holds.ruled on) it.own (leaves_untouched opening (log_of past) true_log on) (makes_refreshed opening (log_of past) true_log on) good.new_is)
+      (put_is_right on it.quar.sid.number writes.place good.old.1 writes.commit moment.then_marks
+      (marks_of on steps) moment.then_known (known_of past) (answer_after opening on) (λ txn old. refreshed on old txn) good.old.0 value
+      moment.moment held then_right moment.since moment.more (holds.ruled on) it.own
+      (leaves_untouched opening (log_of past) true_log on) (makes_refreshed opening (log_of past) true_log on) good.new_is)
     where
       some_same : {X : Type 0} {a b : X} → Some a ≡ Some b → a ≡ b
       some_same e = cc
@@ -142,12 +151,15 @@ module _ (opening : Tables) (shape : Shape) (past : List Event) (holds : Holds s
       steps : List Step
       steps = steps_at shape past on
 
-      before : (old : List ℕ × ℕ) → (it : WritesAlone past on sid token good.writes.place good.writes.commit (marks_of on steps) (entry on steps) (standing on steps)) → entry on steps ≡ Some old
+      before : (old : List ℕ × ℕ)
+          → (it : WritesAlone past on sid token good.writes.place good.writes.commit (marks_of on steps) (entry on steps) (standing on steps))
+          → entry on steps ≡ Some old
           → old.1 ≤ length it.alone.then_known.log
       before old it is =
           ⊎_elim
           (λ same.
-          let held : IsHeld on it.alone.then_marks it.alone.then_known old.1 = subst (IsEntryHeld on it.alone.then_marks it.alone.then_known) (sym same ∙ is) it.alone.held in
+          let held : IsHeld on it.alone.then_marks it.alone.then_known old.1 =
+          subst (IsEntryHeld on it.alone.then_marks it.alone.then_known) (sym same ∙ is) it.alone.held in
           held.within)
           (λ none. absurd (some_none old (sym is ∙ none)))
           it.alone.same
@@ -161,11 +173,14 @@ module _ (opening : Tables) (shape : Shape) (past : List Event) (holds : Holds s
       moved old is (Some n) so =
           let writes = good.writes in
           let it = writes_alone past steps on sid token Delta stamp (λ e. cc) writes (holds.alone on) in
-          let made : option_map decimal (shifted old.0 (delta_of on writes.commit.txn)) ≡ Some (decimal n) = ap (λ d. option_map decimal (shifted old.0 d)) (sym good.by_is) ∙ ap (option_map decimal) so in
+          let made : option_map decimal (shifted old.0 (delta_of on writes.commit.txn)) ≡ Some (decimal n) =
+          ap (λ d. option_map decimal (shifted old.0 d)) (sym good.by_is) ∙ ap (option_map decimal) so in
           let R : ℕ → Type 0 = λ k. IsRight (answer_after opening on) (log_of past) (decimal n) k in
           subst R (sym writes.stamp_is)
-          (shift_is_right on it.quar.sid.number writes.place old.1 writes.commit it.alone.then_marks (marks_of on steps) it.alone.then_known (known_of past) (answer_after opening on) (λ txn value. option_map decimal (shifted value (delta_of on txn))) old.0 (decimal n)
-          it.alone.moment it.alone.since it.alone.more (holds.ruled on) (subst (IsEntryHeld on (marks_of on steps) (known_of past)) is (holds.held on)) (subst (IsEntryRight (answer_after opening on) (log_of past)) is (rights.entries on)) (before old it is)
+          (shift_is_right on it.quar.sid.number writes.place old.1 writes.commit it.alone.then_marks (marks_of on steps) it.alone.then_known
+          (known_of past) (answer_after opening on) (λ txn value. option_map decimal (shifted value (delta_of on txn))) old.0 (decimal n)
+          it.alone.moment it.alone.since it.alone.more (holds.ruled on) (subst (IsEntryHeld on (marks_of on steps) (known_of past)) is (holds.held on))
+          (subst (IsEntryRight (answer_after opening on) (log_of past)) is (rights.entries on)) (before old it is)
           it.own (leaves_untouched opening (log_of past) true_log on) (makes_shifted opening (log_of past) true_log on good.counts) made)
 
       from : (found : Option (List ℕ × ℕ)) → entry on steps ≡ found → IsEntryRight (answer_after opening on) (log_of past) (entry_shifted by stamp found)
@@ -173,7 +188,8 @@ module _ (opening : Tables) (shape : Shape) (past : List Event) (holds : Holds s
       from (Some old) is = moved old is (shifted old.0 by) refl
 
   -- a good step's value is right
-  right_step : (who : Sid) (s : Step) → IsGoodStep past (steps_at shape past (key_of s)) who s → IsRightStep opening (log_of past) (steps_at shape past (key_of s)) s
+  right_step : (who : Sid) (s : Step) → IsGoodStep past (steps_at shape past (key_of s)) who s
+      → IsRightStep opening (log_of past) (steps_at shape past (key_of s)) s
   right_step who (step.Stored on token now value stamp evicted) good =
       let is = told_right (IsRightAnswer opening (log_of past) on) good.answered _ (rights.answers on token who.number) good.told in
       let P : ℕ → Type 0 = λ n. value ≡ answer on (state opening (log_of past) n) in
@@ -201,7 +217,8 @@ entry_fresh opening key known past value stamp is held right =
     (subst (IsEntryHeld key (marks_of key past) known) is held)
     (subst (IsEntryRight (answer_after opening key) known.log) is right)
 
-fresh_step : (opening : Tables) (shape : Shape) (past : List Event) (who : Sid) (s : Step) → Holds shape past (known_of past) → Rights opening shape past (log_of past)
+fresh_step : (opening : Tables) (shape : Shape) (past : List Event) (who : Sid) (s : Step)
+    → Holds shape past (known_of past) → Rights opening shape past (log_of past)
     → IsGoodStep past (steps_at shape past (key_of s)) who s → IsFreshPast opening (log_of past) (steps_at shape past (key_of s))
     → IsFreshPast opening (log_of past) (s ∷ steps_at shape past (key_of s))
 fresh_step opening shape past who (step.Hit on sid floor value stamp) holds rights good h =
@@ -213,18 +230,24 @@ under_step P true answers h = tt
 under_step P false answers h = h
 
 -- a good step keeps what is right
-stepped_rights : (opening : Tables) (shape : Shape) (past : List Event) (who : Sid) (request : Wanted) (s : Step) (told : Reply) → Holds shape past (known_of past)
+stepped_rights : (opening : Tables) (shape : Shape) (past : List Event) (who : Sid) (request : Wanted) (s : Step) (told : Reply)
+    → Holds shape past (known_of past)
     → Rights opening shape past (log_of past) → IsTrueLog opening (log_of past) → IsGoodStep past (steps_at shape past (key_of s)) who s
     → Rights opening shape (Stepped (shard_of (key_of s) shape.shards) who request s told ∷ past) (log_of past)
 stepped_rights opening shape past who request s told holds rights true_log good =
     let is_right = right_step opening shape past holds rights true_log who s good in
     record {
       entries = λ key.
-          choose (λ l. IsEntryRight (answer_after opening key) (log_of past) (entry key (l ++ steps_at shape past key))) (home == shard_of key shape.shards) (s ∷ []) []
-          (λ same. entry_after opening (log_of past) key (steps_at shape past key) s (subst (λ p. IsRightStep opening (log_of past) (steps_of p past) s) (eqb-true home (shard_of key shape.shards) same) is_right) (rights.entries key))
+          choose (λ l. IsEntryRight (answer_after opening key) (log_of past) (entry key (l ++ steps_at shape past key)))
+          (home == shard_of key shape.shards) (s ∷ []) []
+          (λ same. entry_after opening (log_of past) key (steps_at shape past key) s
+          (subst (λ p. IsRightStep opening (log_of past) (steps_of p past) s) (eqb-true home (shard_of key shape.shards) same) is_right) (rights.entries key))
           (λ other. rights.entries key);
-      answers = λ key token number. under_step (IsRightAnswer opening (log_of past) key) (leases key token s) (answers_under key token number past) (rights.answers key token number);
-      fresh = λ place. choose (λ l. IsFreshPast opening (log_of past) (l ++ steps_of place past)) (home == place) (s ∷ []) [] (λ same. subst (λ p. IsFreshPast opening (log_of past) (s ∷ steps_of p past)) (eqb-true home place same) (fresh_step opening shape past who s holds rights good (rights.fresh home))) (λ other. rights.fresh place);
+      answers = λ key token number. under_step (IsRightAnswer opening (log_of past) key)
+          (leases key token s) (answers_under key token number past) (rights.answers key token number);
+      fresh = λ place. choose (λ l. IsFreshPast opening (log_of past) (l ++ steps_of place past)) (home == place) (s ∷ []) []
+          (λ same. subst (λ p. IsFreshPast opening (log_of past) (s ∷ steps_of p past))
+          (eqb-true home place same) (fresh_step opening shape past who s holds rights good (rights.fresh home))) (λ other. rights.fresh place);
       found = λ key token found is. found_after key token found (grants_as key token s) refl is;
     }
   where
@@ -234,7 +257,8 @@ stepped_rights opening shape past who request s told holds rights true_log good 
     now_found : QKey → Found
     now_found key = record { commits = length (log_of past); entry = entry key (steps_of home past) }
 
-    found_after : (key : QKey) (token : ℕ) (found : Found) (b : Bool) → grants_as key token s ≡ b → cond b (Some (now_found key)) (found_at key token past) ≡ Some found
+    found_after : (key : QKey) (token : ℕ) (found : Found) (b : Bool)
+        → grants_as key token s ≡ b → cond b (Some (now_found key)) (found_at key token past) ≡ Some found
         → IsEntryRight (answer_after opening key) (log_of past) found.entry
     found_after key token found true gives e =
         let same = ap (λ k. shard_of k shape.shards) (grants-on key token s gives) in
@@ -244,7 +268,8 @@ stepped_rights opening shape past who request s told holds rights true_log good 
     found_after key token found false gives e = rights.found key token found e
 
 -- so do events that tell the same
-same_rights : (opening : Tables) (shape : Shape) (past after : List Event) (log : List Commit) → IsSamePast past after → Rights opening shape past log → Rights opening shape after log
+same_rights : (opening : Tables) (shape : Shape) (past after : List Event) (log : List Commit)
+    → IsSamePast past after → Rights opening shape past log → Rights opening shape after log
 same_rights opening shape past after log same rights = record {
   entries = λ key. subst (λ l. IsEntryRight (answer_after opening key) log (entry key l)) (sym (same.steps (shard_of key shape.shards))) (rights.entries key);
   answers = λ key token number. subst (AllByRecursion (IsRightAnswer opening log key)) (sym (same.under key token number)) (rights.answers key token number);
@@ -254,7 +279,8 @@ same_rights opening shape past after log same rights = record {
 
 -- one more commit keeps what is right
 module _ (opening : Tables) (log : List Commit) (new : Commit) where
-  same_rows : (key : QKey) (value : List ℕ) (n : ℕ) → n ≤ length log → value ≡ answer key (state opening log n) → value ≡ answer key (state opening (log ++ new ∷ []) n)
+  same_rows : (key : QKey) (value : List ℕ) (n : ℕ) → n ≤ length log
+      → value ≡ answer key (state opening log n) → value ≡ answer key (state opening (log ++ new ∷ []) n)
   same_rows key value n le e = e ∙ ap (λ l. answer_after opening key l) (sym (take-front log (new ∷ []) n le))
 
   more_length : (n : ℕ) → n ≤ length log → n ≤ length (log ++ new ∷ [])
@@ -268,7 +294,8 @@ module _ (opening : Tables) (log : List Commit) (new : Commit) where
   answer_more : (key : QKey) (answered : Answer) → IsRightAnswer opening log key answered → IsRightAnswer opening (log ++ new ∷ []) key answered
   answer_more key answered h = (more_length answered.stamp h.0, same_rows key answered.value answered.stamp h.0 h.1)
 
-  hit_more : (past : List Step) (key : QKey) (value : List ℕ) (stamp : ℕ) → list_any (releases key new.sid) past ≡ false → IsFreshHit opening log past key value stamp
+  hit_more : (past : List Step) (key : QKey) (value : List ℕ) (stamp : ℕ)
+      → list_any (releases key new.sid) past ≡ false → IsFreshHit opening log past key value stamp
       → IsFreshHit opening (log ++ new ∷ []) past key value stamp
   hit_more past key value stamp none h =
       record {
@@ -276,11 +303,13 @@ module _ (opening : Tables) (log : List Commit) (new : Commit) where
         right = same_rows key value stamp h.known h.right;
         current = λ place commit e t released.
             ⊎_elim (λ old. h.current place commit old t released)
-            (λ last. let P : Commit → Type 0 = λ c. list_any (releases key c.sid) past ≡ true in absurd (true≢false (sym (subst P (sym last.1) released) ∙ none)))
+            (λ last. let P : Commit → Type 0 = λ c. list_any (releases key c.sid) past ≡ true in
+            absurd (true≢false (sym (subst P (sym last.1) released) ∙ none)))
             (stands-pushed log new commit place e);
       }
 
-  fresh_more : (past : List Step) → ((key : QKey) → list_any (releases key new.sid) past ≡ false) → IsFreshPast opening log past → IsFreshPast opening (log ++ new ∷ []) past
+  fresh_more : (past : List Step) → ((key : QKey) → list_any (releases key new.sid) past ≡ false)
+      → IsFreshPast opening log past → IsFreshPast opening (log ++ new ∷ []) past
   fresh_more [] none h = tt
   fresh_more (step.Hit key sid floor value stamp ∷ past) none h =
       (hit_more past key value stamp (none key) h.0, fresh_more past (λ k. none k) h.1)
@@ -319,18 +348,25 @@ within_more : (least most : ℕ) (found : Option (List ℕ × ℕ)) → least �
 within_more least most None le h = tt
 within_more least most (Some found) le h = omega (arith, le, h)
 
-held_within : (key : QKey) (marks : List Mark) (known : Known) (found : Option (List ℕ × ℕ)) → IsEntryHeld key marks known found → IsWithin (length known.log) found
+held_within : (key : QKey) (marks : List Mark) (known : Known) (found : Option (List ℕ × ℕ))
+    → IsEntryHeld key marks known found → IsWithin (length known.log) found
 held_within key marks known None held = tt
 held_within key marks known (Some found) held = held.within
 
-commit_rights : (opening : Tables) (shape : Shape) (past : List Event) (who : Sid) (commit : Commit) → commit.sid ≡ who → (IsOver (known_of past) who.number → ⊥)
+commit_rights : (opening : Tables) (shape : Shape) (past : List Event) (who : Sid) (commit : Commit)
+    → commit.sid ≡ who → (IsOver (known_of past) who.number → ⊥)
     → Holds shape past (known_of past) → Rights opening shape past (log_of past) → Rights opening shape past (log_of past ++ commit ∷ [])
 commit_rights opening shape past who commit mine still holds rights =
     let log = log_of past in
     record {
-      entries = λ key. entry_more opening log commit key (entry key (steps_at shape past key)) (held_within key (marks_of key (steps_at shape past key)) (known_of past) (entry key (steps_at shape past key)) (holds.held key)) (rights.entries key);
-      answers = λ key token number. every-weaker (IsRightAnswer opening log key) (IsRightAnswer opening (log ++ commit ∷ []) key) (answers_under key token number past) (answer_more opening log commit key) (rights.answers key token number);
-      fresh = λ place. fresh_more opening log commit (steps_of place past) (λ key. subst (λ (w : Sid). list_any (releases key w) (steps_of place past) ≡ false) (sym mine) (none_released shape past who holds still place key)) (rights.fresh place);
+      entries = λ key. entry_more opening log commit key (entry key (steps_at shape past key))
+          (held_within key (marks_of key (steps_at shape past key)) (known_of past) (entry key (steps_at shape past key)) (holds.held key))
+          (rights.entries key);
+      answers = λ key token number. every-weaker (IsRightAnswer opening log key) (IsRightAnswer opening (log ++ commit ∷ []) key)
+          (answers_under key token number past) (answer_more opening log commit key) (rights.answers key token number);
+      fresh = λ place. fresh_more opening log commit (steps_of place past)
+          (λ key. subst (λ (w : Sid). list_any (releases key w) (steps_of place past) ≡ false) (sym mine) (none_released shape past who holds still place key))
+          (rights.fresh place);
       found = λ key token found is.
           let was = holds.grants key token found is in
           entry_more opening log commit key found.entry (within_more found.commits (length log) found.entry was.0 was.1) (rights.found key token found is);
@@ -338,35 +374,41 @@ commit_rights opening shape past who commit mine still holds rights =
 
 -- an answer is right where the keeper's word is true
 right_one : (opening : Tables) (log : List Commit) (key : QKey) (answered : Answer) (mine : Bool) → answered.stamp ≡ length log
-    → answered.value ≡ answer answered.key (rows_after opening log) → AllByRecursion (IsRightAnswer opening log key) (cond (mine && same_key key answered.key) (answered ∷ []) [])
+    → answered.value ≡ answer answered.key (rows_after opening log)
+    → AllByRecursion (IsRightAnswer opening log key) (cond (mine && same_key key answered.key) (answered ∷ []) [])
 right_one opening log key answered mine stamp word =
     choose (AllByRecursion (IsRightAnswer opening log key)) (mine && same_key key answered.key) (answered ∷ []) []
     (λ is.
     let same = same_key-true key answered.key (and_elim mine (same_key key answered.key) is).1 in
     let P : QKey → Type 0 = λ k. answered.value ≡ answer k (rows_after opening log) in
-    let whole : state opening log answered.stamp ≡ rows_after opening log = ap (λ n. state opening log n) stamp ∙ ap (λ l. rows_after opening l) (take-whole log) in
+    let whole : state opening log answered.stamp ≡ rows_after opening log =
+    ap (λ n. state opening log n) stamp ∙ ap (λ l. rows_after opening l) (take-whole log) in
     (((omega (arith, stamp)), subst P (sym same) word ∙ ap (λ t. answer key t) (sym whole)), tt))
     (λ other. tt)
 
-answer_rights : (opening : Tables) (shape : Shape) (past : List Event) (who : Sid) (request : Wanted) (answered : Answer) → answered.stamp ≡ length (log_of past)
+answer_rights : (opening : Tables) (shape : Shape) (past : List Event) (who : Sid) (request : Wanted) (answered : Answer)
+    → answered.stamp ≡ length (log_of past)
     → answered.value ≡ answer answered.key (rows_after opening (log_of past)) → Rights opening shape past (log_of past)
     → Rights opening shape (Called who request (reply.Answer answered) ∷ past) (log_of past)
 answer_rights opening shape past who request answered stamp word rights = record {
   entries = rights.entries;
-  answers = λ key token number. every-append (IsRightAnswer opening (log_of past) key) (answers_in key number who (reply.Answer answered)) (answers_under key token number past) (right_one opening (log_of past) key answered (who.number == number) stamp word) (rights.answers key token number);
+  answers = λ key token number. every-append (IsRightAnswer opening (log_of past) key) (answers_in key number who (reply.Answer answered))
+      (answers_under key token number past) (right_one opening (log_of past) key answered (who.number == number) stamp word) (rights.answers key token number);
   fresh = rights.fresh;
   found = rights.found;
 }
 
 -- what the sweeper drops
-swept_rights : (opening : Tables) (shape : Shape) (past : List Event) (shard : ℕ) (request : SweepWanted) (made : Option Step) (told : SweepReply) → IsTrueLog opening (log_of past)
+swept_rights : (opening : Tables) (shape : Shape) (past : List Event) (shard : ℕ) (request : SweepWanted) (made : Option Step) (told : SweepReply)
+    → IsTrueLog opening (log_of past)
     → IsGoodSweep shape past shard made → Holds shape past (known_of past) → Rights opening shape past (log_of past)
     → Rights opening shape (Swept shard request made told ∷ past) (log_of past)
 swept_rights opening shape past shard request None told true_log good holds rights =
     same_rights opening shape past (Swept shard request None told ∷ past) (log_of past) (same-swept past shard request told) rights
 swept_rights opening shape past shard request (Some (step.Released on sid token ended.Drop)) told true_log good holds rights =
     let s = step.Released on sid token ended.Drop in
-    same_rights opening shape (Stepped shard sid wanted.Nothing s reply.Nothing ∷ past) (Swept shard request (Some s) told ∷ past) (log_of past) (same-dropped past shard on sid token request told)
+    same_rights opening shape (Stepped shard sid wanted.Nothing s reply.Nothing
+    ∷ past) (Swept shard request (Some s) told ∷ past) (log_of past) (same-dropped past shard on sid token request told)
     (subst (λ (p : ℕ). Rights opening shape (Stepped p sid wanted.Nothing s reply.Nothing ∷ past) (log_of past)) (sym good.home)
     (stepped_rights opening shape past sid wanted.Nothing s reply.Nothing holds rights true_log good.over))
 swept_rights opening shape past shard request (Some other) told true_log good holds rights = absurd good
@@ -378,10 +420,12 @@ pub good_rights : (opening : Tables) (shape : Shape) (past : List Event) (event 
 good_rights opening shape past (Stepped place who request s told) true_log good word holds rights =
     subst (Rights opening shape (Stepped place who request s told ∷ past)) (sym (append-nil (log_of past)) ∙ ap (λ l. log_of past ++ l) (sym good.no_commit))
     (subst (λ (p : ℕ). Rights opening shape (Stepped p who request s told ∷ past) (log_of past)) (sym good.home)
-    (stepped_rights opening shape past who request s told holds rights true_log (subst (λ (p : ℕ). IsGoodStep past (steps_of p past) who s) good.home good.good)))
+    (stepped_rights opening shape past who request s told holds rights true_log
+    (subst (λ (p : ℕ). IsGoodStep past (steps_of p past) who s) good.home good.good)))
 good_rights opening shape past (Called who request (reply.Committed number txn grants)) true_log good word holds rights =
     let commit : Commit = record { sid = who; txn = txn } in
-    same_rights opening shape past (Called who request (reply.Committed number txn grants) ∷ past) (log_of past ++ commit ∷ []) (same-called past who request (reply.Committed number txn grants) (λ key number. refl))
+    same_rights opening shape past (Called who request (reply.Committed number txn grants)
+    ∷ past) (log_of past ++ commit ∷ []) (same-called past who request (reply.Committed number txn grants) (λ key number. refl))
     (commit_rights opening shape past who commit refl good.opened holds rights)
 good_rights opening shape past (Called who request (reply.Answer answered)) true_log good word holds rights =
     subst (Rights opening shape (Called who request (reply.Answer answered) ∷ past)) (sym (append-nil (log_of past)))
@@ -390,13 +434,19 @@ good_rights opening shape past (Called who request told) true_log good word hold
     subst (Rights opening shape (Called who request told ∷ past)) (sym (append-nil (log_of past)))
     (same_rights opening shape past (Called who request told ∷ past) (log_of past) (same-called past who request told (λ key number. refl)) rights)
 good_rights opening shape past (Ticked now) true_log good word holds rights =
-    subst (Rights opening shape (Ticked now ∷ past)) (sym (append-nil (log_of past))) (same_rights opening shape past (Ticked now ∷ past) (log_of past) (same-ticked past now) rights)
+    subst (Rights opening shape (Ticked now ∷ past)) (sym (append-nil (log_of past)))
+    (same_rights opening shape past (Ticked now ∷ past) (log_of past) (same-ticked past now) rights)
 good_rights opening shape past (Swept place request made told) true_log good word holds rights =
     subst (Rights opening shape (Swept place request made told ∷ past)) (sym (append-nil (log_of past)))
     (swept_rights opening shape past place request made told true_log good.0 holds rights)
 
 pub start_rights : (opening : Tables) (shape : Shape) → Rights opening shape [] []
-start_rights opening shape = record { entries = λ key. tt; answers = λ key token number. tt; fresh = λ place. tt; found = λ key token found is. absurd (none_some found is) }
+start_rights opening shape = record {
+  entries = λ key. tt;
+  answers = λ key token number. tt;
+  fresh = λ place. tt;
+  found = λ key token found is. absurd (none_some found is);
+}
   where
     none_some : (found : Found) → None ≡ Some found → ⊥
     none_some found e = absurd cc

@@ -1,5 +1,6 @@
 -- What a session was told, and which of its quarantines stand.
-use Rattle.std.proofs.Common.{append-nil, ℕ, ℤ, ◌≡◌, ◌<◌, ◌≤◌, ◌+◌, ◌==◌, ◌&&◌, Bool, true, false, not, cond, List, [], ◌∷◌, ◌++◌, length, filter, count_by, Some, None, slice_get, refl, sym, ap, subst, ◌∙◌, inl, inr, ◌⊎◌, arith}
+use Rattle.std.proofs.Common.{append-nil, ℕ, ℤ, ◌≡◌, ◌<◌, ◌≤◌, ◌+◌, ◌==◌, ◌&&◌, Bool, true, false, not, cond, List, [], ◌∷◌, ◌++◌, length}
+use Rattle.std.proofs.Common.{filter, count_by, Some, None, slice_get, refl, sym, ap, subst, ◌∙◌, inl, inr, ◌⊎◌, arith}
 use Rattle.std.specs.List.{AllByRecursion, list_any}
 use Rattle.std.proofs.lemmas.Bool.{eq-eqb, eqb-true}
 use Rattle.rows_model.specs.declared.keys.QKey.{QKey}
@@ -36,7 +37,8 @@ use Rattle.session_client.proofs.WantCases.{is_asking, is_ending, AreOnce, given
 use Rattle.core_history.specs.Events.{Event, Stepped, Called, Ticked, Swept, steps_in, steps_of, commits_in, log_of}
 use Rattle.core_history.specs.Machine.{terms_of, out_by, out_of}
 use Rattle.core_history.specs.Facts.{Found, found_at, leases, grants_as}
-use Rattle.core_history.proofs.ListLemmas.{choose, or_inl, and_intro, and_elim, not_both, not_true, any-filter, any-front, any-back, count-cons, zero_if, slice-front}
+use Rattle.core_history.proofs.ListLemmas.{choose, or_inl, and_intro, and_elim, not_both, not_true, any-filter, any-front, any-back}
+use Rattle.core_history.proofs.ListLemmas.{count-cons, zero_if, slice-front}
 use Rattle.core_history.proofs.KeyLemmas.{IsQuietStep, quiet-stands, quiet-out, stays-apart, DrawsNext, next-append}
 use Rattle.core_history.proofs.EventLemmas.{closed, closed-more, still-open, unmade-steps}
 
@@ -63,7 +65,8 @@ ReturnsGrant gone request = (terms : Terms) (s : Step) (out : List Permit) → o
 abbrev pub LeavesOpen : Shape → List Event → ℕ → Step → Type 0
 LeavesOpen shape past place s =
     (grant : Permit) → place ≡ shard_of grant.key shape.shards → closed grant.sid.number past ≡ false
-    → list_any (is_of_permit grant) (standing grant.key (steps_of place past)) ≡ true → list_any (is_of_permit grant) (standing grant.key (s ∷ steps_of place past)) ≡ true
+    → list_any (is_of_permit grant) (standing grant.key (steps_of place past)) ≡ true
+    → list_any (is_of_permit grant) (standing grant.key (s ∷ steps_of place past)) ≡ true
 
 -- a step gives no lease and grants no quarantine of a key under a token that was drawn before
 abbrev pub IsLateDraw : Shape → List Event → Step → Type 0
@@ -116,7 +119,8 @@ pub record Writer (shape : Shape) (past : List Event) (n : ℕ) (heard : List Re
   pub numbered : (number : ℕ) → number_of heard ≡ Some number → IsNumber (log_of past) n number
   pub olds : (i : ℕ) (one : Given) → slice_get (given heard) i ≡ Some one → IsOld past one
 
-pub maybe-step : (P : List Step → Type 0) (b : Bool) (s : Step) (steps : List Step) → (b ≡ true → P (s ∷ steps)) → (b ≡ false → P steps) → P (cond b (s ∷ []) [] ++ steps)
+pub maybe-step : (P : List Step → Type 0) (b : Bool) (s : Step) (steps : List Step)
+    → (b ≡ true → P (s ∷ steps)) → (b ≡ false → P steps) → P (cond b (s ∷ []) [] ++ steps)
 maybe-step P true s steps p q = p refl
 maybe-step P false s steps p q = q refl
 
@@ -135,7 +139,8 @@ pub leaves-granted : (shape : Shape) (past : List Event) (place : ℕ) (on : QKe
 leaves-granted shape past place on by mode shift now token deadline grant home still stands =
     let xs = standing grant.key (steps_of place past) in
     let quar : Quar = record { sid = by; mode = mode; token = token; deadline = deadline; shift = shift } in
-    choose (λ l. list_any (is_of_permit grant) l ≡ true) (same_key grant.key on) (xs ++ quar ∷ []) xs (λ _. any-front (is_of_permit grant) xs (quar ∷ []) stands) (λ _. stands)
+    choose (λ l. list_any (is_of_permit grant) l ≡ true) (same_key grant.key on)
+    (xs ++ quar ∷ []) xs (λ _. any-front (is_of_permit grant) xs (quar ∷ []) stands) (λ _. stands)
 
 pub leaves-ended : (shape : Shape) (past : List Event) (place : ℕ) (on : QKey) (sid : Sid) (token : ℕ) (how : Ended) (quar : Quar)
     → AllOfOwnToken (standing on (steps_of place past)) → quar_of on token (steps_of place past) ≡ Some quar → closed quar.sid.number past ≡ true
@@ -161,7 +166,8 @@ stood-stepped shape place who request s told past n grant stays out h =
     let Stands : List Step → Type 0 = λ l. list_any (is_of_permit grant) (standing grant.key l) ≡ true in
     record {
       own = h.own;
-      out = choose (λ l. list_any (same_permit grant) l ≡ true) (place == home) (out_by (terms_of shape home) request s (out_of shape home past)) (out_of shape home past)
+      out = choose (λ l. list_any (same_permit grant) l ≡ true) (place == home)
+          (out_by (terms_of shape home) request s (out_of shape home past)) (out_of shape home past)
           (λ _. out (terms_of shape home) (out_of shape home past) h.out) (λ _. h.out);
       was = was-more shape event past n grant h;
       stands = λ still.
@@ -179,17 +185,21 @@ open-stays : (shape : Shape) (place : ℕ) (s : Step) (past : List Event) (n : �
 open-stays shape place s past n grant leaves h at still stands =
     leaves grant at (subst (λ m. closed m past ≡ false) (sym h.own) still) stands
 
-pub stood-quiet : (shape : Shape) (place : ℕ) (who : Sid) (request : Wanted) (s : Step) (told : Reply) (past : List Event) → IsQuietStep s → ReleasesNone request → (n : ℕ) (grant : Permit)
+pub stood-quiet : (shape : Shape) (place : ℕ) (who : Sid) (request : Wanted) (s : Step) (told : Reply) (past : List Event)
+    → IsQuietStep s → ReleasesNone request → (n : ℕ) (grant : Permit)
     → Stood shape past n grant → Stood shape (Stepped place who request s told ∷ past) n grant
 stood-quiet shape place who request s told past quiet none n grant h =
     stood-stepped shape place who request s told past n grant (open-stays shape place s past n grant (leaves-quiet shape past place s quiet) h)
     (λ terms out is. ap (list_any (same_permit grant)) (none terms s out ∙ quiet-out s quiet terms out) ∙ is) h
 
-pub stood-granted : (shape : Shape) (place : ℕ) (who : Sid) (request : Wanted) (on : QKey) (by : Sid) (mode : Mode) (shift : ℤ) (now token deadline : ℕ) (told : Reply) (past : List Event) → ReleasesNone request
-    → (n : ℕ) (grant : Permit) → Stood shape past n grant → Stood shape (Stepped place who request (step.Granted on by mode shift now token deadline) told ∷ past) n grant
+pub stood-granted : (shape : Shape) (place : ℕ) (who : Sid) (request : Wanted)
+    (on : QKey) (by : Sid) (mode : Mode) (shift : ℤ) (now token deadline : ℕ) (told : Reply) (past : List Event) → ReleasesNone request
+    → (n : ℕ) (grant : Permit) → Stood shape past n grant
+    → Stood shape (Stepped place who request (step.Granted on by mode shift now token deadline) told ∷ past) n grant
 stood-granted shape place who request on by mode shift now token deadline told past none n grant h =
     let s = step.Granted on by mode shift now token deadline in
-    stood-stepped shape place who request s told past n grant (open-stays shape place s past n grant (leaves-granted shape past place on by mode shift now token deadline) h)
+    stood-stepped shape place who request s told past n grant
+    (open-stays shape place s past n grant (leaves-granted shape past place on by mode shift now token deadline) h)
     (λ terms out is. ap (list_any (same_permit grant)) (none terms s out) ∙ any-front (same_permit grant) out _ is) h
 
 -- a grant that is given stands
@@ -200,12 +210,14 @@ same_way-refl Delta = refl
 
 pub same_permit-refl : (grant : Permit) → same_permit grant grant ≡ true
 same_permit-refl grant =
-    and_intro _ _ (and_intro _ _ (and_intro _ _ (and_intro _ _ (eq-eqb grant.shard grant.shard refl) (same_key-refl grant.key)) (eq-eqb grant.sid.number grant.sid.number refl)) (same_way-refl grant.mode)) (eq-eqb grant.token grant.token refl)
+    and_intro _ _ (and_intro _ _ (and_intro _ _ (and_intro _ _ (eq-eqb grant.shard grant.shard refl) (same_key-refl grant.key))
+    (eq-eqb grant.sid.number grant.sid.number refl)) (same_way-refl grant.mode)) (eq-eqb grant.token grant.token refl)
 
 any_one : {X : Type 0} (p : X → Bool) (x : X) → p x ≡ true → list_any p (x ∷ []) ≡ true
 any_one p x e = or_inl (p x) false e
 
-pub stood-new : (shape : Shape) (who : Sid) (request : Wanted) (on : QKey) (mode : Mode) (shift : ℤ) (now token deadline : ℕ) (told : Reply) (past : List Event) → ReleasesNone request
+pub stood-new : (shape : Shape) (who : Sid) (request : Wanted) (on : QKey) (mode : Mode) (shift : ℤ) (now token deadline : ℕ) (told : Reply) (past : List Event)
+    → ReleasesNone request
     → Stood shape (Stepped (shard_of on shape.shards) who request (step.Granted on who mode shift now token deadline) told ∷ past) who.number
     (record { shard = shard_of on shape.shards; key = on; sid = who; mode = mode; token = token })
 stood-new shape who request on mode shift now token deadline told past none =
@@ -222,18 +234,23 @@ stood-new shape who request on mode shift now token deadline told past none =
     record {
       own = refl;
       out = choose Out (home == home) (out_by (terms_of shape home) request s out) out
-          (λ _. subst Out (sym (none (terms_of shape home) s out)) (any-back (same_permit made) out (made ∷ []) (any_one (same_permit made) made (same_permit-refl made)))) (λ other. absurd (not_both here other));
+          (λ _. subst Out (sym (none (terms_of shape home) s out))
+          (any-back (same_permit made) out (made ∷ []) (any_one (same_permit made) made (same_permit-refl made)))) (λ other. absurd (not_both here other));
       was = maybe-step (λ l. list_any (grants made) l ≡ true) (home == home) s steps
-          (λ _. or_inl (grants made s) (list_any (grants made) steps) (and_intro _ _ (and_intro _ _ (same_key-refl on) (eq-eqb who.number who.number refl)) (eq-eqb token token refl))) (λ other. absurd (not_both here other));
+          (λ _. or_inl (grants made s) (list_any (grants made) steps)
+          (and_intro _ _ (and_intro _ _ (same_key-refl on) (eq-eqb who.number who.number refl)) (eq-eqb token token refl)))
+          (λ other. absurd (not_both here other));
       stands = λ _. maybe-step (λ l. Stands (standing on l)) (home == home) s steps
           (λ _. choose Stands (same_key on on) (xs ++ quar ∷ []) xs
-          (λ _. any-back (is_of_permit made) xs (quar ∷ []) (any_one (is_of_permit made) quar (and_intro _ _ (and_intro _ _ (eq-eqb who.number who.number refl) (same_way-refl mode)) (eq-eqb token token refl))))
+          (λ _. any-back (is_of_permit made) xs (quar ∷ []) (any_one (is_of_permit made) quar
+          (and_intro _ _ (and_intro _ _ (eq-eqb who.number who.number refl) (same_way-refl mode)) (eq-eqb token token refl))))
           (λ other. absurd (not_both (same_key-refl on) other)))
           (λ other. absurd (not_both here other));
     }
 
 -- the end of one grant leaves each other that is out
-without-other : (grant gone : Permit) (out : List Permit) → (gone ≡ grant → ⊥) → list_any (same_permit grant) out ≡ true → list_any (same_permit grant) (without_permit gone out) ≡ true
+without-other : (grant gone : Permit) (out : List Permit) → (gone ≡ grant → ⊥)
+    → list_any (same_permit grant) out ≡ true → list_any (same_permit grant) (without_permit gone out) ≡ true
 without-other grant gone out other h =
     any-filter (same_permit grant) (λ x. not (same_permit gone x)) out (each out) h
   where
@@ -248,7 +265,8 @@ out-other grant gone request s returns other terms out is =
     subst (λ l. list_any (same_permit grant) l ≡ true) (sym (returns terms s out)) (without-other grant gone out other is)
 
 -- the release of one grant leaves each other one, where its step leaves what stands for sessions that aren't closed
-pub stood-returned : (shape : Shape) (place : ℕ) (who : Sid) (request : Wanted) (s : Step) (told : Reply) (past : List Event) (gone : Permit) → ReturnsGrant gone request → LeavesOpen shape past place s
+pub stood-returned : (shape : Shape) (place : ℕ) (who : Sid) (request : Wanted) (s : Step) (told : Reply) (past : List Event) (gone : Permit)
+    → ReturnsGrant gone request → LeavesOpen shape past place s
     → (n : ℕ) (grant : Permit) → (gone ≡ grant → ⊥) → Stood shape past n grant → Stood shape (Stepped place who request s told ∷ past) n grant
 stood-returned shape place who request s told past gone returns leaves n grant other h =
     stood-stepped shape place who request s told past n grant (open-stays shape place s past n grant leaves h) (out-other grant gone request s returns other) h
@@ -262,7 +280,8 @@ pub stood-ticked : (shape : Shape) (now : ℕ) (past : List Event) (n : ℕ) (gr
 stood-ticked shape now past n grant h =
     record { own = h.own; out = h.out; was = h.was; stands = λ still. h.stands (still-open n (Ticked now) past still) }
 
-pub stood-unmade : (shape : Shape) (place : ℕ) (request : SweepWanted) (told : SweepReply) (past : List Event) (n : ℕ) (grant : Permit) → Stood shape past n grant → Stood shape (Swept place request None told ∷ past) n grant
+pub stood-unmade : (shape : Shape) (place : ℕ) (request : SweepWanted) (told : SweepReply) (past : List Event) (n : ℕ) (grant : Permit)
+    → Stood shape past n grant → Stood shape (Swept place request None told ∷ past) n grant
 stood-unmade shape place request told past n grant h =
     let home = shard_of grant.key shape.shards in
     let event = Swept place request None told in
@@ -270,10 +289,12 @@ stood-unmade shape place request told past n grant h =
       own = h.own;
       out = h.out;
       was = was-more shape event past n grant h;
-      stands = λ still. ap (λ l. list_any (is_of_permit grant) (standing grant.key l)) (unmade-steps home place request told past) ∙ h.stands (still-open n event past still);
+      stands = λ still. ap (λ l. list_any (is_of_permit grant) (standing grant.key l)) (unmade-steps home place request told past)
+          ∙ h.stands (still-open n event past still);
     }
 
-pub stood-swept : (shape : Shape) (place : ℕ) (request : SweepWanted) (s : Step) (told : SweepReply) (past : List Event) → LeavesOpen shape past place s → (n : ℕ) (grant : Permit) → Stood shape past n grant
+pub stood-swept : (shape : Shape) (place : ℕ) (request : SweepWanted) (s : Step) (told : SweepReply) (past : List Event)
+    → LeavesOpen shape past place s → (n : ℕ) (grant : Permit) → Stood shape past n grant
     → Stood shape (Swept place request (Some s) told ∷ past) n grant
 stood-swept shape place request s told past leaves n grant h =
     let home = shard_of grant.key shape.shards in
@@ -287,17 +308,21 @@ stood-swept shape place request s told past leaves n grant h =
           let before = still-open n event past still in
           maybe-step Stands (place == home) s (steps_of home past)
           (λ here. let at : place ≡ home = eqb-true place home here in
-          subst (λ p. Stands (s ∷ steps_of p past)) at (open-stays shape place s past n grant leaves h at before (subst (λ p. Stands (steps_of p past)) (sym at) (h.stands before))))
+          subst (λ p. Stands (s ∷ steps_of p past)) at
+          (open-stays shape place s past n grant leaves h at before (subst (λ p. Stands (steps_of p past)) (sym at) (h.stands before))))
           (λ _. h.stands before);
     }
 
-pub shut-more : (n : ℕ) (event : Event) (past : List Event) (heard : List Reply) → (released heard ≡ 0) ⊎ (closed n past ≡ true) → (released heard ≡ 0) ⊎ (closed n (event ∷ past) ≡ true)
+pub shut-more : (n : ℕ) (event : Event) (past : List Event) (heard : List Reply)
+    → (released heard ≡ 0) ⊎ (closed n past ≡ true) → (released heard ≡ 0) ⊎ (closed n (event ∷ past) ≡ true)
 shut-more n event past heard (inl e) = inl e
 shut-more n event past heard (inr e) = inr (closed-more n event past e)
 
 -- a step that draws the next token of its shard draws late
-late-next : (shape : Shape) (past : List Event) (home given : ℕ) (on key : QKey) (token : ℕ) → given ≡ next_token (terms_of shape home) (steps_of home past) → shard_of on shape.shards ≡ home
-    → token < next_token (terms_of shape (shard_of key shape.shards)) (steps_of (shard_of key shape.shards) past) → (same_key key on && (given == token)) ≡ false
+late-next : (shape : Shape) (past : List Event) (home given : ℕ) (on key : QKey) (token : ℕ)
+    → given ≡ next_token (terms_of shape home) (steps_of home past) → shard_of on shape.shards ≡ home
+    → token < next_token (terms_of shape (shard_of key shape.shards)) (steps_of (shard_of key shape.shards) past)
+    → (same_key key on && (given == token)) ≡ false
 late-next shape past home given on key token drawn at low =
     not_true (same_key key on && (given == token)) (λ gives.
     let parts = and_elim (same_key key on) (given == token) gives in
@@ -307,16 +332,21 @@ late-next shape past home given on key token drawn at low =
     let same : N (shard_of key shape.shards) ≡ N home = ap N here in
     absurd (omega (arith, low, drawn, is, same)))
 
-pub late-draw : (shape : Shape) (past : List Event) (home : ℕ) (s : Step) → DrawsNext (terms_of shape home) (next_token (terms_of shape home) (steps_of home past)) s → IsLateDraw shape past s
-late-draw shape past home (step.Granted on sid mode shift now given deadline) drawn key token low = (refl, late-next shape past home given on key token drawn.0 drawn.1 low)
-late-draw shape past home (step.Lease on sid floor now given deadline) drawn key token low = (late-next shape past home given on key token drawn.0 drawn.1 low, refl)
+pub late-draw : (shape : Shape) (past : List Event) (home : ℕ) (s : Step)
+    → DrawsNext (terms_of shape home) (next_token (terms_of shape home) (steps_of home past)) s → IsLateDraw shape past s
+late-draw shape past home (step.Granted on sid mode shift now given deadline) drawn key token low =
+    (refl, late-next shape past home given on key token drawn.0 drawn.1 low)
+late-draw shape past home (step.Lease on sid floor now given deadline) drawn key token low =
+    (late-next shape past home given on key token drawn.0 drawn.1 low, refl)
 late-draw shape past home other drawn key token low = (refl, refl)
 
 -- what the quarantine of a token found, that was drawn before
 pub found-more : (shape : Shape) (event : Event) (past : List Event) (key : QKey) (token : ℕ) → DrawsLate shape past event
-    → token < next_token (terms_of shape (shard_of key shape.shards)) (steps_of (shard_of key shape.shards) past) → found_at key token (event ∷ past) ≡ found_at key token past
+    → token < next_token (terms_of shape (shard_of key shape.shards)) (steps_of (shard_of key shape.shards) past)
+    → found_at key token (event ∷ past) ≡ found_at key token past
 found-more shape (Stepped place who request s told) past key token late low =
-    ap (λ b. cond b (Some (record { commits = length (log_of past); entry = entry key (steps_of place past) })) (found_at key token past)) (late key token low).1
+    ap (λ b. cond b (Some (record { commits = length (log_of past); entry = entry key (steps_of place past) })) (found_at key token past))
+    (late key token low).1
 found-more shape (Called who request told) past key token late low = refl
 found-more shape (Ticked now) past key token late low = refl
 found-more shape (Swept place request made told) past key token late low = refl
@@ -332,12 +362,14 @@ pub number-more : (event : Event) (past : List Event) (n number : ℕ) → IsNum
 number-more event past n number h =
     record { place = h.place; commit = h.commit; is = h.is; at = slice-front (log_of past) (commits_in event) h.place h.commit h.at; own = h.own }
 
-pub old-more : (shape : Shape) (event : Event) (past : List Event) (one : Given) → DrawsLate shape past event → IsDrawn shape past one.permit → IsOld past one → IsOld (event ∷ past) one
+pub old-more : (shape : Shape) (event : Event) (past : List Event) (one : Given)
+    → DrawsLate shape past event → IsDrawn shape past one.permit → IsOld past one → IsOld (event ∷ past) one
 old-more shape event past one late low h =
     record { found = h.found; at = found-more shape event past one.permit.key one.permit.token late low ∙ h.at; old = h.old }
 
 -- a writer stays one after an event
-pub writer-more : (shape : Shape) (event : Event) (past : List Event) (n : ℕ) (heard : List Reply) (writing : Writing) → DrawsLate shape past event → Keeps shape event past n
+pub writer-more : (shape : Shape) (event : Event) (past : List Event) (n : ℕ) (heard : List Reply) (writing : Writing)
+    → DrawsLate shape past event → Keeps shape event past n
     → Writer shape past n heard writing → Writer shape (event ∷ past) n heard writing
 writer-more shape event past n heard writing late keeps w = record {
   once = w.once;
@@ -367,8 +399,10 @@ no-number : (told : Reply) (heard : List Reply) → is_commit told ≡ false →
 no-number (reply.Committed number txn grants) heard e = cc
 no-number other heard e = refl
 
-pub writer-mild : (shape : Shape) (event : Event) (past : List Event) (n : ℕ) (told : Reply) (heard : List Reply) (writing : Writing) → Mild told → DrawsLate shape past event → Keeps shape event past n
-    → (is_ending (told ∷ heard) ≡ true → closed n (event ∷ past) ≡ true) → Writer shape past n heard writing → Writer shape (event ∷ past) n (told ∷ heard) writing
+pub writer-mild : (shape : Shape) (event : Event) (past : List Event) (n : ℕ) (told : Reply) (heard : List Reply) (writing : Writing)
+    → Mild told → DrawsLate shape past event → Keeps shape event past n
+    → (is_ending (told ∷ heard) ≡ true → closed n (event ∷ past) ≡ true)
+    → Writer shape past n heard writing → Writer shape (event ∷ past) n (told ∷ heard) writing
 writer-mild shape event past n told heard writing mild late keeps ending w =
     let more = writer-more shape event past n heard writing late keeps w in
     let same : granted (told ∷ heard) ≡ granted heard = ap (λ l. granted heard ++ l) mild.brings ∙ append-nil (granted heard) in
@@ -380,7 +414,8 @@ writer-mild shape event past n told heard writing mild late keeps ending w =
     let rel : released (told ∷ heard) ≡ released heard = omega (arith, c, d) in
     let had = w.had in
     let len = ap length same in
-    let old : (i : ℕ) (grant : Permit) → slice_get (granted (told ∷ heard)) i ≡ Some grant → slice_get (granted heard) i ≡ Some grant = λ i grant e. sym (ap (λ l. slice_get l i) same) ∙ e in
+    let old : (i : ℕ) (grant : Permit) → slice_get (granted (told ∷ heard)) i ≡ Some grant
+    → slice_get (granted heard) i ≡ Some grant = λ i grant e. sym (ap (λ l. slice_get l i) same) ∙ e in
     record {
       once = w.once;
       fits = λ i grant e. w.fits i grant (old i grant e);

@@ -1,5 +1,7 @@
 -- How the shards of a core follow an event.
-use Rattle.std.proofs.Common.{ℕ, zero, suc, ◌+◌, ◌-◌, ◌^◌, ◌≡◌, ◌≢◌, ◌<◌, ◌≤◌, ◌==◌, ◌&&◌, Bool, true, false, cond, List, [], ◌∷◌, ◌++◌, length, reverse, Option, Some, None, Err, option_to_list, slice_get, set, refl, sym, ap, subst, ◌∙◌, inl, inr, ⊎_elim, ◌⊎◌, length-append, arith, rules, eq-eqb}
+use Rattle.std.proofs.Common.{ℕ, zero, suc, ◌+◌, ◌-◌, ◌^◌, ◌≡◌, ◌≢◌, ◌<◌, ◌≤◌, ◌==◌, ◌&&◌, Bool, true, false, cond, List, [], ◌∷◌, ◌++◌}
+use Rattle.std.proofs.Common.{length, reverse, Option, Some, None, Err, option_to_list, slice_get, set, refl, sym, ap, subst, ◌∙◌, inl, inr}
+use Rattle.std.proofs.Common.{⊎_elim, ◌⊎◌, length-append, arith, rules, eq-eqb}
 use Rattle.std.proofs.lemmas.Bool.{eqb-true, cases_Bool, cases_lt, false≢true}
 use Rattle.std.proofs.lemmas.List.{reverse-reverse, reverse-append}
 use Rattle.std.proofs.lemmas.List.Sums.{count_by-le-length}
@@ -69,7 +71,8 @@ grown shard request made =
 -- the shards after an event that changes one of them alone
 pub shards_after : (shape : Shape) (past : List Event) (event : Event) (home : ℕ) (new : ShardView) (shards : List ShardView) → HasShards shards shape past
     → home < shape.shards → new ≡ shard_after shape (event ∷ past) home
-    → ((place : ℕ) → (home == place) ≡ false → shard_after shape (event ∷ past) place ≡ shard_after shape past place) → HasShards (set shards home new) shape (event ∷ past)
+    → ((place : ℕ) → (home == place) ≡ false → shard_after shape (event ∷ past) place ≡ shard_after shape past place)
+    → HasShards (set shards home new) shape (event ∷ past)
 shards_after shape past event home new shards has within here others =
     record {
       fit = has.fit;
@@ -111,14 +114,19 @@ shards_after_step shape past who request made told home shards has within =
 
     after : ℕ → Bool → ShardView
     after place b =
-        record { terms = terms_of shape place; history = reverse (cond b (made ∷ []) [] ++ steps_of place past); out = cond b (out_by (terms_of shape place) request made (out_of shape place past)) (out_of shape place past) }
+        record {
+          terms = terms_of shape place;
+          history = reverse (cond b (made ∷ []) [] ++ steps_of place past);
+          out = cond b (out_by (terms_of shape place) request made (out_of shape place past)) (out_of shape place past);
+        }
 
 -- a step of the sweeper's that makes none on a shard leaves the shards
 pub shards_looked : (shards : List ShardView) (shape : Shape) (past : List Event) (place : ℕ) (request : SweepWanted) (told : SweepReply)
     → HasShards shards shape past → HasShards shards shape (Swept place request None told ∷ past)
 shards_looked shards shape past place request told has =
     shards_same shards shape past (Swept place request None told) has
-    (λ at. ap (λ (steps : List Step). record { terms = terms_of shape at; history = reverse steps; out = out_of shape at past }) (none (place == at) (steps_of at past)))
+    (λ at. ap (λ (steps : List Step). record { terms = terms_of shape at; history = reverse steps; out = out_of shape at past })
+    (none (place == at) (steps_of at past)))
   where
     none : (b : Bool) (steps : List Step) → cond b [] [] ++ steps ≡ steps
     none true steps = refl
@@ -127,9 +135,11 @@ shards_looked shards shape past place request told has =
 -- a shard that was swept, and the others, stand after that
 pub shards_swept : (shape : Shape) (past : List Event) (request : SweepWanted) (key : QKey) (token : ℕ) (told : SweepReply) (home : ℕ) (shards : List ShardView)
     → HasShards shards shape past → home < shape.shards →
-    HasShards (set shards home (swept (shard_after shape past home) (sweep_step (steps_of home past) key token))) shape (Swept home request (sweep_step (steps_of home past) key token) told ∷ past)
+    HasShards (set shards home (swept (shard_after shape past home) (sweep_step (steps_of home past) key token))) shape
+    (Swept home request (sweep_step (steps_of home past) key token) told ∷ past)
 shards_swept shape past request key token told home shards has within =
-    shards_after shape past (Swept home request (sweep_step (steps_of home past) key token) told) home (swept (shard_after shape past home) (sweep_step (steps_of home past) key token)) shards has within
+    shards_after shape past (Swept home request (sweep_step (steps_of home past) key token) told) home
+    (swept (shard_after shape past home) (sweep_step (steps_of home past) key token)) shards has within
     (by (quar_of key token (steps_of home past)) ∙ ap (after home (sweep_step (steps_of home past) key token)) (sym (eq-eqb home home refl)))
     (λ place apart. ap (after place (sweep_step (steps_of home past) key token)) apart)
   where
@@ -140,7 +150,8 @@ shards_swept shape past request key token told home shards has within =
     by : (found : Option Quar) → swept (shard_after shape past home) (sweep_by key token found) ≡ after home (sweep_by key token found) true
     by None = refl
     by (Some quar) =
-        ap (λ (history : List Step). record { terms = terms_of shape home; history = history; out = out_of shape home past }) (turned (steps_of home past) (Released key quar.sid token Drop))
+        ap (λ (history : List Step). record { terms = terms_of shape home; history = history; out = out_of shape home past })
+        (turned (steps_of home past) (Released key quar.sid token Drop))
 
 -- an event at the store leaves the shards, and so does a tick
 pub shards_called : (shards : List ShardView) (shape : Shape) (past : List Event) (who : Sid) (request : Wanted) (told : Reply) → HasShards shards shape past
@@ -213,7 +224,8 @@ step_is shape past key place shard f is =
     ∙ ap (λ (steps : List Step). f (terms_of shape (shard_of key shape.shards)) steps) (reverse-reverse (steps_of (shard_of key shape.shards) past))
 
 -- the shards after a request on one of them
-pub shards_made : (shape : Shape) (past : List Event) (who : Sid) (request : Wanted) (key : QKey) (f : Terms → List Step → Step) (shards : List ShardView) (place : ℕ) (shard new : ShardView)
+pub shards_made : (shape : Shape) (past : List Event) (who : Sid)
+    (request : Wanted) (key : QKey) (f : Terms → List Step → Step) (shards : List ShardView) (place : ℕ) (shard new : ShardView)
     → HasShards shards shape past → IsShardOf shape past key place shard → new ≡ grown shard request (f shard.terms (past_of shard)) →
     HasShards (set shards place new) shape (stepped_on shape past who request key f ∷ past)
 shards_made shape past who request key f shards place shard new has is grew =

@@ -39,7 +39,8 @@ abbrev pub IsEntrySince : ℕ → Option (List ℕ × ℕ) → Type 0
 IsEntrySince least None = Unit {0}
 IsEntrySince least (Some old) = least ≤ old.1
 
--- the key's entry has a stamp of at least this, and there were as many commits when the lease was given that is recorded on it, and when a quarantine was granted that stands there and isn't to invalidate
+-- the key's entry has a stamp of at least this, and there were as many commits when the lease was given
+-- that is recorded on it, and when a quarantine was granted that stands there and isn't to invalidate
 pub record Since (shape : Shape) (key : QKey) (least : ℕ) (past : List Event) : Type 0 where
   pub held : IsEntrySince least (entry key (steps_at shape past key))
   pub leased : (lease : ReadLease) (commits : ℕ) → recorded key (steps_at shape past key) ≡ Some lease
@@ -80,7 +81,8 @@ told_since least most answered [] h t = absurd t
 
 -- a step that gives a lease gives its token
 gives_leases : (key : QKey) (lease : ReadLease) (s : Step) → Gives key lease s → leases key lease.token s ≡ true
-gives_leases key lease (step.Lease on sid floor now token deadline) gives = and_intro (same_key key on) (token == lease.token) gives.0 (eq-eqb token lease.token gives.1)
+gives_leases key lease (step.Lease on sid floor now token deadline) gives =
+    and_intro (same_key key on) (token == lease.token) gives.0 (eq-eqb token lease.token gives.1)
 gives_leases key lease other gives = absurd gives
 
 some_same : {a b : ℕ} → Some a ≡ Some b → a ≡ b
@@ -171,7 +173,8 @@ module _ (shape : Shape) (key : QKey) (least : ℕ) (past : List Event) (holds :
       lease_after lease commits true gives is at = let now = some_same at in omega (arith, grown, now)
       lease_after lease commits false none is at =
           since.leased lease commits (maybe-step (λ l. recorded key l ≡ Some lease → recorded key steps ≡ Some lease) here s steps
-          (λ _ e. ⊎_elim (λ kept. kept.was) (λ gives. absurd (not_both (gives_leases key lease s gives) none)) (recorded_cases key lease steps s e)) (λ _ e. e) is) at
+          (λ _ e. ⊎_elim (λ kept. kept.was) (λ gives. absurd (not_both (gives_leases key lease s gives) none)) (recorded_cases key lease steps s e))
+          (λ _ e. e) is) at
 
       grant_after : (token : ℕ) (quar : Quar) (found : Found) (b : Bool) → grants_as key token s ≡ b
           → quar_of key token (cond here (s ∷ []) [] ++ steps) ≡ Some quar → quar.mode ≢ Invalidate
@@ -208,5 +211,6 @@ module _ (shape : Shape) (key : QKey) (least : ℕ) (past : List Event) (holds :
   event_hits (Swept home request None told) good =
       choose (AllByRecursion (IsHitSince key least)) (home == shard_of key shape.shards) [] [] (λ _. tt) (λ _. tt)
   event_hits (Swept home request (Some (step.Released on sid token ended.Drop)) told) good =
-      choose (AllByRecursion (IsHitSince key least)) (home == shard_of key shape.shards) (step.Released on sid token ended.Drop ∷ []) [] (λ _. (tt, tt)) (λ _. tt)
+      choose (AllByRecursion (IsHitSince key least)) (home == shard_of key shape.shards)
+      (step.Released on sid token ended.Drop ∷ []) [] (λ _. (tt, tt)) (λ _. tt)
   event_hits (Swept home request (Some other) told) good = absurd good.0

@@ -33,7 +33,8 @@ each_history shape past (shard ∷ shards) first each =
 histories_are : (shards : List ShardView) (shape : Shape) (past : List Event) → HasShards shards shape past
     → map (λ shard. shard.history) shards ≡ histories_of shape past
 histories_are shards shape past has =
-    each_history shape past shards 0 (λ place below. has.each place (omega (arith, below, has.count)) ∙ ap (λ (n : ℕ). Some (shard_after shape past n)) (omega arith))
+    each_history shape past shards 0 (λ place below. has.each place (omega (arith, below, has.count))
+    ∙ ap (λ (n : ℕ). Some (shard_after shape past n)) (omega arith))
     ∙ ap (λ (n : ℕ). map (λ place. reverse (steps_of place past)) (range_with_len 0 n)) has.count
 
 pub sound : (core : CoreView) (origin : Origin) (moves : List Move) → HasKept core origin moves

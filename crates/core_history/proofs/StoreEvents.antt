@@ -1,5 +1,7 @@
 -- How the store of a core follows an event.
-use Rattle.std.proofs.Common.{ℕ, min, ◌-◌, ◌^◌, ◌+◌, ◌≡◌, ◌≢◌, ◌≤◌, Bool, true, false, List, [], ◌∷◌, ◌++◌, length, count_by, Option, Some, None, IsSome, Result, Ok, Err, OnOk, IfOk, IfErr, MatchResult, refl, sym, ap, subst, ◌∙◌, inl, inr, append-nil, arith}
+use Rattle.std.proofs.Common.{ℕ, min, ◌-◌, ◌^◌, ◌+◌, ◌≡◌, ◌≢◌, ◌≤◌, Bool, true, false, List, [], ◌∷◌, ◌++◌, length, count_by, Option, Some}
+use Rattle.std.proofs.Common.{None, IsSome, Result, Ok, Err, OnOk, IfOk, IfErr, MatchResult, refl, sym, ap, subst, ◌∙◌, inl, inr}
+use Rattle.std.proofs.Common.{append-nil, arith}
 use Rattle.rows_model.specs.declared.changes.Change.{Change}
 use Rattle.rows_model.specs.declared.refusals.Memory.{Memory}
 use Rattle.rows_model.specs.declared.keys.QKey.{QKey}
@@ -52,14 +54,18 @@ pub record IsQuiet (event : Event) : Type 0 where
   pub truth : (rows : Tables) → IsTrueEvent rows event
 
 -- a turn that tells what a step on a shard shows is so
-pub quiet_shown : (place : ℕ) (who : Sid) (request : Wanted) (made : Step) (terms : Terms) (past : List Step) (s : Step) → IsQuiet (Stepped place who request made (shown terms past s))
+pub quiet_shown : (place : ℕ) (who : Sid) (request : Wanted) (made : Step) (terms : Terms) (past : List Step) (s : Step)
+    → IsQuiet (Stepped place who request made (shown terms past s))
 quiet_shown place who request made terms past (step.Hit key sid floor value stamp) = record { commits = refl; ends = refl; fault = refl; truth = λ rows. tt }
-quiet_shown place who request made terms past (step.Lease key sid floor now token deadline) = record { commits = refl; ends = refl; fault = refl; truth = λ rows. tt }
+quiet_shown place who request made terms past (step.Lease key sid floor now token deadline) =
+    record { commits = refl; ends = refl; fault = refl; truth = λ rows. tt }
 quiet_shown place who request made terms past (step.Again key sid floor now standing) = record { commits = refl; ends = refl; fault = refl; truth = λ rows. tt }
 quiet_shown place who request made terms past (step.Own key sid) = record { commits = refl; ends = refl; fault = refl; truth = λ rows. tt }
-quiet_shown place who request made terms past (step.Stored key token now value stamp evicted) = record { commits = refl; ends = refl; fault = refl; truth = λ rows. tt }
+quiet_shown place who request made terms past (step.Stored key token now value stamp evicted) =
+    record { commits = refl; ends = refl; fault = refl; truth = λ rows. tt }
 quiet_shown place who request made terms past (step.Void key token now) = record { commits = refl; ends = refl; fault = refl; truth = λ rows. tt }
-quiet_shown place who request made terms past (step.Granted key sid mode shift now token deadline) = record { commits = refl; ends = refl; fault = refl; truth = λ rows. tt }
+quiet_shown place who request made terms past (step.Granted key sid mode shift now token deadline) =
+    record { commits = refl; ends = refl; fault = refl; truth = λ rows. tt }
 quiet_shown place who request made terms past (step.Held key sid mode) = record { commits = refl; ends = refl; fault = refl; truth = λ rows. tt }
 quiet_shown place who request made terms past (step.Refused key sid mode holder held) = record { commits = refl; ends = refl; fault = refl; truth = λ rows. tt }
 quiet_shown place who request made terms past (step.Released key sid token how) = record { commits = refl; ends = refl; fault = refl; truth = λ rows. tt }
@@ -85,7 +91,8 @@ record CallsSame (before after : Ledger) : Type 0 where
   pub sessions : after.sessions ≡ before.sessions
 
 -- the count of failures after a call
-failed_more : (b : Bool) (count : ℕ) (ledger : Ledger) → ledger.failed ≡ min count (2 ^ 64 - 1) → (with_call b ledger).failed ≡ min (tick b + count) (2 ^ 64 - 1)
+failed_more : (b : Bool) (count : ℕ) (ledger : Ledger) → ledger.failed ≡ min count (2 ^ 64 - 1)
+    → (with_call b ledger).failed ≡ min (tick b + count) (2 ^ 64 - 1)
 failed_more false count ledger e = omega (arith, e)
 failed_more true count ledger e = omega (arith, e)
 
@@ -113,32 +120,41 @@ quiet_more true count before old new quiet rose none = absurd (omega (arith, non
 quiet_more false count before old new quiet same none = same ∙ quiet (omega (arith, none))
 
 -- the store after a call that told this
-pub store_called : (old new : StoreView) (b : Bool) (origin : Origin) (past : List Event) (event : Event) → HasStore old origin past → new.ledger ≡ with_call b old.ledger → Counts b old.faults new.faults → old.faults ≤ new.faults →
-    is_fault event ≡ b → commits_in event ≡ [] → (IsSome new.told → IsSome old.told) → (IsSome new.told → IsTrueEvent (rows_after old.ledger.opening old.ledger.log) event) → HasStore new origin (event ∷ past)
+pub store_called : (old new : StoreView) (b : Bool) (origin : Origin) (past : List Event) (event : Event)
+    → HasStore old origin past → new.ledger ≡ with_call b old.ledger → Counts b old.faults new.faults → old.faults ≤ new.faults →
+    is_fault event ≡ b → commits_in event ≡ [] → (IsSome new.told → IsSome old.told)
+    → (IsSome new.told → IsTrueEvent (rows_after old.ledger.opening old.ledger.log) event) → HasStore new origin (event ∷ past)
 store_called old new b origin past event has ledger rose more fault no_commit told truth =
     let same = called_same b old.ledger new.ledger ledger in
     let log : log_of past ++ commits_in event ≡ log_of past = ap (λ (l : List Commit). log_of past ++ l) no_commit ∙ append-nil (log_of past) in
-    let count : count_by is_fault (event ∷ past) ≡ tick b + count_by is_fault past = count-cons is_fault event past ∙ ap (λ (c : Bool). tick c + count_by is_fault past) fault in
+    let count : count_by is_fault (event ∷ past) ≡ tick b + count_by is_fault past =
+    count-cons is_fault event past ∙ ap (λ (c : Bool). tick c + count_by is_fault past) fault in
     let F : ℕ → Type 0 = λ n. RoseBy n origin.faults new.faults in
     let T : Tables → Type 0 = λ rows. IsTrueEvent rows event in
     record {
       opening = same.opening ∙ has.opening;
       log = same.log ∙ has.log ∙ sym log;
       cap = same.cap ∙ has.cap;
-      failed = ap (λ (l : Ledger). l.failed) ledger ∙ failed_more b (count_by is_fault past) old.ledger has.failed ∙ ap (λ (n : ℕ). min n (2 ^ 64 - 1)) (sym count);
+      failed = ap (λ (l : Ledger). l.failed) ledger ∙ failed_more b (count_by is_fault past) old.ledger has.failed
+          ∙ ap (λ (n : ℕ). min n (2 ^ 64 - 1)) (sym count);
       faults = subst F (sym count) (rose_more b (count_by is_fault past) origin.faults old.faults new.faults has.faults rose more);
       quiet = λ none. quiet_more b (count_by is_fault past) origin.faults old.faults new.faults has.quiet rose (sym count ∙ none);
       telling = λ is_told. has.telling (told is_told);
-      truth = λ is_told. (subst T (ap (λ (rows : Tables). rows_after rows old.ledger.log) has.opening ∙ ap (rows_after origin.opening) has.log) (truth is_told), has.truth (told is_told));
+      truth = λ is_told. (
+        subst T (ap (λ (rows : Tables). rows_after rows old.ledger.log) has.opening ∙ ap (rows_after origin.opening) has.log) (truth is_told),
+        has.truth (told is_told),
+      );
     }
 
 -- an event that asks the store nothing
-pub store_quiet : (store : StoreView) (origin : Origin) (past : List Event) (event : Event) → HasStore store origin past → IsQuiet event → HasStore store origin (event ∷ past)
+pub store_quiet : (store : StoreView) (origin : Origin) (past : List Event) (event : Event)
+    → HasStore store origin past → IsQuiet event → HasStore store origin (event ∷ past)
 store_quiet store origin past event has quiet =
     store_called store store false origin past event has refl refl (omega arith) quiet.fault quiet.commits (λ h. h) (λ h. quiet.truth _)
 
 -- a store of which nothing has changed, but perhaps that it tells its rows no more
-pub store_stays : (old new : StoreView) (origin : Origin) (past : List Event) → HasStore old origin past → new.ledger ≡ old.ledger → new.faults ≡ old.faults → (IsSome new.told → IsSome old.told) → HasStore new origin past
+pub store_stays : (old new : StoreView) (origin : Origin) (past : List Event)
+    → HasStore old origin past → new.ledger ≡ old.ledger → new.faults ≡ old.faults → (IsSome new.told → IsSome old.told) → HasStore new origin past
 store_stays old new origin past has ledger same told =
     record {
       opening = ap (λ (l : Ledger). l.opening) ledger ∙ has.opening;
@@ -152,8 +168,10 @@ store_stays old new origin past has ledger same told =
     }
 
 -- the store after a commit
-pub store_committed : (old new : StoreView) (origin : Origin) (past : List Event) (who : Sid) (txn : List Change) (event : Event) → HasStore old origin past → new.ledger ≡ with_commit who txn old.ledger → new.faults ≡ old.faults →
-    is_fault event ≡ false → commits_in event ≡ record { sid = who; txn = txn } ∷ [] → (IsSome new.told → IsSome old.told) → (IsSome new.told → IsTrueEvent (rows_after old.ledger.opening old.ledger.log) event) → HasStore new origin (event ∷ past)
+pub store_committed : (old new : StoreView) (origin : Origin) (past : List Event) (who : Sid) (txn : List Change) (event : Event)
+    → HasStore old origin past → new.ledger ≡ with_commit who txn old.ledger → new.faults ≡ old.faults →
+    is_fault event ≡ false → commits_in event ≡ record { sid = who; txn = txn } ∷ [] → (IsSome new.told → IsSome old.told)
+    → (IsSome new.told → IsTrueEvent (rows_after old.ledger.opening old.ledger.log) event) → HasStore new origin (event ∷ past)
 store_committed old new origin past who txn event has ledger same fault commits told truth =
     let e = count-cons is_fault event past in
     let z = zero_if (is_fault event) fault in
@@ -162,17 +180,22 @@ store_committed old new origin past who txn event has ledger same fault commits 
     let T : Tables → Type 0 = λ rows. IsTrueEvent rows event in
     record {
       opening = ap (λ (l : Ledger). l.opening) ledger ∙ has.opening;
-      log = ap (λ (l : Ledger). l.log) ledger ∙ ap (λ (l : List Commit). l ++ record { sid = who; txn = txn } ∷ []) has.log ∙ sym (ap (λ (l : List Commit). log_of past ++ l) commits);
+      log = ap (λ (l : Ledger). l.log) ledger ∙ ap (λ (l : List Commit). l ++ record { sid = who; txn = txn } ∷ []) has.log
+          ∙ sym (ap (λ (l : List Commit). log_of past ++ l) commits);
       cap = ap (λ (l : Ledger). l.cap) ledger ∙ has.cap;
       failed = ap (λ (l : Ledger). l.failed) ledger ∙ has.failed ∙ ap (λ (n : ℕ). min n (2 ^ 64 - 1)) (sym count);
       faults = subst (λ (n : ℕ). F n new.faults) (sym count) (subst (F (count_by is_fault past)) (sym same) has.faults);
       quiet = λ none. same ∙ has.quiet (sym count ∙ none);
       telling = λ is_told. has.telling (told is_told);
-      truth = λ is_told. (subst T (ap (λ (rows : Tables). rows_after rows old.ledger.log) has.opening ∙ ap (rows_after origin.opening) has.log) (truth is_told), has.truth (told is_told));
+      truth = λ is_told. (
+        subst T (ap (λ (rows : Tables). rows_after rows old.ledger.log) has.opening ∙ ap (rows_after origin.opening) has.log) (truth is_told),
+        has.truth (told is_told),
+      );
     }
 
 -- the store after a session was ended, by a turn of its own or by the sweeper
-pub store_ended : (old new : StoreView) (origin : Origin) (past : List Event) (who : Sid) (event : Event) → HasStore old origin past → new.ledger ≡ with_end who old.ledger → new.told ≡ old.told → new.faults ≡ old.faults →
+pub store_ended : (old new : StoreView) (origin : Origin) (past : List Event) (who : Sid) (event : Event)
+    → HasStore old origin past → new.ledger ≡ with_end who old.ledger → new.told ≡ old.told → new.faults ≡ old.faults →
     is_fault event ≡ false → commits_in event ≡ [] → ((rows : Tables) → IsTrueEvent rows event) → HasStore new origin (event ∷ past)
 store_ended old new origin past who event has ledger rows faults fault no_commit truth =
     store_called new new false origin past event between refl refl (omega arith) fault no_commit (λ h. h) (λ is_told. truth _)
@@ -190,8 +213,10 @@ store_ended old new origin past who event has ledger rows faults fault no_commit
     }
 
 -- the store after a call of the keeper that made no commit and ended nobody
-pub call_made : (old new : StoreView) (b : Bool) (origin : Origin) (world : World) (event : Event) → StandsStore old origin world → new.ledger ≡ with_call b old.ledger → Counts b old.faults new.faults → old.faults ≤ new.faults →
-    is_fault event ≡ b → commits_in event ≡ [] → ends_in event ≡ [] → (IsSome new.told → IsSome old.told) → (IsSome new.told → IsTrueEvent (rows_after old.ledger.opening old.ledger.log) event) → StandsStore new origin (after world event)
+pub call_made : (old new : StoreView) (b : Bool) (origin : Origin) (world : World) (event : Event)
+    → StandsStore old origin world → new.ledger ≡ with_call b old.ledger → Counts b old.faults new.faults → old.faults ≤ new.faults →
+    is_fault event ≡ b → commits_in event ≡ [] → ends_in event ≡ [] → (IsSome new.told → IsSome old.told)
+    → (IsSome new.told → IsTrueEvent (rows_after old.ledger.opening old.ledger.log) event) → StandsStore new origin (after world event)
 call_made old new b origin world event stands ledger rose more fault no_commit no_end told truth =
     let H : List Phase → Type 0 = λ xs. HasPhases xs (after world event) in (
       store_called old new b origin world.past event stands.0 ledger rose more fault no_commit told truth,
@@ -199,7 +224,8 @@ call_made old new b origin world event stands ledger rose more fault no_commit n
     )
 
 -- a call of the keeper that wasn't made, but perhaps that it tells its rows no more
-pub call_unmade : (old new : StoreView) (origin : Origin) (world : World) → StandsStore old origin world → new.ledger ≡ old.ledger → new.faults ≡ old.faults → (IsSome new.told → IsSome old.told) → StandsStore new origin world
+pub call_unmade : (old new : StoreView) (origin : Origin) (world : World)
+    → StandsStore old origin world → new.ledger ≡ old.ledger → new.faults ≡ old.faults → (IsSome new.told → IsSome old.told) → StandsStore new origin world
 call_unmade old new origin world stands ledger same told =
     let H : List Phase → Type 0 = λ xs. HasPhases xs world in (
       store_stays old new origin world.past stands.0 ledger same told,
@@ -215,22 +241,30 @@ pub record SaysAnswer (old new : StoreView) (key : QKey) (made : Result Answer K
   pub never_falls : old.faults ≤ new.faults
 
 -- a key was answered
-pub ask_made : (old new : StoreView) (origin : Origin) (world : World) (who : Sid) (key : QKey) (given : Answer) → StandsStore old origin world → SaysAnswer old new key (Ok given) → MakesCall origin world who (wanted.Ask key) new (Ok (reply.Answer given))
+pub ask_made : (old new : StoreView) (origin : Origin) (world : World) (who : Sid) (key : QKey) (given : Answer)
+    → StandsStore old origin world → SaysAnswer old new key (Ok given) → MakesCall origin world who (wanted.Ask key) new (Ok (reply.Answer given))
 ask_made old new origin world who key given stands says =
     let event : Event = Called who (wanted.Ask key) (ask_told world.past key (Value given.value)) in
     let stamp : given.stamp ≡ length (log_of world.past) = says.answer.1 ∙ ap (λ (l : List Commit). length l) stands.0.log in (
       Value given.value,
       ap (λ (a : Answer). reply.Answer a) (answer_is given key (length (log_of world.past)) says.answer.0 stamp),
-      call_made old new false origin world event stands says.ledger says.counts says.never_falls refl refl refl (λ told. (says.tells told).0) (λ told. (says.tells told).1),
+      call_made old new false origin world event stands says.ledger says.counts says.never_falls refl refl refl
+          (λ told. (says.tells told).0) (λ told. (says.tells told).1),
     )
   where
-    answer_is : (given : Answer) (key : QKey) (stamp : ℕ) → given.key ≡ key → given.stamp ≡ stamp → given ≡ record { key = key; value = given.value; stamp = stamp }
+    answer_is : (given : Answer) (key : QKey) (stamp : ℕ) → given.key ≡ key
+        → given.stamp ≡ stamp → given ≡ record { key = key; value = given.value; stamp = stamp }
     answer_is given key stamp e f = λ i. record { key = e i; value = given.value; stamp = f i }
 
 -- the keeper failed to answer a key
-pub ask_failed : (old new : StoreView) (origin : Origin) (world : World) (who : Sid) (key : QKey) → StandsStore old origin world → SaysAnswer old new key (Err keep.Failed) → MakesCall origin world who (wanted.Ask key) new (Ok (reply.Fault causes.Keep))
-ask_failed old new origin world who key stands says =
-    (Failed, refl, call_made old new true origin world (Called who (wanted.Ask key) (reply.Fault causes.Keep)) stands says.ledger says.counts says.never_falls refl refl refl (λ told. (says.tells told).0) (λ told. tt))
+pub ask_failed : (old new : StoreView) (origin : Origin) (world : World) (who : Sid) (key : QKey)
+    → StandsStore old origin world → SaysAnswer old new key (Err keep.Failed) → MakesCall origin world who (wanted.Ask key) new (Ok (reply.Fault causes.Keep))
+ask_failed old new origin world who key stands says = (
+  Failed,
+  refl,
+  call_made old new true origin world (Called who (wanted.Ask key) (reply.Fault causes.Keep))
+      stands says.ledger says.counts says.never_falls refl refl refl (λ told. (says.tells told).0) (λ told. tt),
+)
 
 -- what a store says of the answer that a transaction would leave
 pub record SaysStaged (old new : StoreView) (key : QKey) (txn : List Change) (made : Result (List ℕ) AfterFault) : Type 0 where
@@ -240,24 +274,39 @@ pub record SaysStaged (old new : StoreView) (key : QKey) (txn : List Change) (ma
   pub never_falls : old.faults ≤ new.faults
 
 -- a key was answered as after a transaction
-pub staged_made : (old new : StoreView) (origin : Origin) (world : World) (who : Sid) (key : QKey) (txn : List Change) (value : List ℕ) → StandsStore old origin world → SaysStaged old new key txn (Ok value) →
+pub staged_made : (old new : StoreView) (origin : Origin) (world : World) (who : Sid) (key : QKey) (txn : List Change) (value : List ℕ)
+    → StandsStore old origin world → SaysStaged old new key txn (Ok value) →
     MakesCall origin world who (wanted.Staged key txn) new (Ok (reply.Staged value txn))
-staged_made old new origin world who key txn value stands says =
-    (Value value, refl, call_made old new false origin world (Called who (wanted.Staged key txn) (reply.Staged value txn)) stands says.ledger says.counts says.never_falls refl refl refl (λ told. (says.tells told).0) (λ told. (says.tells told).1))
+staged_made old new origin world who key txn value stands says = (
+  Value value,
+  refl,
+  call_made old new false origin world (Called who (wanted.Staged key txn) (reply.Staged value txn))
+      stands says.ledger says.counts says.never_falls refl refl refl (λ told. (says.tells told).0) (λ told. (says.tells told).1),
+)
 
 -- the transaction is rejected
-pub staged_rejected : (old new : StoreView) (origin : Origin) (world : World) (who : Sid) (key : QKey) (txn : List Change) (index : ℕ) → StandsStore old origin world → SaysStaged old new key txn (Err (staged.Rejected index)) →
+pub staged_rejected : (old new : StoreView) (origin : Origin) (world : World) (who : Sid) (key : QKey) (txn : List Change) (index : ℕ)
+    → StandsStore old origin world → SaysStaged old new key txn (Err (staged.Rejected index)) →
     MakesCall origin world who (wanted.Staged key txn) new (Ok (reply.NotStaged (staged.Rejected index) txn))
 staged_rejected old new origin world who key txn index stands says =
-    let event : Event = Called who (wanted.Staged key txn) (reply.NotStaged (staged.Rejected index) txn) in
-    (Rejected index, refl, call_made old new false origin world event stands says.ledger says.counts says.never_falls refl refl refl (λ told. (says.tells told).0) (λ told. (says.tells told).1))
+    let event : Event = Called who (wanted.Staged key txn) (reply.NotStaged (staged.Rejected index) txn) in (
+      Rejected index,
+      refl,
+      call_made old new false origin world event stands says.ledger says.counts says.never_falls refl refl refl
+          (λ told. (says.tells told).0) (λ told. (says.tells told).1),
+    )
 
 -- the keeper failed to answer a key as after a transaction
-pub staged_fails : (old new : StoreView) (origin : Origin) (world : World) (who : Sid) (key : QKey) (txn : List Change) → StandsStore old origin world → SaysStaged old new key txn (Err staged.Failed) →
+pub staged_fails : (old new : StoreView) (origin : Origin) (world : World) (who : Sid) (key : QKey) (txn : List Change)
+    → StandsStore old origin world → SaysStaged old new key txn (Err staged.Failed) →
     MakesCall origin world who (wanted.Staged key txn) new (Ok (reply.NotStaged staged.Failed txn))
 staged_fails old new origin world who key txn stands says =
-    let event : Event = Called who (wanted.Staged key txn) (reply.NotStaged staged.Failed txn) in
-    (Failed, refl, call_made old new true origin world event stands says.ledger says.counts says.never_falls refl refl refl (λ told. (says.tells told).0) (λ told. tt))
+    let event : Event = Called who (wanted.Staged key txn) (reply.NotStaged staged.Failed txn) in (
+      Failed,
+      refl,
+      call_made old new true origin world event stands says.ledger says.counts says.never_falls refl refl refl
+          (λ told. (says.tells told).0) (λ told. tt),
+    )
 
 -- a reply of this fault tells of the keeper where the fault is that of one that failed
 fault_is : (fault : CommitFault) (txn : List Change) (grants : GrantsView) → tells_fault (reply.NotCommitted fault txn grants) ≡ is_failure fault
@@ -268,7 +317,8 @@ fault_is faults.Memory txn grants = refl
 fault_is (faults.Rejected index) txn grants = refl
 fault_is faults.KeepFault txn grants = refl
 
-true_fault : (fault : CommitFault) (request : Wanted) (txn : List Change) (grants : GrantsView) (rows : Tables) → IsTrueFault txn rows fault → IsTrueReply rows request (reply.NotCommitted fault txn grants)
+true_fault : (fault : CommitFault) (request : Wanted) (txn : List Change) (grants : GrantsView) (rows : Tables)
+    → IsTrueFault txn rows fault → IsTrueReply rows request (reply.NotCommitted fault txn grants)
 true_fault faults.Ended request txn grants rows h = tt
 true_fault (faults.Uncovered key) request txn grants rows h = tt
 true_fault (faults.LogFull count) request txn grants rows h = tt
@@ -277,7 +327,8 @@ true_fault (faults.Rejected index) request txn grants rows h = h
 true_fault faults.KeepFault request txn grants rows h = tt
 
 -- what the keeper said in a commit that was refused
-said_of : (count : ℕ) (txn : List Change) (grants : GrantsView) (first : Option CommitFault) (fault : CommitFault) → IsRefusal first fault → fault ≢ faults.Memory → (said : Said) × (reply.NotCommitted fault txn grants ≡ commit_by count txn grants said first)
+said_of : (count : ℕ) (txn : List Change) (grants : GrantsView) (first : Option CommitFault) (fault : CommitFault)
+    → IsRefusal first fault → fault ≢ faults.Memory → (said : Said) × (reply.NotCommitted fault txn grants ≡ commit_by count txn grants said first)
 said_of count txn grants (Some found) faults.Ended h more = (Failed, ap (λ (f : CommitFault). reply.NotCommitted f txn grants) h)
 said_of count txn grants (Some found) (faults.Uncovered key) h more = (Failed, ap (λ (f : CommitFault). reply.NotCommitted f txn grants) h)
 said_of count txn grants (Some found) (faults.LogFull number) h more = (Failed, ap (λ (f : CommitFault). reply.NotCommitted f txn grants) h)
@@ -292,8 +343,10 @@ said_of count txn grants None (faults.Rejected index) h more = (Rejected index, 
 said_of count txn grants None faults.KeepFault h more = (Failed, refl)
 
 -- the first fault that the store finds is the machine's
-first_is : (store : StoreView) (origin : Origin) (world : World) (who : Sid) (txn : List Change) (grants : GrantsView) (items : List Permit) → StandsStore store origin world → 1 ≤ who.number → items ≡ grants.items →
-    commit_fault (may_commit who store.ledger.sessions) who items txn (length store.ledger.log) store.ledger.cap ≡ commit_fault (is_open world who) who grants.items txn (length (log_of world.past)) log_cap
+first_is : (store : StoreView) (origin : Origin) (world : World) (who : Sid) (txn : List Change) (grants : GrantsView) (items : List Permit)
+    → StandsStore store origin world → 1 ≤ who.number → items ≡ grants.items →
+    commit_fault (may_commit who store.ledger.sessions) who items txn (length store.ledger.log) store.ledger.cap
+    ≡ commit_fault (is_open world who) who grants.items txn (length (log_of world.past)) log_cap
 first_is store origin world who txn grants items stands some same =
     let cap = store.ledger.cap in
     ap (λ (b : Bool). commit_fault b who items txn (length store.ledger.log) cap) (stands.1.opens who some)
@@ -302,20 +355,24 @@ first_is store origin world who txn grants items stands some same =
     ∙ ap (λ (l : List Permit). commit_fault (is_open world who) who l txn (length (log_of world.past)) log_cap) same
 
 -- a commit was refused
-pub commit_refused : (old new : StoreView) (origin : Origin) (world : World) (who : Sid) (txn : List Change) (grants : GrantsView) (items : List Permit) (fault : CommitFault) → StandsStore old origin world → 1 ≤ who.number → items ≡ grants.items → fault ≢ faults.Memory →
-    IsRefusal (commit_fault (may_commit who old.ledger.sessions) who items txn (length old.ledger.log) old.ledger.cap) fault → new.ledger ≡ with_call (is_failure fault) old.ledger → Counts (is_failure fault) old.faults new.faults → old.faults ≤ new.faults →
+pub commit_refused : (old new : StoreView) (origin : Origin) (world : World) (who : Sid) (txn : List Change) (grants : GrantsView)
+    (items : List Permit) (fault : CommitFault) → StandsStore old origin world → 1 ≤ who.number → items ≡ grants.items → fault ≢ faults.Memory →
+    IsRefusal (commit_fault (may_commit who old.ledger.sessions) who items txn (length old.ledger.log) old.ledger.cap) fault
+    → new.ledger ≡ with_call (is_failure fault) old.ledger → Counts (is_failure fault) old.faults new.faults → old.faults ≤ new.faults →
     (IsSome new.told → IsSome old.told) → (IsSome new.told → IsTrueFault txn (rows_after old.ledger.opening old.ledger.log) fault) →
     MakesCall origin world who (wanted.Commit txn grants) new (Ok (reply.NotCommitted fault txn grants))
 commit_refused old new origin world who txn grants items fault stands some same more refusal ledger rose no_less told truth =
     let request = wanted.Commit txn grants in
     let first = first_is old origin world who txn grants items stands some same in
     let R : Option CommitFault → Type 0 = λ o. IsRefusal o fault in
-    let said = said_of (length (log_of world.past)) txn grants (commit_fault (is_open world who) who grants.items txn (length (log_of world.past)) log_cap) fault (subst R first refusal) more in
+    let said = said_of (length (log_of world.past)) txn grants
+    (commit_fault (is_open world who) who grants.items txn (length (log_of world.past)) log_cap) fault (subst R first refusal) more in
     let answer : Reply = reply.NotCommitted fault txn grants in
     let event : Event = Called who request answer in
     let S : Reply → Type 0 = λ r. StandsStore new origin (after world (Called who request r)) in
     let there : StandsStore new origin (after world event) =
-    call_made old new (is_failure fault) origin world event stands ledger rose no_less (fault_is fault txn grants) refl refl told (λ is_told. true_fault fault request txn grants (rows_after old.ledger.opening old.ledger.log) (truth is_told)) in
+    call_made old new (is_failure fault) origin world event stands ledger rose no_less (fault_is fault txn grants) refl refl told
+    (λ is_told. true_fault fault request txn grants (rows_after old.ledger.opening old.ledger.log) (truth is_told)) in
     (said.0, said.1, subst S said.1 there)
 
 -- a commit whose transaction no fault refuses is one of a session that is open
@@ -324,15 +381,18 @@ is_opened true who items txn count cap h = refl
 is_opened false who items txn count cap h = absurd cc
 
 -- a transaction was committed
-pub commit_made : (old new : StoreView) (origin : Origin) (world : World) (who : Sid) (txn : List Change) (grants : GrantsView) (items : List Permit) (number : ℕ) → StandsStore old origin world → 1 ≤ who.number → items ≡ grants.items →
-    commit_fault (may_commit who old.ledger.sessions) who items txn (length old.ledger.log) old.ledger.cap ≡ None → number ≡ length old.ledger.log + 1 → new.ledger ≡ with_commit who txn old.ledger → new.faults ≡ old.faults →
+pub commit_made : (old new : StoreView) (origin : Origin) (world : World) (who : Sid)
+    (txn : List Change) (grants : GrantsView) (items : List Permit) (number : ℕ) → StandsStore old origin world → 1 ≤ who.number → items ≡ grants.items →
+    commit_fault (may_commit who old.ledger.sessions) who items txn (length old.ledger.log) old.ledger.cap ≡ None
+    → number ≡ length old.ledger.log + 1 → new.ledger ≡ with_commit who txn old.ledger → new.faults ≡ old.faults →
     (IsSome new.told → IsSome old.told) → (IsSome new.told → (rows : Tables) × (apply_all txn (rows_after old.ledger.opening old.ledger.log) ≡ Ok rows)) →
     MakesCall origin world who (wanted.Commit txn grants) new (Ok (reply.Committed number txn grants))
 commit_made old new origin world who txn grants items number stands some same admitted numbered ledger same_count told truth =
     let request = wanted.Commit txn grants in
     let count = length (log_of world.past) in
     let none = sym (first_is old origin world who txn grants items stands some same) ∙ admitted in
-    let is_so : may_commit who old.ledger.sessions ≡ true = is_opened (may_commit who old.ledger.sessions) who items txn (length old.ledger.log) old.ledger.cap admitted in
+    let is_so : may_commit who old.ledger.sessions ≡ true =
+    is_opened (may_commit who old.ledger.sessions) who items txn (length old.ledger.log) old.ledger.cap admitted in
     let answer : Reply = reply.Committed number txn grants in
     let event : Event = Called who request answer in
     let numbers : number ≡ count + 1 = numbered ∙ ap (λ (l : List Commit). length l + 1) stands.0.log in
@@ -361,14 +421,17 @@ pub record SaysCommit (old new : StoreView) (who : Sid) (items : List Permit) (t
   pub never_falls : old.faults ≤ new.faults
 
 -- a commit was asked for
-pub commit_makes : (old new : StoreView) (origin : Origin) (world : World) (who : Sid) (txn : List Change) (grants : GrantsView) (items : List Permit) (made : Result ℕ (CommitFault × List Change)) (told : Result Reply Memory) → StandsStore old origin world → 1 ≤ who.number → items ≡ grants.items →
+pub commit_makes : (old new : StoreView) (origin : Origin) (world : World) (who : Sid) (txn : List Change) (grants : GrantsView) (items : List Permit)
+    (made : Result ℕ (CommitFault × List Change)) (told : Result Reply Memory) → StandsStore old origin world → 1 ≤ who.number → items ≡ grants.items →
     SaysCommit old new who items txn made → IsToldOfCommit made txn grants told → MakesCall origin world who (wanted.Commit txn grants) new told
 commit_makes old new origin world who txn grants items (Ok number) told stands some same says is =
     let P : Result Reply Memory → Type 0 = λ r. MakesCall origin world who (wanted.Commit txn grants) new r in
-    subst P (sym is) (commit_made old new origin world who txn grants items number stands some same says.admitted says.number says.ledger says.counts says.tells says.applied)
+    subst P (sym is)
+    (commit_made old new origin world who txn grants items number stands some same says.admitted says.number says.ledger says.counts says.tells says.applied)
 commit_makes old new origin world who txn grants items (Err back) (Ok told) stands some same says is =
     let P : Reply → Type 0 = λ r. MakesCall origin world who (wanted.Commit txn grants) new (Ok r) in
-    subst P (sym is.0) (commit_refused old new origin world who txn grants items back.0 stands some same is.1 says.refusal says.err says.counts says.never_falls says.tells says.rejected)
+    subst P (sym is.0) (commit_refused old new origin world who txn
+    grants items back.0 stands some same is.1 says.refusal says.err says.counts says.never_falls says.tells says.rejected)
 commit_makes old new origin world who txn grants items (Err back) (Err memory) stands some same says is =
     let ledger : new.ledger ≡ old.ledger = says.err ∙ ap (λ (f : CommitFault). with_call (is_failure f) old.ledger) is in
     let same : new.faults ≡ old.faults = subst (λ (f : CommitFault). Counts (is_failure f) old.faults new.faults) is says.counts in

@@ -37,7 +37,8 @@ use Rattle.core_history.proofs.WritingLemmas.{open-uncommitted, shut-closed}
 -- what a sweeper wants: a scan, the end of the session of what was found, or the drop of what was found once its session was ended
 pub sweep_cases : (P : SweepWanted → Type 0) (shards : ℕ) (told : List SweepReply) → ((place : ℕ) → P (sweep.Scan place))
     → ((due : Due) (before : List SweepReply) → told ≡ sweeps.Found due ∷ before → P (sweep.End due.sid))
-    → ((due : Due) (was : Bool) (before : List SweepReply) → told ≡ sweeps.Ended was ∷ sweeps.Found due ∷ before → P (sweep.Drop due.key due.token)) → P (sweep_wants shards told)
+    → ((due : Due) (was : Bool) (before : List SweepReply) → told ≡ sweeps.Ended was ∷ sweeps.Found due ∷ before → P (sweep.Drop due.key due.token))
+    → P (sweep_wants shards told)
 sweep_cases P shards [] scan end drop = scan 0
 sweep_cases P shards (sweeps.Found due ∷ told) scan end drop = end due told refl
 sweep_cases P shards (sweeps.Dropped rel ∷ told) scan end drop = scan (shard_at shards told)
@@ -64,23 +65,34 @@ found-token key token past quar e =
     each [] = tt
     each (quar ∷ quars) = (tt, each quars)
 
-due-now : (terms : Terms) (past : List Step) (now : ℕ) (key : QKey) (token : ℕ) → IsAtHome terms key → AllByRecursion (StandsFor terms past) (due_now now key (quar_of key token past))
+due-now : (terms : Terms) (past : List Step) (now : ℕ) (key : QKey) (token : ℕ)
+    → IsAtHome terms key → AllByRecursion (StandsFor terms past) (due_now now key (quar_of key token past))
 due-now terms past now key token home = by (quar_of key token past) refl
   where
     by : (o : Option Quar) → quar_of key token past ≡ o → AllByRecursion (StandsFor terms past) (due_now now key o)
     by None e = tt
     by (Some quar) e =
         choose (AllByRecursion (StandsFor terms past)) (nat_le quar.deadline now) (due_as key quar ∷ []) []
-        (λ _. (record { quar = quar; stands = subst (λ t. quar_of key t past ≡ Some quar) (sym (found-token key token past quar e)) e; own = refl; home = home }, tt)) (λ _. tt)
+        (λ _. (
+          record {
+            quar = quar;
+            stands = subst (λ t. quar_of key t past ≡ Some quar) (sym (found-token key token past quar e)) e;
+            own = refl;
+            home = home;
+          },
+          tt,
+        )) (λ _. tt)
 
 due-by : (terms : Terms) (past : List Step) (now next : ℕ) (s : Step) → DrawsNext terms next s → AllByRecursion (StandsFor terms past) (due_by now past s)
 due-by terms past now next (step.Granted on sid mode shift at token deadline) drawn = due-now terms past now on token drawn.1
 due-by terms past now next other drawn = tt
 
-dues-stand : (terms : Terms) (past : List Step) (now : ℕ) (steps : List Step) → IsLegalPast terms steps → AllByRecursion (StandsFor terms past) (flat_map (due_by now past) steps)
+dues-stand : (terms : Terms) (past : List Step) (now : ℕ) (steps : List Step)
+    → IsLegalPast terms steps → AllByRecursion (StandsFor terms past) (flat_map (due_by now past) steps)
 dues-stand terms past now [] legal = tt
 dues-stand terms past now (s ∷ steps) legal =
-    every-append (StandsFor terms past) (due_by now past s) (flat_map (due_by now past) steps) (due-by terms past now (next_token terms steps) s (answers-draw terms steps s legal.0)) (dues-stand terms past now steps legal.1)
+    every-append (StandsFor terms past) (due_by now past s) (flat_map (due_by now past) steps)
+    (due-by terms past now (next_token terms steps) s (answers-draw terms steps s legal.0)) (dues-stand terms past now steps legal.1)
 
 some_due : {a b : Due} → Some a ≡ Some b → a ≡ b
 some_due e = cc
@@ -105,7 +117,8 @@ some_quar : {a b : Quar} → Some a ≡ Some b → a ≡ b
 some_quar e = cc
 
 -- so it is due, of a session that writes
-due-of : (shape : Shape) (world : World) (place : ℕ) (due : Due) → Inner shape world → first_due (now_of world.past) (steps_of place world.past) ≡ Some due → IsDueOf shape world.plans world.past due
+due-of : (shape : Shape) (world : World) (place : ℕ) (due : Due)
+    → Inner shape world → first_due (now_of world.past) (steps_of place world.past) ≡ Some due → IsDueOf shape world.plans world.past due
 due-of shape world place due inner e =
     let found = first-stands (terms_of shape place) (steps_of place world.past) (now_of world.past) due (inner.legal place) e in
     let home = shard_of due.key shape.shards in
@@ -114,7 +127,8 @@ due-of shape world place due inner e =
     let S : ℕ → Type 0 = λ p. quar_of due.key due.token (steps_of p world.past) ≡ Some found.quar in
     let stands : quar_of due.key due.token steps ≡ Some found.quar = subst S (sym found.home) found.stands in
     let planned = planned-quar world.plans due.key due.token steps found.quar (inner.planned home) stands in
-    let low = (every-found (λ quar. quar.token < next) (has_token due.token) (standing due.key steps) found.quar (stands_well shape world inner due.key).below stands).0 in
+    let low = (every-found (λ quar. quar.token < next) (has_token due.token)
+    (standing due.key steps) found.quar (stands_well shape world inner due.key).below stands).0 in
     let its = found-token due.key due.token steps found.quar stands in
     record {
       drawn = omega (arith, low, its);
@@ -134,12 +148,14 @@ scan-turn : (shape : Shape) (world : World) (place : ℕ) → Inner shape world 
 scan-turn shape world place inner = by (first_due (now_of world.past) (steps_of place world.past)) refl
   where
     by : (o : Option Due) → first_due (now_of world.past) (steps_of place world.past) ≡ o
-        → Inner shape (with_event world (Swept place (sweep.Scan place) None (scan_told o))) × IsGoodEvent shape world.past (Swept place (sweep.Scan place) None (scan_told o))
+        → Inner shape (with_event world (Swept place (sweep.Scan place) None (scan_told o)))
+        × IsGoodEvent shape world.past (Swept place (sweep.Scan place) None (scan_told o))
     by None e = (scanned-inner shape world place sweeps.NoneFound inner tt, (tt, tt))
     by (Some due) e = (scanned-inner shape world place (sweeps.Found due) inner (due-of shape world place due inner e), (tt, tt))
 
 -- the session of what was found is ended: it is closed then
-end-turn : (shape : Shape) (world : World) (due : Due) (before : List SweepReply) → Inner shape world → sweeps_of world.past ≡ sweeps.Found due ∷ before → AfterSweep shape world (sweep.End due.sid)
+end-turn : (shape : Shape) (world : World) (due : Due) (before : List SweepReply)
+    → Inner shape world → sweeps_of world.past ≡ sweeps.Found due ∷ before → AfterSweep shape world (sweep.End due.sid)
 end-turn shape world due before inner told = by (is_open world who) refl
   where
     who : Sid
@@ -154,13 +170,19 @@ end-turn shape world due before inner told = by (is_open world who) refl
     by : (b : Bool) → is_open world who ≡ b → Inner shape (with_event world (event b)) × IsGoodEvent shape world.past (event b)
     by true still = (
       ended-inner shape world who true due before inner told
-          (or_inr (has_committed who.number (event true ∷ world.past)) (was_ended who.number (event true ∷ world.past)) (or_inl (who.number == who.number) (was_ended who.number world.past) (eq-eqb who.number who.number refl))),
+          (or_inr (has_committed who.number (event true ∷ world.past)) (was_ended who.number (event true ∷ world.past))
+          (or_inl (who.number == who.number) (was_ended who.number world.past) (eq-eqb who.number who.number refl))),
       (tt, λ logged. not_both (logged-committed who.number world.past logged) (open-uncommitted world who still)),
     )
-    by false shut = (ended-inner shape world who false due before inner told (closed-more who.number (event false) world.past (shut-closed world who is.plan is.at is.may shut)), (tt, tt))
+    by false shut = (
+      ended-inner shape world who false due before inner told
+          (closed-more who.number (event false) world.past (shut-closed world who is.plan is.at is.may shut)),
+      (tt, tt),
+    )
 
 -- the quarantine that was found is dropped, or stands no longer
-drop-turn : (shape : Shape) (world : World) (due : Due) (was : Bool) (before : List SweepReply) → Inner shape world → sweeps_of world.past ≡ sweeps.Ended was ∷ sweeps.Found due ∷ before
+drop-turn : (shape : Shape) (world : World) (due : Due) (was : Bool) (before : List SweepReply)
+    → Inner shape world → sweeps_of world.past ≡ sweeps.Ended was ∷ sweeps.Found due ∷ before
     → AfterSweep shape world (sweep.Drop due.key due.token)
 drop-turn shape world due was before inner told = by (quar_of due.key due.token steps) refl
   where

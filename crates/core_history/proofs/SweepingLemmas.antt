@@ -34,11 +34,13 @@ IsSweeping shape plans past told = Unit {0}
 -- a quarantine that stands after an event, of a token that was drawn before it, stood before it
 pub quar-before : (shape : Shape) (event : Event) (past : List Event) (key : QKey) (token : ℕ) (quar : Quar) → DrawsLate shape past event
     → token < next_token (terms_of shape (shard_of key shape.shards)) (steps_of (shard_of key shape.shards) past)
-    → quar_of key token (steps_of (shard_of key shape.shards) (event ∷ past)) ≡ Some quar → quar_of key token (steps_of (shard_of key shape.shards) past) ≡ Some quar
+    → quar_of key token (steps_of (shard_of key shape.shards) (event ∷ past)) ≡ Some quar
+    → quar_of key token (steps_of (shard_of key shape.shards) past) ≡ Some quar
 quar-before shape (Stepped place who request s told) past key token quar late low =
     let home = shard_of key shape.shards in
     let steps = steps_of home past in
-    maybe-step (λ l. quar_of key token l ≡ Some quar → quar_of key token steps ≡ Some quar) (place == home) s steps (λ _. quar-old s key token steps quar (late key token low).1) (λ _ h. h)
+    maybe-step (λ l. quar_of key token l ≡ Some quar
+    → quar_of key token steps ≡ Some quar) (place == home) s steps (λ _. quar-old s key token steps quar (late key token low).1) (λ _ h. h)
 quar-before shape (Called who request told) past key token quar late low = λ h. h
 quar-before shape (Ticked now) past key token quar late low = λ h. h
 quar-before shape (Swept place request None told) past key token quar late low = λ h.
@@ -46,10 +48,12 @@ quar-before shape (Swept place request None told) past key token quar late low =
 quar-before shape (Swept place request (Some s) told) past key token quar late low =
     let home = shard_of key shape.shards in
     let steps = steps_of home past in
-    maybe-step (λ l. quar_of key token l ≡ Some quar → quar_of key token steps ≡ Some quar) (place == home) s steps (λ _. quar-old s key token steps quar (late key token low).1) (λ _ h. h)
+    maybe-step (λ l. quar_of key token l ≡ Some quar
+    → quar_of key token steps ≡ Some quar) (place == home) s steps (λ _. quar-old s key token steps quar (late key token low).1) (λ _ h. h)
 
 -- what is due stays so after an event
-pub due-more : (shape : Shape) (plans : List Plan) (event : Event) (past : List Event) (due : Due) → DrawsLate shape past event → IsDueOf shape plans past due → IsDueOf shape plans (event ∷ past) due
+pub due-more : (shape : Shape) (plans : List Plan) (event : Event) (past : List Event) (due : Due)
+    → DrawsLate shape past event → IsDueOf shape plans past due → IsDueOf shape plans (event ∷ past) due
 due-more shape plans event past due late h =
     let home = shard_of due.key shape.shards in
     let more = next-append (terms_of shape home) (steps_in home event) (steps_of home past) in
@@ -62,16 +66,19 @@ due-more shape plans event past due late h =
       may = h.may;
     }
 
-pub sweeping-more : (shape : Shape) (plans : List Plan) (event : Event) (past : List Event) (told : List SweepReply) → DrawsLate shape past event → IsSweeping shape plans past told
+pub sweeping-more : (shape : Shape) (plans : List Plan) (event : Event) (past : List Event) (told : List SweepReply)
+    → DrawsLate shape past event → IsSweeping shape plans past told
     → IsSweeping shape plans (event ∷ past) told
 sweeping-more shape plans event past [] late h = tt
 sweeping-more shape plans event past (sweeps.Found due ∷ told) late h = due-more shape plans event past due late h
-sweeping-more shape plans event past (sweeps.Ended was ∷ sweeps.Found due ∷ told) late h = (due-more shape plans event past due late h.0, closed-more due.sid.number event past h.1)
+sweeping-more shape plans event past (sweeps.Ended was ∷ sweeps.Found due ∷ told) late h =
+    (due-more shape plans event past due late h.0, closed-more due.sid.number event past h.1)
 sweeping-more shape plans event past (sweeps.Ended was ∷ other) late h = tt
 sweeping-more shape plans event past (other ∷ told) late h = tt
 
 -- with one plan more
-due-begun : (shape : Shape) (plans : List Plan) (more : Plan) (past : List Event) (due : Due) → IsDueOf shape plans past due → IsDueOf shape (plans ++ more ∷ []) past due
+due-begun : (shape : Shape) (plans : List Plan) (more : Plan) (past : List Event) (due : Due)
+    → IsDueOf shape plans past due → IsDueOf shape (plans ++ more ∷ []) past due
 due-begun shape plans more past due h =
     record { drawn = h.drawn; mine = h.mine; plan = h.plan; at = plan-stays due.sid.number plans more h.plan h.at; may = h.may }
 

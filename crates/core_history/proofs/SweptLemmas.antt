@@ -1,5 +1,6 @@
 -- How shards, store and sweeper follow a step of the sweeper's.
-use Rattle.std.proofs.Common.{ℕ, ◌≡◌, ◌<◌, ◌≤◌, Bool, List, [], ◌∷◌, ◌++◌, length, Option, Some, None, Result, IfOk, slice_get, set, refl, sym, ap, subst, ◌∙◌, arith}
+use Rattle.std.proofs.Common.{ℕ, ◌≡◌, ◌<◌, ◌≤◌, Bool, List, [], ◌∷◌, ◌++◌, length, Option, Some, None, Result, IfOk, slice_get, set, refl}
+use Rattle.std.proofs.Common.{sym, ap, subst, ◌∙◌, arith}
 use Rattle.std.proofs.lemmas.List.{reverse-reverse}
 use Rattle.rows_model.specs.declared.keys.QKey.{QKey}
 use Rattle.rows_model.specs.declared.keys.Sid.{Sid}
@@ -70,7 +71,8 @@ end_told_is old new origin world who was stands some was_is ledger told faults =
 -- a key that was dropped on its shard
 pub drop_told_is : (shape : Shape) (world : World) (key : QKey) (token : ℕ) (shards : List ShardView) (place : ℕ) (shard new : ShardView) (told : Rel)
     → HasShards shards shape world.past → IsShardOf shape world.past key place shard
-    → new ≡ swept shard (sweep_step (past_of shard) key token) → told ≡ sweep_told (sweep_step (past_of shard) key token) → SweepsShards shape world (sweep.Drop key token) (set shards place new) (sweeps.Dropped told)
+    → new ≡ swept shard (sweep_step (past_of shard) key token) → told ≡ sweep_told (sweep_step (past_of shard) key token)
+    → SweepsShards shape world (sweep.Drop key token) (set shards place new) (sweeps.Dropped told)
 drop_told_is shape world key token shards place shard new told has is made answer = (
   ap (λ (t : Rel). sweeps.Dropped t ∷ []) (sym (answer ∙ ap sweep_told step_is)),
   subst P (sym is.here) (subst Q (sym after_is) (shards_swept shape world.past (sweep.Drop key token) key token _ home shards has is.within)),
@@ -102,8 +104,13 @@ stands_quiet store origin world event stands quiet =
 
 pub scan_sweeps : (origin : Origin) (world : World) (place : ℕ) (shards : List ShardView) (store : StoreView) (told : SweepReply)
     → Stands shards store origin world → IsToldSweeper origin.shape world (sweep.Scan place) told → Sweeps origin world (sweep.Scan place) shards store told
-scan_sweeps origin world place shards store told stands is =
-    (is, (shards_looked shards origin.shape world.past place (sweep.Scan place) _ stands.0, stands_quiet store origin world (sweep_of origin.shape world (sweep.Scan place)) stands.1 (quiet_scan place place None _)))
+scan_sweeps origin world place shards store told stands is = (
+  is,
+  (
+    shards_looked shards origin.shape world.past place (sweep.Scan place) _ stands.0,
+    stands_quiet store origin world (sweep_of origin.shape world (sweep.Scan place)) stands.1 (quiet_scan place place None _),
+  ),
+)
 
 pub end_sweeps : (origin : Origin) (world : World) (who : Sid) (shards : List ShardView) (store : StoreView) (told : SweepReply)
     → HasShards shards origin.shape world.past → SweepsStore origin world (sweep.End who) store told → Sweeps origin world (sweep.End who) shards store told
@@ -133,9 +140,11 @@ sweep_told_of shape world (sweep.Drop key token) told result is line =
     subst (λ (t : SweepReply). IfOk result (IsToldOf (Swept place (sweep.Drop key token) made t))) (sym (told_same _ told is)) (line place made)
 
 -- what a sweeper wanted was made and told, and its line written
-pub sweep_takes : (origin : Origin) (world : World) (request : SweepWanted) (shards : List ShardView) (store : StoreView) (old new : Sweeper) (told : SweepReply) (result : Result Told Memory)
+pub sweep_takes : (origin : Origin) (world : World) (request : SweepWanted)
+    (shards : List ShardView) (store : StoreView) (old new : Sweeper) (told : SweepReply) (result : Result Told Memory)
     → HasSweeper old origin.shape world.past
-    → request ≡ sweep_wants (shards_of old) (sweeps_of world.past) → Sweeps origin world request shards store told → shards_of new ≡ shards_of old → Follows new (told ∷ sweeps_of world.past)
+    → request ≡ sweep_wants (shards_of old) (sweeps_of world.past)
+    → Sweeps origin world request shards store told → shards_of new ≡ shards_of old → Follows new (told ∷ sweeps_of world.past)
     → ((shard : ℕ) (made : Option Step) → IfOk result (IsToldOf (Swept shard request made told))) → TakesSweep origin world shards store new result
 sweep_takes origin world request shards store old new told result has wants made same follows line =
     subst T (wants ∙ ap (λ (n : ℕ). sweep_wants n (sweeps_of world.past)) has.shards) (
@@ -149,4 +158,5 @@ sweep_takes origin world request shards store old new told result has wants made
   where
     T : SweepWanted → Type 0
     T w =
-        Stands shards store origin (after world (sweep_of origin.shape world w)) × HasSweeper new origin.shape (sweep_of origin.shape world w ∷ world.past) × IfOk result (IsToldOf (sweep_of origin.shape world w))
+        Stands shards store origin (after world (sweep_of origin.shape world w))
+        × HasSweeper new origin.shape (sweep_of origin.shape world w ∷ world.past) × IfOk result (IsToldOf (sweep_of origin.shape world w))

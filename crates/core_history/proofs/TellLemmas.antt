@@ -53,7 +53,8 @@ event_turn shape world who (wanted.Abort grant) said = stepped_turn who (wanted.
 event_turn shape world who wanted.Nothing said = called_turn who wanted.Nothing _
 
 -- the line of what was asked and answered is the event's
-line_is : (event : Event) (who : Sid) (request : Wanted) (reply : Reply) (asked : Asked) → IsTurn who request event → reply ≡ reply_in event → asked_words asked ≡ request_words request →
+line_is : (event : Event) (who : Sid) (request : Wanted) (reply : Reply) (asked : Asked)
+    → IsTurn who request event → reply ≡ reply_in event → asked_words asked ≡ request_words request →
     line (decimal who.number ∷ asked_words asked ++ reply_words reply) ≡ line_of event
 unfolding line_of
 line_is event who request reply asked turn reply_is words =
@@ -62,9 +63,12 @@ line_is event who request reply asked turn reply_is words =
     ∙ ap line (sym turn.words)
 
 -- a request was made, its line written, and its session told
-pub turn_told : (origin : Origin) (world : World) (who : Sid) (request : Wanted) (asked : Asked) (heard : List Reply) (shards : List ShardView) (store : StoreView) (session : Session) (reply : Reply) (text : Result (Vec ℕ Global) Memory) (fault : Bool) (told : Result Told Memory) →
-    asked_words asked ≡ request_words request → IfOk text (λ t. t.items ≡ line (decimal who.number ∷ asked_words asked ++ reply_words reply)) → fault ≡ tells_fault reply → IfOk told (λ t. (text ≡ Ok t.line) × (t.fault ≡ fault)) →
-    Makes origin world who request shards store (Ok reply) → Follows session false (reply ∷ heard) → TakesTurn origin world who request heard shards store session told
+pub turn_told : (origin : Origin) (world : World) (who : Sid) (request : Wanted) (asked : Asked) (heard : List Reply) (shards : List ShardView)
+    (store : StoreView) (session : Session) (reply : Reply) (text : Result (Vec ℕ Global) Memory) (fault : Bool) (told : Result Told Memory) →
+    asked_words asked ≡ request_words request → IfOk text (λ t. t.items ≡ line (decimal who.number ∷ asked_words asked ++ reply_words reply))
+    → fault ≡ tells_fault reply → IfOk told (λ t. (text ≡ Ok t.line) × (t.fault ≡ fault)) →
+    Makes origin world who request shards store (Ok reply) → Follows session false (reply ∷ heard)
+    → TakesTurn origin world who request heard shards store session told
 turn_told origin world who request asked heard shards store session reply text fault (Ok told) words written faulty is made next =
     let event = event_of origin.shape world who request made.0 in
     let T : Result (Vec ℕ Global) Memory → Type 0 = λ r. IfOk r (λ t. t.items ≡ line (decimal who.number ∷ asked_words asked ++ reply_words reply)) in

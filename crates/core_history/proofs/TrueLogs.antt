@@ -1,5 +1,6 @@
 -- Where the keeper's word was true the transactions of a log applied, and so answers follow the laws of rows.
-use Rattle.std.proofs.Common.{ℕ, zero, suc, ◌≡◌, ◌+◌, ◌≤◌, true, List, [], ◌∷◌, ◌++◌, length, take, All, Some, Ok, option_map, decimal, add-one, append-nil, refl, sym, ap, subst, ◌∙◌, ◌⊎◌, inl, inr, ⊎_elim, arith}
+use Rattle.std.proofs.Common.{ℕ, zero, suc, ◌≡◌, ◌+◌, ◌≤◌, true, List, [], ◌∷◌, ◌++◌, length, take, All, Some, Ok, option_map, decimal}
+use Rattle.std.proofs.Common.{add-one, append-nil, refl, sym, ap, subst, ◌∙◌, ◌⊎◌, inl, inr, ⊎_elim, arith}
 use Rattle.rows_model.specs.declared.keys.QKey.{QKey}
 use Rattle.rows_model.specs.declared.keys.Sid.{Sid}
 use Rattle.rows_model.specs.declared.changes.Change.{Change}
@@ -69,10 +70,12 @@ true_applied opening (event ∷ past) word place commit at =
     let more = commits_in event in
     let A : Tables → Type 0 = λ rows. Applies commit.txn rows in
     ⊎_elim
-    (λ old. let lt = get-within log commit place old in subst A (sym (state-more opening log more place (omega (arith, lt)))) (true_applied opening past word.1 place commit old))
+    (λ old. let lt = get-within log commit place old in
+    subst A (sym (state-more opening log more place (omega (arith, lt)))) (true_applied opening past word.1 place commit old))
     (λ last.
     let end : place ≡ length log = last.0 in
-    let here : state opening (log ++ more) place ≡ rows_after opening log = ap (λ n. state opening (log ++ more) n) end ∙ state-more opening log more (length log) (omega arith) ∙ state-whole opening log in
+    let here : state opening (log ++ more) place ≡ rows_after opening log =
+    ap (λ n. state opening (log ++ more) n) end ∙ state-more opening log more (length log) (omega arith) ∙ state-whole opening log in
     subst A (sym here) last.1)
     (event_applied (rows_after opening log) log event place commit word.0 at)
 
@@ -100,28 +103,34 @@ module _ (opening : Tables) (log : List Commit) (true_log : IsTrueLog opening lo
   fit_at (suc n) le =
       let found = stands-within log n (omega (arith, le)) in
       let applied = true_log.applied n found.0 found.1 in
-      subst Fit (sym (after_is n found.0 found.1)) (rows_stay found.0.txn (state opening log n) applied.after (fit_at n (omega (arith, le))) (true_log.ids n found.0 found.1) applied.is)
+      subst Fit (sym (after_is n found.0 found.1))
+      (rows_stay found.0.txn (state opening log n) applied.after (fit_at n (omega (arith, le))) (true_log.ids n found.0 found.1) applied.is)
 
   fit_where : (place : ℕ) (commit : Commit) → StandsAt log place commit → Fit (state opening log place)
   fit_where place commit at = let lt = get-within log commit place at in fit_at place (omega (arith, lt))
 
-  answer_is : (key : QKey) (place : ℕ) (commit : Commit) (at : StandsAt log place commit) → answer_after opening key (take (place + 1) log) ≡ answer key (true_log.applied place commit at).after
+  answer_is : (key : QKey) (place : ℕ) (commit : Commit) (at : StandsAt log place commit)
+      → answer_after opening key (take (place + 1) log) ≡ answer key (true_log.applied place commit at).after
   answer_is key place commit at = ap (λ n. answer key (state opening log n)) (add-one place) ∙ ap (λ rows. answer key rows) (after_is place commit at)
 
   -- a commit that doesn't touch the key leaves its answer
   pub leaves_untouched : (key : QKey) → LeavesUntouched key (answer_after opening key) log
   leaves_untouched key place commit at none =
       answer_is key place commit at
-      ∙ untouched_keeps commit.txn key (state opening log place) (true_log.applied place commit at).after (fit_where place commit at) (true_log.applied place commit at).is none
+      ∙ untouched_keeps commit.txn key (state opening log place) (true_log.applied place commit at).after
+      (fit_where place commit at) (true_log.applied place commit at).is none
 
   -- refreshed by a commit's changes the answer is the one after it
   pub makes_refreshed : (key : QKey) → MakesNext (λ txn value. refreshed key value txn) (answer_after opening key) log
   makes_refreshed key place commit at =
-      refreshed_is key commit.txn (state opening log place) (true_log.applied place commit at).after (fit_where place commit at) (true_log.ids place commit at) (true_log.applied place commit at).is
+      refreshed_is key commit.txn (state opening log place) (true_log.applied place commit at).after
+      (fit_where place commit at) (true_log.ids place commit at) (true_log.applied place commit at).is
       ∙ ap Some (sym (answer_is key place commit at))
 
   -- a count shifted by what a commit's changes add is the one after it
-  pub makes_shifted : (key : QKey) → is_count key ≡ true → MakesNext (λ txn value. option_map decimal (shifted value (delta_of key txn))) (answer_after opening key) log
+  pub makes_shifted : (key : QKey) → is_count key ≡ true
+      → MakesNext (λ txn value. option_map decimal (shifted value (delta_of key txn))) (answer_after opening key) log
   makes_shifted key counts place commit at =
-      delta_shifts key commit.txn (state opening log place) (true_log.applied place commit at).after counts (fit_where place commit at) (true_log.ids place commit at) (true_log.applied place commit at).is
+      delta_shifts key commit.txn (state opening log place) (true_log.applied place commit at).after counts
+      (fit_where place commit at) (true_log.ids place commit at) (true_log.applied place commit at).is
       ∙ ap Some (sym (answer_is key place commit at))

@@ -1,5 +1,6 @@
 -- Each move keeps the facts, and so they hold of every world.
-use Rattle.std.proofs.Common.{append-nil, ℕ, zero, suc, ◌≡◌, ◌-◌, Bool, false, List, [], ◌∷◌, ◌++◌, length, count_by, Option, Some, None, slice_get, refl, sym, ap, subst, ◌∙◌, inl, inr, ◌⊎◌, arith}
+use Rattle.std.proofs.Common.{append-nil, ℕ, zero, suc, ◌≡◌, ◌-◌, Bool, false, List, [], ◌∷◌, ◌++◌, length, count_by, Option, Some, None}
+use Rattle.std.proofs.Common.{slice_get, refl, sym, ap, subst, ◌∙◌, inl, inr, ◌⊎◌, arith}
 use Rattle.std.specs.List.{AllByRecursion}
 use Rattle.rows_model.specs.Placement.{shard_of}
 use Rattle.rows_model.specs.declared.keys.QKey.{QKey}
@@ -44,16 +45,21 @@ session-turn shape world who said inner = by (plan_at who.number world.plans) re
 
     by : (plan : Option Plan) → plan_at who.number world.plans ≡ plan → After shape world who said (wanted_by plan heard)
     by None is =
-        idle-turn shape world who said inner (subst (T (Called who wanted.Nothing reply.Nothing) reply.Nothing) (sym is) (tt, subst S is (inner.sessions who.number)))
+        idle-turn shape world who said inner
+        (subst (T (Called who wanted.Nothing reply.Nothing) reply.Nothing) (sym is) (tt, subst S is (inner.sessions who.number)))
     by (Some (Read key floor)) is = read-turn shape world who said key floor inner is
     by (Some (Write mode txn)) is =
-        write-turn shape world who said (Write mode txn) inner (record { at = is; may = refl; writer = subst S is (inner.sessions who.number); stays = λ event told w. subst (T event told) (sym is) w })
+        write-turn shape world who said (Write mode txn) inner
+        (record { at = is; may = refl; writer = subst S is (inner.sessions who.number); stays = λ event told w. subst (T event told) (sym is) w })
     by (Some (Look mode key txn)) is =
-        write-turn shape world who said (Look mode key txn) inner (record { at = is; may = refl; writer = subst S is (inner.sessions who.number); stays = λ event told w. subst (T event told) (sym is) w })
+        write-turn shape world who said (Look mode key txn) inner
+        (record { at = is; may = refl; writer = subst S is (inner.sessions who.number); stays = λ event told w. subst (T event told) (sym is) w })
     by (Some (Quit mode txn)) is =
-        write-turn shape world who said (Quit mode txn) inner (record { at = is; may = refl; writer = subst S is (inner.sessions who.number); stays = λ event told w. subst (T event told) (sym is) w })
+        write-turn shape world who said (Quit mode txn) inner
+        (record { at = is; may = refl; writer = subst S is (inner.sessions who.number); stays = λ event told w. subst (T event told) (sym is) w })
     by (Some (Skip key txn)) is =
-        write-turn shape world who said (Skip key txn) inner (record { at = is; may = refl; writer = subst S is (inner.sessions who.number); stays = λ event told w. subst (T event told) (sym is) w })
+        write-turn shape world who said (Skip key txn) inner
+        (record { at = is; may = refl; writer = subst S is (inner.sessions who.number); stays = λ event told w. subst (T event told) (sym is) w })
 
 -- so does every turn
 pub taken-inner : (shape : Shape) (world : World) (turn : Turn) (said : Said) → Inner shape world
@@ -79,7 +85,8 @@ idle-reply P p (reply.SarBack grant) h = absurd h
 idle-reply P p (reply.Fault fault) h = absurd h
 
 -- what a reply of Nothing leaves as it was is as at first
-idle-same : {X : Type 0} (f : List Reply → X) (heard : List Reply) → ((rest : List Reply) → f (reply.Nothing ∷ rest) ≡ f rest) → AllByRecursion IsIdle heard → f heard ≡ f []
+idle-same : {X : Type 0} (f : List Reply → X) (heard : List Reply)
+    → ((rest : List Reply) → f (reply.Nothing ∷ rest) ≡ f rest) → AllByRecursion IsIdle heard → f heard ≡ f []
 idle-same f [] same h = refl
 idle-same f (told ∷ heard) same h =
     idle-reply (λ r. f (r ∷ heard) ≡ f heard) (same heard) told h.0 ∙ idle-same f heard same h.1
@@ -104,7 +111,8 @@ not_there i x e = cc
 no_place : {X : Type 0} (xs : List X) (i : ℕ) (x : X) → xs ≡ [] → slice_get xs i ≡ Some x → ⊥
 no_place xs i x none e = not_there i x (sym (ap (λ l. slice_get l i) none) ∙ e)
 
-idle-writer : (shape : Shape) (past : List Event) (n : ℕ) (heard : List Reply) (plan : Plan) → AllByRecursion IsIdle heard → Writer shape past n heard (writing_of plan)
+idle-writer : (shape : Shape) (past : List Event) (n : ℕ) (heard : List Reply) (plan : Plan)
+    → AllByRecursion IsIdle heard → Writer shape past n heard (writing_of plan)
 idle-writer shape past n heard plan h =
     let none = idle-grants heard h in
     record {
@@ -116,7 +124,8 @@ idle-writer shape past n heard plan h =
       shut = inl (idle-count is_release heard refl h);
       ending = λ e. absurd (not_both e (idle-ending heard h));
       going = λ e. idle-same was_committed heard (λ rest. refl) h;
-      numbered = λ number e. let none : number_of heard ≡ None = idle-same number_of heard (λ rest. refl) h in let clash : None ≡ Some number = sym none ∙ e in cc;
+      numbered = λ number e. let none : number_of heard ≡ None = idle-same number_of heard (λ rest. refl) h in
+          let clash : None ≡ Some number = sym none ∙ e in cc;
       olds = λ i one e. absurd (no_place (given heard) i one (idle-given heard h) e);
     }
 
@@ -124,7 +133,8 @@ idle-holding : (key : QKey) (n : ℕ) (past : List Event) (heard : List Reply) �
 idle-holding key n past [] h = tt
 idle-holding key n past (told ∷ heard) h = idle-reply (λ r. IsHolding key n past (r ∷ heard)) tt told h.0
 
-idle-session : (shape : Shape) (past : List Event) (n : ℕ) (heard : List Reply) (plan : Option Plan) → AllByRecursion IsIdle heard → IsSession shape past n heard plan
+idle-session : (shape : Shape) (past : List Event) (n : ℕ) (heard : List Reply) (plan : Option Plan)
+    → AllByRecursion IsIdle heard → IsSession shape past n heard plan
 idle-session shape past n heard None h = h
 idle-session shape past n heard (Some (Read key floor)) h =
     let next = next_token (terms_of shape (shard_of key shape.shards)) (steps_of (shard_of key shape.shards) past) in
@@ -144,7 +154,8 @@ begun-inner : (shape : Shape) (world : World) (plan : Plan) → Inner shape worl
 begun-inner shape world plan inner = record {
   legal = inner.legal;
   known = inner.known;
-  planned = λ place. every-weaker (GrantsPlanned world.plans) (GrantsPlanned (world.plans ++ plan ∷ [])) (steps_of place world.past) (planned-begun world.plans plan) (inner.planned place);
+  planned = λ place. every-weaker (GrantsPlanned world.plans) (GrantsPlanned (world.plans ++ plan ∷ []))
+      (steps_of place world.past) (planned-begun world.plans plan) (inner.planned place);
   counts = inner.counts;
   covered = inner.covered;
   logged = logged-begun world.plans plan (log_of world.past) inner.logged;

@@ -33,11 +33,14 @@ next-turn shape world who said plan key inner w at asks = by (mode_on (mode_of p
   where
     by : (mode : Mode) → mode_on (mode_of plan) key ≡ mode → After shape world who said (quarantine_as mode key (changes_of plan))
     by Invalidate is =
-        ask-turn shape world who plan (wanted.QaReg key) key Invalidate (pos 0) inner w (record { none = λ t s out. refl; at = at; asks = asks; in_mode = sym is; by = refl; fits = refl })
+        ask-turn shape world who plan (wanted.QaReg key) key Invalidate
+        (pos 0) inner w (record { none = λ t s out. refl; at = at; asks = asks; in_mode = sym is; by = refl; fits = refl })
     by Refresh is =
-        ask-turn shape world who plan (wanted.QaRead key) key Refresh (pos 0) inner w (record { none = λ t s out. refl; at = at; asks = asks; in_mode = sym is; by = refl; fits = refl })
+        ask-turn shape world who plan (wanted.QaRead key) key Refresh
+        (pos 0) inner w (record { none = λ t s out. refl; at = at; asks = asks; in_mode = sym is; by = refl; fits = refl })
     by Delta is =
-        ask-turn shape world who plan (wanted.Delta key (delta_of key (changes_of plan))) key Delta (delta_of key (changes_of plan)) inner w (record { none = λ t s out. refl; at = at; asks = asks; in_mode = sym is; by = refl; fits = tt })
+        ask-turn shape world who plan (wanted.Delta key (delta_of key (changes_of plan))) key Delta
+        (delta_of key (changes_of plan)) inner w (record { none = λ t s out. refl; at = at; asks = asks; in_mode = sym is; by = refl; fits = tt })
 
 -- a session that looks at a key may be told anything of it
 look-turn : (shape : Shape) (world : World) (who : Sid) (said : Said) (plan : Plan) (key : QKey) → Inner shape world → IsWriter shape world who.number plan
@@ -49,7 +52,8 @@ look-turn shape world who said plan key inner w =
     let request = wanted.Get key 0 in
     let told = reply.Got found in
     let event = Stepped home who request s told in
-    w.stays event told (writer-mild shape event world.past who.number told (told_to who.number world.past) (writing_of plan) (record { brings = refl; had = refl; release = refl; commit = refl }) late
+    w.stays event told (writer-mild shape event world.past who.number told
+    (told_to who.number world.past) (writing_of plan) (record { brings = refl; had = refl; release = refl; commit = refl }) late
     (λ grant own. stood-quiet shape home who request s told world.past quiet (λ t x out. refl) who.number grant) (λ e. absurd (false≢true e)) w.writer))
 
 -- whatever a writer wants
@@ -65,9 +69,11 @@ write-turn shape world who said plan inner w =
     (λ one at ending none. abort-turn shape world who said plan one inner w (due (wanted.Abort one.permit) one (λ t s out. refl) at ending) none)
     (λ one at ending. dar-turn shape world who said plan one inner w (due (wanted.Dar one.permit) one (λ t s out. refl) at ending))
     (λ one number at ending told refresh. sar-turn shape world who said plan one number inner w (due _ one (λ t s out. refl) at ending) told refresh)
-    (λ one number at ending told delta. apply-turn shape world who said plan one number inner w (due (wanted.Apply one.permit number) one (λ t s out. refl) at ending) told delta)
+    (λ one number at ending told delta. apply-turn shape world who said plan one number inner w
+    (due (wanted.Apply one.permit number) one (λ t s out. refl) at ending) told delta)
     (nothing-turn shape world who said plan inner w)
   where
-    due : (request : Wanted) (one : Given) → ReturnsGrant one.permit request → slice_get (given (told_to who.number world.past)) (released (told_to who.number world.past)) ≡ Some one
+    due : (request : Wanted) (one : Given) → ReturnsGrant one.permit request
+        → slice_get (given (told_to who.number world.past)) (released (told_to who.number world.past)) ≡ Some one
         → is_ending (told_to who.number world.past) ≡ true → IsDueNext shape world who.number request one
     due request one returns at ending = record { returns = returns; at = at; shut = w.writer.ending ending }

@@ -1,5 +1,6 @@
 -- What the grants of a writer are after each reply.
-use Rattle.std.proofs.Common.{append-nil, ℕ, ℤ, ◌≡◌, ◌<◌, ◌+◌, ◌==◌, true, cond, List, [], ◌∷◌, ◌++◌, length, length-append, count_by, Some, slice_get, refl, sym, ap, subst, ◌∙◌, inl, inr, ◌⊎◌, arith}
+use Rattle.std.proofs.Common.{append-nil, ℕ, ℤ, ◌≡◌, ◌<◌, ◌+◌, ◌==◌, true, cond, List, [], ◌∷◌, ◌++◌, length, length-append, count_by, Some}
+use Rattle.std.proofs.Common.{slice_get, refl, sym, ap, subst, ◌∙◌, inl, inr, ◌⊎◌, arith}
 use Rattle.std.proofs.lemmas.Bool.{false≢true, eq-eqb}
 use Rattle.rows_model.specs.declared.keys.QKey.{QKey}
 use Rattle.rows_model.specs.declared.keys.Sid.{Sid}
@@ -30,7 +31,9 @@ use Rattle.core_history.specs.Machine.{terms_of, stepped_on}
 use Rattle.core_history.specs.Facts.{found_at}
 use Rattle.core_history.proofs.ListLemmas.{or_inl, and_intro, not_both, any-at, push-place, slice-last, count-cons}
 use Rattle.core_history.proofs.EventLemmas.{closed, closed-more}
-use Rattle.core_history.proofs.SessionLemmas.{Stood, Fits, Writer, Keeps, IsDrawn, IsOld, ReleasesNone, ReturnsGrant, IsLateDraw, maybe-step, late-draw, drawn-more, number-more, old-more, writer-more, stood-stepped, stood-granted, stood-new, stood-called, out-other}
+use Rattle.core_history.proofs.SessionLemmas.{Stood, Fits, Writer, Keeps, IsDrawn, IsOld, ReleasesNone, ReturnsGrant, IsLateDraw}
+use Rattle.core_history.proofs.SessionLemmas.{maybe-step, late-draw, drawn-more, number-more, old-more, writer-more, stood-stepped}
+use Rattle.core_history.proofs.SessionLemmas.{stood-granted, stood-new, stood-called, out-other}
 
 -- the event of a quarantine that is granted
 abbrev pub granted_event : Shape → List Event → Sid → Wanted → QKey → Mode → ℤ → ℕ → Event
@@ -48,7 +51,8 @@ granted_told shape past who key mode =
     reply.Quar (quarantine.Granted (granted_permit shape past who key mode) (old_value mode (entry key (steps_of (shard_of key shape.shards) past))))
 
 -- a quarantine that the session asked for is granted
-pub writer-granted : (shape : Shape) (past : List Event) (who : Sid) (request : Wanted) (key : QKey) (mode : Mode) (shift : ℤ) (now : ℕ) (heard : List Reply) (writing : Writing)
+pub writer-granted : (shape : Shape) (past : List Event) (who : Sid)
+    (request : Wanted) (key : QKey) (mode : Mode) (shift : ℤ) (now : ℕ) (heard : List Reply) (writing : Writing)
     → ReleasesNone request → slice_get writing.keys (count_by is_had heard) ≡ Some key → mode ≡ mode_on writing.mode key → is_asking heard ≡ true
     → Writer shape past who.number heard writing
     → Writer shape (granted_event shape past who request key mode shift now ∷ past) who.number (granted_told shape past who key mode ∷ heard) writing
@@ -99,14 +103,16 @@ writer-granted shape past who request key mode shift now heard writing none at i
         | inl before ↦ more.olds i one before
         | inr last ↦ subst (IsOld (event ∷ past)) last.1 (record {
           found = record { commits = length (log_of past); entry = entry key steps };
-          at = ap (λ b. cond b (Some (record { commits = length (log_of past); entry = entry key steps })) (found_at key token past)) (and_intro (same_key key key) (token == token) (same_key-refl key) (eq-eqb token token refl));
+          at = ap (λ b. cond b (Some (record { commits = length (log_of past); entry = entry key steps })) (found_at key token past))
+              (and_intro (same_key key key) (token == token) (same_key-refl key) (eq-eqb token token refl));
           old = λ refreshes. ap (λ m. old_value m (entry key steps)) refreshes;
         })
       ];
     }
 
 -- a grant is released by a session that is closed, and ends or is gone
-pub writer-released : (shape : Shape) (past : List Event) (place : ℕ) (who : Sid) (request : Wanted) (s : Step) (rel : Rel) (gone : Permit) (heard : List Reply) (writing : Writing)
+pub writer-released : (shape : Shape) (past : List Event) (place : ℕ)
+    (who : Sid) (request : Wanted) (s : Step) (rel : Rel) (gone : Permit) (heard : List Reply) (writing : Writing)
     → ReturnsGrant gone request → IsLateDraw shape past s → slice_get (granted heard) (released heard) ≡ Some gone → closed who.number past ≡ true
     → Writer shape past who.number heard writing → Writer shape (Stepped place who request s (reply.Rel rel) ∷ past) who.number (reply.Rel rel ∷ heard) writing
 writer-released shape past place who request s rel gone heard writing returns late at shut w =
@@ -119,7 +125,8 @@ writer-released shape past place who request s rel gone heard writing returns la
     let all : given (told ∷ heard) ≡ given heard = append-nil (given heard) in
     let had = w.had in
     let len = ap length same in
-    let old : (i : ℕ) (grant : Permit) → slice_get (granted (told ∷ heard)) i ≡ Some grant → slice_get (granted heard) i ≡ Some grant = λ i grant e. sym (ap (λ l. slice_get l i) same) ∙ e in
+    let old : (i : ℕ) (grant : Permit) → slice_get (granted (told ∷ heard)) i ≡ Some grant
+    → slice_get (granted heard) i ≡ Some grant = λ i grant e. sym (ap (λ l. slice_get l i) same) ∙ e in
     record {
       once = w.once;
       fits = λ i g e. w.fits i g (old i g e);
@@ -129,8 +136,10 @@ writer-released shape past place who request s rel gone heard writing returns la
           let here = old i g e in
           let mine = w.fits i g here in
           let theirs = w.fits (released heard) gone at in
-          let other : gone ≡ g → ⊥ = λ one. let place_is : i ≡ released heard = w.once i (released heard) g.key mine.at_key (theirs.at_key ∙ ap (λ (p : Permit). Some p.key) one) in omega (arith, not_yet, c, place_is) in
-          stood-stepped shape place who request s told past n g (λ _ still _. absurd (not_both shut still)) (out-other g gone request s returns other) (w.stood i g here (omega (arith, not_yet, c)));
+          let other : gone ≡ g → ⊥ = λ one. let place_is : i ≡ released heard =
+          w.once i (released heard) g.key mine.at_key (theirs.at_key ∙ ap (λ (p : Permit). Some p.key) one) in omega (arith, not_yet, c, place_is) in
+          stood-stepped shape place who request s told past n g (λ _ still _. absurd (not_both shut still))
+          (out-other g gone request s returns other) (w.stood i g here (omega (arith, not_yet, c)));
       shut = inr (closed-more n event past shut);
       ending = λ _. closed-more n event past shut;
       going = λ asks. absurd (false≢true asks);
@@ -141,9 +150,11 @@ writer-released shape past place who request s rel gone heard writing returns la
     }
 
 -- the session is told that it has committed
-pub writer-committed : (shape : Shape) (past : List Event) (who : Sid) (request : Wanted) (txn : List Change) (lent : GrantsView) (heard : List Reply) (writing : Writing)
+pub writer-committed : (shape : Shape) (past : List Event) (who : Sid)
+    (request : Wanted) (txn : List Change) (lent : GrantsView) (heard : List Reply) (writing : Writing)
     → Writer shape past who.number heard writing
-    → Writer shape (Called who request (reply.Committed (length (log_of past) + 1) txn lent) ∷ past) who.number (reply.Committed (length (log_of past) + 1) txn lent ∷ heard) writing
+    → Writer shape (Called who request (reply.Committed (length (log_of past) + 1) txn lent)
+    ∷ past) who.number (reply.Committed (length (log_of past) + 1) txn lent ∷ heard) writing
 writer-committed shape past who request txn lent heard writing w =
     let n = who.number in
     let number = length (log_of past) + 1 in
@@ -162,7 +173,8 @@ writer-committed shape past who request txn lent heard writing w =
     let last = slice-last (log_of past) commit in
     let shut : closed n (event ∷ past) ≡ true = or_inl (has_committed n (event ∷ past)) (was_ended n (event ∷ past))
     (any-at (λ (c : Commit). c.sid.number == n) (log_of past ++ commit ∷ []) (length (log_of past)) commit last (eq-eqb n n refl)) in
-    let old : (i : ℕ) (grant : Permit) → slice_get (granted (told ∷ heard)) i ≡ Some grant → slice_get (granted heard) i ≡ Some grant = λ i grant e. sym (ap (λ l. slice_get l i) same) ∙ e in
+    let old : (i : ℕ) (grant : Permit) → slice_get (granted (told ∷ heard)) i ≡ Some grant
+    → slice_get (granted heard) i ≡ Some grant = λ i grant e. sym (ap (λ l. slice_get l i) same) ∙ e in
     record {
       once = w.once;
       fits = λ i g e. w.fits i g (old i g e);

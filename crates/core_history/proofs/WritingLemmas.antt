@@ -1,5 +1,6 @@
 -- A session that writes: when it is open, what stands for it, and whose a quarantine is that it has.
-use Rattle.std.proofs.Common.{ℕ, ◌≡◌, ◌≤◌, ◌==◌, Bool, true, false, not, cond, ◌&&◌, ◌||◌, List, [], ◌∷◌, find, count_by, Some, None, slice_get, refl, sym, ap, subst, ◌∙◌, inl, inr, ◌⊎◌, arith}
+use Rattle.std.proofs.Common.{ℕ, ◌≡◌, ◌≤◌, ◌==◌, Bool, true, false, not, cond, ◌&&◌, ◌||◌, List, [], ◌∷◌, find, count_by, Some, None}
+use Rattle.std.proofs.Common.{slice_get, refl, sym, ap, subst, ◌∙◌, inl, inr, ◌⊎◌, arith}
 use Rattle.std.specs.List.{list_any}
 use Rattle.std.proofs.lemmas.Bool.{false≢true}
 use Rattle.std.proofs.lemmas.Option.{slice_get_within}
@@ -42,7 +43,8 @@ pub record IsWriter (shape : Shape) (world : World) (n : ℕ) (plan : Plan) : Ty
 
 -- no quarantine of the session stands on the key that it asks for next
 none_asked : (shape : Shape) (world : World) (who : Sid) (writing : Writing) (key : QKey) → Inner shape world
-    → Writer shape world.past who.number (told_to who.number world.past) writing → slice_get writing.keys (count_by is_had (told_to who.number world.past)) ≡ Some key
+    → Writer shape world.past who.number (told_to who.number world.past) writing
+    → slice_get writing.keys (count_by is_had (told_to who.number world.past)) ≡ Some key
     → list_any (is_of who) (standing key (steps_of (shard_of key shape.shards) world.past)) ≡ true → ⊥
 none_asked shape world who writing key inner w at stands =
     let home = shard_of key shape.shards in
@@ -65,13 +67,15 @@ no_own key who past = by (standing key past)
     by [] e = refl
     by (x ∷ xs) e = here (is_of who x) e (by xs)
       where
-        here : (b : Bool) → (b || list_any (is_of who) xs) ≡ false → (list_any (is_of who) xs ≡ false → find (is_of who) xs ≡ None) → cond b (Some x) (find (is_of who) xs) ≡ None
+        here : (b : Bool) → (b || list_any (is_of who) xs) ≡ false → (list_any (is_of who) xs ≡ false → find (is_of who) xs ≡ None)
+            → cond b (Some x) (find (is_of who) xs) ≡ None
         here true e rest = absurd (not_both refl e)
         here false e rest = rest e
 
 -- so it holds none there
 pub asked-free : (shape : Shape) (world : World) (who : Sid) (writing : Writing) (key : QKey) → Inner shape world
-    → Writer shape world.past who.number (told_to who.number world.past) writing → slice_get writing.keys (count_by is_had (told_to who.number world.past)) ≡ Some key
+    → Writer shape world.past who.number (told_to who.number world.past) writing
+    → slice_get writing.keys (count_by is_had (told_to who.number world.past)) ≡ Some key
     → own_of key who (steps_of (shard_of key shape.shards) world.past) ≡ None
 asked-free shape world who writing key inner w at =
     let steps = steps_of (shard_of key shape.shards) world.past in
@@ -102,9 +106,11 @@ pub closed-shut : (world : World) (who : Sid) → closed who.number world.past �
 closed-shut world who shut = not_true (is_open world who) (λ is_so. not_both shut (open-closed world who is_so))
 
 -- a writer that isn't open is closed
-pub shut-closed : (world : World) (who : Sid) (plan : Plan) → plan_at who.number world.plans ≡ Some plan → writes plan ≡ true → is_open world who ≡ false → closed who.number world.past ≡ true
+pub shut-closed : (world : World) (who : Sid) (plan : Plan) → plan_at who.number world.plans ≡ Some plan
+    → writes plan ≡ true → is_open world who ≡ false → closed who.number world.past ≡ true
 shut-closed world who plan at may shut =
-    by (has_committed who.number world.past) (was_ended who.number world.past) (ap (λ b. b && not (has_committed who.number world.past) && not (was_ended who.number world.past)) (sym (ap is_writer at ∙ may)) ∙ shut)
+    by (has_committed who.number world.past) (was_ended who.number world.past)
+    (ap (λ b. b && not (has_committed who.number world.past) && not (was_ended who.number world.past)) (sym (ap is_writer at ∙ may)) ∙ shut)
   where
     by : (a b : Bool) → (not a && not b) ≡ false → (a || b) ≡ true
     by true b e = refl
@@ -123,7 +129,8 @@ granted-stands shape past who heard writing w still key covered =
     let stood = w.stood found.0 grant found.2 (omega (arith, kept)) in
     let P : QKey → Type 0 = λ k. stands_for who (standing k (steps_of (shard_of k shape.shards) past)) ≡ true in
     let quars = standing grant.key (steps_of (shard_of grant.key shape.shards) past) in
-    let own : (quar : Quar) → is_of_permit grant quar ≡ true → (quar.sid.number == who.number) ≡ true = λ quar h. subst (λ n. (quar.sid.number == n) ≡ true) stood.own (and_elim _ _ (and_elim _ _ h).0).0 in
+    let own : (quar : Quar) → is_of_permit grant quar ≡ true → (quar.sid.number == who.number) ≡ true =
+    λ quar h. subst (λ n. (quar.sid.number == n) ≡ true) stood.own (and_elim _ _ (and_elim _ _ h).0).0 in
     subst P (sym same) (any-weaker (is_of_permit grant) (λ quar. quar.sid.number == who.number) quars own (stood.stands still))
   where
     by : (released heard ≡ 0) ⊎ (closed who.number past ≡ true) → released heard ≡ 0
@@ -141,7 +148,8 @@ pub record IsMine (n : ℕ) (plan : Plan) (grant : Permit) (quar : Quar) : Type 
 pub some_plan : {a b : Plan} → Some a ≡ Some b → a ≡ b
 some_plan e = cc
 
-pub stands-mine : (shape : Shape) (world : World) (who : Sid) (plan : Plan) (i : ℕ) (grant : Permit) (quar : Quar) → Inner shape world → IsWriter shape world who.number plan
+pub stands-mine : (shape : Shape) (world : World) (who : Sid) (plan : Plan) (i : ℕ) (grant : Permit) (quar : Quar)
+    → Inner shape world → IsWriter shape world who.number plan
     → slice_get (granted (told_to who.number world.past)) i ≡ Some grant → released (told_to who.number world.past) ≤ i
     → quar_of grant.key grant.token (steps_of (shard_of grant.key shape.shards) world.past) ≡ Some quar → IsMine who.number plan grant quar
 stands-mine shape world who plan i grant quar inner w at late found =

@@ -37,7 +37,8 @@ pub record IsShape (shape : Shape) : Type 0 where
   pub little_room : shape.room ≤ 65536
   pub some_life : 1 ≤ shape.life
 
--- what a core was made with: its shape, the rows that its keeper started with, and what was known of the keeper then, its rows, where it told them, and its count of faults
+-- what a core was made with: its shape, the rows that its keeper started with, and what
+-- was known of the keeper then, its rows, where it told them, and its count of faults
 pub record Origin : Type 0 where
   pub shape : Shape
   pub opening : Tables
@@ -72,7 +73,9 @@ pub record HasShards (shards : List ShardView) (shape : Shape) (past : List Even
 abbrev pub RoseBy : ℕ → ℕ → ℕ → Type 0
 RoseBy count before after = (before + count ≤ after) ⊎ ((before ≤ 2 ^ 64 - 1) × (2 ^ 64 - 1 ≤ after))
 
--- the store began with the opening rows, its log is that of these events, each call that failed was told as FAULT, the keeper's count of faults rose with it, and is as at first where none failed. Where the keeper tells its rows, it told them from the start, and each of its replies was true
+-- the store began with the opening rows, its log is that of these events, each call that failed
+-- was told as FAULT, the keeper's count of faults rose with it, and is as at first where none failed.
+-- Where the keeper tells its rows, it told them from the start, and each of its replies was true
 pub record HasStore (store : StoreView) (origin : Origin) (past : List Event) : Type 0 where
   pub opening : store.ledger.opening ≡ origin.opening
   pub log : store.ledger.log ≡ log_of past
@@ -121,13 +124,15 @@ pub record IsAt (core : CoreView) (origin : Origin) (moves : List Move) : Type 0
   pub phases : HasPhases core.store.ledger.sessions (world_of origin.shape moves)
   pub sessions : HasSessions core.sessions (world_of origin.shape moves)
 
--- what is so of the log and the histories of a core that stands after these moves, whatever its keeper said. Where it tells its rows, they are the opening rows after the log, and no hit is stale
+-- what is so of the log and the histories of a core that stands after these moves, whatever its
+-- keeper said. Where it tells its rows, they are the opening rows after the log, and no hit is stale
 pub record IsSound (core : CoreView) (origin : Origin) (moves : List Move) : Type 0 where
   pub log : core.store.ledger.log ≡ log_of (world_of origin.shape moves).past
   pub histories : map (λ shard. shard.history) core.shards ≡ histories_of origin.shape (world_of origin.shape moves).past
   pub lawful : IsLawful origin.shape (world_of origin.shape moves).past
   pub rows : ForSome core.store.told (λ rows. rows ≡ rows_after origin.opening (log_of (world_of origin.shape moves).past))
-  pub fresh : IsSome core.store.told → Fresh origin.opening (log_of (world_of origin.shape moves).past) (histories_of origin.shape (world_of origin.shape moves).past)
+  pub fresh : IsSome core.store.told
+      → Fresh origin.opening (log_of (world_of origin.shape moves).past) (histories_of origin.shape (world_of origin.shape moves).past)
 
 -- how many shards the core has
 abbrev pub shards_in : CoreView → ℕ

@@ -18,7 +18,8 @@ abbrev pub call_of : Move → Call
 call_of (Begin plan) = Adds plan
 call_of (Take turn said) = Turns turn
 
--- Two runs of one script have the same events, each with the same reply, where the keeper's word was true in both over the same opening rows and the same turns were answered FAULT.
+-- Two runs of one script have the same events, each with the same reply, where the keeper's
+-- word was true in both over the same opening rows and the same turns were answered FAULT.
 abbrev pub RunsAreDetermined : Type 0
 RunsAreDetermined =
     (shape : Shape) (opening : Tables) (moves others : List Move) → map call_of moves ≡ map call_of others

@@ -13,7 +13,9 @@ use Rattle.session_client.specs.declared.replies.Reply.{Reply}
 use Rattle.session_client.specs.declared.replies.Reply.TheVariants as reply
 use Rattle.session_client.specs.declared.replies.Wanted.{Wanted}
 
--- One event: a session's request on a shard, the step that came of it and what the session was told; its request at the store, or none, and what it was told; the clock, and what it says now; or what the sweeper wanted, on which shard, the step that it made there, if it made one, and what it was told.
+-- One event: a session's request on a shard, the step that came of it and what the session was told;
+-- its request at the store, or none, and what it was told; the clock, and what it says now; or what
+-- the sweeper wanted, on which shard, the step that it made there, if it made one, and what it was told.
 pub data Event : Type 0 where
   Stepped : (shard : ℕ) (who : Sid) (request : Wanted) (step : Step) (told : Reply) → Event
   Called : (who : Sid) (request : Wanted) (told : Reply) → Event

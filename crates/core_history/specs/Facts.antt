@@ -1,5 +1,6 @@
 -- What holds before and after every event of a run.
-use Rattle.std.specs.Prelude.{ℕ, ◌≡◌, ◌≢◌, ◌+◌, ◌<◌, ◌≤◌, ◌⊎◌, ◌==◌, ◌&&◌, Bool, true, false, if◌then◌else◌, List, [], ◌∷◌, ◌++◌, length, All, count_by, Option, Some, None, slice_get}
+use Rattle.std.specs.Prelude.{ℕ, ◌≡◌, ◌≢◌, ◌+◌, ◌<◌, ◌≤◌, ◌⊎◌, ◌==◌, ◌&&◌, Bool, true, false, if◌then◌else◌, List, [], ◌∷◌, ◌++◌, length}
+use Rattle.std.specs.Prelude.{All, count_by, Option, Some, None, slice_get}
 use Rattle.std.specs.List.{list_any, AllByRecursion}
 use Rattle.rows_model.specs.declared.keys.QKey.{QKey}
 use Rattle.rows_model.specs.declared.keys.Sid.{Sid}
@@ -84,7 +85,8 @@ answers_under key token number (Called who request told ∷ past) =
 answers_under key token number (Ticked now ∷ past) = answers_under key token number past
 answers_under key token number (Swept shard request made told ∷ past) = answers_under key token number past
 
--- An answer that is held under a lease is the key's on the rows after as many commits as its stamp says, these are at least as many as there were at the lease, and no commit after them touches the key.
+-- An answer that is held under a lease is the key's on the rows after as many commits as its stamp
+-- says, these are at least as many as there were at the lease, and no commit after them touches the key.
 pub record IsCurrent (opening : Tables) (log : List Commit) (key : QKey) (least : ℕ) (answered : Answer) : Type 0 where
   pub since : least ≤ answered.stamp
   pub within : answered.stamp ≤ length log
@@ -147,7 +149,8 @@ pub record IsExclusive (opening : Tables) (shape : Shape) (world : World) (key :
   pub new : (place : ℕ) (commit : Commit) → slice_get (log_of world.past) place ≡ Some commit
       → commit.sid.number ≡ quar.sid.number → IsRefreshed opening (log_of world.past) key place commit.txn found.entry
 
--- A session that may still commit has each quarantine standing that it was granted. One whose quarantine ended with Keep didn't commit, and any whose quarantine ended may commit no more.
+-- A session that may still commit has each quarantine standing that it was granted. One whose
+-- quarantine ended with Keep didn't commit, and any whose quarantine ended may commit no more.
 abbrev pub IsOrdered : Shape → World → Step → Type 0
 IsOrdered shape world (step.Granted key sid mode shift now token deadline) =
     is_open world sid ≡ true → stands_for sid (standing key (steps_on shape world key)) ≡ true

@@ -57,7 +57,8 @@ IsNumbered log (Released key sid token (Put value stamp evicted)) = IsCommitOf l
 IsNumbered log (Released key sid token (Shift by stamp)) = IsCommitOf log sid stamp
 IsNumbered log other = Unit {0}
 
--- What holds after any moves, whatever the keeper said: each history is legal, each commit is covered, and was so when it was made, and each value that was put or shifted has the number of its session's commit.
+-- What holds after any moves, whatever the keeper said: each history is legal, each commit is covered, and
+-- was so when it was made, and each value that was put or shifted has the number of its session's commit.
 pub record IsLawful (shape : Shape) (past : List Event) : Type 0 where
   pub legal : (place : ℕ) → IsLegalPast (terms_of shape place) (steps_of place past)
   pub covered : Covered (log_of past) (histories_of shape past)

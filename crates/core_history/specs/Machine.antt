@@ -1,5 +1,6 @@
 -- The machine: what each turn does, read off the events before it, and off what the store's keeper said in it.
-use Rattle.std.specs.Prelude.{ℕ, ℤ, pos, min, ◌+◌, ◌-◌, ◌^◌, Bool, false, not, ◌==◌, ◌&&◌, if◌then◌else◌, List, [], ◌∷◌, ◌++◌, length, Option, Some, None, slice_get}
+use Rattle.std.specs.Prelude.{ℕ, ℤ, pos, min, ◌+◌, ◌-◌, ◌^◌, Bool, false, not, ◌==◌, ◌&&◌, if◌then◌else◌, List, [], ◌∷◌, ◌++◌, length}
+use Rattle.std.specs.Prelude.{Option, Some, None, slice_get}
 use Rattle.rows_model.specs.declared.keys.QKey.{QKey}
 use Rattle.rows_model.specs.declared.keys.Sid.{Sid}
 use Rattle.rows_model.specs.declared.changes.Change.{Change}
@@ -183,7 +184,8 @@ abbrev pub scan_told : Option Due → SweepReply
 scan_told None = sweeps.NoneFound
 scan_told (Some due) = sweeps.Found due
 
--- The event of what the sweeper wants: a scan finds the first quarantine that is past its deadline, an end is one at the store, and a drop is a step on the shard of its key, where the quarantine stands.
+-- The event of what the sweeper wants: a scan finds the first quarantine that is past its deadline,
+-- an end is one at the store, and a drop is a step on the shard of its key, where the quarantine stands.
 abbrev pub sweep_of : Shape → World → SweepWanted → Event
 sweep_of shape world (sweep.Scan place) =
     Swept place (sweep.Scan place) None (scan_told (first_due (now_of world.past) (steps_of place world.past)))

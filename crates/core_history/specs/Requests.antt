@@ -77,19 +77,22 @@ after world event = record { plans = world.plans; past = event ∷ world.past }
 -- A request on a shard was made: the shards stand after its event, whose reply this is. For want of memory they stand as before. The keeper is not asked.
 abbrev pub MakesStep : Shape → World → Sid → Wanted → List ShardView → Result Reply Memory → Type 0
 MakesStep shape world who request shards result =
-    MatchResult result (λ told. (told ≡ reply_in (event_of shape world who request Failed)) × HasShards shards shape (event_of shape world who request Failed ∷ world.past))
+    MatchResult result (λ told. (told ≡ reply_in (event_of shape world who request Failed))
+    × HasShards shards shape (event_of shape world who request Failed ∷ world.past))
     (λ _. HasShards shards shape world.past)
 
 -- A request at the store was made, for some word of the keeper: the store stands after its event, whose reply this is. For want of memory it stands as before.
 abbrev pub MakesCall : Origin → World → Sid → Wanted → StoreView → Result Reply Memory → Type 0
 MakesCall origin world who request store result =
-    MatchResult result (λ told. (said : Said) × (told ≡ reply_in (event_of origin.shape world who request said)) × StandsStore store origin (after world (event_of origin.shape world who request said)))
+    MatchResult result (λ told. (said : Said) × (told ≡ reply_in (event_of origin.shape world who request said))
+    × StandsStore store origin (after world (event_of origin.shape world who request said)))
     (λ _. StandsStore store origin world)
 
 -- A request was made, for some word of the keeper: shards and store stand after its event, whose reply this is. For want of memory they stand as before.
 abbrev pub Makes : Origin → World → Sid → Wanted → List ShardView → StoreView → Result Reply Memory → Type 0
 Makes origin world who request shards store result =
-    MatchResult result (λ told. (said : Said) × (told ≡ reply_in (event_of origin.shape world who request said)) × Stands shards store origin (after world (event_of origin.shape world who request said)))
+    MatchResult result (λ told. (said : Said) × (told ≡ reply_in (event_of origin.shape world who request said))
+    × Stands shards store origin (after world (event_of origin.shape world who request said)))
     (λ _. Stands shards store origin world)
 
 -- A session is told what came of its commit, and that want of memory ends it.
@@ -98,16 +101,20 @@ IsToldOfCommit (Ok number) txn grants result = result ≡ Ok (reply.Committed nu
 IsToldOfCommit (Err back) txn grants result =
     MatchResult result (λ told. (told ≡ reply.NotCommitted back.0 txn grants) × (back.0 ≢ faults.Memory)) (λ _. back.0 ≡ faults.Memory)
 
--- A turn was taken in which this was wanted: shards, store and session stand after its event, whose line was told. For want of memory the event may have been made or not.
+-- A turn was taken in which this was wanted: shards, store and session stand after its
+-- event, whose line was told. For want of memory the event may have been made or not.
 abbrev pub TakesTurn : Origin → World → Sid → Wanted → List Reply → List ShardView → StoreView → Session → Result Told Memory → Type 0
 TakesTurn origin world who request heard shards store session result =
-    MatchResult result (λ told. (said : Said) × IsToldOf (event_of origin.shape world who request said) told × Stands shards store origin (after world (event_of origin.shape world who request said)) × Follows session false (reply_in (event_of origin.shape world who request said) ∷ heard))
+    MatchResult result (λ told. (said : Said) × IsToldOf (event_of origin.shape world who request said) told
+    × Stands shards store origin (after world (event_of origin.shape world who request said))
+    × Follows session false (reply_in (event_of origin.shape world who request said) ∷ heard))
     (λ _. Stands shards store origin world ⊎ ((said : Said) × Stands shards store origin (after world (event_of origin.shape world who request said))))
 
 -- A turn of one of these sessions was taken at this time: it alone has changed, and not its plan and number, and it took its turn.
 abbrev pub TakesOne : List ShardView → StoreView → List Session → Sid → ℕ → List ShardView → StoreView → List Session → Result Told Memory → Type 0
 TakesOne shards store sessions who now shards_new store_new sessions_new result =
     (session : Session) → slice_get sessions (who.number - 1) ≡ Some session
-    → (new : Session) × (sessions_new ≡ slice_set sessions (who.number - 1) new) × (plan_of new ≡ plan_of session) × (sid_of new ≡ sid_of session) × OnOk result (IsReady new)
+    → (new : Session) × (sessions_new ≡ slice_set sessions (who.number - 1) new)
+    × (plan_of new ≡ plan_of session) × (sid_of new ≡ sid_of session) × OnOk result (IsReady new)
     × ((origin : Origin) (world : World) (heard : List Reply) → Stands shards store origin world → now ≡ now_of world.past → Follows session false heard
     → TakesTurn origin world who (wants (plan_of session) false heard) heard shards_new store_new new result)

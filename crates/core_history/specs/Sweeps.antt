@@ -35,7 +35,8 @@ pub record WasEnded (sid : Sid) (past : List Event) : Type 0 where
   pub earlier : List Event
   pub is : past ≡ between ++ Swept 0 (sweep.End sid) None (sweeps.Ended was) ∷ earlier
 
--- What holds once the sweeper made this step to drop the quarantine of this token from the key: of the events before it, of those after it, and of the past with all of them.
+-- What holds once the sweeper made this step to drop the quarantine of this token from
+-- the key: of the events before it, of those after it, and of the past with all of them.
 pub record IsFinal (shape : Shape) (key : QKey) (token : ℕ) (step : Step) (before after past : List Event) : Type 0 where
   -- it ended the quarantine of the token, which was a session's, with Drop
   pub sid : Sid

@@ -18,7 +18,8 @@ IsTrueStaged rows (wanted.Staged key txn) value =
     (after : Tables) × (apply_all txn rows ≡ Ok after) × (value ≡ answer key after)
 IsTrueStaged rows other value = Unit {0}
 
--- A value is the key's answer on these rows, a transaction that was committed applies on them, and of one that was rejected that change is the first that doesn't.
+-- A value is the key's answer on these rows, a transaction that was committed
+-- applies on them, and of one that was rejected that change is the first that doesn't.
 abbrev pub IsTrueReply : Tables → Wanted → Reply → Type 0
 IsTrueReply rows request (reply.Answer answered) = answered.value ≡ answer answered.key rows
 IsTrueReply rows request (reply.Staged value txn) = IsTrueStaged rows request value

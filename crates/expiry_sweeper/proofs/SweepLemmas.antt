@@ -16,7 +16,8 @@ use Rattle.expiry_sweeper.specs.EndsFirst.{EndedFirst, EndsBeforeDrops}
 use Rattle.expiry_sweeper.specs.Follows.{wanted_at, wanted_of, DropsFound, Follows}
 
 -- a reply other than that none was found leaves the shard
-pub shard-kept : (shards : ℕ) (told : SweepReply) (before : List SweepReply) → is_none_found told ≡ false → shard_at shards (told ∷ before) ≡ shard_at shards before
+pub shard-kept : (shards : ℕ) (told : SweepReply) (before : List SweepReply)
+    → is_none_found told ≡ false → shard_at shards (told ∷ before) ≡ shard_at shards before
 shard-kept shards told before other =
     let counted = sum_by-cons (λ reply. cond (is_none_found reply) 1 0) told before in
     let one : Bool → ℕ = λ b. cond b 1 0 in
@@ -25,7 +26,8 @@ shard-kept shards told before other =
     ap (λ n. n % shards) same
 
 -- where none was found, the next shard is swept, and shard 0 after the last
-pub shard-none_found : (shards : ℕ) (before : List SweepReply) → 0 < shards → shard_at shards (reply.NoneFound ∷ before) ≡ cond (ltb (shard_at shards before + 1) shards) (shard_at shards before + 1) 0
+pub shard-none_found : (shards : ℕ) (before : List SweepReply)
+    → 0 < shards → shard_at shards (reply.NoneFound ∷ before) ≡ cond (ltb (shard_at shards before + 1) shards) (shard_at shards before + 1) 0
 shard-none_found shards before some =
     ap (λ n. n % shards) one ∙ suc-mod n shards ∙ by (eq-or-lt_of_le next)
   where
@@ -90,7 +92,8 @@ ends_before_drops shards (reply.NoneFound ∷ told) key token are e = absurd cc
 ends_before_drops shards (reply.Dropped rel ∷ told) key token are e = absurd cc
 ends_before_drops shards (reply.Ended was ∷ told) key token are e = by told are e
   where
-    by : (told : List SweepReply) → AreAnswers shards (reply.Ended was ∷ told) → drop_found shards told ≡ wanted.Drop key token → EndedFirst shards (reply.Ended was ∷ told) key token
+    by : (told : List SweepReply) → AreAnswers shards (reply.Ended was ∷ told)
+        → drop_found shards told ≡ wanted.Drop key token → EndedFirst shards (reply.Ended was ∷ told) key token
     by [] are e = absurd cc
     by (reply.NoneFound ∷ before) are e = absurd cc
     by (reply.Dropped rel ∷ before) are e = absurd cc
@@ -113,7 +116,8 @@ abbrev pub next_of : Sweeper → ℕ
 next_of sweeper = cond (ltb (sweeper.shard + 1) sweeper.shards) (sweeper.shard + 1) 0
 
 -- a sweeper that found none, and goes on to the next shard
-pub follows_none_found : (old new : Sweeper) (before : List SweepReply) → BelongsTo (wanted_of old) reply.NoneFound → new.shards ≡ old.shards → new.shard ≡ next_of old → new.stage ≡ old.stage → Follows old before → Follows new (reply.NoneFound ∷ before)
+pub follows_none_found : (old new : Sweeper) (before : List SweepReply) → BelongsTo (wanted_of old) reply.NoneFound
+    → new.shards ≡ old.shards → new.shard ≡ next_of old → new.stage ≡ old.stage → Follows old before → Follows new (reply.NoneFound ∷ before)
 follows_none_found old new before belongs shards shard stage follows = record {
   shard = here;
   wants = scans.0 ∙ ap wanted.Scan here;
@@ -123,9 +127,11 @@ follows_none_found old new before belongs shards shard stage follows = record {
     here : new.shard ≡ shard_at new.shards (reply.NoneFound ∷ before)
     here =
         let some : 0 < old.shards = omega (arith, old.within) in
-        shard ∙ ap (λ n. cond (ltb (n + 1) old.shards) (n + 1) 0) follows.shard ∙ sym (shard-none_found old.shards before some) ∙ ap (λ n. shard_at n (reply.NoneFound ∷ before)) (sym shards)
+        shard ∙ ap (λ n. cond (ltb (n + 1) old.shards) (n + 1) 0) follows.shard
+        ∙ sym (shard-none_found old.shards before some) ∙ ap (λ n. shard_at n (reply.NoneFound ∷ before)) (sym shards)
 
-    by : (at : Stage) → BelongsTo (wanted_at old.shard at) reply.NoneFound → (wanted_at new.shard at ≡ wanted.Scan new.shard) × DropsFound new.shards at (reply.NoneFound ∷ before)
+    by : (at : Stage) → BelongsTo (wanted_at old.shard at) reply.NoneFound
+        → (wanted_at new.shard at ≡ wanted.Scan new.shard) × DropsFound new.shards at (reply.NoneFound ∷ before)
     by stages.Scanning h = (refl, tt)
     by (stages.Ending due) h = absurd h
     by (stages.Dropping due) h = absurd h

@@ -21,4 +21,5 @@ pub record EndedFirst (shards : ℕ) (told : List SweepReply) (key : QKey) (toke
 -- Whenever a drop is wanted, after replies that belong to what was wanted, that is so.
 abbrev pub EndsBeforeDrops : Type 0
 EndsBeforeDrops =
-    (shards : ℕ) (told : List SweepReply) (key : QKey) (token : ℕ) → AreAnswers shards told → sweep_wants shards told ≡ wanted.Drop key token → EndedFirst shards told key token
+    (shards : ℕ) (told : List SweepReply) (key : QKey) (token : ℕ)
+    → AreAnswers shards told → sweep_wants shards told ≡ wanted.Drop key token → EndedFirst shards told key token

@@ -19,7 +19,8 @@ abbrev pub drop_found : ℕ → List SweepReply → SweepWanted
 drop_found shards (reply.Found due ∷ told) = wanted.Drop due.key due.token
 drop_found shards told = wanted.Scan (shard_at shards told)
 
--- What a sweeper of so many shards wants: to end the session of what was found, then to drop the key, and then to scan the same shard again; where none was found, to scan the next.
+-- What a sweeper of so many shards wants: to end the session of what was found, then to
+-- drop the key, and then to scan the same shard again; where none was found, to scan the next.
 abbrev pub sweep_wants : ℕ → List SweepReply → SweepWanted
 sweep_wants shards [] = wanted.Scan 0
 sweep_wants shards (reply.Found due ∷ told) = wanted.End due.sid

@@ -1,5 +1,6 @@
 -- A session under way: how it begins, goes on and ends, with its calls and its marks.
-use Rattle.std.proofs.Common.{◌≡◌, ◌≢◌, if◌then◌else◌, Bool, true, false, List, [], ◌∷◌, ◌++◌, Option, Some, None, Result, Ok, Err, MatchResult, OnErr, refl, sym, ap, subst, ◌∙◌, inl, inr}
+use Rattle.std.proofs.Common.{◌≡◌, ◌≢◌, if◌then◌else◌, Bool, true, false, List, [], ◌∷◌, ◌++◌, Option, Some, None, Result, Ok, Err}
+use Rattle.std.proofs.Common.{MatchResult, OnErr, refl, sym, ap, subst, ◌∙◌, inl, inr}
 use Rattle.rows_model.specs.declared.keys.Sid.{Sid}
 use Rattle.rows_model.specs.declared.refusals.Memory.{Memory}
 use Rattle.session_client.specs.Desks.{Call, Asked, with_member}
@@ -18,19 +19,22 @@ use Rattle.std.proofs.lemmas.Bool.{false≢true}
 use Rattle.gate_workers.specs.Notes.{IsGoing, IsWanting, IsNoted, AreNoted, IsUnderWay, HasEnded}
 
 -- one call more in a record
-pub with_more : (call : Call) (calls : List Call) (before now after : Option (List Call)) → now ≡ with_calls calls before → after ≡ with_member call now → after ≡ with_calls (call ∷ calls) before
+pub with_more : (call : Call) (calls : List Call) (before now after : Option (List Call))
+    → now ≡ with_calls calls before → after ≡ with_member call now → after ≡ with_calls (call ∷ calls) before
 with_more call calls (Some told) now after e f = f ∙ ap (with_member call) e
 with_more call calls None now after e f = f ∙ ap (with_member call) e
 
 -- one mark more among those that are kept
-pub noted_more : (request : Wanted) (who : Sid) (told : Reply) (calls : List Call) (before after : Option (List Mark)) → IsNoted (mark_of request told) before after → AreNoted before calls → AreNoted after (Asked who request told ∷ calls)
+pub noted_more : (request : Wanted) (who : Sid) (told : Reply) (calls : List Call) (before after : Option (List Mark))
+    → IsNoted (mark_of request told) before after → AreNoted before calls → AreNoted after (Asked who request told ∷ calls)
 noted_more request who told calls (Some before) (Some after) n h = n ∙ ap (λ (marks : List Mark). marks ++ mark_of request told ∷ []) h
 noted_more request who told calls (Some before) None n h = tt
 noted_more request who told calls None None n h = tt
 noted_more request who told calls None (Some after) n h = absurd n
 
 -- what a step does: the session wants something, the desk answers, the mark is noted and the session is told
-pub record IsStep (session waits next : Session) (now after : Option (List Call)) (notes notes' : Option (List Mark)) (asked : Wanted) (told : Reply) (result : Result (Unit {0}) Memory) : Type 0 where
+pub record IsStep (session waits next : Session) (now after : Option (List Call))
+    (notes notes' : Option (List Mark)) (asked : Wanted) (told : Reply) (result : Result (Unit {0}) Memory) : Type 0 where
   pub plan_then : plan_of waits ≡ plan_of session
   pub sid_then : sid_of waits ≡ sid_of session
   pub wanted : (short : Bool) (heard : List Reply) → Follows session short heard → asked ≡ wants (plan_of session) short heard
@@ -39,7 +43,8 @@ pub record IsStep (session waits next : Session) (now after : Option (List Call)
   pub noted : IsNoted (mark_of asked told) notes notes'
   pub plan_now : plan_of next ≡ plan_of waits
   pub sid_now : sid_of next ≡ sid_of waits
-  pub was_told : (short : Bool) (heard : List Reply) → Follows waits short heard → MatchResult result (λ _. Follows next short (told ∷ heard)) (λ _. Follows next true (told ∷ heard))
+  pub was_told : (short : Bool) (heard : List Reply) → Follows waits short heard
+      → MatchResult result (λ _. Follows next short (told ∷ heard)) (λ _. Follows next true (told ∷ heard))
   pub memory : OnErr result (IsRefreshing told)
 
 -- the flag and what the session has heard then
@@ -48,7 +53,9 @@ record Told (next : Session) (before : Bool) (heard : List Reply) (told : Reply)
   is_short : IsShort before told short
   follows : Follows next short (told ∷ heard)
 
-told_so : (next : Session) (before : Bool) (heard : List Reply) (told : Reply) (result : Result (Unit {0}) Memory) → MatchResult result (λ _. Follows next before (told ∷ heard)) (λ _. Follows next true (told ∷ heard)) → OnErr result (IsRefreshing told) → Told next before heard told
+told_so : (next : Session) (before : Bool) (heard : List Reply) (told : Reply) (result : Result (Unit {0}) Memory)
+    → MatchResult result (λ _. Follows next before (told ∷ heard)) (λ _. Follows next true (told ∷ heard))
+    → OnErr result (IsRefreshing told) → Told next before heard told
 told_so next before heard told (Ok x) f m = record { short = before; is_short = inl refl; follows = f }
 told_so next before heard told (Err x) f m = record { short = true; is_short = inr (m, refl); follows = f }
 
@@ -57,13 +64,17 @@ is_asked : (asked : Wanted) → is_nothing asked ≡ false → asked ≢ wanted.
 is_asked asked some none = false≢true (sym some ∙ ap is_nothing none)
 
 -- a step keeps a session under way
-pub goes_on : (who : Sid) (plan : Plan) (session waits next : Session) (before now after : Option (List Call)) (notes notes' : Option (List Mark)) (asked : Wanted) (told : Reply) (result : Result (Unit {0}) Memory) → IsStep session waits next now after notes notes' asked told result → IsWanting session → IsUnderWay who plan session before now notes → IsUnderWay who plan next before after notes'
+pub goes_on : (who : Sid) (plan : Plan) (session waits next : Session) (before now after : Option (List Call)) (notes notes' : Option (List Mark))
+    (asked : Wanted) (told : Reply) (result : Result (Unit {0}) Memory) → IsStep session waits next now after notes notes' asked told result
+    → IsWanting session → IsUnderWay who plan session before now notes → IsUnderWay who plan next before after notes'
 goes_on who plan session waits next before now after notes notes' asked told result s wanting u =
     let of_plan : plan_of session ≡ plan = u.of_plan in
     let of_number : sid_of session ≡ who = u.of_number in
     let w : asked ≡ wants plan u.short u.heard = subst (λ (p : Plan). asked ≡ wants p u.short u.heard) of_plan (s.wanted u.short u.heard u.follows) in
-    let t : Told next u.short u.heard told = told_so next u.short u.heard told result (s.was_told u.short u.heard (s.waits_for u.short u.heard u.follows)) s.memory in
-    let some : is_nothing (wants plan u.short u.heard) ≡ false = subst (λ (p : Plan). is_nothing (wants p u.short u.heard) ≡ false) of_plan (wanting u.short u.heard u.follows) in
+    let t : Told next u.short u.heard told =
+    told_so next u.short u.heard told result (s.was_told u.short u.heard (s.waits_for u.short u.heard u.follows)) s.memory in
+    let some : is_nothing (wants plan u.short u.heard) ≡ false =
+    subst (λ (p : Plan). is_nothing (wants p u.short u.heard) ≡ false) of_plan (wanting u.short u.heard u.follows) in
     let call : Call = Asked who (wants plan u.short u.heard) told in
     let same : Asked (sid_of session) asked told ≡ call = cc in
     record {
@@ -75,11 +86,14 @@ goes_on who plan session waits next before now after notes notes' asked told res
       follows = t.follows;
       went = (u.short, u.calls, u.went, is_asked (wants plan u.short u.heard) some, t.is_short, refl);
       recorded = with_more call u.calls before now after u.recorded (subst (λ (c : Call). after ≡ with_member c now) same s.recorded);
-      noted = noted_more (wants plan u.short u.heard) who told u.calls notes notes' (subst (λ (r : Wanted). IsNoted (mark_of r told) notes notes') w s.noted) u.noted;
+      noted =
+          noted_more (wants plan u.short u.heard) who told u.calls notes notes'
+          (subst (λ (r : Wanted). IsNoted (mark_of r told) notes notes') w s.noted) u.noted;
     }
 
 -- a session that is told something is still going
-pub still_going : (next : Session) (before : Bool) (heard : List Reply) (told : Reply) (result : Result (Unit {0}) Memory) → MatchResult result (λ _. Follows next before (told ∷ heard)) (λ _. Follows next true (told ∷ heard)) → IsGoing next
+pub still_going : (next : Session) (before : Bool) (heard : List Reply) (told : Reply) (result : Result (Unit {0}) Memory)
+    → MatchResult result (λ _. Follows next before (told ∷ heard)) (λ _. Follows next true (told ∷ heard)) → IsGoing next
 still_going next before heard told (Ok x) f = (before, told ∷ heard, f)
 still_going next before heard told (Err x) f = (true, told ∷ heard, f)
 
@@ -87,7 +101,8 @@ still_going next before heard told (Err x) f = (true, told ∷ heard, f)
 pub record HasDriven (first session : Session) (now after : Option (List Call)) (notes notes' : Option (List Mark)) : Type 0 where
   pub ready : IsReady session
   pub going : IsGoing session
-  pub so_far : (who : Sid) (plan : Plan) (before : Option (List Call)) → IsUnderWay who plan first before now notes → IsUnderWay who plan session before after notes'
+  pub so_far : (who : Sid) (plan : Plan) (before : Option (List Call))
+      → IsUnderWay who plan first before now notes → IsUnderWay who plan session before after notes'
 
 -- a request is nothing where it is said to be
 nothing_from : (asked : Wanted) → is_nothing asked ≡ true → asked ≡ wanted.Nothing
@@ -95,14 +110,19 @@ nothing_from wanted.Nothing e = refl
 nothing_from asked e = cc
 
 -- a session that has told its outcome wants nothing more
-over_from : (asked : Wanted) (plan : Plan) (short : Bool) (heard : List Reply) (outcome : Outcome) → (if is_nothing asked then outcome_of plan short heard else None) ≡ Some outcome → is_nothing asked ≡ true
+over_from : (asked : Wanted) (plan : Plan) (short : Bool) (heard : List Reply) (outcome : Outcome)
+    → (if is_nothing asked then outcome_of plan short heard else None) ≡ Some outcome → is_nothing asked ≡ true
 over_from wanted.Nothing plan short heard outcome e = refl
 over_from asked plan short heard outcome e = cc
 
 -- a session that tells its outcome has run
-pub has_ended : (who : Sid) (plan : Plan) (session : Session) (before after : Option (List Call)) (notes : Option (List Mark)) (outcome : Outcome) (told : Option Outcome) → IsReady session → ((short : Bool) (heard : List Reply) → IsReady session → Follows session short heard → told ≡ done_by (plan_of session) short heard) → told ≡ Some outcome → IsUnderWay who plan session before after notes → HasEnded who plan outcome before after notes
+pub has_ended : (who : Sid) (plan : Plan) (session : Session) (before after : Option (List Call)) (notes : Option (List Mark)) (outcome : Outcome)
+    (told : Option Outcome) → IsReady session → ((short : Bool) (heard : List Reply) → IsReady session → Follows session short heard
+    → told ≡ done_by (plan_of session) short heard) → told ≡ Some outcome
+    → IsUnderWay who plan session before after notes → HasEnded who plan outcome before after notes
 has_ended who plan session before after notes outcome told ready tells is u =
-    let said : done_by plan u.short u.heard ≡ Some outcome = subst (λ (p : Plan). done_by p u.short u.heard ≡ Some outcome) u.of_plan (sym (tells u.short u.heard ready u.follows) ∙ is) in
+    let said : done_by plan u.short u.heard ≡ Some outcome =
+    subst (λ (p : Plan). done_by p u.short u.heard ≡ Some outcome) u.of_plan (sym (tells u.short u.heard ready u.follows) ∙ is) in
     record {
       calls = u.calls;
       has_run = record {

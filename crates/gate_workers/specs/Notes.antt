@@ -32,7 +32,8 @@ abbrev pub AreNoted : Option (List Mark) → List Call → Type 0
 AreNoted (Some marks) calls = marks ≡ marks_of calls
 AreNoted None calls = Unit {0}
 
--- A session of this number and plan is under way: its calls so far were added to the record of its desk, where that is told, and its marks are theirs, where they are kept.
+-- A session of this number and plan is under way: its calls so far were added to the
+-- record of its desk, where that is told, and its marks are theirs, where they are kept.
 pub record IsUnderWay (who : Sid) (plan : Plan) (session : Session) (before after : Option (List Call)) (notes : Option (List Mark)) : Type 0 where
   pub short : Bool
   pub heard : List Reply
@@ -44,7 +45,8 @@ pub record IsUnderWay (who : Sid) (plan : Plan) (session : Session) (before afte
   pub recorded : after ≡ with_calls calls before
   pub noted : AreNoted notes calls
 
--- A session of this number and plan has ended so: its calls were added to the record of its desk, where that is told, and its marks are theirs, where they are kept.
+-- A session of this number and plan has ended so: its calls were added to the record
+-- of its desk, where that is told, and its marks are theirs, where they are kept.
 pub record HasEnded (who : Sid) (plan : Plan) (outcome : Outcome) (before after : Option (List Call)) (notes : Option (List Mark)) : Type 0 where
   pub calls : List Call
   pub has_run : HasRun who plan calls outcome

@@ -21,11 +21,13 @@ pub record RowView : Type 0 where
   pub outcome : Outcome
   pub marks : List Mark
 
--- Whether memory ran out so far when the session was told of its commit. That stays as it was, but for the reply that tells of a commit and brings a grant to refresh.
+-- Whether memory ran out so far when the session was told of its commit. That stays
+-- as it was, but for the reply that tells of a commit and brings a grant to refresh.
 abbrev pub IsShort : Bool → Reply → Bool → Type 0
 IsShort before told now = (now ≡ before) ⊎ (IsRefreshing told × (now ≡ true))
 
--- A session of this number and plan began and has heard these replies by these calls, both the latest first: each request is the one that it wanted after the replies before, and isn't nothing.
+-- A session of this number and plan began and has heard these replies by these calls, both the
+-- latest first: each request is the one that it wanted after the replies before, and isn't nothing.
 abbrev pub Went : Sid → Plan → Bool → List Reply → List Call → Type 0
 Went who plan short [] calls = (short ≡ false) × (calls ≡ Began (writes plan) who ∷ [])
 Went who plan short (told ∷ heard) calls =
@@ -75,7 +77,9 @@ AllWork (plans ∷ lists) (before ∷ befores) (after ∷ afters) (rows ∷ tran
     IsWork plans before after rows × AllWork lists befores afters transcripts
 AllWork lists befores afters transcripts = ⊥
 
--- What a worker's calls are at the plan at which it stops for want of memory, the latest first: none, where no session began; where there was no memory for one that had begun, that it was ended at once; or those of a session that has run, whose grants it released.
+-- What a worker's calls are at the plan at which it stops for want of memory, the latest
+-- first: none, where no session began; where there was no memory for one that had begun,
+-- that it was ended at once; or those of a session that has run, whose grants it released.
 abbrev pub HasStopped : Plan → List Call → Type 0
 HasStopped plan calls =
     (calls ≡ []) ⊎ ((who : Sid) × (told : Reply) × (calls ≡ Asked who wanted.End told ∷ Began (writes plan) who ∷ []))
@@ -85,7 +89,8 @@ HasStopped plan calls =
 abbrev pub HasGoneOn : Plan → List Call → Type 0
 HasGoneOn plan calls = (who : Sid) × (ended : Outcome) × HasRun who plan calls ended × (ended ≢ short_of_memory)
 
--- What a worker's calls are, the latest first, whether or not it stopped: those of a session for each plan, in their order, up to the plan at which it stopped, if it did.
+-- What a worker's calls are, the latest first, whether or not it stopped: those of a
+-- session for each plan, in their order, up to the plan at which it stopped, if it did.
 abbrev pub HaveGone : List Plan → List Call → Type 0
 HaveGone [] calls = calls ≡ []
 HaveGone (plan ∷ plans) calls =

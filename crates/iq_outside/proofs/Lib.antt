@@ -1,3 +1,4 @@
 pub mod CopyingStates
+pub mod MemoryDoorLemmas
 pub mod MemoryFormsLemmas
 pub mod OutsideLemmas

@@ -1,9 +1,11 @@
-use Rattle.std.specs.Prelude.{ℕ, List}
+use Rattle.std.specs.Prelude.{ℕ, List, Bool, Option, Some, None, All, cond}
+use Rattle.iq_outside.specs.Outside.{IsFresh}
 
--- a source in memory: the bytes left, the most that a call gives, the numbers of the calls that fail,
+-- a source in memory: the bytes left, the bytes given, the most that a call gives, the numbers of the calls that fail,
 -- and how many calls and faults there were
 pub record SourceView : Type 0 where
   pub left : List ℕ
+  pub given : List ℕ
   pub piece : ℕ
   pub fails : List ℕ
   pub calls : ℕ
@@ -18,3 +20,30 @@ pub record SinkView : Type 0 where
   pub fails : List ℕ
   pub calls : ℕ
   pub faults : ℕ
+
+-- a line in memory: what it reads from, and what it writes to
+pub record LineView : Type 0 where
+  pub source : SourceView
+  pub sink : SinkView
+
+-- a door in memory: the lines that it has yet to give, the lines closed and kept, whether each line that was closed
+-- was kept, how many it keeps, the numbers of the calls that fail, how many calls and faults there were, how many
+-- lines it gave, and whether it has answered that no more come
+pub record ListDoorView : Type 0 where
+  pub waiting : List LineView
+  pub closed : List LineView
+  pub all_kept : Bool
+  pub room : ℕ
+  pub fails : List ℕ
+  pub calls : ℕ
+  pub faults : ℕ
+  pub given : ℕ
+  pub ended : Bool
+
+-- a line in memory has given and taken nothing
+abbrev pub IsUnused : LineView → Type 0
+IsUnused line = IsFresh (Some line.source.given) (Some line.sink.taken)
+
+-- the lines handed back to a door in memory, which tells them while it has kept each
+abbrev pub kept_lines : ListDoorView → Option (List LineView)
+kept_lines door = cond door.all_kept (Some door.closed) None

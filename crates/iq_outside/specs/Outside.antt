@@ -1,4 +1,4 @@
-use Rattle.std.specs.Prelude.{◌≡◌, ℕ, ◌+◌, ◌-◌, ◌^◌, ◌<◌, ◌≤◌, ◌⊎◌, ◌↔◌, min, List, [], ◌++◌, length, Option}
+use Rattle.std.specs.Prelude.{◌≡◌, ℕ, ◌+◌, ◌-◌, ◌^◌, ◌<◌, ◌≤◌, ◌⊎◌, ◌↔◌, min, List, [], ◌∷◌, ◌++◌, length, Option, Some, None}
 use Rattle.std.specs.Option.{option_map, ForSome}
 
 -- a count of faults rose in a call: it is greater after it, or stands at the end of its type
@@ -32,3 +32,36 @@ ZeroAtEnd left n = ForSome left (λ rest. (n ≡ 0) ↔ (rest ≡ []))
 -- these bytes were appended to what a sink had taken, where it tells that
 abbrev pub Gains : Option (List ℕ) → Option (List ℕ) → List ℕ → Type 0
 Gains taken_old taken_new bytes = taken_new ≡ option_map (λ taken. taken ++ bytes) taken_old
+
+-- what a line tells of its reading: the bytes left, the bytes given so far, and how often a read failed
+pub record ReadSide : Type 0 where
+  pub left : Option (List ℕ)
+  pub given : Option (List ℕ)
+  pub faults : ℕ
+
+-- what a line tells of its writing: the bytes taken so far, and how often a write failed
+pub record WriteSide : Type 0 where
+  pub taken : Option (List ℕ)
+  pub faults : ℕ
+
+-- the reading of what is only written
+abbrev pub no_reading : ReadSide
+no_reading = record { left = None; given = None; faults = 0 }
+
+-- the writing of what is only read
+abbrev pub no_writing : WriteSide
+no_writing = record { taken = None; faults = 0 }
+
+-- a line has given and taken nothing, where it tells that
+abbrev pub IsFresh : Option (List ℕ) → Option (List ℕ) → Type 0
+IsFresh given taken = ForSome given (λ bytes. bytes ≡ []) × ForSome taken (λ bytes. bytes ≡ [])
+
+-- the number of lines that a door gave, after an answer to accept
+abbrev pub lines_with : {L : Type 0} → Option L → ℕ → ℕ
+lines_with None n = n
+lines_with (Some line) n = count_up n
+
+-- a line was handed back to a door: the door tells the lines handed back no longer, or they are those before and
+-- then this line
+abbrev pub HandedBack : {L : Type 0} → Option (List L) → Option (List L) → L → Type 0
+HandedBack before after line = (after ≡ None) ⊎ (after ≡ option_map (λ lines. lines ++ line ∷ []) before)

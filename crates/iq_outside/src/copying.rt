@@ -58,12 +58,14 @@ pub fn read_up_to<S: Source>(
 
 /// Writes all bytes to a sink, in as many pieces as it takes. The first write that fails ends it.
 ///
-/// After a fault the sink has taken the first bytes, as many as the error tells, and no others.
+/// After a fault the sink has taken the first bytes, as many as the error tells, and no others. Where
+/// the sink is a line, what it tells of its reading is as before.
 pub fn write_all<W: Sink>(sink: &mut W, bytes: &[u8]) -> Result<(), Short>
     ensures all { OnOk result (Gains (W.taken sink.old) (W.taken sink.new) bytes.now) }
     ensures some { IfErr result (λ short. Gains (W.taken sink.old) (W.taken sink.new)
         (take short.written bytes.now)) }
     ensures fewer { IfErr result (λ short. short.written < length bytes.now) }
+    ensures keeps_reading { W.read_side sink.new ≡ W.read_side sink.old }
     ensures failed_rose { OnErr result (Rose (W.faults sink.old) (W.faults sink.new)) }
     ensures no_fault { OnOk result (W.faults sink.new ≡ W.faults sink.old) }
     ensures never_falls { W.faults sink.old ≤ W.faults sink.new }

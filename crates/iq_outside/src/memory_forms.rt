@@ -22,12 +22,19 @@ pub struct MemSource {
 }
 
 impl Model for MemSource {
-    ghost use Rattle.std.specs.Prelude.{◌≤◌, length, drop};
+    ghost use Rattle.std.specs.Prelude.{◌≤◌, length, take, drop};
     ghost use Rattle.iq_outside.specs.MemoryForms.{SourceView};
 
     ghost Value = { SourceView };
 
-    ghost view = { λ s. record { left = drop s.given s.text.items; piece = s.piece; fails = s.fails.items; calls = s.calls; faults = s.faults } };
+    ghost view = { λ s. record {
+      left = drop s.given s.text.items;
+      given = take s.given s.text.items;
+      piece = s.piece;
+      fails = s.fails.items;
+      calls = s.calls;
+      faults = s.faults;
+    } };
 
     ghost invariant = { λ s. (s.given ≤ length s.text.items) × (1 ≤ s.piece) };
 }
@@ -39,6 +46,7 @@ impl MemSource {
         requires { 1 ≤ piece }
         ensures { result ≡ record {
           left = text.items;
+          given = [];
           piece = piece;
           fails = fails.items;
           calls =
@@ -60,6 +68,8 @@ impl MemSource {
 impl Source for MemSource {
     ghost left = { λ source. Some source.left };
 
+    ghost given = { λ source. Some source.given };
+
     ghost faults = { λ source. source.faults };
 
     /// Fails exactly at the calls whose numbers it was given, and else gives as many bytes as the
@@ -69,8 +79,11 @@ impl Source for MemSource {
         ensures within { IfOk result (λ n. n ≤ length room.new) }
         ensures gives { IfOk result (λ n. Takes (Some self.old.left) (Some self.new.left)
             (take n room.new)) }
+        ensures adds { IfOk result (λ n. Gains (Some self.old.given) (Some self.new.given)
+            (take n room.new)) }
         ensures ends { IfOk result (ZeroAtEnd (Some self.old.left)) }
         ensures keeps { OnErr result (Some self.new.left ≡ Some self.old.left) }
+        ensures keeps_given { OnErr result (Some self.new.given ≡ Some self.old.given) }
         ensures failed_rose { OnErr result (Rose self.old.faults self.new.faults) }
         ensures no_fault { OnOk result (self.new.faults ≡ self.old.faults) }
         ensures never_falls { self.old.faults ≤ self.new.faults }

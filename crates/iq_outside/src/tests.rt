@@ -1,13 +1,16 @@
-ghost use Rattle.std.specs.Prelude.{◌≤◌};
+ghost use Rattle.std.specs.Prelude.{◌≡◌, ◌≤◌, List, ℕ, OnOk, OnErr};
+ghost use Rattle.iq_outside.specs.Outside.{Rose, Takes, Gains};
 
 use crate::{
-    Clock, Failed, ListClock, MemSink, MemSource, ReadStop, ReaderSource, RuntimeClock, Short,
-    Sink, Source, WriterSink, read_up_to, write_all,
+    Clock, Door, Failed, Line, ListClock, ListDoor, MemLine, MemSink, MemSource, ReadStop,
+    ReaderSource, RuntimeClock, Short, Sink, Source, TcpDoor, WriterSink, read_up_to, write_all,
 };
 use rows_model::Memory;
 use std::alloc::Global;
 use std::io::{self, ErrorKind, Read, Write};
+use std::net::{Ipv4Addr, Net, TcpStream};
 use std::test::Fail;
+use std::thread;
 use std::time::{self, Duration};
 
 const TEXT: &[u8] = b"1 get profile:2";
@@ -25,6 +28,24 @@ fn sink(alloc: Global, room: usize, piece: usize, fails: &[u64]) -> Result<MemSi
     requires { 1 ≤ piece }
 {
     MemSink::new(alloc, room, piece, Vec::from_slice(alloc, fails)?)
+}
+
+// Reads a piece of a line and sends it back. What it knows of lines is their trait alone.
+fn echo<L: Line>(line: &mut L) -> Result<(), Failed>
+    ensures same { OnOk result ((bytes : List ℕ) × Takes (L.left line.old) (L.left line.new) bytes
+        × Gains (L.given line.old) (L.given line.new) bytes
+        × Gains (L.taken line.old) (L.taken line.new) bytes) }
+    ensures no_read_fault { OnOk result (L.Source.faults line.new ≡ L.Source.faults line.old) }
+    ensures no_write_fault { OnOk result (L.Sink.faults line.new ≡ L.Sink.faults line.old) }
+{
+    let mut room = [0u8; 8];
+    let count = line.read(&mut room)?;
+    let sent = write_all(line, &room[..count]);
+    line.finish();
+    match sent {
+        Ok(()) => Ok(()),
+        Err(_) => Err(Failed),
+    }
 }
 
 // Each read fails.
@@ -210,5 +231,89 @@ fn a_runtime_clock_is_read_and_one_that_cannot_be_is_at_0(rt: HostRuntime) -> Re
     let first = clock.now();
     assert!(rt; 0 < first && first <= clock.now());
     assert_eq!(rt; RuntimeClock::new(&BrokenClock).now(), 0);
+    Ok(())
+}
+
+// A line with this text, which gives it whole.
+fn mem_line(alloc: Global, text: &[u8]) -> Result<MemLine, Memory> {
+    let none = Vec::new(alloc);
+    let source = MemSource::new(Vec::from_slice(alloc, text)?, 100, none);
+    Ok(MemLine::new(source, sink(alloc, 100, 100, &[])?))
+}
+
+#[test]
+fn a_line_gives_and_takes_each_for_itself(rt: HostRuntime) -> Result<(), Fail> {
+    let mut line = mem_line(rt.alloc(), b"1 get")?;
+    echo(&mut line)?;
+    assert_eq!(rt; line.taken(), b"1 get".as_slice());
+    Ok(())
+}
+
+#[test]
+fn a_door_counts_binds_and_accepts_together(rt: HostRuntime) -> Result<(), Fail> {
+    let alloc = rt.alloc();
+    let lines = vec![in alloc; mem_line(alloc, b"a")?, mem_line(alloc, b"b")?]?;
+    let mut door = ListDoor::new(alloc, lines, vec![in alloc; 1, 3]?)?;
+    assert_eq!(rt; door.bind(b"x"), Err(Failed));
+    assert_eq!(rt; door.bind(b"x"), Ok(()));
+    assert!(rt; door.accept().is_err());
+    for text in [b"a", b"b"] {
+        let Ok(Some(mut line)) = door.accept() else {
+            return Err(Fail::from(Failed));
+        };
+        echo(&mut line)?;
+        assert_eq!(rt; line.taken(), text.as_slice());
+        door.close(line);
+    }
+    assert!(rt; matches!(door.accept(), Ok(None)));
+    door.close(mem_line(alloc, b"c")?);
+    assert_eq!(rt; door.closed().len(), 2);
+    assert_eq!(rt; door.closed()[1].taken(), b"b".as_slice());
+    Ok(())
+}
+
+// Sends the text to this port of the loopback. Whether it came back whole and then the connection ended.
+fn is_echoed(rt: &impl Net, port: u16, text: &[u8]) -> io::Result<bool> {
+    let mut stream = TcpStream::connect(rt, (Ipv4Addr::LOCALHOST, port))?;
+    stream.write_all(text)?;
+    let mut back = [0u8; 6];
+    let count = stream.read(&mut back)?;
+    let end = stream.read(&mut [0u8; 1])?;
+    Ok(&back[..count] == text && end == 0)
+}
+
+#[test]
+fn a_tcp_line_carries_bytes_until_it_is_finished(rt: HostRuntime) -> Result<(), Fail> {
+    let mut door = TcpDoor::new(&rt);
+    door.bind(b"127.0.0.1:0")?;
+    let Some(port) = door.port() else {
+        return Err(Fail::from(Failed));
+    };
+    let client = thread::spawn(&rt, move || {
+        is_echoed(&rt, port, b"1 get").unwrap_or(false)
+    })?;
+    let Some(mut line) = door.accept()? else {
+        return Err(Fail::from(Failed));
+    };
+    echo(&mut line)?;
+    assert!(rt; client.join(&rt));
+    assert_eq!(rt; (line.read_faults(), line.write_faults()), (0, 0));
+    assert_eq!(rt; line.write(b"x"), Err(Failed));
+    assert_eq!(rt; (line.read_faults(), line.write_faults()), (0, 1));
+    door.close(line);
+    assert_eq!(rt; door.faults(), 0);
+    Ok(())
+}
+
+#[test]
+fn a_tcp_door_counts_faults(rt: HostRuntime) -> Result<(), Fail> {
+    let mut door = TcpDoor::new(&rt);
+    assert!(rt; door.accept().is_err());
+    assert_eq!(rt; door.bind(b"127.0.0.1:\xFF"), Err(Failed));
+    assert_eq!(rt; door.bind(b"127.0.0.1"), Err(Failed));
+    assert_eq!(rt; door.faults(), 3);
+    assert_eq!(rt; door.port(), None);
+    door.bind(b"127.0.0.1:0")?;
+    assert_eq!(rt; door.faults(), 3);
     Ok(())
 }

@@ -19,7 +19,8 @@ granted_by key who (step.Granted on sid mode shift now token deadline) e =
     let parts = and_parts (same_key key on) (sid.number == who.number) e in
     record {
       token = token;
-      mark = subst (λ b. Has (Granted who.number token) (cond b (Granted sid.number token ∷ []) [])) (sym parts.0) (inl (ap (λ n. Granted n token) (eqb-true _ _ parts.1)));
+      mark = subst (λ b. Has (Granted who.number token) (cond b (Granted sid.number token ∷ []) []))
+          (sym parts.0) (inl (ap (λ n. Granted n token) (eqb-true _ _ parts.1)));
     }
 granted_by key who other e = absurd (false≢true e)
 
@@ -28,8 +29,10 @@ pub quarantined-granted : (key : QKey) (who : Sid) (past : List Step) → list_a
 quarantined-granted key who [] e = absurd (false≢true e)
 quarantined-granted key who (s ∷ past) e =
     ⊎_elim
-    (λ here. let found = granted_by key who s here in record { token = found.token; mark = has-front (Granted who.number found.token) (marks_in key s) (marks_of key past) found.mark })
-    (λ there. let found = quarantined-granted key who past there in record { token = found.token; mark = has-back (Granted who.number found.token) (marks_in key s) (marks_of key past) found.mark })
+    (λ here. let found = granted_by key who s here in
+    record { token = found.token; mark = has-front (Granted who.number found.token) (marks_in key s) (marks_of key past) found.mark })
+    (λ there. let found = quarantined-granted key who past there in
+    record { token = found.token; mark = has-back (Granted who.number found.token) (marks_in key s) (marks_of key past) found.mark })
     (or_cases (quarantines key who s) (list_any (quarantines key who) past) e)
 
 none_in : (mark : Mark) (b : Bool) → Has mark (cond b [] []) → ⊥
@@ -61,8 +64,10 @@ step-granted key who token (step.Released on sid its how) h =
     (λ _ k. absurd (no_grant who.number token sid.number its how k))
     (λ _ f. absurd f)
     h
-step-granted key who token (step.Lease on sid floor now its deadline) h = absurd (one_in (Granted who.number token) (Leased its) (same_key key on) (λ e. absurd cc) h)
-step-granted key who token (step.Stored on its now value stamp evicted) h = absurd (one_in (Granted who.number token) (Wrote stamp) (same_key key on) (λ e. absurd cc) h)
+step-granted key who token (step.Lease on sid floor now its deadline) h =
+    absurd (one_in (Granted who.number token) (Leased its) (same_key key on) (λ e. absurd cc) h)
+step-granted key who token (step.Stored on its now value stamp evicted) h =
+    absurd (one_in (Granted who.number token) (Wrote stamp) (same_key key on) (λ e. absurd cc) h)
 step-granted key who token (step.Hit on sid floor value stamp) h = absurd (none_in (Granted who.number token) (same_key key on) h)
 step-granted key who token (step.Again on sid floor now stands) h = absurd (none_in (Granted who.number token) (same_key key on) h)
 step-granted key who token (step.Own on sid) h = absurd (none_in (Granted who.number token) (same_key key on) h)
@@ -77,5 +82,6 @@ granted-quarantined key who [] granted = absurd granted.mark
 granted-quarantined key who (s ∷ past) granted =
     ⊎_elim
     (λ here. or_left (quarantines key who s) (list_any (quarantines key who) past) (step-granted key who granted.token s here))
-    (λ there. or_right (quarantines key who s) (list_any (quarantines key who) past) (granted-quarantined key who past (record { token = granted.token; mark = there })))
+    (λ there. or_right (quarantines key who s) (list_any (quarantines key who) past)
+    (granted-quarantined key who past (record { token = granted.token; mark = there })))
     (has-split (Granted who.number granted.token) (marks_in key s) (marks_of key past) granted.mark)

@@ -1,5 +1,6 @@
 -- Places of a log, and what stays where more is known.
-use Rattle.std.proofs.Common.{ℕ, zero, suc, ◌≡◌, ◌≤◌, ◌<◌, List, [], ◌∷◌, ◌++◌, length, length-append, take, Some, slice_get, refl, sym, ap, subst, ◌∙◌, ◌⊎◌, inl, inr, ⊎_elim, append-nil, append_assoc, arith}
+use Rattle.std.proofs.Common.{ℕ, zero, suc, ◌≡◌, ◌≤◌, ◌<◌, List, [], ◌∷◌, ◌++◌, length, length-append, take, Some, slice_get, refl, sym, ap}
+use Rattle.std.proofs.Common.{subst, ◌∙◌, ◌⊎◌, inl, inr, ⊎_elim, append-nil, append_assoc, arith}
 use Rattle.std.proofs.lemmas.Option.{slice_get_within}
 use Rattle.rows_model.specs.declared.keys.QKey.{QKey}
 use Rattle.sql_keeper.specs.declared.stores.Commit.{Commit}
@@ -17,7 +18,8 @@ stands-before (y ∷ xs) ys zero x e lt = e
 stands-before (y ∷ xs) ys (suc place) x e lt = stands-before xs ys place x e (omega (arith, lt))
 
 -- what stands at a place after one more stood there before, or is the new one at the end
-pub stands-pushed : {X : Type 0} (xs : List X) (y x : X) (place : ℕ) → slice_get (xs ++ y ∷ []) place ≡ Some x → (slice_get xs place ≡ Some x) ⊎ ((place ≡ length xs) × (y ≡ x))
+pub stands-pushed : {X : Type 0} (xs : List X) (y x : X) (place : ℕ)
+    → slice_get (xs ++ y ∷ []) place ≡ Some x → (slice_get xs place ≡ Some x) ⊎ ((place ≡ length xs) × (y ≡ x))
 stands-pushed [] y x zero e = inr (refl, cc)
 stands-pushed [] y x (suc place) e = absurd cc
 stands-pushed (z ∷ xs) y x zero e = inl e
@@ -59,7 +61,8 @@ more-stands {old} {new} more place commit at =
     subst (λ l. StandsAt l place commit) (sym more.goes_on) (stands-front old.log more.more place commit at)
 
 -- what stands within the old length stood there
-pub more-stood : {old new : Known} → IsMore old new → (place : ℕ) (commit : Commit) → StandsAt new.log place commit → place < length old.log → StandsAt old.log place commit
+pub more-stood : {old new : Known} → IsMore old new → (place : ℕ) (commit : Commit)
+    → StandsAt new.log place commit → place < length old.log → StandsAt old.log place commit
 more-stood {old} {new} more place commit at lt =
     stands-before old.log more.more place commit (subst (λ l. StandsAt l place commit) more.goes_on at) lt
 

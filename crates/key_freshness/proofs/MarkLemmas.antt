@@ -66,6 +66,8 @@ pub released-ended : (key : QKey) (who : Sid) (past : List Step) → list_any (r
 released-ended key who [] e = absurd (false≢true e)
 released-ended key who (s ∷ past) e =
     ⊎_elim
-    (λ here. let found = ended_by key who s here in record { token = found.token; mark = has-front (Ended who.number found.token) (marks_in key s) (marks_of key past) found.mark })
-    (λ there. let found = released-ended key who past there in record { token = found.token; mark = has-back (Ended who.number found.token) (marks_in key s) (marks_of key past) found.mark })
+    (λ here. let found = ended_by key who s here in
+    record { token = found.token; mark = has-front (Ended who.number found.token) (marks_in key s) (marks_of key past) found.mark })
+    (λ there. let found = released-ended key who past there in
+    record { token = found.token; mark = has-back (Ended who.number found.token) (marks_in key s) (marks_of key past) found.mark })
     (or_cases (releases key who s) (list_any (releases key who) past) e)

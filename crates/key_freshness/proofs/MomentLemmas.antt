@@ -52,7 +52,8 @@ pub stored_is_held : StoredIsHeld
 stored_is_held key then_marks marks then_known asked known moment since before after ruled = record {
   within = more-length after;
   pending = λ place commit token at from touched ended.
-      stored_is_latest key then_marks marks then_known known (length asked.log) moment since (more-trans before after) ruled (more-length before) place commit at from touched;
+      stored_is_latest key then_marks marks then_known known (length asked.log) moment since
+      (more-trans before after) ruled (more-length before) place commit at from touched;
 }
 
 pub stored_is_right : StoredIsRight

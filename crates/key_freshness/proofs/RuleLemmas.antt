@@ -28,7 +28,8 @@ ruled-append key more marks known over wrote ruled = record {
 }
 
 -- the rule after a value was written
-pub ruled-wrote : (key : QKey) (known : Known) (marks : List Mark) (stamp : ℕ) → stamp ≤ length known.log → IsRuled key marks known → IsRuled key (Wrote stamp ∷ marks) known
+pub ruled-wrote : (key : QKey) (known : Known) (marks : List Mark) (stamp : ℕ)
+    → stamp ≤ length known.log → IsRuled key marks known → IsRuled key (Wrote stamp ∷ marks) known
 ruled-wrote key known marks stamp within ruled =
     ruled-append key (Wrote stamp ∷ []) marks known
     (λ who token. ⊎_elim (λ e. absurd cc) (λ h. absurd h))
@@ -36,7 +37,8 @@ ruled-wrote key known marks stamp within ruled =
     ruled
 
 -- the rule after a quarantine of a session that is over ended
-pub ruled-ended : (key : QKey) (known : Known) (marks : List Mark) (who token : ℕ) → IsOver known who → IsRuled key marks known → IsRuled key (Ended who token ∷ marks) known
+pub ruled-ended : (key : QKey) (known : Known) (marks : List Mark) (who token : ℕ)
+    → IsOver known who → IsRuled key marks known → IsRuled key (Ended who token ∷ marks) known
 ruled-ended key known marks who token over ruled =
     ruled-append key (Ended who token ∷ []) marks known
     (λ other its. ⊎_elim (λ e. subst (λ n. IsOver known n) (ended-same e) over) (λ h. absurd h))
@@ -45,10 +47,12 @@ ruled-ended key known marks who token over ruled =
 
 -- more marks keep an entry held where whoever ended has no commit on the key that it lacks
 pub held-append : (key : QKey) (more marks : List Mark) (known : Known) (stamp : ℕ)
-    → ((place : ℕ) (commit : Commit) (token : ℕ) → StandsAt known.log place commit → stamp ≤ place → touches commit.txn key ≡ true → Has (Ended commit.sid.number token) more → ⊥)
+    → ((place : ℕ) (commit : Commit) (token : ℕ) → StandsAt known.log place commit
+    → stamp ≤ place → touches commit.txn key ≡ true → Has (Ended commit.sid.number token) more → ⊥)
     → IsHeld key marks known stamp → IsHeld key (more ++ marks) known stamp
 held-append key more marks known stamp none held = record {
   within = held.within;
   pending = λ place commit token at from touched h.
-      ⊎_elim (none place commit token at from touched) (held.pending place commit token at from touched) (has-split (Ended commit.sid.number token) more marks h);
+      ⊎_elim (none place commit token at from touched) (held.pending place commit token at from touched)
+      (has-split (Ended commit.sid.number token) more marks h);
 }

@@ -13,7 +13,8 @@ use Rattle.key_freshness.proofs.MomentLemmas.{held_later, more_is_right, stored_
 use Rattle.key_freshness.proofs.HitLemmas.{hit_is_fresh}
 
 pub running_hit_is_fresh : RunningHitIsFresh
-running_hit_is_fresh key opening then_past past later then_known asked known later_known value since moment grants before more ruled right marked ends further ruled_later =
+running_hit_is_fresh key opening then_past past later then_known
+    asked known later_known value since moment grants before more ruled right marked ends further ruled_later =
     let stamp = length asked.log in
     let answer : List Commit → List ℕ = λ log. query.answer key (rows_after opening log) in
     let marks : List Mark = Wrote stamp ∷ marks_of key past in

@@ -28,20 +28,23 @@ module _ (key : QKey) (known : Known) (marks : List Mark) (ruled : IsRuled key m
   ruled_quiet more quiet =
       ruled-append key more marks known (λ who token h. absurd (quiet.0 who token h)) (λ stamp h. absurd (quiet.1 stamp h)) ruled
 
-  quiet_entry : (more : List Mark) (found : Option (List ℕ × ℕ)) → IsQuiet more → IsEntryHeld key marks known found → IsEntryHeld key (more ++ marks) known found
+  quiet_entry : (more : List Mark) (found : Option (List ℕ × ℕ))
+      → IsQuiet more → IsEntryHeld key marks known found → IsEntryHeld key (more ++ marks) known found
   quiet_entry more None quiet held = tt
   quiet_entry more (Some found) quiet held =
       held-append key more marks known found.1 (λ place commit token at from touched h. quiet.0 commit.sid.number token h) held
 
   -- a step that neither ends, writes nor moves the entry
-  quiet_stays : (more : List Mark) (b : Bool) (found : Option (List ℕ × ℕ)) → IsQuiet more → IsEntryHeld key marks known found → Stays key known (cond b more [] ++ marks) found
+  quiet_stays : (more : List Mark) (b : Bool) (found : Option (List ℕ × ℕ))
+      → IsQuiet more → IsEntryHeld key marks known found → Stays key known (cond b more [] ++ marks) found
   quiet_stays more b found quiet held =
       by_test (λ c. Stays key known (cond c more [] ++ marks) found) b
       (λ e. (ruled_quiet more quiet, quiet_entry more found quiet held))
       (λ e. (ruled, held))
 
   -- a miss leaves no entry
-  missed_stays : (more : List Mark) (b : Bool) (found : Option (List ℕ × ℕ)) → IsQuiet more → IsEntryHeld key marks known found → Stays key known (cond b more [] ++ marks) (cond b None found)
+  missed_stays : (more : List Mark) (b : Bool) (found : Option (List ℕ × ℕ))
+      → IsQuiet more → IsEntryHeld key marks known found → Stays key known (cond b more [] ++ marks) (cond b None found)
   missed_stays more b found quiet held =
       by_test (λ c. Stays key known (cond c more [] ++ marks) (cond c None found)) b
       (λ e. (ruled_quiet more quiet, tt))
@@ -52,7 +55,8 @@ module _ (key : QKey) (known : Known) (marks : List Mark) (ruled : IsRuled key m
   evicted_held false found held = held
 
   -- a step on the key that leaves this entry, or one elsewhere that may evict it
-  moved_stays : (more : List Mark) (b gone : Bool) (here found : Option (List ℕ × ℕ)) → (b ≡ true → Stays key known (more ++ marks) here) → IsEntryHeld key marks known found
+  moved_stays : (more : List Mark) (b gone : Bool) (here found : Option (List ℕ × ℕ))
+      → (b ≡ true → Stays key known (more ++ marks) here) → IsEntryHeld key marks known found
       → Stays key known (cond b more [] ++ marks) (cond b here (cond gone None found))
   moved_stays more b gone here found on held =
       by_test (λ c. Stays key known (cond c more [] ++ marks) (cond c here (cond gone None found))) b on
@@ -91,23 +95,32 @@ on_key : (key on : QKey) (known : Known) (more : List Mark) (past : List Step) (
 on_key key on known more past stamp same = subst (λ k. IsHeld k (more ++ marks_of k past) known stamp) (sym (same_key-true key on same))
 
 pub steps_keep : StepsKeep
-steps_keep key known past (step.Hit on sid floor value stamp) honest ruled held = quiet_stays key known (marks_of key past) ruled [] (same_key key on) (entry key past) held_quiet held
+steps_keep key known past (step.Hit on sid floor value stamp) honest ruled held =
+    quiet_stays key known (marks_of key past) ruled [] (same_key key on) (entry key past) held_quiet held
 steps_keep key known past (step.Lease on sid floor now token deadline) honest ruled held =
     missed_stays key known (marks_of key past) ruled (Leased token ∷ []) (same_key key on) (entry key past) (leased_quiet token) held
-steps_keep key known past (step.Again on sid floor now stands) honest ruled held = missed_stays key known (marks_of key past) ruled [] (same_key key on) (entry key past) held_quiet held
-steps_keep key known past (step.Own on sid) honest ruled held = quiet_stays key known (marks_of key past) ruled [] (same_key key on) (entry key past) held_quiet held
+steps_keep key known past (step.Again on sid floor now stands) honest ruled held =
+    missed_stays key known (marks_of key past) ruled [] (same_key key on) (entry key past) held_quiet held
+steps_keep key known past (step.Own on sid) honest ruled held =
+    quiet_stays key known (marks_of key past) ruled [] (same_key key on) (entry key past) held_quiet held
 steps_keep key known past (step.Stored on token now value stamp evicted) honest ruled held =
     moved_stays key known (marks_of key past) ruled (Wrote stamp ∷ []) (same_key key on) (is_evicted key evicted) (Some (value, stamp)) (entry key past)
     (λ same. (ruled-wrote key known (marks_of key past) stamp honest.within ruled, on_key key on known (Wrote stamp ∷ []) past stamp same honest))
     held
-steps_keep key known past (step.Void on token now) honest ruled held = quiet_stays key known (marks_of key past) ruled [] (same_key key on) (entry key past) held_quiet held
+steps_keep key known past (step.Void on token now) honest ruled held =
+    quiet_stays key known (marks_of key past) ruled [] (same_key key on) (entry key past) held_quiet held
 steps_keep key known past (step.Granted on sid mode shift now token deadline) honest ruled held =
     quiet_stays key known (marks_of key past) ruled (Granted sid.number token ∷ []) (same_key key on) (entry key past) (granted_quiet sid.number token) held
-steps_keep key known past (step.Held on sid mode) honest ruled held = quiet_stays key known (marks_of key past) ruled [] (same_key key on) (entry key past) held_quiet held
-steps_keep key known past (step.Refused on sid mode holder its) honest ruled held = quiet_stays key known (marks_of key past) ruled [] (same_key key on) (entry key past) held_quiet held
+steps_keep key known past (step.Held on sid mode) honest ruled held =
+    quiet_stays key known (marks_of key past) ruled [] (same_key key on) (entry key past) held_quiet held
+steps_keep key known past (step.Refused on sid mode holder its) honest ruled held =
+    quiet_stays key known (marks_of key past) ruled [] (same_key key on) (entry key past) held_quiet held
 steps_keep key known past (step.Released on sid token ended.Keep) honest ruled held =
     moved_stays key known (marks_of key past) ruled (Ended sid.number token ∷ []) (same_key key on) false (entry key past) (entry key past)
-    (λ same. (ruled-ended key known (marks_of key past) sid.number token (inr honest) ruled, kept_held key known (marks_of key past) sid.number token (entry key past) honest ruled held))
+    (λ same. (
+      ruled-ended key known (marks_of key past) sid.number token (inr honest) ruled,
+      kept_held key known (marks_of key past) sid.number token (entry key past) honest ruled held,
+    ))
     held
 steps_keep key known past (step.Released on sid token ended.Drop) honest ruled held =
     moved_stays key known (marks_of key past) ruled (Ended sid.number token ∷ []) (same_key key on) false None (entry key past)
@@ -117,7 +130,8 @@ steps_keep key known past (step.Released on sid token (ended.Put value stamp evi
     let more = Wrote stamp ∷ Ended sid.number token ∷ [] in
     moved_stays key known (marks_of key past) ruled more (same_key key on) (is_evicted key evicted) (Some (value, stamp)) (entry key past)
     (λ same. (
-      ruled-wrote key known (Ended sid.number token ∷ marks_of key past) stamp honest.1.within (ruled-ended key known (marks_of key past) sid.number token honest.0 ruled),
+      ruled-wrote key known (Ended sid.number token ∷ marks_of key past) stamp honest.1.within
+          (ruled-ended key known (marks_of key past) sid.number token honest.0 ruled),
       on_key key on known more past stamp same honest.1,
     ))
     held
@@ -125,8 +139,10 @@ steps_keep key known past (step.Released on sid token (ended.Shift by stamp)) ho
     let more = Wrote stamp ∷ Ended sid.number token ∷ [] in
     moved_stays key known (marks_of key past) ruled more (same_key key on) false (entry_shifted by stamp (entry key past)) (entry key past)
     (λ same. (
-      ruled-wrote key known (Ended sid.number token ∷ marks_of key past) stamp honest.1.within (ruled-ended key known (marks_of key past) sid.number token honest.0 ruled),
+      ruled-wrote key known (Ended sid.number token ∷ marks_of key past) stamp honest.1.within
+          (ruled-ended key known (marks_of key past) sid.number token honest.0 ruled),
       shifted_held key known (more ++ marks_of key past) by stamp (entry key past) (on_key key on known more past stamp same honest.1),
     ))
     held
-steps_keep key known past (step.Gone on sid token) honest ruled held = quiet_stays key known (marks_of key past) ruled [] (same_key key on) (entry key past) held_quiet held
+steps_keep key known past (step.Gone on sid token) honest ruled held =
+    quiet_stays key known (marks_of key past) ruled [] (same_key key on) (entry key past) held_quiet held

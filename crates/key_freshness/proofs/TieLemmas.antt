@@ -1,5 +1,6 @@
 -- A step keeps marks and what a shard holds of a key tied.
-use Rattle.std.proofs.Common.{ℕ, ◌≡◌, ◌==◌, ◌&&◌, Bool, true, false, not, cond, List, [], ◌∷◌, ◌++◌, filter, Option, None, Some, refl, sym, ap₂, subst, ◌∙◌, ◌⊎◌, inl, inr, ⊎_elim, ℤ, decimal, option_map, eq-eqb, append_assoc}
+use Rattle.std.proofs.Common.{ℕ, ◌≡◌, ◌==◌, ◌&&◌, Bool, true, false, not, cond, List, [], ◌∷◌, ◌++◌, filter, Option, None, Some, refl, sym}
+use Rattle.std.proofs.Common.{ap₂, subst, ◌∙◌, ◌⊎◌, inl, inr, ⊎_elim, ℤ, decimal, option_map, eq-eqb, append_assoc}
 use Rattle.std.proofs.lemmas.Bool.{cases_Bool, false≢true, eqb-true, and_parts, and_from, or_cases, or_left, or_right}
 use Rattle.std.proofs.lemmas.List.Folds.{list_any-append}
 use Rattle.rows_model.specs.Key.{same_key}
@@ -24,7 +25,8 @@ pub stands-back : (who token : ℕ) (xs ys : List Quar) → stands_as who token 
 stands-back who token xs ys h = list_any-append _ xs ys ∙ or_right (stands_as who token xs) (stands_as who token ys) h
 
 -- a quarantine of another token stands when those of one token are gone
-pub stands-other : (who token gone : ℕ) (xs : List Quar) → (token ≡ gone → ⊥) → stands_as who token xs ≡ true → stands_as who token (filter (λ quar. not (has_token gone quar)) xs) ≡ true
+pub stands-other : (who token gone : ℕ) (xs : List Quar) → (token ≡ gone → ⊥)
+    → stands_as who token xs ≡ true → stands_as who token (filter (λ quar. not (has_token gone quar)) xs) ≡ true
 stands-other who token gone [] apart h = h
 stands-other who token gone (x ∷ xs) apart h =
     by_test (λ b. x.token == gone ≡ b → stands_as who token (cond (not b) (x ∷ rest) rest) ≡ true) (x.token == gone)
@@ -68,7 +70,8 @@ module _ (marks : List Mark) (start : Option ℕ) (quars : List Quar) where
   again_tied true found tied = gone_tied true found tied
   again_tied false found tied = tied
 
-  leased_tied : (b : Bool) (token : ℕ) (found : Option (List ℕ × ℕ)) → IsTied marks start quars found → IsTied (cond b (Leased token ∷ []) [] ++ marks) start quars (cond b None found)
+  leased_tied : (b : Bool) (token : ℕ) (found : Option (List ℕ × ℕ))
+      → IsTied marks start quars found → IsTied (cond b (Leased token ∷ []) [] ++ marks) start quars (cond b None found)
   leased_tied true token found tied = record {
     granted = granted_more found (Leased token ∷ []) (λ who its. ⊎_elim (λ e. absurd cc) (λ h. h)) tied;
     stamped = tt;
@@ -123,18 +126,21 @@ module _ (marks : List Mark) (start : Option ℕ) (quars : List Quar) where
       moved None = tt
       moved (Some n) = refl
 
-  ended_stamped : (how : How) (who token : ℕ) (found : Option (List ℕ × ℕ)) → IsStamped marks start found → IsStamped ((writes_by how ++ Ended who token ∷ []) ++ marks) start (entry_ended how found)
+  ended_stamped : (how : How) (who token : ℕ) (found : Option (List ℕ × ℕ))
+      → IsStamped marks start found → IsStamped ((writes_by how ++ Ended who token ∷ []) ++ marks) start (entry_ended how found)
   ended_stamped ended.Keep who token found stamped = kept_stamped who token found stamped
   ended_stamped ended.Drop who token found stamped = tt
   ended_stamped (ended.Put value stamp evicted) who token found stamped = refl
   ended_stamped (ended.Shift by stamp) who token found stamped = shifted_stamped by stamp (Ended who token ∷ marks) found
 
-  released_granted : (how : How) (sid token : ℕ) (found : Option (List ℕ × ℕ)) → ((who : ℕ) → stands_as who token quars ≡ true → who ≡ sid) → IsTied marks start quars found
+  released_granted : (how : How) (sid token : ℕ) (found : Option (List ℕ × ℕ))
+      → ((who : ℕ) → stands_as who token quars ≡ true → who ≡ sid) → IsTied marks start quars found
       → (who its : ℕ) → Has (Granted who its) ((writes_by how ++ Ended sid token ∷ []) ++ marks)
       → (stands_as who its (filter (λ quar. not (has_token token quar)) quars) ≡ true) ⊎ Has (Ended who its) ((writes_by how ++ Ended sid token ∷ []) ++ marks)
   released_granted how sid token found own tied who its h =
       ⊎_elim
-      (λ new. ⊎_elim (λ w. absurd (writes_only how who its w)) (λ k. ⊎_elim (λ e. absurd cc) (λ f. absurd f) k) (has-split (Granted who its) (writes_by how) (Ended sid token ∷ []) new))
+      (λ new. ⊎_elim (λ w. absurd (writes_only how who its w)) (λ k. ⊎_elim (λ e. absurd cc) (λ f. absurd f) k)
+      (has-split (Granted who its) (writes_by how) (Ended sid token ∷ []) new))
       (λ old. ⊎_elim still (λ e. inr (has-back (Ended who its) more marks e)) (tied.granted who its old))
       (has-split (Granted who its) more marks h)
     where
@@ -146,14 +152,16 @@ module _ (marks : List Mark) (start : Option ℕ) (quars : List Quar) where
           subst (λ ms. Has (Ended who its) ms) (sym (append_assoc (writes_by how) (Ended sid token ∷ []) marks))
           (has-back (Ended who its) (writes_by how) (Ended sid token ∷ marks) (inl (ap₂ Ended (sym mine) (sym same))))
 
-      still : stands_as who its quars ≡ true → (stands_as who its (filter (λ quar. not (has_token token quar)) quars) ≡ true) ⊎ Has (Ended who its) (more ++ marks)
+      still : stands_as who its quars ≡ true → (stands_as who its (filter (λ quar. not (has_token token quar)) quars) ≡ true)
+          ⊎ Has (Ended who its) (more ++ marks)
       still stands =
           ⊎_elim
           (λ is. let same = eqb-true its token is in inr (has-new (own who (subst (λ t. stands_as who t quars ≡ true) same stands)) same))
           (λ other. inl (stands-other who its token quars (λ same. false≢true (sym other ∙ eq-eqb its token same)) stands))
           (cases_Bool (its == token))
 
-  released_tied : (b gone : Bool) (how : How) (sid token : ℕ) (found : Option (List ℕ × ℕ)) → (b ≡ true → (who : ℕ) → stands_as who token quars ≡ true → who ≡ sid) → IsTied marks start quars found
+  released_tied : (b gone : Bool) (how : How) (sid token : ℕ) (found : Option (List ℕ × ℕ))
+      → (b ≡ true → (who : ℕ) → stands_as who token quars ≡ true → who ≡ sid) → IsTied marks start quars found
       → IsTied (cond b (writes_by how ++ Ended sid token ∷ []) [] ++ marks) start
       (cond b (filter (λ quar. not (has_token token quar)) quars) quars) (cond b (entry_ended how found) (cond gone None found))
   released_tied true gone how sid token found own tied = record {
@@ -163,17 +171,22 @@ module _ (marks : List Mark) (start : Option ℕ) (quars : List Quar) where
   released_tied false gone how sid token found own tied = gone_tied gone found tied
 
 pub steps_tie : StepsTie
-steps_tie key start past (step.Hit on sid floor value stamp) own tied = quiet_tied (marks_of key past) start (standing key past) (same_key key on) (entry key past) tied
-steps_tie key start past (step.Lease on sid floor now token deadline) own tied = leased_tied (marks_of key past) start (standing key past) (same_key key on) token (entry key past) tied
-steps_tie key start past (step.Again on sid floor now stands) own tied = again_tied (marks_of key past) start (standing key past) (same_key key on) (entry key past) tied
+steps_tie key start past (step.Hit on sid floor value stamp) own tied =
+    quiet_tied (marks_of key past) start (standing key past) (same_key key on) (entry key past) tied
+steps_tie key start past (step.Lease on sid floor now token deadline) own tied =
+    leased_tied (marks_of key past) start (standing key past) (same_key key on) token (entry key past) tied
+steps_tie key start past (step.Again on sid floor now stands) own tied =
+    again_tied (marks_of key past) start (standing key past) (same_key key on) (entry key past) tied
 steps_tie key start past (step.Own on sid) own tied = quiet_tied (marks_of key past) start (standing key past) (same_key key on) (entry key past) tied
 steps_tie key start past (step.Stored on token now value stamp evicted) own tied =
     stored_tied (marks_of key past) start (standing key past) (same_key key on) (is_evicted key evicted) value stamp (entry key past) tied
 steps_tie key start past (step.Void on token now) own tied = quiet_tied (marks_of key past) start (standing key past) (same_key key on) (entry key past) tied
 steps_tie key start past (step.Granted on sid mode shift now token deadline) own tied =
-    granted_tied (marks_of key past) start (standing key past) (same_key key on) (record { sid = sid; mode = mode; token = token; deadline = deadline; shift = shift }) (entry key past) tied
+    granted_tied (marks_of key past) start (standing key past) (same_key key on)
+    (record { sid = sid; mode = mode; token = token; deadline = deadline; shift = shift }) (entry key past) tied
 steps_tie key start past (step.Held on sid mode) own tied = quiet_tied (marks_of key past) start (standing key past) (same_key key on) (entry key past) tied
-steps_tie key start past (step.Refused on sid mode holder its) own tied = quiet_tied (marks_of key past) start (standing key past) (same_key key on) (entry key past) tied
+steps_tie key start past (step.Refused on sid mode holder its) own tied =
+    quiet_tied (marks_of key past) start (standing key past) (same_key key on) (entry key past) tied
 steps_tie key start past (step.Released on sid token how) own tied =
     released_tied (marks_of key past) start (standing key past) (same_key key on) (is_evicted key (evicted_by how)) how sid.number token (entry key past)
     (λ same who stands. own who (subst (λ k. stands_as who token (standing k past) ≡ true) (same_key-true key on same) stands))

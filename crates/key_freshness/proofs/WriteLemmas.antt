@@ -1,5 +1,6 @@
 -- What a writer puts or shifts after its own commit is held and right.
-use Rattle.std.proofs.Common.{ℕ, zero, suc, ◌≡◌, ◌+◌, ◌-◌, ◌≤◌, ◌<◌, Bool, true, false, List, length, take, Option, Some, sym, ap, subst, ◌∙◌, ◌⊎◌, inl, inr, ⊎_elim, arith}
+use Rattle.std.proofs.Common.{ℕ, zero, suc, ◌≡◌, ◌+◌, ◌-◌, ◌≤◌, ◌<◌, Bool, true, false, List, length, take, Option, Some, sym, ap, subst}
+use Rattle.std.proofs.Common.{◌∙◌, ◌⊎◌, inl, inr, ⊎_elim, arith}
 use Rattle.std.proofs.lemmas.Option.{slice_get_within}
 use Rattle.rows_model.specs.declared.keys.QKey.{QKey}
 use Rattle.rows_model.specs.declared.changes.Change.{Change}
@@ -15,7 +16,8 @@ use Rattle.key_freshness.proofs.KnownLemmas.{stands-within, take-whole, more-len
 use Rattle.key_freshness.proofs.MomentLemmas.{known_then}
 
 -- a commit on the key that the moment didn't know is the session's own
-own_if_late : (key : QKey) (who place : ℕ) (own : Commit) (then_marks marks : List Mark) (then_known known : Known) → IsMoment key (Some who) then_marks then_known
+own_if_late : (key : QKey) (who place : ℕ) (own : Commit) (then_marks marks : List Mark) (then_known known : Known)
+    → IsMoment key (Some who) then_marks then_known
     → IsSince (Some who) then_marks marks → IsMore then_known known → IsRuled key marks known → IsOwn then_known known who place own
     → (q : ℕ) (commit : Commit) → StandsAt known.log q commit → touches commit.txn key ≡ true → (q ≡ place) ⊎ (q < length then_known.log)
 own_if_late key who place own then_marks marks then_known known moment since more ruled its q commit at touched =
@@ -54,12 +56,14 @@ unmoved key answer log stamp (suc n) leaves within none =
 -- the answer stays the one that was held and right at the moment, up to a place before which no commit of the session's own stands
 pub same_until : (key : QKey) (who stamp n : ℕ) (then_marks marks : List Mark) (then_known known : Known) (answer : List Commit → List ℕ) (old : List ℕ)
     → IsMoment key (Some who) then_marks then_known → IsSince (Some who) then_marks marks → IsMore then_known known → IsRuled key marks known
-    → ((q : ℕ) (commit : Commit) (token : ℕ) → StandsAt then_known.log q commit → stamp ≤ q → touches commit.txn key ≡ true → Has (Ended commit.sid.number token) then_marks → ⊥)
+    → ((q : ℕ) (commit : Commit) (token : ℕ) → StandsAt then_known.log q commit
+    → stamp ≤ q → touches commit.txn key ≡ true → Has (Ended commit.sid.number token) then_marks → ⊥)
     → ((q : ℕ) (commit : Commit) → StandsAt known.log q commit → q < n → commit.sid.number ≡ who → ⊥)
     → IsRight answer known.log old stamp → LeavesUntouched key answer known.log → stamp ≤ n → n ≤ length known.log → answer (take n known.log) ≡ old
 same_until key who stamp n then_marks marks then_known known answer old moment since more ruled pending none right leaves low within =
     let e : stamp + (n - stamp) ≡ n = omega (arith, low) in
-    let still = unmoved key answer known.log stamp (n - stamp) leaves (omega (arith, e, within)) (λ q commit at from before touched. quiet q commit at from (omega (arith, e, before)) touched) in
+    let still = unmoved key answer known.log stamp (n - stamp) leaves
+    (omega (arith, e, within)) (λ q commit at from before touched. quiet q commit at from (omega (arith, e, before)) touched) in
     ap (λ m. answer (take m known.log)) (sym e) ∙ still ∙ sym right
   where
     quiet : (q : ℕ) (commit : Commit) → StandsAt known.log q commit → stamp ≤ q → q < n → touches commit.txn key ≡ true → ⊥
@@ -78,7 +82,8 @@ same_until key who stamp n then_marks marks then_known known answer old moment s
 -- the entry that was held and right at the moment is the present answer while the session hasn't committed
 pub still_present : (key : QKey) (who stamp : ℕ) (then_marks marks : List Mark) (then_known known : Known) (answer : List Commit → List ℕ) (old : List ℕ)
     → IsMoment key (Some who) then_marks then_known → IsHeld key then_marks then_known stamp → IsSince (Some who) then_marks marks → IsMore then_known known
-    → IsRuled key marks known → IsRight answer known.log old stamp → LeavesUntouched key answer known.log → (IsLogged known.log who → ⊥) → old ≡ answer known.log
+    → IsRuled key marks known → IsRight answer known.log old stamp
+    → LeavesUntouched key answer known.log → (IsLogged known.log who → ⊥) → old ≡ answer known.log
 still_present key who stamp then_marks marks then_known known answer old moment held since more ruled right leaves ongoing =
     let within = held.within in
     let longer = more-length more in
@@ -90,13 +95,15 @@ still_present key who stamp then_marks marks then_known known answer old moment 
 made_after : (key : QKey) (who place stamp : ℕ) (own : Commit) (then_marks marks : List Mark) (then_known known : Known)
     (answer : List Commit → List ℕ) (next : List Change → List ℕ → Option (List ℕ)) (old : List ℕ) → IsMoment key (Some who) then_marks then_known
     → IsSince (Some who) then_marks marks → IsMore then_known known → IsRuled key marks known → IsOwn then_known known who place own
-    → ((q : ℕ) (commit : Commit) (token : ℕ) → StandsAt then_known.log q commit → stamp ≤ q → touches commit.txn key ≡ true → Has (Ended commit.sid.number token) then_marks → ⊥)
+    → ((q : ℕ) (commit : Commit) (token : ℕ) → StandsAt then_known.log q commit
+    → stamp ≤ q → touches commit.txn key ≡ true → Has (Ended commit.sid.number token) then_marks → ⊥)
     → IsRight answer known.log old stamp → stamp ≤ length then_known.log → LeavesUntouched key answer known.log → MakesNext next answer known.log
     → next own.txn old ≡ Some (answer (take (place + 1) known.log))
 made_after key who place stamp own then_marks marks then_known known answer next old moment since more ruled its pending right within leaves makes =
     let late = its.late in
     let lt = slice_get_within known.log place own its.at in
-    let same = same_until key who stamp place then_marks marks then_known known answer old moment since more ruled pending first right leaves (omega (arith, within, late)) (omega (arith, lt)) in
+    let same = same_until key who stamp place then_marks marks then_known known answer old moment since more ruled pending first right leaves
+    (omega (arith, within, late)) (omega (arith, lt)) in
     ap (λ v. next own.txn v) (sym same) ∙ makes place own its.at
   where
     first : (q : ℕ) (commit : Commit) → StandsAt known.log q commit → q < place → commit.sid.number ≡ who → ⊥
@@ -117,11 +124,13 @@ some_same e = cc
 made_next : (key : QKey) (who place stamp : ℕ) (own : Commit) (then_marks marks : List Mark) (then_known known : Known)
     (answer : List Commit → List ℕ) (next : List Change → List ℕ → Option (List ℕ)) (old new : List ℕ) → IsMoment key (Some who) then_marks then_known
     → IsSince (Some who) then_marks marks → IsMore then_known known → IsRuled key marks known → IsOwn then_known known who place own
-    → ((q : ℕ) (commit : Commit) (token : ℕ) → StandsAt then_known.log q commit → stamp ≤ q → touches commit.txn key ≡ true → Has (Ended commit.sid.number token) then_marks → ⊥)
+    → ((q : ℕ) (commit : Commit) (token : ℕ) → StandsAt then_known.log q commit
+    → stamp ≤ q → touches commit.txn key ≡ true → Has (Ended commit.sid.number token) then_marks → ⊥)
     → IsRight answer known.log old stamp → stamp ≤ length then_known.log → LeavesUntouched key answer known.log → MakesNext next answer known.log
     → next own.txn old ≡ Some new → IsRight answer known.log new (place + 1)
 made_next key who place stamp own then_marks marks then_known known answer next old new moment since more ruled its pending right within leaves makes made =
-    some_same (sym made ∙ made_after key who place stamp own then_marks marks then_known known answer next old moment since more ruled its pending right within leaves makes)
+    some_same (sym made
+    ∙ made_after key who place stamp own then_marks marks then_known known answer next old moment since more ruled its pending right within leaves makes)
 
 pub put_is_right : PutIsRight
 put_is_right key who place stamp own then_marks marks then_known known answer next old new moment held right since more ruled its leaves makes made =

@@ -50,7 +50,8 @@ abbrev pub IsStamped : List Mark → Option ℕ → Option (List ℕ × ℕ) →
 IsStamped marks start None = Unit {0}
 IsStamped marks start (Some found) = last_wrote marks start ≡ Some found.1
 
--- Marks and what a shard holds of the key belong together: each quarantine that was granted stands or has ended, and the entry has the stamp that was written last, or the one at the start.
+-- Marks and what a shard holds of the key belong together: each quarantine that was granted
+-- stands or has ended, and the entry has the stamp that was written last, or the one at the start.
 pub record IsTied (marks : List Mark) (start : Option ℕ) (quars : List Quar) (found : Option (List ℕ × ℕ)) : Type 0 where
   pub granted : (who token : ℕ) → Has (Granted who token) marks → (stands_as who token quars ≡ true) ⊎ Has (Ended who token) marks
   pub stamped : IsStamped marks start found

@@ -174,7 +174,8 @@ EndsKeep =
     → IsRuled key marks (with_end known who)
 
 -- The running case: what was known at the lease, asked with and known at the set may each be more than the one before, by commits of whichever sessions.
--- What was stored then is fresh for every hit later, against the most that is known, where each quarantine that ended since is of a session that was ended without a commit.
+-- What was stored then is fresh for every hit later, against the most that is known,
+-- where each quarantine that ended since is of a session that was ended without a commit.
 abbrev pub RunningHitIsFresh : Type 0
 RunningHitIsFresh =
     (key : QKey) (opening : Tables) (then_past past later : List Step) (then_known asked known later_known : Known) (value : List ℕ) (since : List Mark)

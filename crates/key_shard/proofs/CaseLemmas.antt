@@ -1,5 +1,6 @@
 -- What a request comes to: a motive that holds of each step that the request may give holds of its step.
-use Rattle.std.proofs.Common.{ℕ, ◌≡◌, Bool, true, false, cond, ◌&&◌, ◌||◌, nat_le, List, [], ◌∷◌, map, is_some, option_map, Option, Some, None, inl, inr, ◌⊎◌, refl, sym, ap, subst, ◌∙◌}
+use Rattle.std.proofs.Common.{ℕ, ◌≡◌, Bool, true, false, cond, ◌&&◌, ◌||◌, nat_le, List, [], ◌∷◌, map, is_some, option_map, Option, Some}
+use Rattle.std.proofs.Common.{None, inl, inr, ◌⊎◌, refl, sym, ap, subst, ◌∙◌}
 use Rattle.std.specs.Prelude.{ℤ}
 use Rattle.std.specs.List.{list_all}
 use Rattle.std.specs.Option.{option_or}
@@ -40,7 +41,8 @@ missed P terms past key who floor now none again lease =
   where
     by : (own : Option Quar) (ways : List Way) (reading : Bool) → own ≡ None →
         (ways ≡ [] → P (step.Lease key who floor now (next_token terms past) (deadline_at terms now))) →
-        P (miss_by terms past key who floor now (cond (is_some (option_map (λ quar. way_of quar.mode) own)) verdicts.Own (cond (is_any ways || reading) verdicts.Wait verdicts.Give)))
+        P (miss_by terms past key who floor now
+        (cond (is_some (option_map (λ quar. way_of quar.mode) own)) verdicts.Own (cond (is_any ways || reading) verdicts.Wait verdicts.Give)))
     by (Some own) ways reading e lease = cc
     by None [] true e lease = again _
     by None [] false e lease = lease refl
@@ -89,7 +91,8 @@ verdict_cases P terms past key who mode shift now granted held refused =
     named quar e = subst (λ o. P (refused_step key who mode o)) (sym e) (refused quar e)
 
     by : (own : Option Quar) (others : List Quar) (reading : Bool) → own_of key who past ≡ own → others_of key who past ≡ others →
-        P (quarantine_by terms past key who mode shift now (quarantine_verdict (way_of mode) (option_map (λ quar. way_of quar.mode) own) (map (λ quar. way_of quar.mode) others) reading))
+        P (quarantine_by terms past key who mode shift now
+        (quarantine_verdict (way_of mode) (option_map (λ quar. way_of quar.mode) own) (map (λ quar. way_of quar.mode) others) reading))
     by (Some own) others reading e f =
         cond_both (same_way (way_of own.mode) (way_of mode)) verdicts.Same verdicts.Refuse (λ v. P (quarantine_by terms past key who mode shift now v))
         (λ _. held own e)
@@ -134,7 +137,8 @@ release_cases P past permit how ends gone = by (quar_of permit.key permit.token 
 
 -- a replace likewise, with its value
 pub replace_cases : (P : Step → Type 0) (terms : Terms) (past : List Step) (permit : Permit) (value : List ℕ) (stamp : ℕ) →
-    ((quar : Quar) → quar_of permit.key permit.token past ≡ Some quar → P (step.Released permit.key quar.sid permit.token (ended.Put value stamp (evicts terms permit.key past)))) →
+    ((quar : Quar) → quar_of permit.key permit.token past ≡ Some quar
+    → P (step.Released permit.key quar.sid permit.token (ended.Put value stamp (evicts terms permit.key past)))) →
     (quar_of permit.key permit.token past ≡ None → P (step.Gone permit.key permit.sid permit.token)) → P (replace_step terms past permit value stamp)
 replace_cases P terms past permit value stamp ends gone = by (quar_of permit.key permit.token past) refl
   where

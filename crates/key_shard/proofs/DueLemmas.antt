@@ -1,5 +1,6 @@
 -- What a scan finds: the first quarantine whose deadline has come is the same however it is looked for.
-use Rattle.std.proofs.Common.{ℕ, ◌≡◌, ◌≢◌, ◌<◌, ◌≤◌, Bool, true, false, not, cond, zero, suc, List, [], ◌∷◌, ◌++◌, filter, find, length, get_or, Option, Some, None, refl, sym, ap, subst, ◌∙◌, inl, inr, ◌⊎◌, arith}
+use Rattle.std.proofs.Common.{ℕ, ◌≡◌, ◌≢◌, ◌<◌, ◌≤◌, Bool, true, false, not, cond, zero, suc, List, [], ◌∷◌, ◌++◌, filter, find, length}
+use Rattle.std.proofs.Common.{get_or, Option, Some, None, refl, sym, ap, subst, ◌∙◌, inl, inr, ◌⊎◌, arith}
 use Rattle.std.specs.Prelude.{Any, IfSome, IfNone, flat_map, nat_le}
 use Rattle.std.specs.List.{All, AllByRecursion}
 use Rattle.std.proofs.lemmas.Bool.{cond_both, eq-eqb, eqb-true, false_from_ne_true}
@@ -95,7 +96,8 @@ standing-granted key (step.Granted on sid mode shift now token deadline ∷ past
 standing-granted key (step.Released on sid token how ∷ past) =
     let s = step.Released on sid token how in
     let old = granted-later key s past (standing key past) (standing-granted key past) in
-    cond_both (same_key key on) (filter (λ quar. not (has_token token quar)) (standing key past)) (standing key past) (AllByRecursion (WasGrantedIn key (s ∷ past)))
+    cond_both (same_key key on) (filter (λ quar. not (has_token token quar)) (standing key past))
+    (standing key past) (AllByRecursion (WasGrantedIn key (s ∷ past)))
     (λ _. every-filter (WasGrantedIn key (s ∷ past)) (λ quar. not (has_token token quar)) (standing key past) old)
     (λ _. old)
 standing-granted key (step.Hit on sid floor value stamp ∷ past) =
@@ -120,8 +122,11 @@ found-own_token (one ∷ quars) h =
     let itself : find (has_token one.token) (one ∷ quars) ≡ Some one =
     ap (λ b. cond b (Some one) (find (has_token one.token) quars)) (eq-eqb one.token one.token refl) in
     let P : Quar → Type 0 = λ quar. one.token ≢ quar.token in
-    let Q : Quar → Type 0 = λ quar. find (has_token quar.token) quars ≡ Some quar in
-    (itself, every-weaker (λ quar. P quar × Q quar) (λ quar. find (has_token quar.token) (one ∷ quars) ≡ Some quar) quars behind (every-both P Q quars h.0 (found-own_token quars h.1)))
+    let Q : Quar → Type 0 = λ quar. find (has_token quar.token) quars ≡ Some quar in (
+      itself,
+      every-weaker (λ quar. P quar × Q quar) (λ quar. find (has_token quar.token) (one ∷ quars)
+          ≡ Some quar) quars behind (every-both P Q quars h.0 (found-own_token quars h.1)),
+    )
   where
     behind : (quar : Quar) → (one.token ≢ quar.token) × (find (has_token quar.token) quars ≡ Some quar) → find (has_token quar.token) (one ∷ quars) ≡ Some quar
     behind quar h =
@@ -154,7 +159,8 @@ due-listed_by now past (step.Granted on sid mode shift at token deadline) key qu
     let P : List Due → Type 0 = OneOf (λ due. due ≡ due_as key quar) in
     let found : quar_of on token past ≡ Some quar = ap (λ k. quar_of k token past) (sym is.0) ∙ ap (λ t. quar_of key t past) (sym is.1) ∙ stands in
     let passed : nat_le quar.deadline now ≡ true = grind (arith, nat_tests) in
-    subst (λ found. P (due_now now on found)) (sym found) (subst (λ b. P (cond b (due_as on quar ∷ []) [])) (sym passed) (inl (ap (λ k. due_as k quar) (sym is.0))))
+    subst (λ found. P (due_now now on found)) (sym found)
+    (subst (λ b. P (cond b (due_as on quar ∷ []) [])) (sym passed) (inl (ap (λ k. due_as k quar) (sym is.0))))
 due-listed_by now past (step.Hit on sid floor value stamp) key quar is stands late = absurd is
 due-listed_by now past (step.Lease on sid floor at token deadline) key quar is stands late = absurd is
 due-listed_by now past (step.Again on sid floor at standing) key quar is stands late = absurd is
@@ -191,8 +197,11 @@ listed-due_now now past key token None e = tt
 listed-due_now now past key token (Some quar) e =
     let there = found-there (has_token token) (standing key past) quar e in
     cond_both (nat_le quar.deadline now) (due_as key quar ∷ []) [] (AllByRecursion (StandsListed now past))
-    (λ passed. let late : quar.deadline ≤ now = grind (arith, nat_tests) in
-    (one-weaker (λ other. other ≡ quar) (IsToldOf now key (due_as key quar)) (standing key past) (λ other same. subst (IsToldOf now key (due_as key quar)) (sym same) (late, refl)) there, tt))
+    (λ passed. let late : quar.deadline ≤ now = grind (arith, nat_tests) in (
+      one-weaker (λ other. other ≡ quar) (IsToldOf now key (due_as key quar))
+          (standing key past) (λ other same. subst (IsToldOf now key (due_as key quar)) (sym same) (late, refl)) there,
+      tt,
+    ))
     (λ _. tt)
 
 listed-due_by : (now : ℕ) (past : List Step) (s : Step) → AllByRecursion (StandsListed now past) (due_by now past s)
@@ -212,7 +221,8 @@ listed-due : (now : ℕ) (past steps : List Step) → AllByRecursion (StandsList
 listed-due now past [] = tt
 listed-due now past (s ∷ steps) =
     let P = StandsListed now past in
-    subst (AllByRecursion P) (sym (flat_map-cons (due_by now past) s steps)) (every-append P (due_by now past s) (listed now past steps) (listed-due_by now past s) (listed-due now past steps))
+    subst (AllByRecursion P) (sym (flat_map-cons (due_by now past) s steps))
+    (every-append P (due_by now past s) (listed now past steps) (listed-due_by now past s) (listed-due now past steps))
 
 -- ---- the first of a list
 
@@ -244,7 +254,8 @@ first-of (due ∷ dues) = by (first_of dues) (first-of dues)
           inl refl,
           (
             before-self due,
-            every-weaker (λ other. comes_before other first ≡ false) (λ other. comes_before other due ≡ false) dues (λ other later. before-none other first due later after) h.1,
+            every-weaker (λ other. comes_before other first ≡ false) (λ other. comes_before other due
+                ≡ false) dues (λ other later. before-none other first due later after) h.1,
           ),
         ))
 
@@ -269,9 +280,11 @@ first_due-is now past own = by (first_due now past) (first-of (listed now past p
     -- each quarantine that stands on a key is listed, if it is due
     each : (key : QKey) → AllByRecursion (λ quar. quar.deadline ≤ now → OneOf (λ due. due ≡ due_as key quar) (listed now past past)) (stands key)
     each key =
-        every-weaker (λ quar. OneOf (IsGrantOf key quar.token) past × (quar_of key quar.token past ≡ Some quar)) (λ quar. quar.deadline ≤ now → OneOf (λ due. due ≡ due_as key quar) (listed now past past)) (stands key)
+        every-weaker (λ quar. OneOf (IsGrantOf key quar.token) past × (quar_of key quar.token past ≡ Some quar)) (λ quar. quar.deadline ≤ now
+        → OneOf (λ due. due ≡ due_as key quar) (listed now past past)) (stands key)
         (λ quar h late. due-listed now past past key quar h.0 h.1 late)
-        (every-both (λ quar. OneOf (IsGrantOf key quar.token) past) (λ quar. quar_of key quar.token past ≡ Some quar) (stands key) (standing-granted key past) (found-own_token (stands key) (own key)))
+        (every-both (λ quar. OneOf (IsGrantOf key quar.token) past) (λ quar. quar_of key quar.token past
+        ≡ Some quar) (stands key) (standing-granted key past) (found-own_token (stands key) (own key)))
 
     all : (P : QKey → Quar → Type 0)
         → ((key : QKey) (quar : Quar) → (quar.deadline ≤ now → OneOf (λ due. due ≡ due_as key quar) (listed now past past)) → P key quar) → (key : QKey)
@@ -325,7 +338,8 @@ told-there now key due (one ∷ quars) (inr there) =
 none-stands : (now : ℕ) (stands : QKey → List Quar) (due : Due) → NoneDue now stands → StandsDue now stands due → ⊥
 none-stands now stands due none there =
     let one =
-    one-has (λ quar. now < quar.deadline) (IsToldOf now due.key due) (stands due.key) (recursion_from_All (λ quar. now < quar.deadline) (stands due.key) (none due.key)) (any-one (IsToldOf now due.key due) (stands due.key) there) in
+    one-has (λ quar. now < quar.deadline) (IsToldOf now due.key due) (stands due.key)
+    (recursion_from_All (λ quar. now < quar.deadline) (stands due.key) (none due.key)) (any-one (IsToldOf now due.key due) (stands due.key) there) in
     let ahead = one.1 in
     let late = one.2.0 in
     omega (arith, ahead, late)

@@ -1,5 +1,6 @@
 -- A shard keeps what it keeps through a step.
-use Rattle.std.proofs.Common.{◌≡◌, ◌<◌, ◌≤◌, ◌+◌, ◌==◌, ◌||◌, ℕ, Bool, true, false, cond, find, List, [], ◌∷◌, ◌++◌, reverse, Some, refl, sym, ap, subst, ◌∙◌, arith, vec_len}
+use Rattle.std.proofs.Common.{◌≡◌, ◌<◌, ◌≤◌, ◌+◌, ◌==◌, ◌||◌, ℕ, Bool, true, false, cond, find, List, [], ◌∷◌, ◌++◌, reverse, Some, refl}
+use Rattle.std.proofs.Common.{sym, ap, subst, ◌∙◌, arith, vec_len}
 use Rattle.std.specs.Prelude.{vec_capacity}
 use Rattle.std.specs.List.{All, count_by, list_any}
 use Rattle.std.specs.Option.{option_or}
@@ -28,26 +29,35 @@ use Rattle.key_shard.specs.Kept.{Ties, IsKept, IsOut, AreHeld, is_for, permit_of
 use Rattle.key_shard.proofs.PlaceLemmas.{StoodBefore, AddsNone, stood-still, next-grows, places-kept, found-last, found-one, or-none}
 
 -- what was granted stays so, and what stands of it stood
-pub IsOut-later : (terms : Terms) (past : List Step) (step : Step) → StoodBefore terms past step → (out : List Out) → All (IsOut terms past) out → All (IsOut terms (step ∷ past)) out
+pub IsOut-later : (terms : Terms) (past : List Step) (step : Step)
+    → StoodBefore terms past step → (out : List Out) → All (IsOut terms past) out → All (IsOut terms (step ∷ past)) out
 IsOut-later terms past step stood out h =
     let grows = next-grows terms past step in
-    All-weaker (IsOut terms past) (IsOut terms (step ∷ past)) (λ o was. record { at_home = was.at_home; granted = or_right _ _ was.granted; drawn = omega (arith, grows, was.drawn); stands = λ quar e. was.stands quar (stood o.key o.token quar was.drawn e) }) out h
+    All-weaker (IsOut terms past) (IsOut terms (step ∷ past)) (λ o was. record {
+      at_home = was.at_home;
+      granted = or_right _ _ was.granted;
+      drawn = omega (arith, grows, was.drawn);
+      stands = λ quar e. was.stands quar (stood o.key o.token quar was.drawn e);
+    }) out h
 
 pub steps-pushed : (history new : List Step) (step : Step) → new ≡ history ++ step ∷ [] → reverse new ≡ step ∷ reverse history
 steps-pushed history new step e = ap reverse e ∙ reverse-append history (step ∷ [])
 
 -- the history behind a hit
-pub hit-pushed : (old mid new : List Step) (key : QKey) (who : Sid) (floor : ℕ) (v w : List ℕ) (s : ℕ) (found : List ℕ × ℕ) → new ≡ mid ++ Hit key who floor w s ∷ [] → mid ≡ old → w ≡ v → Some (v, s) ≡ Some found → new ≡ old ++ Hit key who floor found.0 found.1 ∷ []
+pub hit-pushed : (old mid new : List Step) (key : QKey) (who : Sid) (floor : ℕ) (v w : List ℕ) (s : ℕ) (found : List ℕ × ℕ)
+    → new ≡ mid ++ Hit key who floor w s ∷ [] → mid ≡ old → w ≡ v → Some (v, s) ≡ Some found → new ≡ old ++ Hit key who floor found.0 found.1 ∷ []
 hit-pushed old mid new key who floor v w s found pushed before copied there =
     let e : (v, s) ≡ found = cc in
-    pushed ∙ ap (λ h. h ++ Hit key who floor w s ∷ []) before ∙ ap (λ x. old ++ Hit key who floor x s ∷ []) copied ∙ ap (λ (f : List ℕ × ℕ). old ++ Hit key who floor f.0 f.1 ∷ []) e
+    pushed ∙ ap (λ h. h ++ Hit key who floor w s ∷ []) before ∙ ap (λ x. old ++ Hit key who floor x s ∷ []) copied
+    ∙ ap (λ (f : List ℕ × ℕ). old ++ Hit key who floor f.0 f.1 ∷ []) e
 
 -- each quarantine that stands has a grant that is out, where a step adds no quarantine
 pub held-later : (past : List Step) (step : Step) → AddsNone past step → (outs : List Out) → AreHeld past outs → AreHeld (step ∷ past) outs
 held-later past step none outs held key token quar e = held key token quar (none key token quar e)
 
 -- and where it adds the one whose grant is out behind it
-pub held-granted : (past : List Step) (outs : List Out) (out : Out) (shift : ℤ) (now deadline : ℕ) → AreHeld past outs → AreHeld (Granted out.key out.sid out.mode shift now out.token deadline ∷ past) (outs ++ out ∷ [])
+pub held-granted : (past : List Step) (outs : List Out) (out : Out) (shift : ℤ) (now deadline : ℕ)
+    → AreHeld past outs → AreHeld (Granted out.key out.sid out.mode shift now out.token deadline ∷ past) (outs ++ out ∷ [])
 held-granted past outs out shift now deadline held key token quar e =
     list_any-append (is_for key token) outs (out ∷ []) ∙ by (same_key key out.key) refl e
   where
@@ -63,10 +73,12 @@ held-granted past outs out shift now deadline held key token quar e =
 
     at_token : same_key key out.key ≡ true → (b : Bool) → (out.token == token) ≡ b → find (has_token token) (standing key past ++ new ∷ []) ≡ Some quar → IsHeld
     at_token same true here f =
-        or_right (list_any (is_for key token) outs) (list_any (is_for key token) (out ∷ [])) (or_left (is_for key token out) false (and_from (same_key key out.key) (out.token == token) same here))
+        or_right (list_any (is_for key token) outs) (list_any (is_for key token) (out ∷ []))
+        (or_left (is_for key token out) false (and_from (same_key key out.key) (out.token == token) same here))
     at_token same false other f =
         let less : find (has_token token) (standing key past ++ new ∷ []) ≡ quar_of key token past =
-        find-append (has_token token) (standing key past) (new ∷ []) ∙ ap (option_or (quar_of key token past)) (found-one token new false other) ∙ or-none (quar_of key token past) in
+        find-append (has_token token) (standing key past) (new ∷ [])
+        ∙ ap (option_or (quar_of key token past)) (found-one token new false other) ∙ or-none (quar_of key token past) in
         before (sym less ∙ f)
 
     by : (b : Bool) → same_key key out.key ≡ b → find (has_token token) (cond b (standing key past ++ new ∷ []) (standing key past)) ≡ Some quar → IsHeld
@@ -74,18 +86,23 @@ held-granted past outs out shift now deadline held key token quar e =
     by false apart f = before f
 
 -- what callers see behind a step
-pub view-after : (old new : ShardView) (step : Step) → new.terms ≡ old.terms → new.history ≡ old.history ++ step ∷ [] → new.out ≡ old.out → out_after old.terms step old.out ≡ old.out → new ≡ stepped old step
+pub view-after : (old new : ShardView) (step : Step) → new.terms ≡ old.terms
+    → new.history ≡ old.history ++ step ∷ [] → new.out ≡ old.out → out_after old.terms step old.out ≡ old.out → new ≡ stepped old step
 view-after old new step terms history out quiet =
     let made : Terms → List Step → List Permit → ShardView = λ t h o. record { terms = t; history = h; out = o } in
     ap (λ t. made t new.history new.out) terms ∙ ap (λ h. made old.terms h new.out) history ∙ ap (made old.terms (old.history ++ step ∷ [])) (out ∙ sym quiet)
 
 -- what a shard keeps after a step
-pub IsKept-after : (old new : Body) (step : Step) → new.history.items ≡ old.history.items ++ step ∷ [] → terms_of new ≡ terms_of old → Ties (terms_of old) (step ∷ steps_of old) new.entries.list new.leases new.next → new.no < new.count → All (IsOut (terms_of old) (step ∷ steps_of old)) new.out → AreHeld (step ∷ steps_of old) new.out → places_of (step ∷ steps_of old) new.out ≤ new.promised → vec_len new.history + new.promised ≤ vec_capacity new.history → IsKept new
+pub IsKept-after : (old new : Body) (step : Step) → new.history.items ≡ old.history.items ++ step ∷ [] → terms_of new ≡ terms_of old
+    → Ties (terms_of old) (step ∷ steps_of old) new.entries.list new.leases new.next → new.no < new.count
+    → All (IsOut (terms_of old) (step ∷ steps_of old)) new.out → AreHeld (step ∷ steps_of old) new.out
+    → places_of (step ∷ steps_of old) new.out ≤ new.promised → vec_len new.history + new.promised ≤ vec_capacity new.history → IsKept new
 IsKept-after old new step pushed same ties one outs held promises reserved =
     let past : steps_of new ≡ step ∷ steps_of old = steps-pushed old.history.items new.history.items step pushed in
     record {
       one_of = one;
-      ties = subst (λ p. Ties (terms_of new) p new.entries.list new.leases new.next) (sym past) (subst (λ t. Ties t (step ∷ steps_of old) new.entries.list new.leases new.next) (sym same) ties);
+      ties = subst (λ p. Ties (terms_of new) p new.entries.list new.leases new.next)
+          (sym past) (subst (λ t. Ties t (step ∷ steps_of old) new.entries.list new.leases new.next) (sym same) ties);
       outs = subst (λ p. All (IsOut (terms_of new) p) new.out) (sym past) (subst (λ t. All (IsOut t (step ∷ steps_of old)) new.out) (sym same) outs);
       held = subst (λ p. AreHeld p new.out) (sym past) held;
       promises = subst (λ p. places_of p new.out ≤ new.promised) (sym past) promises;
@@ -93,22 +110,31 @@ IsKept-after old new step pushed same ties one outs held promises reserved =
     }
 
 -- a step that makes no grant
-pub IsKept-step : (old new : Body) (step : Step) → AddsNone (steps_of old) step → IsKept old → new.history.items ≡ old.history.items ++ step ∷ [] → terms_of new ≡ terms_of old → Ties (terms_of old) (step ∷ steps_of old) new.entries.list new.leases new.next → new.no < new.count → All (IsOut (terms_of old) (steps_of old)) new.out → AreHeld (steps_of old) new.out → places_of (steps_of old) new.out ≤ new.promised → vec_len new.history + new.promised ≤ vec_capacity new.history → IsKept new
+pub IsKept-step : (old new : Body) (step : Step) → AddsNone (steps_of old) step → IsKept old → new.history.items ≡ old.history.items ++ step ∷ []
+    → terms_of new ≡ terms_of old → Ties (terms_of old) (step ∷ steps_of old) new.entries.list new.leases new.next → new.no < new.count
+    → All (IsOut (terms_of old) (steps_of old)) new.out → AreHeld (steps_of old) new.out
+    → places_of (steps_of old) new.out ≤ new.promised → vec_len new.history + new.promised ≤ vec_capacity new.history → IsKept new
 IsKept-step old new step none kept pushed same ties one outs held promises reserved =
     let stood = stood-still (terms_of old) (steps_of old) step none in
     let kept_places = places-kept (terms_of old) (steps_of old) step stood new.out outs in
-    IsKept-after old new step pushed same ties one (IsOut-later (terms_of old) (steps_of old) step stood new.out outs) (held-later (steps_of old) step none new.out held) (omega (arith, kept_places, promises)) reserved
+    IsKept-after old new step pushed same ties one (IsOut-later (terms_of old) (steps_of old) step stood new.out outs)
+    (held-later (steps_of old) step none new.out held) (omega (arith, kept_places, promises)) reserved
 
 -- what a shard keeps where all stays but the room of its lists
-pub IsKept-still : (old new : Body) → IsKept old → terms_of new ≡ terms_of old → new.history.items ≡ old.history.items → new.entries.list ≡ old.entries.list → new.leases ≡ old.leases → new.next ≡ old.next → new.out ≡ old.out → new.no < new.count → places_of (steps_of old) old.out ≤ new.promised → vec_len new.history + new.promised ≤ vec_capacity new.history → IsKept new
+pub IsKept-still : (old new : Body) → IsKept old → terms_of new ≡ terms_of old → new.history.items ≡ old.history.items → new.entries.list ≡ old.entries.list
+    → new.leases ≡ old.leases → new.next ≡ old.next → new.out ≡ old.out
+    → new.no < new.count → places_of (steps_of old) old.out ≤ new.promised → vec_len new.history + new.promised ≤ vec_capacity new.history → IsKept new
 IsKept-still old new kept same history list table next out one promises reserved =
     let past : steps_of new ≡ steps_of old = ap reverse history in
     let ties : Ties (terms_of old) (steps_of old) new.entries.list new.leases new.next =
-    subst (λ n. Ties (terms_of old) (steps_of old) new.entries.list new.leases n) (sym next) (subst (λ t. Ties (terms_of old) (steps_of old) new.entries.list t old.next) (sym table) (subst (λ l. Ties (terms_of old) (steps_of old) l old.leases old.next) (sym list) kept.ties)) in
+    subst (λ n. Ties (terms_of old) (steps_of old) new.entries.list new.leases n) (sym next)
+    (subst (λ t. Ties (terms_of old) (steps_of old) new.entries.list t old.next)
+    (sym table) (subst (λ l. Ties (terms_of old) (steps_of old) l old.leases old.next) (sym list) kept.ties)) in
     let outs : All (IsOut (terms_of old) (steps_of old)) new.out = subst (All (IsOut (terms_of old) (steps_of old))) (sym out) kept.outs in
     record {
       one_of = one;
-      ties = subst (λ p. Ties (terms_of new) p new.entries.list new.leases new.next) (sym past) (subst (λ t. Ties t (steps_of old) new.entries.list new.leases new.next) (sym same) ties);
+      ties = subst (λ p. Ties (terms_of new) p new.entries.list new.leases new.next)
+          (sym past) (subst (λ t. Ties t (steps_of old) new.entries.list new.leases new.next) (sym same) ties);
       outs = subst (λ p. All (IsOut (terms_of new) p) new.out) (sym past) (subst (λ t. All (IsOut t (steps_of old)) new.out) (sym same) outs);
       held = subst (λ p. AreHeld p new.out) (sym past) (subst (AreHeld (steps_of old)) (sym out) kept.held);
       promises = subst (λ p. places_of p new.out ≤ new.promised) (sym past) (subst (λ l. places_of (steps_of old) l ≤ new.promised) (sym out) promises);
@@ -116,7 +142,8 @@ IsKept-still old new kept same history list table next out one promises reserved
     }
 
 -- the grant of a step is out behind it
-pub IsOut-granted : (terms : Terms) (past : List Step) (out : Out) (shift : ℤ) (now deadline : ℕ) → IsAtHome terms out.key → out.token ≡ next_token terms past → All (λ quar. quar.token < out.token) (standing out.key past) → IsOut terms (Granted out.key out.sid out.mode shift now out.token deadline ∷ past) out
+pub IsOut-granted : (terms : Terms) (past : List Step) (out : Out) (shift : ℤ) (now deadline : ℕ) → IsAtHome terms out.key → out.token ≡ next_token terms past
+    → All (λ quar. quar.token < out.token) (standing out.key past) → IsOut terms (Granted out.key out.sid out.mode shift now out.token deadline ∷ past) out
 IsOut-granted terms past out shift now deadline home next below = record {
   at_home = home;
   granted = or_left _ _ (and_from _ _ (and_from _ _ (same_key-refl out.key) (eq-eqb out.sid.number out.sid.number refl)) (eq-eqb out.token out.token refl));
@@ -134,7 +161,8 @@ IsOut-granted terms past out shift now deadline home next below = record {
     one_more = sum_by-cons (λ s. cond (draws s) 1 0) step past
 
     found : quar_of out.key out.token (step ∷ past) ≡ Some new
-    found = ap (λ b. find (has_token out.token) (cond b (standing out.key past ++ new ∷ []) (standing out.key past))) (same_key-refl out.key) ∙ found-last new (standing out.key past) below
+    found = ap (λ b. find (has_token out.token) (cond b (standing out.key past ++ new ∷ []) (standing out.key past))) (same_key-refl out.key)
+        ∙ found-last new (standing out.key past) below
 
     the_one : (quar : Quar) → Some new ≡ Some quar → IsOf (permit_of terms.no out) quar
     the_one quar e = let same : new ≡ quar = cc in subst (IsOf (permit_of terms.no out)) same (record { sid = refl; mode = refl })
@@ -147,7 +175,8 @@ pub terms-kept : (body : Body) (room : ℕ) → room ≡ body.entries.room → t
 terms-kept body room e = ap (terms_with body) e
 
 -- what a new shard keeps
-pub IsKept-new : (body : Body) → body.no < body.count → 1 ≤ body.entries.room → body.entries.list ≡ [] → body.leases ≡ [] → body.out ≡ [] → body.history.items ≡ [] → body.next ≡ body.first → body.promised ≡ 0 → vec_len body.history ≡ 0 → IsKept body
+pub IsKept-new : (body : Body) → body.no < body.count → 1 ≤ body.entries.room → body.entries.list ≡ []
+    → body.leases ≡ [] → body.out ≡ [] → body.history.items ≡ [] → body.next ≡ body.first → body.promised ≡ 0 → vec_len body.history ≡ 0 → IsKept body
 IsKept-new body one roomy entries leases out history next promised empty =
     let start : Ties (terms_of body) [] [] [] body.next = record {
       entries = λ k. lookup-nil k;
@@ -163,7 +192,8 @@ IsKept-new body one roomy entries leases out history next promised empty =
     let none : places_of (steps_of body) body.out ≡ 0 = ap (places_of (steps_of body)) out in
     record {
       one_of = one;
-      ties = subst (λ p. Ties (terms_of body) p body.entries.list body.leases body.next) (sym past) (subst (λ l. Ties (terms_of body) [] l body.leases body.next) (sym entries) (subst (λ l. Ties (terms_of body) [] [] l body.next) (sym leases) start));
+      ties = subst (λ p. Ties (terms_of body) p body.entries.list body.leases body.next) (sym past)
+          (subst (λ l. Ties (terms_of body) [] l body.leases body.next) (sym entries) (subst (λ l. Ties (terms_of body) [] [] l body.next) (sym leases) start));
       outs = subst (All (IsOut (terms_of body) (steps_of body))) (sym out) (All-nil (IsOut (terms_of body) (steps_of body)));
       held = subst (λ p. AreHeld p body.out) (sym past) (λ key token quar e. absurd cc);
       promises = omega (arith, none);

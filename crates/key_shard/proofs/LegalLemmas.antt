@@ -1,5 +1,6 @@
 -- What stands on a key after a legal past: by one step, by induction, and what follows of it.
-use Rattle.std.proofs.Common.{ℕ, ◌≡◌, ◌≢◌, ◌+◌, ◌<◌, ◌≤◌, ◌==◌, Bool, true, false, not, cond, ◌&&◌, ◌||◌, Option, Some, None, inl, inr, ◌⊎◌, refl, sym, ap, subst, ◌∙◌, arith}
+use Rattle.std.proofs.Common.{ℕ, ◌≡◌, ◌≢◌, ◌+◌, ◌<◌, ◌≤◌, ◌==◌, Bool, true, false, not, cond, ◌&&◌, ◌||◌, Option, Some, None, inl, inr, ◌⊎◌}
+use Rattle.std.proofs.Common.{refl, sym, ap, subst, ◌∙◌, arith}
 use Rattle.std.proofs.Common.{List, [], ◌∷◌, ◌++◌, map, filter, find, length}
 use Rattle.std.specs.Prelude.{ℤ, IsTrue}
 use Rattle.std.specs.List.{All, AllByRecursion, list_all, list_any}
@@ -43,7 +44,8 @@ Well next quars reader =
     AllByRecursion (λ quar. quar.token < next) quars × AllStandBeside quars × ((reader ≡ None) ⊎ (quars ≡ []))
 
 -- what is below a number is below a later one
-below-later : (next later : ℕ) (quars : List Quar) → next ≤ later → AllByRecursion (λ quar. quar.token < next) quars → AllByRecursion (λ quar. quar.token < later) quars
+below-later : (next later : ℕ) (quars : List Quar) → next ≤ later
+    → AllByRecursion (λ quar. quar.token < next) quars → AllByRecursion (λ quar. quar.token < later) quars
 below-later next later quars more h =
     every-weaker (λ quar. quar.token < next) (λ quar. quar.token < later) quars (λ quar low. omega (arith, more, low)) h
 
@@ -54,7 +56,8 @@ well-later next later quars reader more h = (below-later next later quars more h
 beside-filter : (p : Quar → Bool) (quars : List Quar) → AllStandBeside quars → AllStandBeside (filter p quars)
 beside-filter p [] h = tt
 beside-filter p (quar ∷ quars) h =
-    cond_both (p quar) (quar ∷ filter p quars) (filter p quars) AllStandBeside (λ _. (every-filter (StandBeside quar) p quars h.0, beside-filter p quars h.1)) (λ _. beside-filter p quars h.1)
+    cond_both (p quar) (quar ∷ filter p quars) (filter p quars) AllStandBeside
+    (λ _. (every-filter (StandBeside quar) p quars h.0, beside-filter p quars h.1)) (λ _. beside-filter p quars h.1)
 
 -- the end of some
 well-filter : (p : Quar → Bool) (next : ℕ) (quars : List Quar) (reader : Option ReadLease) → Well next quars reader → Well next (filter p quars) reader
@@ -62,7 +65,8 @@ well-filter p next quars reader h =
     (every-filter (λ quar. quar.token < next) p quars h.0, beside-filter p quars h.1, elim h.2 [ inl none ↦ inl none | inr none ↦ inr (ap (filter p) none) ])
 
 -- where no quarantine stands any lease to read may be recorded
-well-lease : (next : ℕ) (quars : List Quar) (reader : Option ReadLease) → quars ≡ [] → Well next quars reader → (lease : Option ReadLease) → Well next quars lease
+well-lease : (next : ℕ) (quars : List Quar) (reader : Option ReadLease)
+    → quars ≡ [] → Well next quars reader → (lease : Option ReadLease) → Well next quars lease
 well-lease next quars reader none h lease = (h.0, h.1, inr none)
 
 -- no lease to read
@@ -116,7 +120,8 @@ abbrev pub AllWell : Terms → List Step → Type 0
 AllWell terms past = (key : QKey) → StandsWell terms past key
 
 -- what stood well stands so by the next token after a step
-old-well : (terms : Terms) (past : List Step) (s : Step) (key : QKey) → AllWell terms past → Well (next_token terms (s ∷ past)) (standing key past) (recorded key past)
+old-well : (terms : Terms) (past : List Step) (s : Step) (key : QKey)
+    → AllWell terms past → Well (next_token terms (s ∷ past)) (standing key past) (recorded key past)
 old-well terms past s key h =
     well-later (next_token terms past) (next_token terms (s ∷ past)) (standing key past) (recorded key past) (next-more terms s past) (well-of (h key))
 
@@ -127,8 +132,10 @@ lease-well terms past on who floor now token deadline none h key =
     let s = step.Lease on who floor now token deadline in
     let old = old-well terms past s key h in
     of-well terms (s ∷ past) key
-    (cond_both (same_key key on) (Some (record { sid = who; token = token; deadline = deadline })) (recorded key past) (λ lease. Well (next_token terms (s ∷ past)) (standing key past) lease)
-    (λ same. well-lease (next_token terms (s ∷ past)) (standing key past) (recorded key past) (ap (λ k. standing k past) (same_key-true key on same) ∙ none) old _)
+    (cond_both (same_key key on) (Some (record { sid = who; token = token; deadline = deadline }))
+    (recorded key past) (λ lease. Well (next_token terms (s ∷ past)) (standing key past) lease)
+    (λ same. well-lease (next_token terms (s ∷ past)) (standing key past)
+    (recorded key past) (ap (λ k. standing k past) (same_key-true key on same) ∙ none) old _)
     (λ _. old))
 
 stored-well : (terms : Terms) (past : List Step) (on : QKey) (token now : ℕ) (value : List ℕ) (stamp : ℕ) (evicted : Option QKey) → AllWell terms past →
@@ -141,7 +148,8 @@ stored-well terms past on token now value stamp evicted h key =
     (λ _. well-free (next_token terms (s ∷ past)) (standing key past) (recorded key past) old)
     (λ _. old))
 
-released-well : (terms : Terms) (past : List Step) (on : QKey) (who : Sid) (token : ℕ) (how : Ended) → AllWell terms past → AllWell terms (step.Released on who token how ∷ past)
+released-well : (terms : Terms) (past : List Step) (on : QKey) (who : Sid) (token : ℕ) (how : Ended)
+    → AllWell terms past → AllWell terms (step.Released on who token how ∷ past)
 released-well terms past on who token how h key =
     let s = step.Released on who token how in
     let old = old-well terms past s key h in
@@ -162,7 +170,8 @@ granted-well terms past on who mode shift now deadline none join h key =
     new : Quar
     new = record { sid = who; mode = mode; token = next_token terms past; deadline = deadline; shift = shift }
 
-    by : (b : Bool) → same_key key on ≡ b → Well (next_token terms (s ∷ past)) (cond b (standing key past ++ new ∷ []) (standing key past)) (cond b None (recorded key past))
+    by : (b : Bool) → same_key key on ≡ b
+        → Well (next_token terms (s ∷ past)) (cond b (standing key past ++ new ∷ []) (standing key past)) (cond b None (recorded key past))
     by true same =
         let here : key ≡ on = same_key-true key on same in
         let free : own_of key who past ≡ None = ap (λ k. own_of k who past) here ∙ none in
@@ -172,7 +181,8 @@ granted-well terms past on who mode shift now deadline none join h key =
     by false other = old-well terms past s key h
 
 -- a step that answers a request leaves each key standing well
-pub stands_well_step : (terms : Terms) (past : List Step) (s : Step) → Answers terms past s → ((key : QKey) → StandsWell terms past key) → (key : QKey) → StandsWell terms (s ∷ past) key
+pub stands_well_step : (terms : Terms) (past : List Step) (s : Step)
+    → Answers terms past s → ((key : QKey) → StandsWell terms past key) → (key : QKey) → StandsWell terms (s ∷ past) key
 stands_well_step terms past s a h = subst P (sym a.answer) (by a.request)
   where
     P : Step → Type 0
@@ -193,7 +203,8 @@ stands_well_step terms past s a h = subst P (sym a.answer) (by a.request)
         verdict_cases P terms past key who mode shift now
         (λ none join. granted-well terms past key who mode shift now (deadline_at terms now) none join h)
         (λ _ _ k. of-well terms (step.Held key who mode ∷ past) k (old-well terms past (step.Held key who mode) k h))
-        (λ quar _ k. of-well terms (step.Refused key who mode quar.sid quar.mode ∷ past) k (old-well terms past (step.Refused key who mode quar.sid quar.mode) k h))
+        (λ quar _ k. of-well terms (step.Refused key who mode quar.sid quar.mode
+        ∷ past) k (old-well terms past (step.Refused key who mode quar.sid quar.mode) k h))
     by (Release permit how) =
         release_cases P past permit how
         (λ quar _. released-well terms past permit.key quar.sid permit.token (ended_as quar how) h)
@@ -230,7 +241,8 @@ alone-in (one ∷ two ∷ quars) h =
           (λ quar beside other. absurd (other (is-invalidate quar.mode beside.other_invalidates))) h.0,
     )
 
-pub alone : (terms : Terms) (past : List Step) (key : QKey) → StandsWell terms past key → All (λ quar. quar.mode ≢ Invalidate → length (standing key past) ≡ 1) (standing key past)
+pub alone : (terms : Terms) (past : List Step) (key : QKey) → StandsWell terms past key
+    → All (λ quar. quar.mode ≢ Invalidate → length (standing key past) ≡ 1) (standing key past)
 alone terms past key h =
     All-from_recursion (λ quar. quar.mode ≢ Invalidate → length (standing key past) ≡ 1) (standing key past) (alone-in (standing key past) h.beside)
 
@@ -242,8 +254,11 @@ AllOfOwnToken (quar ∷ quars) = AllByRecursion (λ other. quar.token ≢ other.
 -- of two that stand beside one another each has another token
 distinct-in : (quars : List Quar) → AllStandBeside quars → AllOfOwnToken quars
 distinct-in [] h = tt
-distinct-in (quar ∷ quars) h =
-    (every-weaker (StandBeside quar) (λ other. quar.token ≢ other.token) quars (λ other beside same. let low = beside.in_order in absurd (omega (arith, low, same))) h.0, distinct-in quars h.1)
+distinct-in (quar ∷ quars) h = (
+  every-weaker (StandBeside quar) (λ other. quar.token ≢ other.token) quars (λ other beside same. let low = beside.in_order in
+      absurd (omega (arith, low, same))) h.0,
+  distinct-in quars h.1,
+)
 
 pub distinct : (terms : Terms) (past : List Step) (key : QKey) → StandsWell terms past key → AllOfOwnToken (standing key past)
 distinct terms past key h = distinct-in (standing key past) h.beside
@@ -261,7 +276,8 @@ some-passes P p (x ∷ xs) h e =
       | inr there ↦ some-passes P p xs h.1 there
     ]
 
-found-in : (who token : ℕ) (quars : List Quar) → AllOfOwnToken quars → list_any (is_quar who token) quars ≡ true → (quar : Quar) × (find (has_token token) quars ≡ Some quar) × (quar.sid.number ≡ who)
+found-in : (who token : ℕ) (quars : List Quar) → AllOfOwnToken quars
+    → list_any (is_quar who token) quars ≡ true → (quar : Quar) × (find (has_token token) quars ≡ Some quar) × (quar.sid.number ≡ who)
 found-in who token [] h e = absurd (false≢true e)
 found-in who token (quar ∷ quars) h e =
     elim (or_cases (is_quar who token quar) (list_any (is_quar who token) quars) e) [
@@ -270,7 +286,8 @@ found-in who token (quar ∷ quars) h e =
       | inr there ↦
           let other = some-passes (λ q. quar.token ≢ q.token) (is_quar who token) quars h.0 there in
           let theirs : other.0.token ≡ token = eqb-true other.0.token token (and_parts (other.0.sid.number == who) (other.0.token == token) other.2).1 in
-          let apart : (quar.token == token) ≡ false = false_from_ne_true (quar.token == token) (λ same. other.1 (eqb-true quar.token token same ∙ sym theirs)) in
+          let apart : (quar.token == token) ≡ false =
+          false_from_ne_true (quar.token == token) (λ same. other.1 (eqb-true quar.token token same ∙ sym theirs)) in
           let found = found-in who token quars h.1 there in
           (found.0, ap (λ b. cond b (Some quar) (find (has_token token) quars)) apart ∙ found.1, found.2)
     ]
@@ -328,9 +345,11 @@ own-in who token (quar ∷ quars) h e =
           (quar, ap (λ b. cond b (Some quar) (own_in who quars)) parts.0, eqb-true quar.token token parts.1)
       | inr there ↦
           let other = some-passes (StandBeside quar) (is_quar who.number token) quars h.0 there in
-          let theirs : other.0.sid.number ≡ who.number = eqb-true other.0.sid.number who.number (and_parts (other.0.sid.number == who.number) (other.0.token == token) other.2).0 in
+          let theirs : other.0.sid.number ≡ who.number =
+          eqb-true other.0.sid.number who.number (and_parts (other.0.sid.number == who.number) (other.0.token == token) other.2).0 in
           let beside : StandBeside quar other.0 = other.1 in
-          let apart : is_of who quar ≡ false = false_from_ne_true (is_of who quar) (λ same. beside.of_two (eqb-true quar.sid.number who.number same ∙ sym theirs)) in
+          let apart : is_of who quar ≡ false =
+          false_from_ne_true (is_of who quar) (λ same. beside.of_two (eqb-true quar.sid.number who.number same ∙ sym theirs)) in
           let found = own-in who token quars h.1 there in
           (found.0, ap (λ b. cond b (Some quar) (own_in who quars)) apart ∙ found.1, found.2)
     ]
@@ -354,7 +373,8 @@ stays-in who token gone (quar ∷ quars) apart e =
           subst (λ b. P (cond (not b) (quar ∷ rest) rest)) (sym stays) (or_left (is_quar who token quar) (list_any (is_quar who token) rest) here)
       | inr there ↦
           let later = stays-in who token gone quars apart there in
-          cond_both (not (has_token gone quar)) (quar ∷ rest) rest P (λ _. or_right (is_quar who token quar) (list_any (is_quar who token) rest) later) (λ _. later)
+          cond_both (not (has_token gone quar)) (quar ∷ rest) rest P
+          (λ _. or_right (is_quar who token quar) (list_any (is_quar who token) rest) later) (λ _. later)
     ]
 
 -- the end of one session's quarantine leaves another's

@@ -16,7 +16,9 @@ use Rattle.key_shard.specs.declared.replies.How.{How}
 use Rattle.key_shard.specs.declared.replies.How.TheVariants as hows
 use Rattle.key_shard.specs.Permit.{Permit}
 use Rattle.key_shard.specs.Past.{Terms, own_of, seen_by, holder_of, quar_of, recorded, entry, evicts}
-use Rattle.key_shard.specs.Answers.{FitsMode, IsOwed, OwesRelease, OwesReplace, Request, Get, Set, Quarantine, Release, Replace, ended_as, found_step, get_by, get_step, miss_by, miss_step, quarantine_by, quarantine_step, refused_step, release_by, replace_by, set_step, step_of}
+use Rattle.key_shard.specs.Answers.{FitsMode, IsOwed, OwesRelease, OwesReplace, Request, Get, Set, Quarantine, Release, Replace, ended_as}
+use Rattle.key_shard.specs.Answers.{found_step, get_by, get_step, miss_by, miss_step, quarantine_by, quarantine_step, refused_step}
+use Rattle.key_shard.specs.Answers.{release_by, replace_by, set_step, step_of}
 use Rattle.key_shard.specs.Modes.{AnswersEndByMode, LegalEndsByMode, MayEnd, StandsToEnd}
 
 -- whether a step ends a quarantine
@@ -38,17 +40,20 @@ ends-missed terms past key who floor now verdicts.Join = refl
 ends-missed terms past key who floor now verdicts.Same = refl
 ends-missed terms past key who floor now verdicts.Refuse = refl
 
-ends-found : (terms : Terms) (past : List Step) (key : QKey) (who : Sid) (floor now : ℕ) (o : Option (List ℕ × ℕ)) → ends (found_step terms past key who floor now o) ≡ false
+ends-found : (terms : Terms) (past : List Step) (key : QKey) (who : Sid) (floor now : ℕ) (o : Option (List ℕ × ℕ))
+    → ends (found_step terms past key who floor now o) ≡ false
 ends-found terms past key who floor now None =
     ends-missed terms past key who floor now (verdict (seen_by key who now past) read)
 ends-found terms past key who floor now (Some f) =
-    ends-one (nat_le floor f.1) (Hit key who floor f.0 f.1) (miss_step terms past key who floor now) refl (ends-missed terms past key who floor now (verdict (seen_by key who now past) read))
+    ends-one (nat_le floor f.1) (Hit key who floor f.0 f.1) (miss_step terms past key who floor now) refl
+    (ends-missed terms past key who floor now (verdict (seen_by key who now past) read))
 
 ends-got : (terms : Terms) (past : List Step) (key : QKey) (who : Sid) (floor now : ℕ) (o : Option Quar) → ends (get_by terms past key who floor now o) ≡ false
 ends-got terms past key who floor now (Some q) = refl
 ends-got terms past key who floor now None = ends-found terms past key who floor now (entry key past)
 
-ends-set : (terms : Terms) (past : List Step) (key : QKey) (token : ℕ) (value : List ℕ) (stamp now : ℕ) → ends (set_step terms past key token value stamp now) ≡ false
+ends-set : (terms : Terms) (past : List Step) (key : QKey) (token : ℕ) (value : List ℕ) (stamp now : ℕ)
+    → ends (set_step terms past key token value stamp now) ≡ false
 ends-set terms past key token value stamp now =
     ends-one (is_current token now (recorded key past)) (Stored key token now value stamp (evicts terms key past)) (Void key token now) refl refl
 
@@ -56,7 +61,8 @@ ends-refused : (key : QKey) (who : Sid) (mode : Mode) (o : Option Quar) → ends
 ends-refused key who mode (Some q) = refl
 ends-refused key who mode None = refl
 
-ends-asked : (terms : Terms) (past : List Step) (key : QKey) (who : Sid) (mode : Mode) (shift : ℤ) (now : ℕ) (v : Verdict) → ends (quarantine_by terms past key who mode shift now v) ≡ false
+ends-asked : (terms : Terms) (past : List Step) (key : QKey) (who : Sid) (mode : Mode) (shift : ℤ) (now : ℕ) (v : Verdict)
+    → ends (quarantine_by terms past key who mode shift now v) ≡ false
 ends-asked terms past key who mode shift now verdicts.Give = refl
 ends-asked terms past key who mode shift now verdicts.Void = refl
 ends-asked terms past key who mode shift now verdicts.Join = refl
@@ -75,11 +81,13 @@ may-end quar hows.Keep fits = tt
 may-end quar hows.Drop fits = tt
 may-end quar (hows.Shift stamp) fits = (fits, refl)
 
-released : (past : List Step) (permit : Permit) (how : How) (o : Option Quar) → quar_of permit.key permit.token past ≡ o → OwesRelease past permit how o → Shows past (release_by permit how o)
+released : (past : List Step) (permit : Permit) (how : How) (o : Option Quar)
+    → quar_of permit.key permit.token past ≡ o → OwesRelease past permit how o → Shows past (release_by permit how o)
 released past permit how (Some quar) stands owed = (quar, stands, refl, may-end quar how owed.1)
 released past permit how None stands owed = tt
 
-replaced : (terms : Terms) (past : List Step) (permit : Permit) (value : List ℕ) (stamp : ℕ) (o : Option Quar) → quar_of permit.key permit.token past ≡ o → OwesReplace past permit o → Shows past (replace_by terms past permit value stamp o)
+replaced : (terms : Terms) (past : List Step) (permit : Permit) (value : List ℕ) (stamp : ℕ) (o : Option Quar)
+    → quar_of permit.key permit.token past ≡ o → OwesReplace past permit o → Shows past (replace_by terms past permit value stamp o)
 replaced terms past permit value stamp (Some quar) stands owed = (quar, stands, refl, owed.1)
 replaced terms past permit value stamp None stands owed = tt
 
@@ -87,13 +95,15 @@ replaced terms past permit value stamp None stands owed = tt
 ends-none : (past : List Step) (step other : Step) → ends step ≡ true → step ≡ other → ends other ≡ false → Shows past step
 ends-none past step other e same none = absurd (false≢true (sym none ∙ sym (ap ends same) ∙ e))
 
-shown-by : (terms : Terms) (past : List Step) (step : Step) (request : Request) → ends step ≡ true → IsOwed past request → step ≡ step_of terms past request → Shows past step
+shown-by : (terms : Terms) (past : List Step) (step : Step) (request : Request)
+    → ends step ≡ true → IsOwed past request → step ≡ step_of terms past request → Shows past step
 shown-by terms past step (Get key who floor now) e owed same =
     ends-none past step (get_step terms past key who floor now) e same (ends-got terms past key who floor now (own_of key who past))
 shown-by terms past step (Set key token value stamp now) e owed same =
     ends-none past step (set_step terms past key token value stamp now) e same (ends-set terms past key token value stamp now)
 shown-by terms past step (Quarantine key who mode shift now) e owed same =
-    ends-none past step (quarantine_step terms past key who mode shift now) e same (ends-asked terms past key who mode shift now (verdict (seen_by key who now past) (quarantine (way_of mode))))
+    ends-none past step (quarantine_step terms past key who mode shift now) e same
+    (ends-asked terms past key who mode shift now (verdict (seen_by key who now past) (quarantine (way_of mode))))
 shown-by terms past step (Release permit how) e owed same =
     subst (Shows past) (sym same) (released past permit how (quar_of permit.key permit.token past) refl owed)
 shown-by terms past step (Replace permit value stamp) e owed same =

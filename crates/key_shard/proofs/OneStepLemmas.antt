@@ -93,7 +93,8 @@ order-kept past on sid token =
     ]
 
 -- the end of a quarantine, each way
-order-released : (past : List Step) (on : QKey) (sid : Sid) (token : ℕ) (how : Ended) → order (Released on sid token how ∷ past) ≡ order_ended how on (entry on past) (order past)
+order-released : (past : List Step) (on : QKey) (sid : Sid) (token : ℕ) (how : Ended)
+    → order (Released on sid token how ∷ past) ≡ order_ended how on (entry on past) (order past)
 order-released past on sid token Keep = order-kept past on sid token
 order-released past on sid token Drop = order-ended past on sid token Drop refl
 order-released past on sid token (Put value stamp evicted) = order-put past on value stamp evicted

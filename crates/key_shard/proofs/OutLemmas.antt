@@ -1,5 +1,6 @@
 -- The grants that are out, less one, and what of it follows.
-use Rattle.std.proofs.Common.{◌≡◌, ◌<◌, ◌≤◌, ◌+◌, ◌&&◌, ◌||◌, ◌==◌, ℕ, Bool, true, false, not, cond, List, [], ◌∷◌, ◌++◌, Option, Some, None, find, map, filter, refl, sym, ap, subst, ◌∙◌, inl, inr, arith, vec_len}
+use Rattle.std.proofs.Common.{◌≡◌, ◌<◌, ◌≤◌, ◌+◌, ◌&&◌, ◌||◌, ◌==◌, ℕ, Bool, true, false, not, cond, List, [], ◌∷◌, ◌++◌, Option, Some}
+use Rattle.std.proofs.Common.{None, find, map, filter, refl, sym, ap, subst, ◌∙◌, inl, inr, arith, vec_len}
 use Rattle.std.specs.Prelude.{vec_capacity}
 use Rattle.std.specs.List.{All, list_any}
 use Rattle.std.proofs.lemmas.Bool.{cases_Bool, and_parts, eqb-true, false≢true}
@@ -67,7 +68,8 @@ same_sid a b e = λ i. record { number = e i }
 
 pub same_permit-true : (a b : Permit) → same_permit a b ≡ true → b ≡ a
 same_permit-true a b h =
-    let last = and_parts ((a.shard == b.shard) && same_key a.key b.key && (a.sid.number == b.sid.number) && same_way (way_of a.mode) (way_of b.mode)) (a.token == b.token) h in
+    let last = and_parts ((a.shard == b.shard) && same_key a.key b.key
+    && (a.sid.number == b.sid.number) && same_way (way_of a.mode) (way_of b.mode)) (a.token == b.token) h in
     let modes = and_parts ((a.shard == b.shard) && same_key a.key b.key && (a.sid.number == b.sid.number)) (same_way (way_of a.mode) (way_of b.mode)) last.0 in
     let sids = and_parts ((a.shard == b.shard) && same_key a.key b.key) (a.sid.number == b.sid.number) modes.0 in
     let keys = and_parts (a.shard == b.shard) (same_key a.key b.key) sids.0 in
@@ -79,12 +81,14 @@ same_permit-true a b h =
     sym (λ i. record { shard = shard i; key = key i; sid = sid i; mode = mode i; token = token i })
 
 -- what holds of each grant that is out holds of one that says the same
-pub out-holds : (P : Permit → Type 0) (number : ℕ) (grant : Permit) (outs : List Out) → All (λ out. P (permit_of number out)) outs → list_any (λ out. same_permit grant (permit_of number out)) outs ≡ true → P grant
+pub out-holds : (P : Permit → Type 0) (number : ℕ) (grant : Permit) (outs : List Out)
+    → All (λ out. P (permit_of number out)) outs → list_any (λ out. same_permit grant (permit_of number out)) outs ≡ true → P grant
 out-holds P number grant [] each h = absurd (false≢true h)
 out-holds P number grant (out ∷ outs) each h =
     elim (cases_Bool (same_permit grant (permit_of number out))) [
       | inl same ↦ subst P (same_permit-true grant (permit_of number out) same) (All-head (λ o. P (permit_of number o)) out outs each)
-      | inr apart ↦ out-holds P number grant outs (All-tail (λ o. P (permit_of number o)) out outs each) (any-rest (same_permit grant (permit_of number out)) (list_any (λ o. same_permit grant (permit_of number o)) outs) h apart)
+      | inr apart ↦ out-holds P number grant outs (All-tail (λ o. P (permit_of number o)) out outs each)
+          (any-rest (same_permit grant (permit_of number out)) (list_any (λ o. same_permit grant (permit_of number o)) outs) h apart)
     ]
 
 -- a grant that is out is among those of the body
@@ -92,15 +96,19 @@ pub some-out : (body : Body) (grant : Permit) → is_out (shown body) grant ≡ 
 some-out body grant out = sym (any-map (same_permit grant) (permit_of body.no) body.out) ∙ out
 
 -- a grant that is out was granted, on a key that is the shard's
-pub out-granted : (body : Body) (grant : Permit) → IsKept body → is_out (shown body) grant ≡ true → WasGranted (steps_of body) grant × IsAtHome (terms_of body) grant.key
+pub out-granted : (body : Body) (grant : Permit) → IsKept body
+    → is_out (shown body) grant ≡ true → WasGranted (steps_of body) grant × IsAtHome (terms_of body) grant.key
 out-granted body grant kept out =
-    let each = All-weaker (IsOut (terms_of body) (steps_of body)) (λ o. WasGranted (steps_of body) (permit_of body.no o) × IsAtHome (terms_of body) o.key) (λ o was. (was.granted, was.at_home)) body.out kept.outs in
+    let each = All-weaker (IsOut (terms_of body) (steps_of body)) (λ o. WasGranted (steps_of body) (permit_of body.no o)
+    × IsAtHome (terms_of body) o.key) (λ o was. (was.granted, was.at_home)) body.out kept.outs in
     out-holds (λ g. WasGranted (steps_of body) g × IsAtHome (terms_of body) g.key) body.no grant body.out each (some-out body grant out)
 
 -- where the quarantine of a grant that is out stands, it is the grant's
-pub out-stands : (body : Body) (grant : Permit) → IsKept body → is_out (shown body) grant ≡ true → (quar : Quar) → quar_of grant.key grant.token (steps_of body) ≡ Some quar → IsOf grant quar
+pub out-stands : (body : Body) (grant : Permit) → IsKept body
+    → is_out (shown body) grant ≡ true → (quar : Quar) → quar_of grant.key grant.token (steps_of body) ≡ Some quar → IsOf grant quar
 out-stands body grant kept out =
-    let each = All-weaker (IsOut (terms_of body) (steps_of body)) (λ o. (quar : Quar) → quar_of o.key o.token (steps_of body) ≡ Some quar → IsOf (permit_of body.no o) quar) (λ o was. was.stands) body.out kept.outs in
+    let each = All-weaker (IsOut (terms_of body) (steps_of body)) (λ o. (quar : Quar)
+    → quar_of o.key o.token (steps_of body) ≡ Some quar → IsOf (permit_of body.no o) quar) (λ o was. was.stands) body.out kept.outs in
     out-holds (λ g. (quar : Quar) → quar_of g.key g.token (steps_of body) ≡ Some quar → IsOf g quar) body.no grant body.out each (some-out body grant out)
 
 -- each that says the same may take so many places
@@ -122,8 +130,14 @@ places-out body grant n may kept out =
     let some = places-some (steps_of body) (λ o. same_permit grant (permit_of body.no o)) n may body.out (some-out body grant out) in
     omega (arith, some, kept.promises)
 
+-- two are kept for one whose quarantine stands
+pub two-places : (body : Body) (grant : Permit) (quar : Quar) → quar_of grant.key grant.token (steps_of body) ≡ Some quar
+    → IsKept body → is_out (shown body) grant ≡ true → 2 ≤ body.promised
+two-places body grant quar stands kept out = places-out body grant 2 (may-take-two body grant quar stands) kept out
+
 -- without a grant whose quarantine stands no longer, each quarantine that stands has a grant that is out
-pub held-less : (number : ℕ) (past : List Step) (grant : Permit) (outs : List Out) → quar_of grant.key grant.token past ≡ None → AreHeld past outs → AreHeld past (filter (λ out. not (same_permit grant (permit_of number out))) outs)
+pub held-less : (number : ℕ) (past : List Step) (grant : Permit) (outs : List Out)
+    → quar_of grant.key grant.token past ≡ None → AreHeld past outs → AreHeld past (filter (λ out. not (same_permit grant (permit_of number out))) outs)
 held-less number past grant outs gone held key token quar e =
     any-filter_same (is_for key token) (λ out. not (same_permit grant (permit_of number out))) true other outs ∙ held key token quar e
   where
@@ -139,41 +153,60 @@ held-less number past grant outs gone held key token quar e =
           | inl same ↦
               let told : permit_of number out ≡ grant = same_permit-true grant (permit_of number out) same in
               let parts = and_parts (same_key key out.key) (out.token == token) for in
-              absurd (no_more (same_key-true key out.key parts.0 ∙ ap (λ (p : Permit). p.key) told) (sym (eqb-true out.token token parts.1) ∙ ap (λ (p : Permit). p.token) told))
+              absurd (no_more (same_key-true key out.key parts.0 ∙ ap (λ (p : Permit). p.key) told) (sym (eqb-true out.token token parts.1)
+              ∙ ap (λ (p : Permit). p.token) told))
           | inr apart ↦ ap not apart
         ]
 
 -- a step that takes a grant from those that are out, and gives back so many places
-pub IsKept-returned : (old new : Body) (step : Step) (grant : Permit) (n : ℕ) → MayTake old grant n → AddsNone (steps_of old) step → quar_of grant.key grant.token (step ∷ steps_of old) ≡ None → IsKept old → is_out (shown old) grant ≡ true → new.out ≡ filter (λ out. not (same_permit grant (permit_of old.no out))) old.out → new.history.items ≡ old.history.items ++ step ∷ [] → terms_of new ≡ terms_of old → Ties (terms_of old) (step ∷ steps_of old) new.entries.list new.leases new.next → new.no < new.count → new.promised + n ≡ old.promised → vec_len new.history + new.promised ≤ vec_capacity new.history → IsKept new
+pub IsKept-returned : (old new : Body) (step : Step) (grant : Permit) (n : ℕ) → MayTake old grant n → AddsNone (steps_of old) step
+    → quar_of grant.key grant.token (step ∷ steps_of old) ≡ None → IsKept old → is_out (shown old) grant ≡ true
+    → new.out ≡ filter (λ out. not (same_permit grant (permit_of old.no out))) old.out → new.history.items ≡ old.history.items ++ step ∷ []
+    → terms_of new ≡ terms_of old → Ties (terms_of old) (step ∷ steps_of old) new.entries.list new.leases new.next
+    → new.no < new.count → new.promised + n ≡ old.promised → vec_len new.history + new.promised ≤ vec_capacity new.history → IsKept new
 IsKept-returned old new step grant n may none gone kept out less pushed same ties one promised reserved =
     let stood = stood-still (terms_of old) (steps_of old) step none in
     let left : List Out = filter (λ o. not (same_permit grant (permit_of old.no o))) old.out in
-    let fewer = places-less (terms_of old) (steps_of old) step (λ o. same_permit grant (permit_of old.no o)) n stood may old.out kept.outs (some-out old grant out) in
+    let fewer =
+    places-less (terms_of old) (steps_of old) step (λ o. same_permit grant (permit_of old.no o)) n stood may old.out kept.outs (some-out old grant out) in
     let fits : places_of (step ∷ steps_of old) left ≤ new.promised = omega (arith, fewer, promised, kept.promises) in
-    let outs = IsOut-later (terms_of old) (steps_of old) step stood left (All-filter (λ o. not (same_permit grant (permit_of old.no o))) (IsOut (terms_of old) (steps_of old)) old.out kept.outs) in
+    let outs = IsOut-later (terms_of old) (steps_of old) step stood left
+    (All-filter (λ o. not (same_permit grant (permit_of old.no o))) (IsOut (terms_of old) (steps_of old)) old.out kept.outs) in
     let held = held-less old.no (step ∷ steps_of old) grant old.out gone (held-later (steps_of old) step none old.out kept.held) in
-    IsKept-after old new step pushed same ties one (subst (All (IsOut (terms_of old) (step ∷ steps_of old))) (sym less) outs) (subst (AreHeld (step ∷ steps_of old)) (sym less) held) (subst (λ os. places_of (step ∷ steps_of old) os ≤ new.promised) (sym less) fits) reserved
+    IsKept-after old new step pushed same ties one (subst (All (IsOut (terms_of old) (step ∷ steps_of old))) (sym less) outs)
+    (subst (AreHeld (step ∷ steps_of old)) (sym less) held) (subst (λ os. places_of (step ∷ steps_of old) os ≤ new.promised) (sym less) fits) reserved
 
 -- what callers see behind it
-pub view-returned : (old : Body) (terms : Terms) (history : List Step) (outs : List Out) (step : Step) (grant : Permit) → terms ≡ terms_of old → history ≡ old.history.items ++ step ∷ [] → outs ≡ filter (λ out. not (same_permit grant (permit_of old.no out))) old.out → record { terms = terms; history = history; out = map (permit_of old.no) outs } ≡ returned (shown old) grant step
+pub view-returned : (old : Body) (terms : Terms) (history : List Step) (outs : List Out) (step : Step) (grant : Permit) → terms ≡ terms_of old
+    → history ≡ old.history.items ++ step ∷ [] → outs ≡ filter (λ out. not (same_permit grant (permit_of old.no out))) old.out
+    → record { terms = terms; history = history; out = map (permit_of old.no) outs } ≡ returned (shown old) grant step
 view-returned old terms history outs step grant same pushed less =
     let made : Terms → List Step → List Permit → ShardView = λ t h o. record { terms = t; history = h; out = o } in
     let out : map (permit_of old.no) outs ≡ without_permit grant (map (permit_of old.no) old.out) =
     ap (map (permit_of old.no)) less ∙ map-filter (λ g. not (same_permit grant g)) (permit_of old.no) old.out in
-    ap (λ t. made t history (map (permit_of old.no) outs)) same ∙ ap (λ h. made (terms_of old) h (map (permit_of old.no) outs)) pushed ∙ ap (made (terms_of old) (old.history.items ++ step ∷ [])) out
+    ap (λ t. made t history (map (permit_of old.no) outs)) same ∙ ap (λ h. made (terms_of old) h (map (permit_of old.no) outs)) pushed
+    ∙ ap (made (terms_of old) (old.history.items ++ step ∷ [])) out
 
 -- the quarantine of a token, as the table of leases tells it
-pub stands-told : {terms : Terms} {past : List Step} {list : List Item} {table : List Lease} {next : ℕ} → Ties terms past list table next → (key : QKey) (token : ℕ) (key' : QKey) (token' : ℕ) (told : Option Quar) → key' ≡ key → token' ≡ token → told ≡ find (has_token token') (leases.quars key' table) → quar_of key token past ≡ told
+pub stands-told : {terms : Terms} {past : List Step} {list : List Item} {table : List Lease} {next : ℕ} → Ties terms past list table next
+    → (key : QKey) (token : ℕ) (key' : QKey) (token' : ℕ) (told : Option Quar)
+    → key' ≡ key → token' ≡ token → told ≡ find (has_token token') (leases.quars key' table) → quar_of key token past ≡ told
 stands-told {table = table} h key token key' token' told keys tokens e =
-    sym (e ∙ ap (λ t. find (has_token t) (leases.quars key' table)) tokens ∙ ap (λ k. find (has_token token) (leases.quars k table)) keys ∙ ap (find (has_token token)) (h.quars key))
+    sym (e ∙ ap (λ t. find (has_token t) (leases.quars key' table)) tokens
+    ∙ ap (λ k. find (has_token token) (leases.quars k table)) keys ∙ ap (find (has_token token)) (h.quars key))
 
 -- what the end of a quarantine that stands leaves
-pub ended-leaves : {terms : Terms} {past : List Step} {list : List Item} {table : List Lease} {next : ℕ} → Ties terms past list table next → (key : QKey) (token : ℕ) (key' : QKey) (token' : ℕ) (told : Option Quar) (quar : Quar) (new : List Lease) → key' ≡ key → token' ≡ token → told ≡ find (has_token token') (leases.quars key' table) → OnSome told (Leaves key' (leases.recorded key' table) (filter (λ q. not (has_token token' q)) (leases.quars key' table)) table new) → quar_of key token past ≡ Some quar → Leaves key (leases.recorded key table) (filter (λ q. not (has_token token q)) (leases.quars key table)) table new
+pub ended-leaves : {terms : Terms} {past : List Step} {list : List Item} {table : List Lease} {next : ℕ} → Ties terms past list table next
+    → (key : QKey) (token : ℕ) (key' : QKey) (token' : ℕ) (told : Option Quar) (quar : Quar) (new : List Lease) → key' ≡ key → token' ≡ token
+    → told ≡ find (has_token token') (leases.quars key' table)
+    → OnSome told (Leaves key' (leases.recorded key' table) (filter (λ q. not (has_token token' q)) (leases.quars key' table)) table new)
+    → quar_of key token past ≡ Some quar → Leaves key (leases.recorded key table) (filter (λ q. not (has_token token q)) (leases.quars key table)) table new
 ended-leaves {table = table} h key token key' token' told quar new keys tokens e after stands =
     let some : told ≡ Some quar = sym (stands-told h key token key' token' told keys tokens e) ∙ stands in
     let leaves : Leaves key' (leases.recorded key' table) (filter (λ q. not (has_token token' q)) (leases.quars key' table)) table new =
     subst (λ o. OnSome o (Leaves key' (leases.recorded key' table) (filter (λ q. not (has_token token' q)) (leases.quars key' table)) table new)) some after in
-    subst (λ t. Leaves key (leases.recorded key table) (filter (λ q. not (has_token t q)) (leases.quars key table)) table new) tokens (subst (λ k. Leaves k (leases.recorded k table) (filter (λ q. not (has_token token' q)) (leases.quars k table)) table new) keys leaves)
+    subst (λ t. Leaves key (leases.recorded key table) (filter (λ q. not (has_token t q)) (leases.quars key table)) table new) tokens
+    (subst (λ k. Leaves k (leases.recorded k table) (filter (λ q. not (has_token token' q)) (leases.quars k table)) table new) keys leaves)
 
 -- a release puts no value
 pub puts-none : (quar : Quar) (how : How) → PutsNone (ended_as quar how)
@@ -182,7 +215,8 @@ puts-none quar hows.Drop = refl
 puts-none quar (hows.Shift stamp) = refl
 
 -- what a release and a replace owe of a grant that is out
-pub owes-release : (body : Body) (grant : Permit) (how : How) (told : Option Quar) → IsKept body → is_out (shown body) grant ≡ true → FitsMode grant.mode how → quar_of grant.key grant.token (steps_of body) ≡ told → OwesRelease (steps_of body) grant how (quar_of grant.key grant.token (steps_of body))
+pub owes-release : (body : Body) (grant : Permit) (how : How) (told : Option Quar) → IsKept body → is_out (shown body) grant ≡ true → FitsMode grant.mode how
+    → quar_of grant.key grant.token (steps_of body) ≡ told → OwesRelease (steps_of body) grant how (quar_of grant.key grant.token (steps_of body))
 owes-release body grant how told kept out fits e =
     subst (OwesRelease (steps_of body) grant how) (sym e) (by told e)
   where
@@ -192,7 +226,8 @@ owes-release body grant how told kept out fits e =
         let of = out-stands body grant kept out quar is in
         (of, subst (λ m. FitsMode m how) (sym of.mode) fits)
 
-pub owes-replace : (body : Body) (grant : Permit) (told : Option Quar) → IsKept body → is_out (shown body) grant ≡ true → grant.mode ≡ Refresh → quar_of grant.key grant.token (steps_of body) ≡ told → OwesReplace (steps_of body) grant (quar_of grant.key grant.token (steps_of body))
+pub owes-replace : (body : Body) (grant : Permit) (told : Option Quar) → IsKept body → is_out (shown body) grant ≡ true → grant.mode ≡ Refresh
+    → quar_of grant.key grant.token (steps_of body) ≡ told → OwesReplace (steps_of body) grant (quar_of grant.key grant.token (steps_of body))
 owes-replace body grant told kept out refresh e =
     subst (OwesReplace (steps_of body) grant) (sym e) (by told e)
   where

@@ -32,8 +32,13 @@ mode_is Delta Delta e = refl
 of_permit : (permit : Permit) (quar : Quar) → is_of_permit permit quar ≡ true → IsOf permit quar × ((quar.token == permit.token) ≡ true)
 of_permit permit quar h =
     let last = and_parts _ _ h in
-    let first = and_parts _ _ last.0 in
-    (record { sid = ap (λ (n : ℕ). record { number = n }) (eqb-true quar.sid.number permit.sid.number first.0); mode = mode_is quar.mode permit.mode first.1 }, last.1)
+    let first = and_parts _ _ last.0 in (
+      record {
+        sid = ap (λ (n : ℕ). record { number = n }) (eqb-true quar.sid.number permit.sid.number first.0);
+        mode = mode_is quar.mode permit.mode first.1;
+      },
+      last.1,
+    )
 
 -- it is the one of its token
 pub find_permit : (permit : Permit) (quars : List Quar) → AllOfOwnToken quars → list_any (is_of_permit permit) quars ≡ true
@@ -46,13 +51,15 @@ find_permit permit (quar ∷ quars) h e =
       | inr there ↦
           let other = some-passes (λ q. quar.token ≢ q.token) (is_of_permit permit) quars h.0 there in
           let theirs : other.0.token ≡ permit.token = eqb-true _ _ (of_permit permit other.0 other.2).1 in
-          let apart : (quar.token == permit.token) ≡ false = false_from_ne_true (quar.token == permit.token) (λ same. other.1 (eqb-true _ _ same ∙ sym theirs)) in
+          let apart : (quar.token == permit.token) ≡ false =
+          false_from_ne_true (quar.token == permit.token) (λ same. other.1 (eqb-true _ _ same ∙ sym theirs)) in
           let found = find_permit permit quars h.1 there in
           (found.0, ap (λ b. cond b (Some quar) (find (has_token permit.token) quars)) apart ∙ found.1, found.2)
     ]
 
 -- the end of one session's quarantine leaves another's
-pub stays_permit : (permit gone : Permit) (quars : List Quar) → AllOfOwnToken quars → list_any (is_of_permit permit) quars ≡ true → list_any (is_of_permit gone) quars ≡ true
+pub stays_permit : (permit gone : Permit) (quars : List Quar)
+    → AllOfOwnToken quars → list_any (is_of_permit permit) quars ≡ true → list_any (is_of_permit gone) quars ≡ true
     → permit.sid.number ≢ gone.sid.number → list_any (is_of_permit permit) (filter (λ q. not (has_token gone.token q)) quars) ≡ true
 stays_permit permit gone quars h mine theirs apart =
     any-filter_same (is_of_permit permit) (λ q. not (has_token gone.token q)) true each quars ∙ mine

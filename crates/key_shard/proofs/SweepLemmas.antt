@@ -18,7 +18,8 @@ abbrev pub sweep_by : QKey → ℕ → Option Quar → Option Step
 sweep_by key token found = option_map (λ quar. Released key quar.sid token ended.Drop) found
 
 -- it answers the release, with Drop, that the quarantine's own session could ask for
-pub sweep-answers : (terms : Terms) (past : List Step) (key : QKey) (token : ℕ) (quar : Quar) → IsAtHome terms key → quar_of key token past ≡ Some quar → Answers terms past (Released key quar.sid token ended.Drop)
+pub sweep-answers : (terms : Terms) (past : List Step) (key : QKey) (token : ℕ) (quar : Quar)
+    → IsAtHome terms key → quar_of key token past ≡ Some quar → Answers terms past (Released key quar.sid token ended.Drop)
 sweep-answers terms past key token quar home stands = record {
   request = Release permit hows.Drop;
   at_home = home;

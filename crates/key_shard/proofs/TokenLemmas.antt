@@ -1,5 +1,6 @@
 -- The grants that are out, as the map that has each at its token keeps them.
-use Rattle.std.proofs.Common.{◌≡◌, ◌<◌, ◌&&◌, ◌||◌, ◌==◌, ℕ, Bool, true, false, not, cond, List, [], ◌∷◌, ◌++◌, Option, Some, None, filter, refl, sym, ap, subst, ◌∙◌, inl, inr, arith}
+use Rattle.std.proofs.Common.{◌≡◌, ◌<◌, ◌&&◌, ◌||◌, ◌==◌, ℕ, Bool, true, false, not, cond, List, [], ◌∷◌, ◌++◌, Option, Some, None, filter}
+use Rattle.std.proofs.Common.{refl, sym, ap, subst, ◌∙◌, inl, inr, arith}
 use Rattle.std.specs.List.{All, AllByRecursion, list_any}
 use Rattle.std.specs.List.Sorted.{IsStrictlySortedBy}
 use Rattle.std.specs.Map.{keys_of, values_of, lookup, remove_entry}
@@ -37,7 +38,8 @@ Names p token = (out : Out) → p out ≡ true → out.token ≡ token
 -- what says the same as a grant has its token
 pub token-named : (number : ℕ) (grant : Permit) → Names (λ out. same_permit grant (permit_of number out)) grant.token
 token-named number grant out same =
-    sym (eqb-true grant.token out.token (and_parts ((grant.shard == number) && same_key grant.key out.key && (grant.sid.number == out.sid.number) && same_way (way_of grant.mode) (way_of out.mode)) (grant.token == out.token) same).1)
+    sym (eqb-true grant.token out.token (and_parts ((grant.shard == number) && same_key grant.key out.key
+    && (grant.sid.number == out.sid.number) && same_way (way_of grant.mode) (way_of out.mode)) (grant.token == out.token) same).1)
 
 -- ---- the order of tokens
 
@@ -48,7 +50,8 @@ apart-token : (token key : ℕ) → is_at (nat_cmp token) key ≡ false → key 
 apart-token token key at same = grind (arith, nat_tests)
 
 -- of an entry that comes before the others the token lies below theirs
-above-first : (low : ℕ) (es : Entries) → AllByRecursion (λ key. nat_cmp low key ≡ Less) (keys_of es) → All IsAtToken es → All (λ (out : Out). low < out.token) (values_of es)
+above-first : (low : ℕ) (es : Entries) → AllByRecursion (λ key. nat_cmp low key ≡ Less) (keys_of es)
+    → All IsAtToken es → All (λ (out : Out). low < out.token) (values_of es)
 above-first low [] before at = All-nil (λ (out : Out). low < out.token)
 above-first low (e ∷ es) before at =
     let lower : low < e.0 = ranked low e.0 Less (sym before.0) in
@@ -60,7 +63,8 @@ above e es ordered at =
     above-first e.0 es (sorted_head nat_cmp e.0 (keys_of es) ordered) (All-tail IsAtToken e es at)
 
 -- what has the token of an entry isn't behind it
-none-behind : (p : Out → Bool) (token : ℕ) → Names p token → (e : ℕ × Out) (es : Entries) → IsInOrder (e ∷ es) → All IsAtToken (e ∷ es) → e.0 ≡ token → All (λ out. p out ≡ false) (values_of es)
+none-behind : (p : Out → Bool) (token : ℕ) → Names p token → (e : ℕ × Out) (es : Entries)
+    → IsInOrder (e ∷ es) → All IsAtToken (e ∷ es) → e.0 ≡ token → All (λ out. p out ≡ false) (values_of es)
 none-behind p token names e es ordered at here =
     All-weaker (λ (out : Out). e.0 < out.token) (λ out. p out ≡ false) fails (values_of es) (above e es ordered at)
   where
@@ -89,7 +93,8 @@ or-none : (b : Bool) → (b || false) ≡ b
 or-none true = refl
 or-none false = refl
 
-pub found-at : (p : Out → Bool) (token : ℕ) → Names p token → (es : Entries) → IsInOrder es → All IsAtToken es → list_any p (values_of es) ≡ passes p (lookup (is_at (nat_cmp token)) es)
+pub found-at : (p : Out → Bool) (token : ℕ) → Names p token → (es : Entries)
+    → IsInOrder es → All IsAtToken es → list_any p (values_of es) ≡ passes p (lookup (is_at (nat_cmp token)) es)
 found-at p token names [] ordered at = refl
 found-at p token names (e ∷ es) ordered at =
     elim (cases_Bool (is_at (nat_cmp token) e.0)) [
@@ -98,7 +103,8 @@ found-at p token names (e ∷ es) ordered at =
           ap (λ b. p e.1 || b) none ∙ or-none (p e.1) ∙ ap (passes p) (sym (lookup_head (is_at (nat_cmp token)) e es here))
       | inr apart ↦
           let first = not-first p token names e (All-head IsAtToken e es at) apart in
-          ap (λ b. b || list_any p (values_of es)) first ∙ found-at p token names es (sorted_tail nat_cmp e.0 (keys_of es) ordered) (All-tail IsAtToken e es at) ∙ ap (passes p) (sym (lookup_tail (is_at (nat_cmp token)) e es apart))
+          ap (λ b. b || list_any p (values_of es)) first ∙ found-at p token names es (sorted_tail nat_cmp e.0 (keys_of es) ordered) (All-tail IsAtToken e es at)
+          ∙ ap (passes p) (sym (lookup_tail (is_at (nat_cmp token)) e es apart))
     ]
 
 -- ---- a grant is taken out by its token
@@ -111,7 +117,8 @@ any-rest : (a b : Bool) → (a || b) ≡ true → a ≡ false → b ≡ true
 any-rest true b some first = absurd (false≢true (sym first))
 any-rest false b some first = some
 
-pub taken-at : (p : Out → Bool) (token : ℕ) → Names p token → (es : Entries) → IsInOrder es → All IsAtToken es → list_any p (values_of es) ≡ true → values_of (remove_entry (is_at (nat_cmp token)) es) ≡ filter (λ out. not (p out)) (values_of es)
+pub taken-at : (p : Out → Bool) (token : ℕ) → Names p token → (es : Entries) → IsInOrder es
+    → All IsAtToken es → list_any p (values_of es) ≡ true → values_of (remove_entry (is_at (nat_cmp token)) es) ≡ filter (λ out. not (p out)) (values_of es)
 taken-at p token names [] ordered at some = absurd (false≢true some)
 taken-at p token names (e ∷ es) ordered at some =
     let left : Bool → List Out = λ b. values_of (cond b es (e ∷ remove_entry (is_at (nat_cmp token)) es)) in
@@ -124,7 +131,8 @@ taken-at p token names (e ∷ es) ordered at some =
       | inr apart ↦
           let first = not-first p token names e (All-head IsAtToken e es at) apart in
           let rest = any-rest (p e.1) (list_any p (values_of es)) some first in
-          ap left apart ∙ ap (λ outs. e.1 ∷ outs) (taken-at p token names es (sorted_tail nat_cmp e.0 (keys_of es) ordered) (All-tail IsAtToken e es at) rest) ∙ sym (ap (λ b. cond (not b) (e.1 ∷ kept) kept) first)
+          ap left apart ∙ ap (λ outs. e.1 ∷ outs) (taken-at p token names es (sorted_tail nat_cmp e.0 (keys_of es) ordered) (All-tail IsAtToken e es at) rest)
+          ∙ sym (ap (λ b. cond (not b) (e.1 ∷ kept) kept) first)
     ]
 
 at_token-taken : (token : ℕ) (es : Entries) → All IsAtToken es → All IsAtToken (remove_entry (is_at (nat_cmp token)) es)
@@ -134,10 +142,12 @@ at_token-taken token (e ∷ es) at =
     let left : Bool → Entries = λ b. cond b es (e ∷ remove_entry (is_at (nat_cmp token)) es) in
     elim (cases_Bool (is_at (nat_cmp token) e.0)) [
       | inl here ↦ subst (All IsAtToken) (sym (ap left here)) rest
-      | inr apart ↦ subst (All IsAtToken) (sym (ap left apart)) (All-cons IsAtToken e (remove_entry (is_at (nat_cmp token)) es) (All-head IsAtToken e es at) (at_token-taken token es rest))
+      | inr apart ↦ subst (All IsAtToken) (sym (ap left apart))
+          (All-cons IsAtToken e (remove_entry (is_at (nat_cmp token)) es) (All-head IsAtToken e es at) (at_token-taken token es rest))
     ]
 
-pub AreByToken-taken : (old new : BTreeMap ℕ Out) (token : ℕ) → AreByToken old → new.entries ≡ remove_entry (is_at (nat_cmp token)) old.entries → IsInOrder new.entries → AreByToken new
+pub AreByToken-taken : (old new : BTreeMap ℕ Out) (token : ℕ)
+    → AreByToken old → new.entries ≡ remove_entry (is_at (nat_cmp token)) old.entries → IsInOrder new.entries → AreByToken new
 AreByToken-taken old new token by less ordered = record {
   in_order = ordered;
   at_token = subst (All IsAtToken) (sym less) (at_token-taken token old.entries by.at_token);
@@ -145,20 +155,23 @@ AreByToken-taken old new token by less ordered = record {
 
 -- ---- a grant of a higher token comes last
 
-last-at : (out : Out) (es : Entries) → All (λ (other : Out). other.token < out.token) (values_of es) → All IsAtToken es → insert_entry nat_cmp es out.token out ≡ es ++ (out.token, out) ∷ []
+last-at : (out : Out) (es : Entries) → All (λ (other : Out). other.token < out.token) (values_of es)
+    → All IsAtToken es → insert_entry nat_cmp es out.token out ≡ es ++ (out.token, out) ∷ []
 last-at out [] below at = refl
 last-at out (e ∷ es) below at =
     let lower = All-head (λ (other : Out). other.token < out.token) e.1 (values_of es) below in
     let same = All-head IsAtToken e es at in
     let under : e.0 < out.token = omega (arith, lower, same) in
     let higher : nat_cmp out.token e.0 ≡ Greater = sym (nat_cmp_is out.token e.0 Greater under) in
-    ap (λ r. match_ordering r ((out.token, out) ∷ e ∷ es) ((e.0, out) ∷ es) (e ∷ insert_entry nat_cmp es out.token out)) higher ∙ ap (λ l. e ∷ l) (last-at out es (All-tail (λ (other : Out). other.token < out.token) e.1 (values_of es) below) (All-tail IsAtToken e es at))
+    ap (λ r. match_ordering r ((out.token, out) ∷ e ∷ es) ((e.0, out) ∷ es) (e ∷ insert_entry nat_cmp es out.token out)) higher
+    ∙ ap (λ l. e ∷ l) (last-at out es (All-tail (λ (other : Out). other.token < out.token) e.1 (values_of es) below) (All-tail IsAtToken e es at))
 
 values-last : (es : Entries) (e : ℕ × Out) → values_of (es ++ e ∷ []) ≡ values_of es ++ e.1 ∷ []
 values-last es e = map_push (λ (d : ℕ × Out). d.1) es e
 
 -- the map, before and after it was added
-module _ (old new : BTreeMap ℕ Out) (out : Out) (by : AreByToken old) (below : All (λ (other : Out). other.token < out.token) (values_of old.entries)) (puts : new.entries ≡ insert_entry nat_cmp old.entries out.token out) where
+module _ (old new : BTreeMap ℕ Out) (out : Out) (by : AreByToken old)
+    (below : All (λ (other : Out). other.token < out.token) (values_of old.entries)) (puts : new.entries ≡ insert_entry nat_cmp old.entries out.token out) where
   grown : new.entries ≡ old.entries ++ (out.token, out) ∷ []
   grown = puts ∙ last-at out old.entries below by.at_token
 

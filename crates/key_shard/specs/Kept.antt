@@ -1,5 +1,6 @@
 -- What a shard keeps: entries, leases and the next token are those that its past tells.
-use Rattle.std.specs.Prelude.{ℕ, ◌≡◌, ◌<◌, ◌≤◌, ◌+◌, ◌==◌, ◌&&◌, IsTrue, [], ◌∷◌, Bool, false, not, nat_lt, nat_le, if◌then◌else◌, List, map, filter, length, reverse, Option, Some, None, is_some, vec_len, vec_capacity}
+use Rattle.std.specs.Prelude.{ℕ, ◌≡◌, ◌<◌, ◌≤◌, ◌+◌, ◌==◌, ◌&&◌, IsTrue, [], ◌∷◌, Bool, false, not, nat_lt, nat_le, if◌then◌else◌, List}
+use Rattle.std.specs.Prelude.{map, filter, length, reverse, Option, Some, None, is_some, vec_len, vec_capacity}
 use Rattle.std.specs.List.{All, list_any, sum_by}
 use Rattle.rows_model.specs.declared.keys.QKey.{QKey}
 use Rattle.rows_model.specs.declared.keys.Sid.{Sid}
@@ -106,7 +107,8 @@ IsLook terms past key who floor now looks.Found =
 IsLook terms past key who floor now (looks.Waits stands) =
     get_step terms past key who floor now ≡ Again key who floor now stands
 IsLook terms past key who floor now looks.Free =
-    (verdict (seen_by key who now past) read ≡ verdicts.Give) × (get_step terms past key who floor now ≡ StepLease key who floor now (next_token terms past) (deadline_at terms now))
+    (verdict (seen_by key who now past) read ≡ verdicts.Give)
+    × (get_step terms past key who floor now ≡ StepLease key who floor now (next_token terms past) (deadline_at terms now))
 
 -- who makes room for a key in a table: nobody where it has an entry or there is room, else the last
 abbrev pub makes_room : ℕ → QKey → List Item → Option QKey
@@ -116,7 +118,8 @@ makes_room room key list =
 
 -- a value was put in front, and this key made room
 pub record Puts (key : QKey) (value : List ℕ) (stamp : ℕ) (evicted : Option QKey) (old new : Table) : Type 0 where
-  pub entries : (other : QKey) → lookup other new.list ≡ (if same_key other key then Some (value, stamp) else (if is_evicted other evicted then None else lookup other old.list))
+  pub entries : (other : QKey)
+      → lookup other new.list ≡ (if same_key other key then Some (value, stamp) else (if is_evicted other evicted then None else lookup other old.list))
   pub in_order : keys new.list ≡ key ∷ filter (λ other. not (is_evicted other evicted)) (filter (λ other. not (same_key key other)) (keys old.list))
   pub room_by : evicted ≡ makes_room old.room key old.list
   pub same_room : new.room ≡ old.room
@@ -125,7 +128,8 @@ pub record Puts (key : QKey) (value : List ℕ) (stamp : ℕ) (evicted : Option 
 -- the entry of a key ended this way, and no other changed: with no entry the key has no place
 pub record Ends (key : QKey) (how : Ended) (old new : Table) : Type 0 where
   pub entries : (other : QKey) → lookup other new.list ≡ (if same_key other key then entry_ended how (lookup other old.list) else lookup other old.list)
-  pub in_order : keys new.list ≡ (if is_some (entry_ended how (lookup key old.list)) then keys old.list else filter (λ other. not (same_key key other)) (keys old.list))
+  pub in_order : keys new.list
+      ≡ (if is_some (entry_ended how (lookup key old.list)) then keys old.list else filter (λ other. not (same_key key other)) (keys old.list))
   pub same_room : new.room ≡ old.room
   pub sound : IsSound new
 

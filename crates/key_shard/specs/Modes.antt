@@ -26,9 +26,11 @@ StandsToEnd past key sid token how =
 -- A step that answers a request and ends a quarantine ends one that stands, as its mode has it.
 abbrev pub AnswersEndByMode : Type 0
 AnswersEndByMode =
-    (terms : Terms) (past : List Step) (key : QKey) (sid : Sid) (token : ℕ) (how : Ended) → Answers terms past (Released key sid token how) → StandsToEnd past key sid token how
+    (terms : Terms) (past : List Step) (key : QKey) (sid : Sid) (token : ℕ) (how : Ended)
+    → Answers terms past (Released key sid token how) → StandsToEnd past key sid token how
 
 -- So does each step of a legal past that ends a quarantine.
 abbrev pub LegalEndsByMode : Type 0
 LegalEndsByMode =
-    (terms : Terms) (later past : List Step) (key : QKey) (sid : Sid) (token : ℕ) (how : Ended) → IsLegalPast terms (later ++ Released key sid token how ∷ past) → StandsToEnd past key sid token how
+    (terms : Terms) (later past : List Step) (key : QKey) (sid : Sid) (token : ℕ) (how : Ended)
+    → IsLegalPast terms (later ++ Released key sid token how ∷ past) → StandsToEnd past key sid token how

@@ -1,5 +1,6 @@
 -- The index of terms, as quarantines come and go.
-use Rattle.std.proofs.Common.{◌≡◌, ℕ, ◌<◌, Bool, true, false, not, Option, Some, None, List, [], ◌∷◌, ◌++◌, sym, refl, ◌∙◌, ap, filter, find, arith, IfSome, IsSomeAnd}
+use Rattle.std.proofs.Common.{◌≡◌, ℕ, ◌<◌, Bool, true, false, not, Option, Some, None, List, [], ◌∷◌, ◌++◌, sym, refl, ◌∙◌, ap, filter}
+use Rattle.std.proofs.Common.{find, arith, IfSome, IsSomeAnd}
 use Rattle.std.specs.Prelude.{◌==◌, ◌&&◌, if◌then◌else◌}
 use Rattle.std.specs.List.{All}
 use Rattle.std.specs.Option.{option_or}
@@ -24,13 +25,16 @@ use Rattle.lease_table.proofs.KeyLemmas.{SameKey, SameKey-from_test, is_at-key, 
 -- ---- the order of terms
 
 pub term_order : IsTotalOrder term_cmp
-term_order = then_total (on_total (λ (t : Term). t.deadline) nat_cmp_total) (then_total (on_total (λ (t : Term). t.key) key_order) (on_total (λ (t : Term). t.token) nat_cmp_total))
+term_order = then_total (on_total (λ (t : Term). t.deadline) nat_cmp_total)
+    (then_total (on_total (λ (t : Term). t.key) key_order) (on_total (λ (t : Term). t.token) nat_cmp_total))
 
 -- the index finds a term by the test whether two terms are one
 pub is_at-term : (a b : Term) → is_at (term_cmp a) b ≡ same_term a b
 is_at-term a b =
-    let later : is_eq (ordering_then (key_cmp a.key b.key) (nat_cmp a.token b.token)) ≡ (same_key a.key b.key && (a.token == b.token)) = sym (tied_then (key_cmp a.key b.key) (nat_cmp a.token b.token)) ∙ (λ i. is_at-key a.key b.key i && unsigned_tied a.token b.token i) in
-    sym (tied_then (nat_cmp a.deadline b.deadline) (ordering_then (key_cmp a.key b.key) (nat_cmp a.token b.token))) ∙ (λ i. unsigned_tied a.deadline b.deadline i && later i)
+    let later : is_eq (ordering_then (key_cmp a.key b.key) (nat_cmp a.token b.token)) ≡ (same_key a.key b.key && (a.token == b.token)) =
+    sym (tied_then (key_cmp a.key b.key) (nat_cmp a.token b.token)) ∙ (λ i. is_at-key a.key b.key i && unsigned_tied a.token b.token i) in
+    sym (tied_then (nat_cmp a.deadline b.deadline) (ordering_then (key_cmp a.key b.key) (nat_cmp a.token b.token)))
+    ∙ (λ i. unsigned_tied a.deadline b.deadline i && later i)
 
 -- what two terms that are one have in common
 pub record SameTerm (a b : Term) : Type 0 where
@@ -129,24 +133,29 @@ pub record Becomes (key : QKey) (now : List Quar) (standing next : QKey → List
   pub elsewhere : (k : QKey) → same_key key k ≡ false → next k ≡ standing k
 
 -- what is listed at a term now, by whether it is the one that changed
-listed-there : (term other : Term) (sid : Option Sid) (old new : BTreeMap Term Sid) → ListsAt term sid old new → same_term term other ≡ true → sid_at other new ≡ sid
+listed-there : (term other : Term) (sid : Option Sid) (old new : BTreeMap Term Sid)
+    → ListsAt term sid old new → same_term term other ≡ true → sid_at other new ≡ sid
 listed-there term other sid old new lists same = lists.each other ∙ ap (λ b. if b then sid else sid_at other old) same
 
-listed-other : (term other : Term) (sid : Option Sid) (old new : BTreeMap Term Sid) → ListsAt term sid old new → same_term term other ≡ false → sid_at other new ≡ sid_at other old
+listed-other : (term other : Term) (sid : Option Sid) (old new : BTreeMap Term Sid)
+    → ListsAt term sid old new → same_term term other ≡ false → sid_at other new ≡ sid_at other old
 listed-other term other sid old new lists apart = lists.each other ∙ ap (λ b. if b then sid else sid_at other old) apart
 
 -- each quarantine on another key is listed as before
-each-elsewhere : (key k : QKey) (q : Quar) (sid : Option Sid) (old new : BTreeMap Term Sid) (quars : List Quar) → ListsAt (term_of key q) sid old new → same_key key k ≡ false → All (λ r. sid_at (term_of k r) old ≡ Some r.sid) quars → All (λ r. sid_at (term_of k r) new ≡ Some r.sid) quars
+each-elsewhere : (key k : QKey) (q : Quar) (sid : Option Sid) (old new : BTreeMap Term Sid) (quars : List Quar) → ListsAt (term_of key q) sid old new
+    → same_key key k ≡ false → All (λ r. sid_at (term_of k r) old ≡ Some r.sid) quars → All (λ r. sid_at (term_of k r) new ≡ Some r.sid) quars
 each-elsewhere key k q sid old new quars lists apart each =
     λ i d within. listed-other (term_of key q) _ sid old new lists (other_key (term_of key q) _ apart) ∙ each i d within
 
 -- each quarantine of another token too
-each-other : (key k : QKey) (q : Quar) (sid : Option Sid) (old new : BTreeMap Term Sid) (quars : List Quar) → ListsAt (term_of key q) sid old new → All (λ r. q.token ≡ r.token → ⊥) quars → All (λ r. sid_at (term_of k r) old ≡ Some r.sid) quars → All (λ r. sid_at (term_of k r) new ≡ Some r.sid) quars
+each-other : (key k : QKey) (q : Quar) (sid : Option Sid) (old new : BTreeMap Term Sid) (quars : List Quar) → ListsAt (term_of key q) sid old new
+    → All (λ r. q.token ≡ r.token → ⊥) quars → All (λ r. sid_at (term_of k r) old ≡ Some r.sid) quars → All (λ r. sid_at (term_of k r) new ≡ Some r.sid) quars
 each-other key k q sid old new quars lists apart each =
     λ i d within. listed-other (term_of key q) _ sid old new lists (other_token (term_of key q) _ (apart i d within)) ∙ each i d within
 
 -- nothing changed
-pub IsIndex-same : (standing next : QKey → List Quar) (terms new : BTreeMap Term Sid) → IsIndex standing terms → ((k : QKey) → next k ≡ standing k) → new.entries ≡ terms.entries → IsIndex next new
+pub IsIndex-same : (standing next : QKey → List Quar) (terms new : BTreeMap Term Sid)
+    → IsIndex standing terms → ((k : QKey) → next k ≡ standing k) → new.entries ≡ terms.entries → IsIndex next new
 IsIndex-same standing next terms new index same e = record {
   in_order = rw e index.in_order;
   lists_each = λ k. rw (same k, e) (index.lists_each k);
@@ -155,14 +164,17 @@ IsIndex-same standing next terms new index same e = record {
 
 -- ---- one more quarantine, whose token is above those on its key
 
-module _ (key : QKey) (q : Quar) (standing : QKey → List Quar) (was : (k : QKey) → same_key key k ≡ true → standing k ≡ standing key) (terms new : BTreeMap Term Sid) (index : IsIndex standing terms) (below : All (λ other. other.token < q.token) (standing key)) (lists : ListsAt (term_of key q) (Some q.sid) terms new) where
+module _ (key : QKey) (q : Quar) (standing : QKey → List Quar) (was : (k : QKey) → same_key key k ≡ true → standing k ≡ standing key)
+    (terms new : BTreeMap Term Sid) (index : IsIndex standing terms)
+    (below : All (λ other. other.token < q.token) (standing key)) (lists : ListsAt (term_of key q) (Some q.sid) terms new) where
   others : All (λ r. q.token ≡ r.token → ⊥) (standing key)
   others = All-weaker (λ r. r.token < q.token) (λ r. q.token ≡ r.token → ⊥) (λ r less e. omega arith) (standing key) below
 
   -- it isn't found among those that stood
   find-below : (token : ℕ) → q.token ≡ token → find (has_token token) (standing key) ≡ None
   find-below token e =
-      find-no (has_token token) (standing key) (All-weaker (λ r. r.token < q.token) (λ r. has_token token r ≡ false) (λ r less. apart-numbers r.token token (λ same. omega arith)) (standing key) below)
+      find-no (has_token token) (standing key)
+      (All-weaker (λ r. r.token < q.token) (λ r. has_token token r ≡ false) (λ r less. apart-numbers r.token token (λ same. omega arith)) (standing key) below)
 
   -- those that stood on its key are listed as before
   stood-each : (k : QKey) → same_key key k ≡ true → All (λ r. sid_at (term_of k r) new ≡ Some r.sid) (standing key)
@@ -172,7 +184,8 @@ module _ (key : QKey) (q : Quar) (standing : QKey → List Quar) (was : (k : QKe
   module _ (next : QKey → List Quar) (becomes : Becomes key (standing key ++ q ∷ []) standing next) where
     more-each : (k : QKey) (b : Bool) → same_key key k ≡ b → All (λ r. sid_at (term_of k r) new ≡ Some r.sid) (next k)
     more-each k true same =
-        let itself = listed-there (term_of key q) (term_of k q) (Some q.sid) terms new lists (test_from_SameTerm (term_of key q) (term_of k q) (record { deadlines = refl; keys = same; tokens = refl })) in
+        let itself = listed-there (term_of key q) (term_of k q) (Some q.sid) terms new lists
+        (test_from_SameTerm (term_of key q) (term_of k q) (record { deadlines = refl; keys = same; tokens = refl })) in
         rw (becomes.here k same) (All-push (λ r. sid_at (term_of k r) new ≡ Some r.sid) (standing key) q (stood-each k same) itself)
     more-each k false apart =
         rw (becomes.elsewhere k apart) (each-elsewhere key k q (Some q.sid) terms new (standing k) lists apart (index.lists_each k))
@@ -181,20 +194,28 @@ module _ (key : QKey) (q : Quar) (standing : QKey → List Quar) (was : (k : QKe
     stood-still : (term : Term) (sid : Sid) (b : Bool) → same_key key term.key ≡ b → StandsAt (standing term.key) term sid → StandsAt (next term.key) term sid
     stood-still term sid true same stands =
         let before = rw (was term.key same) at stands in
-        rw (becomes.here term.key same, find-append (has_token term.token) (standing key) (q ∷ [])) (IsSomeAnd-or (λ r. (r.deadline ≡ term.deadline) × (r.sid ≡ sid)) (find (has_token term.token) (standing key)) (find (has_token term.token) (q ∷ [])) before)
+        rw (becomes.here term.key same, find-append (has_token term.token) (standing key) (q ∷ []))
+        (IsSomeAnd-or (λ r. (r.deadline ≡ term.deadline)
+        × (r.sid ≡ sid)) (find (has_token term.token) (standing key)) (find (has_token term.token) (q ∷ [])) before)
     stood-still term sid false apart stands = rw (becomes.elsewhere term.key apart) stands
 
     -- the new one does
     new-stands : (term : Term) → SameTerm (term_of key q) term → StandsAt (next term.key) term q.sid
     new-stands term same =
         let here = find-cons_true (has_token term.token) q [] (same-itself q.token term.token same.tokens) in
-        rw (becomes.here term.key same.keys, find-append (has_token term.token) (standing key) (q ∷ []), find-below term.token same.tokens, here) (same.deadlines, refl)
+        rw (
+          becomes.here term.key same.keys,
+          find-append (has_token term.token) (standing key) (q ∷ []),
+          find-below term.token same.tokens,
+          here,
+        ) (same.deadlines, refl)
 
     more-no_other : (term : Term) (b : Bool) → same_term (term_of key q) term ≡ b → IfSome (sid_at term new) (StandsAt (next term.key) term)
     more-no_other term true same =
         rw (listed-there (term_of key q) term (Some q.sid) terms new lists same) (new-stands term (SameTerm-from_test (term_of key q) term same))
     more-no_other term false apart =
-        rw (listed-other (term_of key q) term (Some q.sid) terms new lists apart) (IfSome_then (sid_at term terms) (index.lists_no_other term) (λ sid stands. stood-still term sid _ refl stands))
+        rw (listed-other (term_of key q) term (Some q.sid) terms new lists apart)
+        (IfSome_then (sid_at term terms) (index.lists_no_other term) (λ sid stands. stood-still term sid _ refl stands))
 
     pub IsIndex-more : IsIndex next new
     IsIndex-more = record {
@@ -209,12 +230,16 @@ module _ (key : QKey) (q : Quar) (standing : QKey → List Quar) (was : (k : QKe
     undone-each k true same =
         rw (was k same) (each-other key k q None new undone (standing key) unlists others (stood-each k same))
     undone-each k false apart =
-        each-elsewhere key k q None new undone (standing k) unlists apart (each-elsewhere key k q (Some q.sid) terms new (standing k) lists apart (index.lists_each k))
+        each-elsewhere key k q None new undone (standing k) unlists apart
+        (each-elsewhere key k q (Some q.sid) terms new (standing k) lists apart (index.lists_each k))
 
     undone-no_other : (term : Term) (b : Bool) → same_term (term_of key q) term ≡ b → IfSome (sid_at term undone) (StandsAt (standing term.key) term)
     undone-no_other term true same = rw (listed-there (term_of key q) term None new undone unlists same) tt
     undone-no_other term false apart =
-        rw (listed-other (term_of key q) term None new undone unlists apart, listed-other (term_of key q) term (Some q.sid) terms new lists apart) (index.lists_no_other term)
+        rw (
+          listed-other (term_of key q) term None new undone unlists apart,
+          listed-other (term_of key q) term (Some q.sid) terms new lists apart,
+        ) (index.lists_no_other term)
 
     pub IsIndex-undone : IsIndex standing undone
     IsIndex-undone = record {
@@ -233,20 +258,26 @@ left-apart m n left e = let test = same-itself m n e in let off : false ≡ true
 left-other : (x t u : ℕ) → (t == u) ≡ false → (x == t) ≡ true → not (x == u) ≡ true
 left-other x t u apart same = rw (same-number x t same, apart) refl
 
-module _ (key : QKey) (token : ℕ) (quar : Quar) (standing : QKey → List Quar) (was : (k : QKey) → same_key key k ≡ true → standing k ≡ standing key) (terms new : BTreeMap Term Sid) (index : IsIndex standing terms) (found : find (has_token token) (standing key) ≡ Some quar) (lists : ListsAt (term_of key quar) None terms new) (next : QKey → List Quar) (becomes : Becomes key (filter (λ q. not (has_token token q)) (standing key)) standing next) where
+module _ (key : QKey) (token : ℕ) (quar : Quar) (standing : QKey → List Quar) (was : (k : QKey) → same_key key k ≡ true → standing k ≡ standing key)
+    (terms new : BTreeMap Term Sid) (index : IsIndex standing terms) (found : find (has_token token) (standing key) ≡ Some quar)
+    (lists : ListsAt (term_of key quar) None terms new) (next : QKey → List Quar)
+    (becomes : Becomes key (filter (λ q. not (has_token token q)) (standing key)) standing next) where
   its-token : quar.token ≡ token
   its-token = same-number quar.token token (find-passes (has_token token) (standing key) quar found)
 
   less-each : (k : QKey) (b : Bool) → same_key key k ≡ b → All (λ r. sid_at (term_of k r) new ≡ Some r.sid) (next k)
   less-each k true same =
-      let before = All-filter (λ q. not (has_token token q)) (λ r. sid_at (term_of k r) terms ≡ Some r.sid) (standing key) (rw (was k same) at (index.lists_each k)) in
-      let apart = All-weaker (λ r. not (has_token token r) ≡ true) (λ r. quar.token ≡ r.token → ⊥) (λ r stays e. left-apart r.token token stays (sym e ∙ its-token)) _ (filter_passes (λ q. not (has_token token q)) (standing key)) in
+      let before =
+      All-filter (λ q. not (has_token token q)) (λ r. sid_at (term_of k r) terms ≡ Some r.sid) (standing key) (rw (was k same) at (index.lists_each k)) in
+      let apart = All-weaker (λ r. not (has_token token r) ≡ true) (λ r. quar.token ≡ r.token
+      → ⊥) (λ r stays e. left-apart r.token token stays (sym e ∙ its-token)) _ (filter_passes (λ q. not (has_token token q)) (standing key)) in
       rw (becomes.here k same) (each-other key k quar None terms new _ lists apart before)
   less-each k false apart =
       rw (becomes.elsewhere k apart) (each-elsewhere key k quar None terms new (standing k) lists apart (index.lists_each k))
 
   -- on its key, by the token
-  here-still : (term : Term) (sid : Sid) (b : Bool) → same_term (term_of key quar) term ≡ false → same_key key term.key ≡ true → (term.token == token) ≡ b → StandsAt (standing key) term sid → StandsAt (filter (λ q. not (has_token token q)) (standing key)) term sid
+  here-still : (term : Term) (sid : Sid) (b : Bool) → same_term (term_of key quar) term ≡ false → same_key key term.key ≡ true
+      → (term.token == token) ≡ b → StandsAt (standing key) term sid → StandsAt (filter (λ q. not (has_token token q)) (standing key)) term sid
   here-still term sid true apart same e stands =
       let its = same-number term.token token e in
       let it : find (has_token term.token) (standing key) ≡ Some quar = rw its found in
@@ -257,7 +288,8 @@ module _ (key : QKey) (token : ℕ) (quar : Quar) (standing : QKey → List Quar
   here-still term sid false apart same e stands =
       rw (find-filter (has_token term.token) (λ q. not (has_token token q)) (standing key) (λ r its. left-other r.token term.token token e its)) stands
 
-  still : (term : Term) (sid : Sid) (b : Bool) → same_key key term.key ≡ b → same_term (term_of key quar) term ≡ false → StandsAt (standing term.key) term sid → StandsAt (next term.key) term sid
+  still : (term : Term) (sid : Sid) (b : Bool) → same_key key term.key ≡ b
+      → same_term (term_of key quar) term ≡ false → StandsAt (standing term.key) term sid → StandsAt (next term.key) term sid
   still term sid true same apart stands =
       rw (becomes.here term.key same) (here-still term sid _ apart same refl (rw (was term.key same) at stands))
   still term sid false other apart stands = rw (becomes.elsewhere term.key other) stands
@@ -265,7 +297,8 @@ module _ (key : QKey) (token : ℕ) (quar : Quar) (standing : QKey → List Quar
   less-no_other : (term : Term) (b : Bool) → same_term (term_of key quar) term ≡ b → IfSome (sid_at term new) (StandsAt (next term.key) term)
   less-no_other term true same = rw (listed-there (term_of key quar) term None terms new lists same) tt
   less-no_other term false apart =
-      rw (listed-other (term_of key quar) term None terms new lists apart) (IfSome_then (sid_at term terms) (index.lists_no_other term) (λ sid stands. still term sid _ refl apart stands))
+      rw (listed-other (term_of key quar) term None terms new lists apart)
+      (IfSome_then (sid_at term terms) (index.lists_no_other term) (λ sid stands. still term sid _ refl apart stands))
 
   pub IsIndex-less : IsIndex next new
   IsIndex-less = record {

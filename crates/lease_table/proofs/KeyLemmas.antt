@@ -36,7 +36,8 @@ same_key-right a b x e = let h = SameKey-from_test a b e in rw (h.kinds, h.ids) 
 abbrev pub rank_cmp : QKey → QKey → Ordering
 rank_cmp a b = ordering_then (nat_cmp (kind_number a.kind) (kind_number b.kind)) (nat_cmp a.id b.id)
 
-key_cmp-ranks : (k l : Kind) (i j : ℕ) → key_cmp (record { kind = k; id = i }) (record { kind = l; id = j }) ≡ rank_cmp (record { kind = k; id = i }) (record { kind = l; id = j })
+key_cmp-ranks : (k l : Kind) (i j : ℕ)
+    → key_cmp (record { kind = k; id = i }) (record { kind = l; id = j }) ≡ rank_cmp (record { kind = k; id = i }) (record { kind = l; id = j })
 key_cmp-ranks Profile Profile i j = refl
 key_cmp-ranks Profile Friends i j = refl
 key_cmp-ranks Profile Pending i j = refl

@@ -1,5 +1,6 @@
 -- On lists: what a map that leaves elements out gives of a filtered list, and the first that passes.
-use Rattle.std.proofs.Common.{◌≡◌, suc, length, ◌≤◌, map, arith, Bool, true, false, not, Option, Some, None, List, [], ◌∷◌, ap, sym, refl, ◌∙◌, find, filter, MatchOption}
+use Rattle.std.proofs.Common.{◌≡◌, suc, length, ◌≤◌, map, arith, Bool, true, false, not, Option, Some, None, List, [], ◌∷◌, ap, sym, refl}
+use Rattle.std.proofs.Common.{◌∙◌, find, filter, MatchOption}
 use Rattle.std.specs.Bool.{⊤}
 use Rattle.std.specs.Prelude.{◌&&◌}
 use Rattle.std.proofs.lemmas.List.Filters.{length-filter_both}
@@ -8,14 +9,17 @@ use Rattle.std.proofs.lemmas.List.Elements.{All-head, All-tail, All-nil, All-con
 use Rattle.lease_table.specs.Leases.{first}
 
 -- one step: what the element gives and whether it is kept
-filter_map-filter-step : {X Y : Type 0} (f : X → Option Y) (p : X → Bool) (t : Y → Bool) (x : X) (xs : List X) (o : Option Y) (kept : Bool) → f x ≡ o → p x ≡ kept → MatchOption o ⊤ (λ y. kept ≡ t y) → filter_map f (filter p xs) ≡ filter t (filter_map f xs) → filter_map f (filter p (x ∷ xs)) ≡ filter t (filter_map f (x ∷ xs))
+filter_map-filter-step : {X Y : Type 0} (f : X → Option Y) (p : X → Bool) (t : Y → Bool) (x : X) (xs : List X) (o : Option Y) (kept : Bool) → f x ≡ o
+    → p x ≡ kept → MatchOption o ⊤ (λ y. kept ≡ t y) → filter_map f (filter p xs) ≡ filter t (filter_map f xs)
+    → filter_map f (filter p (x ∷ xs)) ≡ filter t (filter_map f (x ∷ xs))
 filter_map-filter-step f p t x xs None true gives keeps agrees ih = rw (keeps, gives) ih
 filter_map-filter-step f p t x xs None false gives keeps agrees ih = rw (keeps, gives) ih
 filter_map-filter-step f p t x xs (Some y) true gives keeps agrees ih = rw (keeps, gives, ← agrees) (ap (λ ys. y ∷ ys) ih)
 filter_map-filter-step f p t x xs (Some y) false gives keeps agrees ih = rw (keeps, gives, ← agrees) ih
 
 -- where an element is kept as the test of what it gives says, the filter may come before or after
-pub filter_map-filter : {X Y : Type 0} (f : X → Option Y) (p : X → Bool) (t : Y → Bool) (agrees : (x : X) → MatchOption (f x) ⊤ (λ y. p x ≡ t y)) (xs : List X) → filter_map f (filter p xs) ≡ filter t (filter_map f xs)
+pub filter_map-filter : {X Y : Type 0} (f : X → Option Y) (p : X → Bool) (t : Y → Bool) (agrees : (x : X) → MatchOption (f x) ⊤ (λ y. p x ≡ t y)) (xs : List X)
+    → filter_map f (filter p xs) ≡ filter t (filter_map f xs)
 filter_map-filter f p t agrees [] = refl
 filter_map-filter f p t agrees (x ∷ xs) =
     filter_map-filter-step f p t x xs _ _ refl refl (agrees x) (filter_map-filter f p t agrees xs)
@@ -36,7 +40,8 @@ filter_map-same f g same [] = refl
 filter_map-same f g same (x ∷ xs) = rw (same x) (ap (cons_option (g x)) (filter_map-same f g same xs))
 
 -- one step of it
-find-first-step : {X : Type 0} (p : X → Bool) (x : X) (xs : List X) (b : Bool) → p x ≡ b → find p xs ≡ first (filter p xs) → find p (x ∷ xs) ≡ first (filter p (x ∷ xs))
+find-first-step : {X : Type 0} (p : X → Bool) (x : X) (xs : List X) (b : Bool)
+    → p x ≡ b → find p xs ≡ first (filter p xs) → find p (x ∷ xs) ≡ first (filter p (x ∷ xs))
 find-first-step p x xs true e ih = rw e refl
 find-first-step p x xs false e ih = rw e ih
 

@@ -44,7 +44,8 @@ pub record Gives (key : QKey) (leases : List Lease) (standing : List Quar) (read
   pub quars_there : quars key leases ≡ standing
   pub reads_there : reads key leases ≡ readers
 
-Gives-append : (key : QKey) (xs ys : List Lease) (qs ps : List Quar) (rs ss : List ReadLease) → Gives key xs qs rs → Gives key ys ps ss → Gives key (xs ++ ys) (qs ++ ps) (rs ++ ss)
+Gives-append : (key : QKey) (xs ys : List Lease) (qs ps : List Quar) (rs ss : List ReadLease)
+    → Gives key xs qs rs → Gives key ys ps ss → Gives key (xs ++ ys) (qs ++ ps) (rs ++ ss)
 Gives-append key xs ys qs ps rs ss a b = record {
   quars_there = filter_map-append _ xs ys ∙ (λ i. a.quars_there i ++ b.quars_there i);
   reads_there = filter_map-append _ xs ys ∙ (λ i. a.reads_there i ++ b.reads_there i);
@@ -67,11 +68,15 @@ Gives-none key [] none = record { quars_there = refl; reads_there = refl }
 Gives-none key (e ∷ es) none =
     Gives-append key (records_on e.0 e.1) (records es) [] [] [] [] (Gives-apart key e.0 e.1 (sym (is_at-key key e.0) ∙ none.0)) (Gives-none key es none.1)
 
-Gives-step : (key : QKey) (e : QKey × KeyLeases) (es : List (QKey × KeyLeases)) (b : Bool) → same_key key e.0 ≡ b → IsStrictlySortedBy key_cmp (keys_of (e ∷ es)) → Gives key (records es) (quars_of (lookup (is_at (key_cmp key)) es)) (reads_of (lookup (is_at (key_cmp key)) es)) → Gives key (records (e ∷ es)) (quars_of (lookup (is_at (key_cmp key)) (e ∷ es))) (reads_of (lookup (is_at (key_cmp key)) (e ∷ es)))
+Gives-step : (key : QKey) (e : QKey × KeyLeases) (es : List (QKey × KeyLeases)) (b : Bool) → same_key key e.0 ≡ b
+    → IsStrictlySortedBy key_cmp (keys_of (e ∷ es))
+    → Gives key (records es) (quars_of (lookup (is_at (key_cmp key)) es)) (reads_of (lookup (is_at (key_cmp key)) es))
+    → Gives key (records (e ∷ es)) (quars_of (lookup (is_at (key_cmp key)) (e ∷ es))) (reads_of (lookup (is_at (key_cmp key)) (e ∷ es)))
 Gives-step key e es true same sorted rest =
     let at : is_at (key_cmp key) e.0 ≡ true = is_at-key key e.0 ∙ same in
     let past = none_past_head key_equivalence key e es (IsDistinct-from_sorted key_cmp (keys_of (e ∷ es)) sorted) at in
-    let both = Gives-append key (records_on e.0 e.1) (records es) (quars_of (Some e.1)) [] (reads_of (Some e.1)) [] (Gives-here key e.0 e.1 same) (Gives-none key es past) in
+    let both = Gives-append key (records_on e.0 e.1) (records es)
+    (quars_of (Some e.1)) [] (reads_of (Some e.1)) [] (Gives-here key e.0 e.1 same) (Gives-none key es past) in
     let found = lookup_head (is_at (key_cmp key)) e es at in
     record {
       quars_there = both.quars_there ∙ append-nil _ ∙ ap quars_of (sym found);
@@ -85,13 +90,15 @@ Gives-step key e es false apart sorted rest =
       reads_there = both.reads_there ∙ ap reads_of (sym found);
     }
 
-Gives-lookup : (key : QKey) (es : List (QKey × KeyLeases)) → IsStrictlySortedBy key_cmp (keys_of es) → Gives key (records es) (quars_of (lookup (is_at (key_cmp key)) es)) (reads_of (lookup (is_at (key_cmp key)) es))
+Gives-lookup : (key : QKey) (es : List (QKey × KeyLeases)) → IsStrictlySortedBy key_cmp (keys_of es)
+    → Gives key (records es) (quars_of (lookup (is_at (key_cmp key)) es)) (reads_of (lookup (is_at (key_cmp key)) es))
 Gives-lookup key [] sorted = record { quars_there = refl; reads_there = refl }
 Gives-lookup key (e ∷ es) sorted =
     Gives-step key e es _ refl sorted (Gives-lookup key es (sorted_tail key_cmp e.0 (keys_of es) sorted))
 
 -- the records on a key are those of the leases that the map has there
-pub records-at : (key : QKey) (leases : BTreeMap QKey KeyLeases) → IsOrdered key_cmp leases → Gives key (records leases.entries) (quars_of (leases_on key leases)) (reads_of (leases_on key leases))
+pub records-at : (key : QKey) (leases : BTreeMap QKey KeyLeases)
+    → IsOrdered key_cmp leases → Gives key (records leases.entries) (quars_of (leases_on key leases)) (reads_of (leases_on key leases))
 records-at key leases ordered = Gives-lookup key leases.entries ordered
 
 -- keys that are one have the same leases
@@ -100,12 +107,14 @@ leases_on-same_key a b leases e =
     ap (λ test. lookup test leases.entries) (λ i k. (is_at-key a k ∙ same_key-left a b k e ∙ sym (is_at-key b k)) i)
 
 -- leases with the same records, written over those of a key, leave the records
-pub records-set_value : (test : QKey → Bool) (es : List (QKey × KeyLeases)) (there next : KeyLeases) → lookup test es ≡ Some there → ((key : QKey) → records_on key next ≡ records_on key there) → records (set_value test es next) ≡ records es
+pub records-set_value : (test : QKey → Bool) (es : List (QKey × KeyLeases)) (there next : KeyLeases)
+    → lookup test es ≡ Some there → ((key : QKey) → records_on key next ≡ records_on key there) → records (set_value test es next) ≡ records es
 records-set_value test [] there next found same = refl
 records-set_value test (e ∷ es) there next found same =
     by_test (λ later. records-set_value test es there next later same) (test e.0) refl
   where
-    by_test : (lookup test es ≡ Some there → records (set_value test es next) ≡ records es) → (b : Bool) → test e.0 ≡ b → records (set_value test (e ∷ es) next) ≡ records (e ∷ es)
+    by_test : (lookup test es ≡ Some there → records (set_value test es next) ≡ records es)
+        → (b : Bool) → test e.0 ≡ b → records (set_value test (e ∷ es) next) ≡ records (e ∷ es)
     by_test rest true at =
         let here : e.1 ≡ there = (let head = lookup_head test e es at in cc) in
         rw at (ap (λ xs. xs ++ records es) (same e.0 ∙ ap (records_on e.0) (sym here)))

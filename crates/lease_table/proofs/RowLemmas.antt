@@ -30,10 +30,12 @@ others_row-one delta reading = refl
 -- what stands behind the first one all invalidates
 list_all-behind : (q : Quar) (qs : List Quar) → AllPairs StandBeside (q ∷ qs) → list_all is_invalidate (map quar_way qs) ≡ true
 list_all-behind q qs beside =
-    list_all-map is_invalidate quar_way qs (All-weaker (StandBeside q) (λ r. is_invalidate (quar_way r) ≡ true) (λ r h. h.other_invalidates) qs (AllPairs-head StandBeside q qs beside))
+    list_all-map is_invalidate quar_way qs
+    (All-weaker (StandBeside q) (λ r. is_invalidate (quar_way r) ≡ true) (λ r h. h.other_invalidates) qs (AllPairs-head StandBeside q qs beside))
 
 -- the row where other quarantines stand, by the way of the first: of more than one all invalidate
-others_row-first : (q : Quar) (qs : List Quar) (reading : Bool) → AllPairs StandBeside (q ∷ qs) → others_row (map quar_way (q ∷ qs)) reading ≡ 2 + way_number (quar_way q)
+others_row-first : (q : Quar) (qs : List Quar) (reading : Bool)
+    → AllPairs StandBeside (q ∷ qs) → others_row (map quar_way (q ∷ qs)) reading ≡ 2 + way_number (quar_way q)
 others_row-first q [] reading beside = others_row-one (quar_way q) reading
 others_row-first q (r ∷ rs) reading beside =
     let here = (AllPairs-head StandBeside q (r ∷ rs) beside 0 q (omega arith)).one_invalidates in
@@ -42,19 +44,23 @@ others_row-first q (r ∷ rs) reading beside =
     rw (here, behind, at_first) refl
 
 -- the same where the first is that of a list that may be empty
-others_row-found : (qs : List Quar) (q : Quar) (reading : Bool) → AllPairs StandBeside qs → first qs ≡ Some q → others_row (map quar_way qs) reading ≡ 2 + way_number (quar_way q)
+others_row-found : (qs : List Quar) (q : Quar) (reading : Bool)
+    → AllPairs StandBeside qs → first qs ≡ Some q → others_row (map quar_way qs) reading ≡ 2 + way_number (quar_way q)
 others_row-found [] q reading beside e = cc
 others_row-found (r ∷ rs) q reading beside e =
     let same : r ≡ q = cc in
     others_row-first r rs reading beside ∙ ap (λ x. 2 + way_number (quar_way x)) same
 
 -- the row where the asker holds none and others hold some
-pub row-others : (who : Sid) (now : ℕ) (reader : Option ReadLease) (quars : List Quar) (q : Quar) → AllPairs StandBeside quars → own_in who quars ≡ None → find (λ quar. not (is_of who quar)) quars ≡ Some q → row_of (holding_of who now reader quars) ≡ 2 + way_number (quar_way q)
+pub row-others : (who : Sid) (now : ℕ) (reader : Option ReadLease) (quars : List Quar) (q : Quar) → AllPairs StandBeside quars
+    → own_in who quars ≡ None → find (λ quar. not (is_of who quar)) quars ≡ Some q → row_of (holding_of who now reader quars) ≡ 2 + way_number (quar_way q)
 row-others who now reader quars q beside none found =
-    rw none (others_row-found (others_in who quars) q _ (AllPairs-filter StandBeside (λ quar. not (is_of who quar)) quars beside) (sym (find-first _ quars) ∙ found))
+    rw none (others_row-found (others_in who quars) q _ (AllPairs-filter StandBeside (λ quar. not (is_of who quar)) quars beside)
+    (sym (find-first _ quars) ∙ found))
 
 -- the row where nobody holds a quarantine
-pub row-free : (who : Sid) (now : ℕ) (reader : Option ReadLease) (quars : List Quar) → own_in who quars ≡ None → find (λ quar. not (is_of who quar)) quars ≡ None → row_of (holding_of who now reader quars) ≡ others_row [] (is_unexpired now reader)
+pub row-free : (who : Sid) (now : ℕ) (reader : Option ReadLease) (quars : List Quar) → own_in who quars ≡ None
+    → find (λ quar. not (is_of who quar)) quars ≡ None → row_of (holding_of who now reader quars) ≡ others_row [] (is_unexpired now reader)
 row-free who now reader quars none no_other =
     rw (none, first-none (others_in who quars) (sym (find-first _ quars) ∙ no_other)) refl
 
@@ -63,10 +69,13 @@ pub first-least : (qs : List Quar) (q : Quar) → AllPairs StandBeside qs → fi
 first-least [] q beside e = cc
 first-least (r ∷ rs) q beside e =
     let same : r ≡ q = cc in
-    subst (λ x. All (λ other. x.token ≤ other.token) (r ∷ rs)) same (All-cons (λ other. r.token ≤ other.token) r rs (omega arith) (All-weaker (StandBeside r) (λ other. r.token ≤ other.token) (λ other h. let below = h.in_order in omega arith) rs (AllPairs-head StandBeside r rs beside)))
+    subst (λ x. All (λ other. x.token ≤ other.token) (r ∷ rs)) same
+    (All-cons (λ other. r.token ≤ other.token) r rs (omega arith)
+    (All-weaker (StandBeside r) (λ other. r.token ≤ other.token) (λ other h. let below = h.in_order in omega arith) rs (AllPairs-head StandBeside r rs beside)))
 
 -- who holds a key on which the asker holds nothing has the least token
-pub holder-least : (who : Sid) (quars : List Quar) (o : Option Quar) → AllPairs StandBeside quars → own_in who quars ≡ None → o ≡ holder_in who quars → IfSome o (λ q. All (λ other. q.token ≤ other.token) quars)
+pub holder-least : (who : Sid) (quars : List Quar) (o : Option Quar)
+    → AllPairs StandBeside quars → own_in who quars ≡ None → o ≡ holder_in who quars → IfSome o (λ q. All (λ other. q.token ≤ other.token) quars)
 holder-least who quars None beside none e = tt
 holder-least who quars (Some q) beside none e =
     first-least quars q beside (sym (e ∙ rw none refl))

@@ -1,5 +1,6 @@
 -- What a change of the map leaves on each key, and that the table stays one.
-use Rattle.std.proofs.Common.{◌≡◌, ℕ, Bool, true, false, not, Option, Some, None, List, [], ◌∷◌, ◌++◌, sym, refl, ◌∙◌, ap, filter, arith, IfSome, IsTrue, cond, subst}
+use Rattle.std.proofs.Common.{◌≡◌, ℕ, Bool, true, false, not, Option, Some, None, List, [], ◌∷◌, ◌++◌, sym, refl, ◌∙◌, ap, filter, arith}
+use Rattle.std.proofs.Common.{IfSome, IsTrue, cond, subst}
 use Rattle.std.specs.Prelude.{length, ◌<◌}
 use Rattle.std.specs.List.{All, AllPairs}
 use Rattle.std.specs.BTreeMap.{BTreeMap, IsOrdered, WritesThrough, UpdatesBy, is_at}
@@ -30,7 +31,8 @@ pub record SetsKey (key : QKey) (standing : List Quar) (readers : List ReadLease
   pub quars_elsewhere : (other : QKey) → same_key key other ≡ false → quars other new ≡ quars other old
   pub reads_elsewhere : (other : QKey) → same_key key other ≡ false → reads other new ≡ reads other old
 
-pub Leaves-from : (key : QKey) (standing : List Quar) (readers : List ReadLease) (old new : List Lease) → SetsKey key standing readers old new → Leaves key (first readers) standing old new
+pub Leaves-from : (key : QKey) (standing : List Quar) (readers : List ReadLease) (old new : List Lease)
+    → SetsKey key standing readers old new → Leaves key (first readers) standing old new
 Leaves-from key standing readers old new sets = record {
   on_reader = ap first sets.reads_there;
   on_quars = sets.quars_there;
@@ -47,14 +49,16 @@ reads-same_key a b leases e =
     filter_map-same (read_on a) (read_on b) (λ lease. rw (same_key-left a b lease.key e) refl) leases
 
 -- one key of a table after a change
-MayStand-step : (key k : QKey) (standing : List Quar) (readers : List ReadLease) (old new : List Lease) (b : Bool) → same_key key k ≡ b → SetsKey key standing readers old new → MayStand standing readers → IsTable old → MayStand (quars k new) (reads k new)
+MayStand-step : (key k : QKey) (standing : List Quar) (readers : List ReadLease) (old new : List Lease) (b : Bool)
+    → same_key key k ≡ b → SetsKey key standing readers old new → MayStand standing readers → IsTable old → MayStand (quars k new) (reads k new)
 MayStand-step key k standing readers old new true e sets may table =
     rw (← quars-same_key key k new e, ← reads-same_key key k new e, sets.quars_there, sets.reads_there) may
 MayStand-step key k standing readers old new false e sets may table =
     rw (sets.quars_elsewhere k e, sets.reads_elsewhere k e) (table k)
 
 -- a change that leaves on its key what may stand leaves a table
-pub IsTable-from : (key : QKey) (standing : List Quar) (readers : List ReadLease) (old new : List Lease) → SetsKey key standing readers old new → MayStand standing readers → IsTable old → IsTable new
+pub IsTable-from : (key : QKey) (standing : List Quar) (readers : List ReadLease) (old new : List Lease)
+    → SetsKey key standing readers old new → MayStand standing readers → IsTable old → IsTable new
 IsTable-from key standing readers old new sets may table =
     λ k. MayStand-step key k standing readers old new _ refl sets may table
 
@@ -81,7 +85,8 @@ MayStand-drop_quar p standing readers may = record {
   apart = λ some. may.apart (omega (arith, length-filter-le p standing));
 }
 
-pub MayStand-quar : (standing : List Quar) (readers : List ReadLease) (q : Quar) → MayStand standing readers → All (λ other. StandBeside other q) standing → MayStand (standing ++ q ∷ []) []
+pub MayStand-quar : (standing : List Quar) (readers : List ReadLease) (q : Quar)
+    → MayStand standing readers → All (λ other. StandBeside other q) standing → MayStand (standing ++ q ∷ []) []
 MayStand-quar standing readers q may each = record {
   beside = all_pairs_push StandBeside standing q may.beside (λ k d within. each k d within);
   one_reader = omega arith;
@@ -91,18 +96,22 @@ MayStand-quar standing readers q may each = record {
 -- ---- the map
 
 -- what the map's change says of its records
-pub SetsKey-puts : (key : QKey) (standing : List Quar) (readers : List ReadLease) (old new : BTreeMap QKey KeyLeases) → IsOrdered key_cmp old → PutsOn key standing readers old new → SetsKey key standing readers (records old.entries) (records new.entries)
+pub SetsKey-puts : (key : QKey) (standing : List Quar) (readers : List ReadLease) (old new : BTreeMap QKey KeyLeases)
+    → IsOrdered key_cmp old → PutsOn key standing readers old new → SetsKey key standing readers (records old.entries) (records new.entries)
 SetsKey-puts key standing readers old new ordered puts =
     let after = records-at key new puts.in_order in
     record {
       quars_there = after.quars_there ∙ puts.quars_there;
       reads_there = after.reads_there ∙ puts.reads_there;
-      quars_elsewhere = λ other apart. (records-at other new puts.in_order).quars_there ∙ ap quars_of (puts.elsewhere other apart) ∙ sym (records-at other old ordered).quars_there;
-      reads_elsewhere = λ other apart. (records-at other new puts.in_order).reads_there ∙ ap reads_of (puts.elsewhere other apart) ∙ sym (records-at other old ordered).reads_there;
+      quars_elsewhere = λ other apart. (records-at other new puts.in_order).quars_there
+          ∙ ap quars_of (puts.elsewhere other apart) ∙ sym (records-at other old ordered).quars_there;
+      reads_elsewhere = λ other apart. (records-at other new puts.in_order).reads_there
+          ∙ ap reads_of (puts.elsewhere other apart) ∙ sym (records-at other old ordered).reads_there;
     }
 
 -- no key without a lease comes in
-NoneEmpty-puts : (key : QKey) (standing : List Quar) (readers : List ReadLease) (old new : BTreeMap QKey KeyLeases) → PutsOn key standing readers old new → NoneEmpty old → NoneEmpty new
+NoneEmpty-puts : (key : QKey) (standing : List Quar) (readers : List ReadLease) (old new : BTreeMap QKey KeyLeases)
+    → PutsOn key standing readers old new → NoneEmpty old → NoneEmpty new
 NoneEmpty-puts key standing readers old new puts none = λ k. by_key k (same_key key k) refl
   where
     by_key : (k : QKey) (b : Bool) → same_key key k ≡ b → IfSome (leases_on k new) (λ there. IsTrue (has_any there))
@@ -110,16 +119,20 @@ NoneEmpty-puts key standing readers old new puts none = λ k. by_key k (same_key
     by_key k false apart = rw (puts.elsewhere k apart) (none k)
 
 -- a change of the map that leaves on its key what may stand, with an index of what stands then
-pub IsKept-puts : (key : QKey) (standing : List Quar) (readers : List ReadLease) (old new : BTreeMap QKey KeyLeases) (terms next : BTreeMap Term Sid) → IsKept old terms → PutsOn key standing readers old new → MayStand standing readers → IsIndex (quars_in (records new.entries)) next → IsKept new next
+pub IsKept-puts : (key : QKey) (standing : List Quar) (readers : List ReadLease) (old new : BTreeMap QKey KeyLeases) (terms next : BTreeMap Term Sid)
+    → IsKept old terms → PutsOn key standing readers old new → MayStand standing readers → IsIndex (quars_in (records new.entries)) next → IsKept new next
 IsKept-puts key standing readers old new terms next kept puts may indexed = record {
   in_order = puts.in_order;
-  table = IsTable-from key standing readers (records old.entries) (records new.entries) (SetsKey-puts key standing readers old new kept.in_order puts) may kept.table;
+  table =
+      IsTable-from key standing readers (records old.entries) (records new.entries)
+      (SetsKey-puts key standing readers old new kept.in_order puts) may kept.table;
   none_empty = NoneEmpty-puts key standing readers old new puts kept.none_empty;
   indexed = indexed;
 }
 
 -- a map with the records that it had
-pub IsKept-stays : (old new : BTreeMap QKey KeyLeases) (terms next : BTreeMap Term Sid) → IsKept old terms → Stays old new → IsIndex (quars_in (records old.entries)) next → IsKept new next
+pub IsKept-stays : (old new : BTreeMap QKey KeyLeases) (terms next : BTreeMap Term Sid)
+    → IsKept old terms → Stays old new → IsIndex (quars_in (records old.entries)) next → IsKept new next
 IsKept-stays old new terms next kept stays indexed = record {
   in_order = stays.in_order;
   table = rw stays.same_records kept.table;
@@ -128,7 +141,8 @@ IsKept-stays old new terms next kept stays indexed = record {
 }
 
 -- what is written over the leases of a key leaves the map's, where it leaves these
-pub Stays-through : (key : QKey) (old new : BTreeMap QKey KeyLeases) (there next : KeyLeases) → leases_on key old ≡ Some there → SameLeases there next → WritesThrough key_cmp (key_cmp key) old next new → Stays old new
+pub Stays-through : (key : QKey) (old new : BTreeMap QKey KeyLeases) (there next : KeyLeases)
+    → leases_on key old ≡ Some there → SameLeases there next → WritesThrough key_cmp (key_cmp key) old next new → Stays old new
 Stays-through key old new there next found same writes = record {
   same_records = ap records writes.0 ∙ records-set_value (is_at (key_cmp key)) old.entries there next found same.same_records;
   none_empty = λ none k. by_key none k (is_at (key_cmp key) k) refl;

@@ -15,7 +15,9 @@ use Rattle.case_tables.specs.declared.grids.Verdict.{Verdict}
 use Rattle.case_tables.specs.Compatibility.{Way, Request, read, quarantine, Holding, is_invalidate, same_way, verdict, is_given, row_of, column_of, cell}
 
 -- the cell of what stands is the rules' verdict
-pub cell-verdict : (grid : List (List Verdict)) (rules : (h : Holding) (request : Request) → cell grid (row_of h) (column_of request) ≡ Some (verdict h request)) (h : Holding) (request : Request) (r c : ℕ) (v : Verdict) → r ≡ row_of h → c ≡ column_of request → cell grid r c ≡ Some v → v ≡ verdict h request
+pub cell-verdict : (grid : List (List Verdict)) (rules : (h : Holding) (request : Request)
+    → cell grid (row_of h) (column_of request) ≡ Some (verdict h request)) (h : Holding) (request : Request) (r c : ℕ) (v : Verdict)
+    → r ≡ row_of h → c ≡ column_of request → cell grid r c ≡ Some v → v ≡ verdict h request
 cell-verdict grid rules h request r c v row column found =
     let here = rw (row, column) at found in
     let by_rules = rules h request in
@@ -23,7 +25,8 @@ cell-verdict grid rules h request r c v row column found =
 
 -- ---- where a lease to read is given nobody holds a quarantine
 
-read-given-parts : (own : Option Way) (others : List Way) (reading : Bool) → is_given (verdict (record { own = own; others = others; reading = reading }) read) ≡ true → (own ≡ None) × (others ≡ [])
+read-given-parts : (own : Option Way) (others : List Way) (reading : Bool)
+    → is_given (verdict (record { own = own; others = others; reading = reading }) read) ≡ true → (own ≡ None) × (others ≡ [])
 read-given-parts (Some w) others reading given = cc
 read-given-parts None [] reading given = (refl, refl)
 read-given-parts None (w ∷ ws) reading given = cc
@@ -62,7 +65,8 @@ beside-given true true given = (refl, refl)
 beside-given true false given = cc
 beside-given false b given = cc
 
-quar-given-parts : (w : Way) (own : Option Way) (others : List Way) (reading : Bool) → is_given (verdict (record { own = own; others = others; reading = reading }) (quarantine w)) ≡ true → QuarGiven w own others
+quar-given-parts : (w : Way) (own : Option Way) (others : List Way) (reading : Bool)
+    → is_given (verdict (record { own = own; others = others; reading = reading }) (quarantine w)) ≡ true → QuarGiven w own others
 quar-given-parts w (Some o) others reading given = absurd (own-not_given (same_way o w) given)
 quar-given-parts w None [] reading given = record {
   none_own = refl;
@@ -74,7 +78,8 @@ quar-given-parts w None (o ∷ os) reading given =
     record { none_own = refl; others_invalidate = both.1; asker_invalidates = λ some. both.0 }
 
 -- what a given quarantine stands beside
-pub quar-given : (key : QKey) (q : Quar) (now : ℕ) (leases : List Lease) → All (λ other. other.token < q.token) (quars key leases) → is_given (verdict (holding key q.sid now leases) (quarantine (way_of q.mode))) ≡ true → All (λ other. StandBeside other q) (quars key leases)
+pub quar-given : (key : QKey) (q : Quar) (now : ℕ) (leases : List Lease) → All (λ other. other.token < q.token) (quars key leases)
+    → is_given (verdict (holding key q.sid now leases) (quarantine (way_of q.mode))) ≡ true → All (λ other. StandBeside other q) (quars key leases)
 quar-given key q now leases below given =
     let h = holding key q.sid now leases in
     let parts = quar-given-parts (way_of q.mode) h.own h.others h.reading given in

@@ -1,4 +1,5 @@
-use Rattle.std.specs.Prelude.{ℕ, ◌≡◌, ◌≢◌, ◌<◌, ◌≤◌, ◌==◌, Bool, false, not, nat_lt, if◌then◌else◌, Option, Some, None, option_map, ◌&&◌, List, [], ◌∷◌, map, filter, find, length, IsTrue}
+use Rattle.std.specs.Prelude.{ℕ, ◌≡◌, ◌≢◌, ◌<◌, ◌≤◌, ◌==◌, Bool, false, not, nat_lt, if◌then◌else◌, Option, Some, None, option_map, ◌&&◌}
+use Rattle.std.specs.Prelude.{List, [], ◌∷◌, map, filter, find, length, IsTrue}
 use Rattle.std.specs.List.{filter_map, AllPairs}
 use Rattle.std.specs.Option.{option_or}
 use Rattle.std.specs.Bool.{IsFalse}

@@ -1,5 +1,6 @@
 -- The changes that words say.
-use Rattle.std.proofs.Common.{ℕ, ◌+◌, ◌*◌, ◌≡◌, ◌<◌, Bool, true, false, not, List, [], ◌∷◌, ◌++◌, length, Some, arith, refl, sym, ap, ◌∙◌, get_or, append_assoc, append-nil, length-append, subst}
+use Rattle.std.proofs.Common.{ℕ, ◌+◌, ◌*◌, ◌≡◌, ◌<◌, Bool, true, false, not, List, [], ◌∷◌, ◌++◌, length, Some, arith, refl, sym, ap, ◌∙◌}
+use Rattle.std.proofs.Common.{get_or, append_assoc, append-nil, length-append, subst}
 use Rattle.std.specs.Prelude.{codes, All, nat_eq}
 use Rattle.std.specs.Cmp.Lexicographic.{pointwise, same_text}
 use Rattle.std.proofs.lemmas.List.Elements.{All-nil, All-cons}
@@ -49,7 +50,9 @@ pub record HasTaken (words : List (List ℕ)) (changes : List Change) (rest : Li
   pub back : (all : List Change) → AreChanges all (codes "+" ∷ words) → (more : List Change) × (all ≡ changes ++ more) × AreChanges more (codes "+" ∷ rest)
 
 -- what stands behind the first change of such words
-behind_first : (change : Change) (rest left : List (List ℕ)) → BeginsWith change rest left → (all : List Change) → AreChanges all (codes "+" ∷ rest) → (more : List Change) × (all ≡ change ∷ more) × AreChanges more left
+behind_first : (change : Change) (rest left : List (List ℕ))
+    → BeginsWith change rest left → (all : List Change) → AreChanges all (codes "+" ∷ rest)
+    → (more : List Change) × (all ≡ change ∷ more) × AreChanges more left
 behind_first change rest left b [] h = let lengths = ap (λ (ws : List (List ℕ)). length ws) h in absurd (omega arith)
 behind_first change rest left b (other ∷ more) h =
     let k : AreChanges (other ∷ more) (codes "+" ∷ change_word change ∷ b.first ∷ b.second ∷ left) = rw b.words_are at h in

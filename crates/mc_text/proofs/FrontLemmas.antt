@@ -32,17 +32,20 @@ pub some_once : (a b : ℕ) → Some a ≡ Some b → a ≡ b
 some_once a b e = cc
 
 -- a block that isn't whole
-short_block : (stream : List ℕ) (behind bytes : ℕ) (found : Option ℕ) (block : List ℕ) → found ≡ Some bytes → length stream < behind + bytes + 2 → IsBlock stream behind found block → ⊥
+short_block : (stream : List ℕ) (behind bytes : ℕ) (found : Option ℕ) (block : List ℕ)
+    → found ≡ Some bytes → length stream < behind + bytes + 2 → IsBlock stream behind found block → ⊥
 short_block stream behind bytes None block e short h = absurd cc
 short_block stream behind bytes (Some other) block e short h =
     let same = some_once other bytes e in let whole = h.1.whole in absurd (omega arith)
 
 -- while the block that the first line announces isn't whole, nothing stands
-pub open_block : (stream : List ℕ) (long bytes : ℕ) (said : Command) → IsLine stream long → AreWords said (words_in (take long stream)) → announced said ≡ Some bytes
+pub open_block : (stream : List ℕ) (long bytes : ℕ) (said : Command)
+    → IsLine stream long → AreWords said (words_in (take long stream)) → announced said ≡ Some bytes
     → bytes ≤ 1048576 → length stream < long + 2 + bytes + 2 → IsOpen stream
 open_block stream long bytes said line says e small short (command other) taken h =
     let same = line_once stream h.long long h.line line in
-    short_block stream (h.long + 2) bytes (announced other) (block_of other) (same_bytes stream long h.long said other bytes line h.line says h.says e) (omega arith) h.block
+    short_block stream (h.long + 2) bytes (announced other) (block_of other)
+    (same_bytes stream long h.long said other bytes line h.line says h.says e) (omega arith) h.block
 open_block stream long bytes said line says e small short bad_line taken h =
     let same = line_once stream long h.long line h.line in
     h.says.none said (subst (λ (n : ℕ). AreWords said (words_in (take n stream))) same says)
@@ -60,7 +63,8 @@ open_block stream long bytes said line says e small short big_block taken h =
     absurd (omega arith)
 
 -- a whole block makes the command of its line
-pub block_command : (stream : List ℕ) (long bytes : ℕ) (front : Head) (block : List ℕ) → IsLine stream long → AreWords (with_block front []) (words_in (take long stream))
+pub block_command : (stream : List ℕ) (long bytes : ℕ) (front : Head) (block : List ℕ)
+    → IsLine stream long → AreWords (with_block front []) (words_in (take long stream))
     → announced (with_block front []) ≡ Some bytes → bytes ≤ 1048576 → EndsAt stream (long + 2 + bytes) → block ≡ take bytes (drop (long + 2) stream)
     → IsCommand stream (with_block front block) (long + 2 + bytes + 2)
 block_command stream long bytes (head.Set key flags exptime many token stamp) block line says e small ends is =

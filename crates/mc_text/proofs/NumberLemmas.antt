@@ -1,5 +1,6 @@
 -- Numbers of up to 20 digits, read one digit after another.
-use Rattle.std.proofs.Common.{ℕ, ◌+◌, ◌-◌, ◌*◌, ◌≡◌, ◌<◌, ◌≤◌, true, false, List, [], ◌∷◌, ◌++◌, length, take, drop, get_or, take-suc, take_all, take-append-drop, arith, refl, sym, ap, ◌∙◌, add-one}
+use Rattle.std.proofs.Common.{ℕ, ◌+◌, ◌-◌, ◌*◌, ◌≡◌, ◌<◌, ◌≤◌, true, false, List, [], ◌∷◌, ◌++◌, length, take, drop, get_or, take-suc}
+use Rattle.std.proofs.Common.{take_all, take-append-drop, arith, refl, sym, ap, ◌∙◌, add-one}
 use Rattle.std.specs.List.{list_all}
 use Rattle.std.specs.Prelude.{nat_le, ◌&&◌}
 use Rattle.std.proofs.lemmas.Bool.{false≢true, and_parts}
@@ -32,7 +33,8 @@ number_low word i =
     rw whole (number_grows (drop i word) (number_from 0 (take i word)))
 
 -- one digit more is a digit
-pub digits_more : (word : List ℕ) (i : ℕ) → i < length word → list_all is_digit (take i word) ≡ true → is_digit (get_or word i 0) ≡ true → list_all is_digit (take (i + 1) word) ≡ true
+pub digits_more : (word : List ℕ) (i : ℕ) → i < length word → list_all is_digit (take i word) ≡ true
+    → is_digit (get_or word i 0) ≡ true → list_all is_digit (take (i + 1) word) ≡ true
 digits_more word i within all one =
     let cut : take (i + 1) word ≡ take i word ++ get_or word i 0 ∷ [] = rw add-one (take-suc word i 0 within) in
     ap (list_all is_digit) cut ∙ (list_all-append is_digit (take i word) (get_or word i 0 ∷ []) ∙ rw (all, one) refl)
@@ -61,7 +63,8 @@ pub too_great : (word : List ℕ) (i limit number : ℕ) → limit ≤ number_fr
 too_great word i limit number great h = let low = number_low word i in let v = h.value in let b = h.below in absurd (omega arith)
 
 -- all digits were read
-pub numeral_whole : (word : List ℕ) (i : ℕ) → length word ≤ i → 1 ≤ length word → length word ≤ 20 → list_all is_digit (take i word) ≡ true → is_numeral word ≡ true
+pub numeral_whole : (word : List ℕ) (i : ℕ) → length word ≤ i
+    → 1 ≤ length word → length word ≤ 20 → list_all is_digit (take i word) ≡ true → is_numeral word ≡ true
 numeral_whole word i over some few all =
     let whole : list_all is_digit word ≡ true = ap (list_all is_digit) (sym (take_all i word over)) ∙ all in
     let low : nat_le 1 (length word) ≡ true = grind (arith, nat_tests) in

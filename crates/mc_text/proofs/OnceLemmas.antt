@@ -6,7 +6,8 @@ use Rattle.rows_model.specs.declared.keys.QKey.{QKey}
 use Rattle.rows_model.specs.declared.keys.Sid.{Sid}
 use Rattle.rows_model.specs.Shift.{number_from}
 use Rattle.mc_text.specs.declared.commands.Command.{Command}
-use Rattle.mc_text.specs.declared.commands.Command.TheVariants.{Begin, IqGet, Ask, Stage, IqSet, QaReg, QaRead, IqDelta, Sql, Dar, Sar, IqCommit, IqAbort, Quit, Unknown}
+use Rattle.mc_text.specs.declared.commands.Command.TheVariants.{Begin, IqGet, Ask, Stage, IqSet, QaReg, QaRead, IqDelta, Sql, Dar, Sar}
+use Rattle.mc_text.specs.declared.commands.Command.TheVariants.{IqCommit, IqAbort, Quit, Unknown}
 use Rattle.mc_text.specs.declared.commands.Head.{Head}
 use Rattle.mc_text.specs.declared.commands.Head.TheVariants as head
 use Rattle.mc_text.specs.Commands.{verb_of, AreArgs, AreWords, AreUnknown, announced}
@@ -95,7 +96,8 @@ number_once a b words h k = by (spelled a words h) (spelled b words k)
 abbrev pub told_bytes : ℕ → List (List ℕ) → Option ℕ
 told_bytes number words = if (number == 5) || (number == 11) then Some (number_from 0 (get_or words 4 [])) else None
 
-bytes_of_set : (key : Option QKey) (flags exptime bytes token stamp : ℕ) (block : List ℕ) (words : List (List ℕ)) → AreWords (IqSet key flags exptime bytes token stamp block) words → Some bytes ≡ told_bytes 5 words
+bytes_of_set : (key : Option QKey) (flags exptime bytes token stamp : ℕ) (block : List ℕ) (words : List (List ℕ))
+    → AreWords (IqSet key flags exptime bytes token stamp block) words → Some bytes ≡ told_bytes 5 words
 bytes_of_set key flags exptime bytes token stamp block [] h = absurd h
 bytes_of_set key flags exptime bytes token stamp block (v ∷ []) h = absurd h.1
 bytes_of_set key flags exptime bytes token stamp block (v ∷ a ∷ []) h = absurd h.1.1
@@ -103,7 +105,8 @@ bytes_of_set key flags exptime bytes token stamp block (v ∷ a ∷ b ∷ []) h 
 bytes_of_set key flags exptime bytes token stamp block (v ∷ a ∷ b ∷ c ∷ []) h = absurd h.1.1.1.1
 bytes_of_set key flags exptime bytes token stamp block (v ∷ a ∷ b ∷ c ∷ d ∷ words) h = ap (λ (n : ℕ). Some n) h.1.1.1.1.0.value
 
-bytes_of_sar : (key : Option QKey) (flags exptime bytes : ℕ) (sid : Sid) (block : List ℕ) (words : List (List ℕ)) → AreWords (Sar key flags exptime bytes sid block) words → Some bytes ≡ told_bytes 11 words
+bytes_of_sar : (key : Option QKey) (flags exptime bytes : ℕ) (sid : Sid) (block : List ℕ) (words : List (List ℕ))
+    → AreWords (Sar key flags exptime bytes sid block) words → Some bytes ≡ told_bytes 11 words
 bytes_of_sar key flags exptime bytes sid block [] h = absurd h
 bytes_of_sar key flags exptime bytes sid block (v ∷ []) h = absurd h.1
 bytes_of_sar key flags exptime bytes sid block (v ∷ a ∷ []) h = absurd h.1.1
@@ -139,6 +142,7 @@ block_body (head.Sar key flags exptime bytes sid) (word ∷ words) h =
     (row_of (Sar key flags exptime bytes sid []), rw h.0 (in_table (Sar key flags exptime bytes sid []) (omega arith)), refl)
 
 -- a stream whose first line has a block behind it
-pub block_wants : {A B : Type 0} (stream : List ℕ) (long : ℕ) (front : Head) (read : Result A B) → IsLine stream long → AreWords (with_block front []) (words_in (take long stream)) → OnErr read (WantsMemory stream)
+pub block_wants : {A B : Type 0} (stream : List ℕ) (long : ℕ) (front : Head) (read : Result A B)
+    → IsLine stream long → AreWords (with_block front []) (words_in (take long stream)) → OnErr read (WantsMemory stream)
 block_wants stream long front (Ok value) line says = tt
 block_wants stream long front (Err fault) line says = record { long = long; line = line; body = block_body front (words_in (take long stream)) says }

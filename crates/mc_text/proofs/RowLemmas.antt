@@ -15,7 +15,8 @@ pub only_stage : (words : List (List ℕ)) → ((key : Option QKey) (sid : Sid) 
 only_stage words none (Stage key sid txn) h = none key sid txn h.args
 only_stage words none command h = let e = h.row in cc
 
-pub only_iqset : (words : List (List ℕ)) → ((key : Option QKey) (flags : ℕ) (exptime : ℕ) (bytes : ℕ) (token : ℕ) (stamp : ℕ) (block : List ℕ) → AreArgs (IqSet key flags exptime bytes token stamp block) words → ⊥) → IsUnsaid 5 words
+pub only_iqset : (words : List (List ℕ)) → ((key : Option QKey) (flags : ℕ) (exptime : ℕ) (bytes : ℕ) (token : ℕ) (stamp : ℕ) (block : List ℕ)
+    → AreArgs (IqSet key flags exptime bytes token stamp block) words → ⊥) → IsUnsaid 5 words
 only_iqset words none (IqSet key flags exptime bytes token stamp block) h = none key flags exptime bytes token stamp block h.args
 only_iqset words none command h = let e = h.row in cc
 
@@ -39,7 +40,8 @@ pub only_dar : (words : List (List ℕ)) → ((key : Option QKey) (sid : Sid) �
 only_dar words none (Dar key sid) h = none key sid h.args
 only_dar words none command h = let e = h.row in cc
 
-pub only_sar : (words : List (List ℕ)) → ((key : Option QKey) (flags : ℕ) (exptime : ℕ) (bytes : ℕ) (sid : Sid) (block : List ℕ) → AreArgs (Sar key flags exptime bytes sid block) words → ⊥) → IsUnsaid 11 words
+pub only_sar : (words : List (List ℕ)) → ((key : Option QKey) (flags : ℕ) (exptime : ℕ) (bytes : ℕ) (sid : Sid) (block : List ℕ)
+    → AreArgs (Sar key flags exptime bytes sid block) words → ⊥) → IsUnsaid 11 words
 only_sar words none (Sar key flags exptime bytes sid block) h = none key flags exptime bytes sid block h.args
 only_sar words none command h = let e = h.row in cc
 

@@ -1,5 +1,6 @@
 -- How the first word is taken off a text, and when there is none.
-use Rattle.std.proofs.Common.{ℕ, zero, suc, ◌+◌, ◌==◌, ◌≡◌, ◌<◌, ◌≤◌, Bool, true, false, not, cond, ltb, List, [], ◌∷◌, length, take, drop, get_or, position, get_or-drop, Option, Some, None, is_some, add-zero, arith, refl, sym, ap, ◌∙◌}
+use Rattle.std.proofs.Common.{ℕ, zero, suc, ◌+◌, ◌==◌, ◌≡◌, ◌<◌, ◌≤◌, Bool, true, false, not, cond, ltb, List, [], ◌∷◌, length, take, drop}
+use Rattle.std.proofs.Common.{get_or, position, get_or-drop, Option, Some, None, is_some, add-zero, arith, refl, sym, ap, ◌∙◌}
 use Rattle.std.specs.List.{position_or_len, All, slice_split}
 use Rattle.std.specs.Prelude.{filter}
 use Rattle.std.specs.Bool.{MatchBool}
@@ -63,7 +64,8 @@ first_byte text from e =
     rw (get_or-drop from text 0 0, add-zero) place.1
 
 -- a word that is cut off at a space
-pub word_cut : (text : List ℕ) (from at : ℕ) → position no_space text ≡ Some from → position is_space (drop from text) ≡ Some at → words_in text ≡ take at (drop from text) ∷ words_in (drop (at + 1) (drop from text))
+pub word_cut : (text : List ℕ) (from at : ℕ) → position no_space text ≡ Some from
+    → position is_space (drop from text) ≡ Some at → words_in text ≡ take at (drop from text) ∷ words_in (drop (at + 1) (drop from text))
 word_cut text from at e f =
     let place = position-Some is_space (drop from text) at 0 f in
     let first = position_or_len_is is_space (drop from text) at 0 (omega (arith, place.0)) place.2 (λ h. place.1) in
@@ -79,7 +81,8 @@ word_cut text from at e f =
     starts (suc at) a b = omega arith
 
 -- the last word
-pub word_last : (text : List ℕ) (from : ℕ) → position no_space text ≡ Some from → position is_space (drop from text) ≡ None → words_in text ≡ drop from text ∷ []
+pub word_last : (text : List ℕ) (from : ℕ) → position no_space text ≡ Some from
+    → position is_space (drop from text) ≡ None → words_in text ≡ drop from text ∷ []
 word_last text from e f =
     let place = position-Some no_space text from 0 e in
     let over : length (drop from text) ≤ position_or_len is_space (drop from text) = past _ _ f in
@@ -101,7 +104,8 @@ some_word text from e none = cut (position is_space (drop from text)) refl
     cut None f = let h = sym (word_last text from e f) ∙ none in let l = ap (λ (ws : List (List ℕ)). length ws) h in absurd (omega arith)
 
 -- whether a text has a word, by the search for its first byte
-pub told_word : (text : List ℕ) (found : Option ℕ) (ended : Bool) → found ≡ position no_space text → is_some found ≡ not ended → MatchBool ended (words_in text ≡ []) (words_in text ≡ [] → ⊥)
+pub told_word : (text : List ℕ) (found : Option ℕ) (ended : Bool)
+    → found ≡ position no_space text → is_some found ≡ not ended → MatchBool ended (words_in text ≡ []) (words_in text ≡ [] → ⊥)
 told_word text None true e f = no_word text (sym e)
 told_word text (Some from) false e f = some_word text from (sym e)
 told_word text None false e f = absurd (false≢true f)

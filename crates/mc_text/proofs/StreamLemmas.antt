@@ -4,7 +4,8 @@ use Rattle.std.proofs.lemmas.List.{take-append-le, drop-append-le, get_or_append
 use Rattle.mc_text.specs.declared.commands.Command.{Command}
 use Rattle.mc_text.specs.Words.{words_in}
 use Rattle.mc_text.specs.Commands.{AreWords, announced, block_of}
-use Rattle.mc_text.specs.Streams.{EndsAt, IsLine, IsLong, IsBlock, block_size, IsCommand, AreBad, IsBadLine, Announces, Item, command, bad_line, long_line, bad_block, big_block, Stands, IsOpen, AreFirst}
+use Rattle.mc_text.specs.Streams.{EndsAt, IsLine, IsLong, IsBlock, block_size, IsCommand, AreBad, IsBadLine, Announces, Item, command}
+use Rattle.mc_text.specs.Streams.{bad_line, long_line, bad_block, big_block, Stands, IsOpen, AreFirst}
 use Rattle.mc_text.specs.Laws.{StreamsTellItems}
 use Rattle.mc_text.proofs.OnceLemmas.{announced_once}
 use Rattle.mc_text.proofs.TellLemmas.{words_once}
@@ -37,10 +38,12 @@ line_more stream more long h = record {
 line_bytes : (stream more : List ℕ) (long : ℕ) → IsLine stream long → take long (stream ++ more) ≡ take long stream
 line_bytes stream more long h = take-append-le long stream more (omega (arith, h.ends.whole))
 
-words_more : (P : List (List ℕ) → Type 0) (stream more : List ℕ) (long : ℕ) → IsLine stream long → P (words_in (take long stream)) → P (words_in (take long (stream ++ more)))
+words_more : (P : List (List ℕ) → Type 0) (stream more : List ℕ) (long : ℕ)
+    → IsLine stream long → P (words_in (take long stream)) → P (words_in (take long (stream ++ more)))
 words_more P stream more long h p = subst (λ (bytes : List ℕ). P (words_in bytes)) (sym (line_bytes stream more long h)) p
 
-block_more : (stream more : List ℕ) (behind : ℕ) (found : Option ℕ) (block : List ℕ) → IsBlock stream behind found block → IsBlock (stream ++ more) behind found block
+block_more : (stream more : List ℕ) (behind : ℕ) (found : Option ℕ) (block : List ℕ)
+    → IsBlock stream behind found block → IsBlock (stream ++ more) behind found block
 block_more stream more behind None block h = h
 block_more stream more behind (Some bytes) block h =
     let inside = h.1.whole in
@@ -96,7 +99,8 @@ stands_more stream more big_block taken h =
     (record { long = b.long; bytes = b.bytes; line = announces_more stream more b.long b.bytes b.line; big = b.big }, h.1)
 
 -- it takes no more bytes than there are
-block_fits : (stream : List ℕ) (behind : ℕ) (found : Option ℕ) (block : List ℕ) → behind ≤ length stream → IsBlock stream behind found block → behind + block_size found ≤ length stream
+block_fits : (stream : List ℕ) (behind : ℕ) (found : Option ℕ) (block : List ℕ)
+    → behind ≤ length stream → IsBlock stream behind found block → behind + block_size found ≤ length stream
 block_fits stream behind None block l h = omega arith
 block_fits stream behind (Some bytes) block l h = let inside = h.1.whole in omega arith
 
@@ -111,11 +115,13 @@ stands_fit stream bad_block taken h = omega (arith, h.1)
 stands_fit stream big_block taken h = omega (arith, h.1)
 
 -- the words of two readings of one line
-same_words : (P : List (List ℕ) → Type 0) (stream : List ℕ) (a b : ℕ) → IsLine stream a → IsLine stream b → P (words_in (take b stream)) → P (words_in (take a stream))
+same_words : (P : List (List ℕ) → Type 0) (stream : List ℕ) (a b : ℕ)
+    → IsLine stream a → IsLine stream b → P (words_in (take b stream)) → P (words_in (take a stream))
 same_words P stream a b h k p = subst (λ (n : ℕ). P (words_in (take n stream))) (line_once stream b a k h) p
 
 -- one block
-block_once : (stream : List ℕ) (behind behind' : ℕ) (found found' : Option ℕ) (block block' : List ℕ) → behind ≡ behind' → found ≡ found' → IsBlock stream behind found block → IsBlock stream behind' found' block' → block ≡ block'
+block_once : (stream : List ℕ) (behind behind' : ℕ) (found found' : Option ℕ) (block block' : List ℕ)
+    → behind ≡ behind' → found ≡ found' → IsBlock stream behind found block → IsBlock stream behind' found' block' → block ≡ block'
 block_once stream behind behind' None None block block' e f h k = h ∙ sym k
 block_once stream behind behind' None (Some b) block block' e f h k = absurd cc
 block_once stream behind behind' (Some a) None block block' e f h k = absurd cc
@@ -129,7 +135,8 @@ command_once stream a b m n h k =
     let line : h.long ≡ k.long = line_once stream h.long k.long h.line k.line in
     let again : AreWords b (words_in (take h.long stream)) = same_words (λ ws. AreWords b ws) stream h.long k.long h.line k.line k.says in
     let size : announced a ≡ announced b = announced_once a b (words_in (take h.long stream)) h.says again in
-    let block = block_once stream (h.long + 2) (k.long + 2) (announced a) (announced b) (block_of a) (block_of b) (ap (λ (n : ℕ). n + 2) line) size h.block k.block in (
+    let block =
+    block_once stream (h.long + 2) (k.long + 2) (announced a) (announced b) (block_of a) (block_of b) (ap (λ (n : ℕ). n + 2) line) size h.block k.block in (
       words_once a b (words_in (take h.long stream)) h.says again block,
       h.taken_is ∙ (ap (λ (n : ℕ). n + 2 + block_size (announced a)) line ∙ (ap (λ (o : Option ℕ). k.long + 2 + block_size o) size ∙ sym k.taken_is)),
     )
@@ -155,7 +162,8 @@ size_once stream a b m n h k = (
 )
 
 -- a command whose line announces a block has it
-block_there : (stream : List ℕ) (a : Command) (long bytes m : ℕ) → IsCommand stream a m → Announces stream long bytes → (bytes ≤ 1048576) × EndsAt stream (long + 2 + bytes)
+block_there : (stream : List ℕ) (a : Command) (long bytes m : ℕ)
+    → IsCommand stream a m → Announces stream long bytes → (bytes ≤ 1048576) × EndsAt stream (long + 2 + bytes)
 block_there stream a long bytes m h k =
     let line : h.long ≡ long = line_once stream h.long long h.line k.line in
     let size : announced a ≡ Some bytes = same_bytes stream long h.long k.command a bytes k.line h.line k.says h.says k.bytes_are in
@@ -169,7 +177,8 @@ stands_once stream (command a) (command b) m n h k =
 stands_once stream (command a) bad_line m n h k = absurd (command_not_bad stream a m n h k)
 stands_once stream (command a) long_line m n h k = absurd (not_long stream h.long h.line k.0)
 stands_once stream (command a) bad_block m n h k = absurd (k.0.wrong (block_there stream a k.0.long k.0.bytes m h k.0.line).1)
-stands_once stream (command a) big_block m n h k = let small = (block_there stream a k.0.long k.0.bytes m h k.0.line).0 in let big = k.0.big in absurd (omega arith)
+stands_once stream (command a) big_block m n h k = let small =
+    (block_there stream a k.0.long k.0.bytes m h k.0.line).0 in let big = k.0.big in absurd (omega arith)
 stands_once stream bad_line (command b) m n h k = absurd (command_not_bad stream b n m k h)
 stands_once stream bad_line bad_line m n h k =
     let line = line_once stream h.long k.long h.line k.line in (refl, h.taken_is ∙ (ap (λ (n : ℕ). n + 2) line ∙ sym k.taken_is))
@@ -186,12 +195,15 @@ stands_once stream bad_block bad_line m n h k = absurd (announced_not_bad stream
 stands_once stream bad_block long_line m n h k = absurd (not_long stream h.0.long h.0.line.line k.0)
 stands_once stream bad_block bad_block m n h k = (refl, h.1 ∙ sym k.1)
 stands_once stream bad_block big_block m n h k =
-    let same = (size_once stream h.0.long k.0.long h.0.bytes k.0.bytes h.0.line k.0.line).1 in let small = h.0.small in let big = k.0.big in absurd (omega arith)
-stands_once stream big_block (command b) m n h k = let small = (block_there stream b h.0.long h.0.bytes n k h.0.line).0 in let big = h.0.big in absurd (omega arith)
+    let same = (size_once stream h.0.long k.0.long h.0.bytes k.0.bytes h.0.line k.0.line).1 in
+    let small = h.0.small in let big = k.0.big in absurd (omega arith)
+stands_once stream big_block (command b) m n h k = let small =
+    (block_there stream b h.0.long h.0.bytes n k h.0.line).0 in let big = h.0.big in absurd (omega arith)
 stands_once stream big_block bad_line m n h k = absurd (announced_not_bad stream h.0.long h.0.bytes n h.0.line k)
 stands_once stream big_block long_line m n h k = absurd (not_long stream h.0.long h.0.line.line k.0)
 stands_once stream big_block bad_block m n h k =
-    let same = (size_once stream h.0.long k.0.long h.0.bytes k.0.bytes h.0.line k.0.line).1 in let big = h.0.big in let small = k.0.small in absurd (omega arith)
+    let same = (size_once stream h.0.long k.0.long h.0.bytes k.0.bytes h.0.line k.0.line).1 in
+    let big = h.0.big in let small = k.0.small in absurd (omega arith)
 stands_once stream big_block big_block m n h k = (refl, h.1 ∙ sym k.1)
 
 -- the items of a front are the first of the whole
@@ -208,7 +220,8 @@ first_more stream more (item ∷ items) m h =
     )
 
 -- those that stand behind them go on
-pieces_join : (front more : List ℕ) (items others : List Item) (m n : ℕ) → AreFirst front items m → AreFirst (drop m front ++ more) others n → AreFirst (front ++ more) (items ++ others) (m + n)
+pieces_join : (front more : List ℕ) (items others : List Item) (m n : ℕ)
+    → AreFirst front items m → AreFirst (drop m front ++ more) others n → AreFirst (front ++ more) (items ++ others) (m + n)
 pieces_join front more [] others m n h k =
     let whole : AreFirst (front ++ more) others n = rw h at k in subst (λ (taken : ℕ). AreFirst (front ++ more) others taken) (omega (arith, h)) whole
 pieces_join front more (item ∷ items) others m n h k =
@@ -216,11 +229,17 @@ pieces_join front more (item ∷ items) others m n h k =
     let cut : drop one (front ++ more) ≡ drop one front ++ more = drop-append-le one front more (stands_fit front item one stands) in
     let behind : drop m front ≡ drop left (drop one front) = ap (λ (taken : ℕ). drop taken front) sum ∙ sym (drop-drop left one front) in
     let next : AreFirst (drop one front ++ more) (items ++ others) (left + n) =
-    pieces_join (drop one front) more items others left n rest (subst (λ (bytes : List ℕ). AreFirst (bytes ++ more) others n) behind k) in
-    (one, left + n, stands_more front more item one stands, subst (λ (bytes : List ℕ). AreFirst bytes (items ++ others) (left + n)) (sym cut) next, omega (arith, sum))
+    pieces_join (drop one front) more items others left n rest (subst (λ (bytes : List ℕ). AreFirst (bytes ++ more) others n) behind k) in (
+      one,
+      left + n,
+      stands_more front more item one stands,
+      subst (λ (bytes : List ℕ). AreFirst bytes (items ++ others) (left + n)) (sym cut) next,
+      omega (arith, sum),
+    )
 
 -- items behind which nothing stands are all
-all_items : (stream : List ℕ) (items others : List Item) (m n : ℕ) → AreFirst stream items m → IsOpen (drop m stream) → AreFirst stream others n → (rest : List Item) × (items ≡ others ++ rest)
+all_items : (stream : List ℕ) (items others : List Item) (m n : ℕ)
+    → AreFirst stream items m → IsOpen (drop m stream) → AreFirst stream others n → (rest : List Item) × (items ≡ others ++ rest)
 all_items stream items [] m n h ended k = (items, refl)
 all_items stream [] (b ∷ bs) m n h ended k =
     let (one, left, stands, rest, sum) = k in

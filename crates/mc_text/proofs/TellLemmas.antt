@@ -1,5 +1,6 @@
 -- Words say one command at most, but for its block.
-use Rattle.std.proofs.Common.{ℕ, ℤ, pos, neg_ℤ, ◌==◌, ◌≡◌, ◌⊎◌, inl, inr, true, List, [], ◌∷◌, length, get_or, drop, Option, Some, None, arith, refl, sym, ap, ◌∙◌, subst}
+use Rattle.std.proofs.Common.{ℕ, ℤ, pos, neg_ℤ, ◌==◌, ◌≡◌, ◌⊎◌, inl, inr, true, List, [], ◌∷◌, length, get_or, drop, Option, Some, None}
+use Rattle.std.proofs.Common.{arith, refl, sym, ap, ◌∙◌, subst}
 use Rattle.std.specs.Prelude.{codes, if◌then◌else◌}
 use Rattle.std.proofs.lemmas.Bool.{false≢true}
 use Rattle.std.proofs.lemmas.List.Folds.{list_all_at}
@@ -11,7 +12,8 @@ use Rattle.rows_model.proofs.KeyLemmas.{key_text_injective}
 use Rattle.mc_text.specs.declared.commands.Role.{Role}
 use Rattle.mc_text.specs.declared.commands.Role.TheVariants.{Read, Write}
 use Rattle.mc_text.specs.declared.commands.Command.{Command}
-use Rattle.mc_text.specs.declared.commands.Command.TheVariants.{Begin, IqGet, Ask, Stage, IqSet, QaReg, QaRead, IqDelta, Sql, Dar, Sar, IqCommit, IqAbort, Quit, Unknown}
+use Rattle.mc_text.specs.declared.commands.Command.TheVariants.{Begin, IqGet, Ask, Stage, IqSet, QaReg, QaRead, IqDelta, Sql, Dar, Sar}
+use Rattle.mc_text.specs.declared.commands.Command.TheVariants.{IqCommit, IqAbort, Quit, Unknown}
 use Rattle.mc_text.specs.Words.{Names, IsKey, is_numeral, IsBelow, IsSid, IsBy}
 use Rattle.mc_text.specs.Txns.{AreChanges, AreTxnWords}
 use Rattle.mc_text.specs.Commands.{Then, role_word, AreArgs, AreWords, block_of}

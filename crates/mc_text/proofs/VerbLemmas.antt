@@ -9,7 +9,8 @@ use Rattle.std.proofs.lemmas.Bool.Decides.{nat_tests}
 use Rattle.std.proofs.lemmas.List.Folds.{list_all_at}
 use Rattle.case_tables.specs.Verbs.{Verb, IsRowOf, IsNoVerb, lease_rows}
 use Rattle.mc_text.specs.declared.commands.Command.{Command}
-use Rattle.mc_text.specs.declared.commands.Command.TheVariants.{Begin, IqGet, Ask, Stage, IqSet, QaReg, QaRead, IqDelta, Sql, Dar, Sar, IqCommit, IqAbort, Quit, Unknown}
+use Rattle.mc_text.specs.declared.commands.Command.TheVariants.{Begin, IqGet, Ask, Stage, IqSet, QaReg, QaRead, IqDelta, Sql, Dar, Sar}
+use Rattle.mc_text.specs.declared.commands.Command.TheVariants.{IqCommit, IqAbort, Quit, Unknown}
 use Rattle.mc_text.specs.declared.lines.Said.{Said}
 use Rattle.mc_text.specs.declared.lines.Said.TheVariants.{Whole, Headed, Bad}
 use Rattle.mc_text.specs.Commands.{verb_of, AreArgs, AreWords, AreUnknown}
@@ -133,17 +134,20 @@ verb_row word row command h e =
     sym (number_back command) ∙ (ap (λ (w : List ℕ). number_with (letters w)) (sym (h.word_is ∙ e)) ∙ numbered)
 
 -- the verb and the words behind it are the words of a command
-says : (command : Command) (word : List ℕ) (words : List (List ℕ)) → 1 ≤ number_of command → word ≡ verb_of command → AreArgs command words → AreWords command (word ∷ words)
+says : (command : Command) (word : List ℕ) (words : List (List ℕ))
+    → 1 ≤ number_of command → word ≡ verb_of command → AreArgs command words → AreWords command (word ∷ words)
 says Unknown word words some e h = absurd (omega arith)
 says command word words some e h = (e, h)
 
 -- the words of a command are a verb and the words behind it, where the first word is a verb
-unsays : (word : List ℕ) (row : Verb) → IsRowOf lease_rows word row → (command : Command) (words : List (List ℕ)) → AreWords command (word ∷ words) → (word ≡ verb_of command) × AreArgs command words
+unsays : (word : List ℕ) (row : Verb) → IsRowOf lease_rows word row
+    → (command : Command) (words : List (List ℕ)) → AreWords command (word ∷ words) → (word ≡ verb_of command) × AreArgs command words
 unsays word row r Unknown words h = absurd (h row r)
 unsays word row r command words h = h
 
 -- what a line says whose first word is a verb
-told_line : (words args : List (List ℕ)) (word : List ℕ) (row : Verb) (said : Said) → words ≡ word ∷ args → IsRowOf lease_rows word row → Tells row.number args said → Told words said
+told_line : (words args : List (List ℕ)) (word : List ℕ) (row : Verb) (said : Said)
+    → words ≡ word ∷ args → IsRowOf lease_rows word row → Tells row.number args said → Told words said
 told_line words args word row (Whole command) e r h =
     let some = row_from word row r in
     (rw e (says command word args (omega (arith, h.0.row, some)) (row_verb word row command r h.0.row) h.0.args), h.1)
@@ -156,17 +160,20 @@ told_line words args word row Bad e r h =
       none = λ command k. (let parts = unsays word row r command args k in h command (record { row = verb_row word row command r parts.0; args = parts.1 }));
     })
 
-pub line_told : (words args : List (List ℕ)) (word : List ℕ) (row : Verb) (table : List Verb) (read : Result Said Memory) → words ≡ word ∷ args → table ≡ lease_rows → IsRowOf table word row
+pub line_told : (words args : List (List ℕ)) (word : List ℕ) (row : Verb) (table : List Verb) (read : Result Said Memory)
+    → words ≡ word ∷ args → table ≡ lease_rows → IsRowOf table word row
     → IfOk read (λ said. Tells row.number args said) → IfOk read (λ said. Told words said)
 line_told words args word row table (Ok said) e t r h = told_line words args word row said e (rw t at r) h
 line_told words args word row table (Err fault) e t r h = h
 
 -- a line whose first word is no verb
-pub unknown_line : (words args : List (List ℕ)) (word : List ℕ) (table : List Verb) → words ≡ word ∷ args → table ≡ lease_rows → IsNoVerb table word → AreUnknown words
+pub unknown_line : (words args : List (List ℕ)) (word : List ℕ) (table : List Verb)
+    → words ≡ word ∷ args → table ≡ lease_rows → IsNoVerb table word → AreUnknown words
 unknown_line words args word table e t none = rw e (rw t at none)
 
 -- a line whose row has a transaction or a block
-pub body_line : (words args : List (List ℕ)) (word : List ℕ) (row : Verb) (table : List Verb) (read : Result Said Memory) → words ≡ word ∷ args → table ≡ lease_rows → IsRowOf table word row
+pub body_line : (words args : List (List ℕ)) (word : List ℕ) (row : Verb) (table : List Verb) (read : Result Said Memory)
+    → words ≡ word ∷ args → table ≡ lease_rows → IsRowOf table word row
     → OnErr read (has_body row.number ≡ true) → OnErr read (HaveBody words)
 body_line words args word row table (Ok said) e t r h = h
 body_line words args word row table (Err fault) e t r h = rw e (row, rw t at r, h)

@@ -4,7 +4,8 @@ use Rattle.case_tables.specs.Verbs.{IsNoVerb, lease_rows}
 use Rattle.mc_text.specs.declared.commands.Role.{Role}
 use Rattle.mc_text.specs.declared.commands.Role.TheVariants.{Read, Write}
 use Rattle.mc_text.specs.declared.commands.Command.{Command}
-use Rattle.mc_text.specs.declared.commands.Command.TheVariants.{Begin, IqGet, Ask, Stage, IqSet, QaReg, QaRead, IqDelta, Sql, Dar, Sar, IqCommit, IqAbort, Quit, Unknown}
+use Rattle.mc_text.specs.declared.commands.Command.TheVariants.{Begin, IqGet, Ask, Stage, IqSet, QaReg, QaRead, IqDelta, Sql, Dar, Sar}
+use Rattle.mc_text.specs.declared.commands.Command.TheVariants.{IqCommit, IqAbort, Quit, Unknown}
 use Rattle.mc_text.specs.Words.{IsKey, IsNumber, IsFlags, IsSid, IsBy}
 use Rattle.mc_text.specs.Txns.{AreTxnWords}
 
@@ -47,14 +48,17 @@ AreArgs (IqGet key sid floor) = Then (λ word. IsKey word key) (Then (λ word. I
 AreArgs (Ask key sid) = Then (λ word. IsKey word key) (Then (λ word. IsSid word sid) NoMore)
 AreArgs (Stage key sid txn) = Then (λ word. IsKey word key) (Then (λ word. IsSid word sid) (AreTxnWords txn))
 AreArgs (IqSet key flags exptime bytes token stamp block) =
-    Then (λ word. IsKey word key) (Then (λ word. IsFlags word flags) (Then (λ word. IsNumber word exptime) (Then (λ word. IsNumber word bytes) (Then (λ word. IsNumber word token) (Then (λ word. IsNumber word stamp) NoMore)))))
+    Then (λ word. IsKey word key) (Then (λ word. IsFlags word flags)
+    (Then (λ word. IsNumber word exptime)
+    (Then (λ word. IsNumber word bytes) (Then (λ word. IsNumber word token) (Then (λ word. IsNumber word stamp) NoMore)))))
 AreArgs (QaReg key sid) = Then (λ word. IsKey word key) (Then (λ word. IsSid word sid) NoMore)
 AreArgs (QaRead key sid) = Then (λ word. IsKey word key) (Then (λ word. IsSid word sid) NoMore)
 AreArgs (IqDelta key sid by) = Then (λ word. IsKey word key) (Then (λ word. IsSid word sid) (Then (λ word. IsBy word by) NoMore))
 AreArgs (Sql sid txn) = Then (λ word. IsSid word sid) (AreTxnWords txn)
 AreArgs (Dar key sid) = Then (λ word. IsKey word key) (Then (λ word. IsSid word sid) NoMore)
 AreArgs (Sar key flags exptime bytes sid block) =
-    Then (λ word. IsKey word key) (Then (λ word. IsFlags word flags) (Then (λ word. IsNumber word exptime) (Then (λ word. IsNumber word bytes) (Then (λ word. IsSid word sid) NoMore))))
+    Then (λ word. IsKey word key)
+    (Then (λ word. IsFlags word flags) (Then (λ word. IsNumber word exptime) (Then (λ word. IsNumber word bytes) (Then (λ word. IsSid word sid) NoMore))))
 AreArgs (IqCommit key sid) = Then (λ word. IsKey word key) (Then (λ word. IsSid word sid) NoMore)
 AreArgs (IqAbort sid) = Then (λ word. IsSid word sid) NoMore
 AreArgs Quit = NoMore

@@ -11,6 +11,8 @@ pub record StreamsTellItems : Type 0 where
   -- and it stays first whatever bytes come behind
   pub stays : (stream more : List ℕ) (item : Item) (taken : ℕ) → Stands stream item taken → Stands (stream ++ more) item taken
   -- the items of a front, and those of what it leaves with more bytes behind, are those of the whole
-  pub pieces : (front more : List ℕ) (items others : List Item) (m n : ℕ) → AreFirst front items m → AreFirst (drop m front ++ more) others n → AreFirst (front ++ more) (items ++ others) (m + n)
+  pub pieces : (front more : List ℕ) (items others : List Item) (m n : ℕ)
+      → AreFirst front items m → AreFirst (drop m front ++ more) others n → AreFirst (front ++ more) (items ++ others) (m + n)
   -- items behind which nothing stands are all: any items that stand first are their beginning
-  pub all : (stream : List ℕ) (items others : List Item) (m n : ℕ) → AreFirst stream items m → IsOpen (drop m stream) → AreFirst stream others n → (rest : List Item) × (items ≡ others ++ rest)
+  pub all : (stream : List ℕ) (items others : List Item) (m n : ℕ)
+      → AreFirst stream items m → IsOpen (drop m stream) → AreFirst stream others n → (rest : List Item) × (items ≡ others ++ rest)

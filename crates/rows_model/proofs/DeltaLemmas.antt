@@ -1,5 +1,6 @@
 -- A count before changes, shifted by what they add, is the count after them; the changes add nothing to a key that is no count.
-use Rattle.std.proofs.Common.{ℕ, ◌+◌, ◌-◌, ◌<◌, ◌≡◌, ◌^◌, ℤ, pos, negsuc, ◌+ℤ◌, true, false, List, [], ◌∷◌, map, fold, decimal, All, Option, Some, None, Ok, refl, sym, ap, ◌∙◌, arith}
+use Rattle.std.proofs.Common.{ℕ, ◌+◌, ◌-◌, ◌<◌, ◌≡◌, ◌^◌, ℤ, pos, negsuc, ◌+ℤ◌, true, false, List, [], ◌∷◌, map, fold, decimal, All, Option}
+use Rattle.std.proofs.Common.{Some, None, Ok, refl, sym, ap, ◌∙◌, arith}
 use Rattle.std.specs.Prelude.{nat_lt, option_map}
 use Rattle.std.proofs.lemmas.Bool.Decides.{nat_tests}
 use Rattle.std.proofs.lemmas.Int.{ints}
@@ -53,7 +54,8 @@ count_moves : (circle : Circle) (id place : ℕ) (changes : List Change) (t afte
 count_moves circle id place changes t after fit ids e =
     let f : Change → ℤ = λ change. step_by (step_in circle id change) in
     let walked = law_from (added circle id) (λ u. pos (count_of circle id u))
-    (λ change u good has takes. ap (λ (z : ℤ). Some z) (step_adds (step_in circle id change) (count_of circle id u) (count_of circle id (changed change u)) (step_counted circle id change u good has takes)))
+    (λ change u good has takes. ap (λ (z : ℤ). Some z)
+    (step_adds (step_in circle id change) (count_of circle id u) (count_of circle id (changed change u)) (step_counted circle id change u good has takes)))
     place changes t after fit ids e in
     sym (sum_from (pos (count_of circle id t)) (map f changes)) ∙ same_Some _ _ (sym (all_added f changes (pos (count_of circle id t))) ∙ walked)
 

@@ -1,5 +1,6 @@
 -- A change that applies leaves fit rows fit.
-use Rattle.std.proofs.Common.{ℕ, zero, suc, ◌+◌, ◌<◌, ◌≤◌, ◌≡◌, ◌≢◌, Bool, true, false, not, List, [], ◌∷◌, length, get_or, take, drop, map, filter, find, All, AllPairs, IsSome, Some, refl, sym, ap, subst, zero-add, ◌∙◌, arith}
+use Rattle.std.proofs.Common.{ℕ, zero, suc, ◌+◌, ◌<◌, ◌≤◌, ◌≡◌, ◌≢◌, Bool, true, false, not, List, [], ◌∷◌, length, get_or, take, drop, map}
+use Rattle.std.proofs.Common.{filter, find, All, AllPairs, IsSome, Some, refl, sym, ap, subst, zero-add, ◌∙◌, arith}
 use Rattle.std.specs.Prelude.{count_by, ◌==◌, ◌&&◌, ◌||◌, nat_lt, cond, if◌then◌else◌}
 use Rattle.std.specs.List.{list_any, insert}
 use Rattle.std.proofs.lemmas.Bool.{false≢true, and_parts, eqb-true, eq-eqb}
@@ -41,7 +42,9 @@ count_none p (x ∷ xs) all =
     n ∙ rest
 
 -- a new element, put behind those that stand before it
-go_insert : {X : Type 0} (R : X → X → Type 0) (p : X → Bool) (new x : X) (xs : List X) (b : Bool) → p x ≡ b → AllPairs R (x ∷ xs) → ((x y : X) → R x y → p x ≡ false → p y ≡ false) → All (λ x. p x ≡ true → R x new) (x ∷ xs) → All (λ x. p x ≡ false → R new x) (x ∷ xs) → AllPairs R (insert xs (count_by p xs) new) → AllPairs R (insert (x ∷ xs) (count_by p (x ∷ xs)) new)
+go_insert : {X : Type 0} (R : X → X → Type 0) (p : X → Bool) (new x : X) (xs : List X) (b : Bool) → p x ≡ b → AllPairs R (x ∷ xs)
+    → ((x y : X) → R x y → p x ≡ false → p y ≡ false) → All (λ x. p x ≡ true → R x new) (x ∷ xs)
+    → All (λ x. p x ≡ false → R new x) (x ∷ xs) → AllPairs R (insert xs (count_by p xs) new) → AllPairs R (insert (x ∷ xs) (count_by p (x ∷ xs)) new)
 go_insert R p new x xs true e pairs stop before after rest =
     let n : count_by p (x ∷ xs) ≡ suc (count_by p xs) = count_cons p x xs ∙ (ap (λ b. cond b 1 0 + count_by p xs) e ∙ omega arith) in
     let P : ℕ → Type 0 = λ k. AllPairs R (insert (x ∷ xs) k new) in
@@ -55,10 +58,12 @@ go_insert R p new x xs false e pairs stop before after rest =
     let first : All (R new) (x ∷ xs) = λ k d l. after k d l (none k d l) in
     subst P (sym n) (AllPairs-cons R new (x ∷ xs) first pairs)
 
-pub pairs_insert : {X : Type 0} (R : X → X → Type 0) (p : X → Bool) (new : X) (xs : List X) → AllPairs R xs → ((x y : X) → R x y → p x ≡ false → p y ≡ false) → All (λ x. p x ≡ true → R x new) xs → All (λ x. p x ≡ false → R new x) xs → AllPairs R (insert xs (count_by p xs) new)
+pub pairs_insert : {X : Type 0} (R : X → X → Type 0) (p : X → Bool) (new : X) (xs : List X) → AllPairs R xs → ((x y : X) → R x y → p x ≡ false → p y ≡ false)
+    → All (λ x. p x ≡ true → R x new) xs → All (λ x. p x ≡ false → R new x) xs → AllPairs R (insert xs (count_by p xs) new)
 pairs_insert R p new [] pairs stop before after = AllPairs-cons R new [] (All-nil (R new)) pairs
 pairs_insert R p new (x ∷ xs) pairs stop before after =
-    go_insert R p new x xs (p x) refl pairs stop before after (pairs_insert R p new xs (pairs_tail R x xs pairs) stop (All-tail (λ y. p y ≡ true → R y new) x xs before) (All-tail (λ y. p y ≡ false → R new y) x xs after))
+    go_insert R p new x xs (p x) refl pairs stop before after (pairs_insert R p new xs
+    (pairs_tail R x xs pairs) stop (All-tail (λ y. p y ≡ true → R y new) x xs before) (All-tail (λ y. p y ≡ false → R new y) x xs after))
 
 -- two links in their places, which don't join the same members
 pub record InPlace (link later : Link) : Type 0 where
@@ -79,33 +84,41 @@ comes_after : (new link : Link) → joins new.a new.b link ≡ false → is_befo
 comes_after new link free e = record { low = grind (arith, nat_tests); tied = grind (arith, nat_tests); apart = grind (arith, nat_tests) }
 
 -- the links with one more are in their places
-pub with_in_place : (new : Link) (links : List Link) → AllPairs InPlace links → All (λ link. joins new.a new.b link ≡ false) links → AllPairs InPlace (with_link new links)
+pub with_in_place : (new : Link) (links : List Link) → AllPairs InPlace links
+    → All (λ link. joins new.a new.b link ≡ false) links → AllPairs InPlace (with_link new links)
 with_in_place new links pairs free =
-    pairs_insert InPlace (is_before new) new links pairs (stops new) (λ k d l e. goes_before new (get_or links k d) (free k d l) e) (λ k d l e. comes_after new (get_or links k d) (free k d l) e)
+    pairs_insert InPlace (is_before new) new links pairs (stops new)
+    (λ k d l e. goes_before new (get_or links k d) (free k d l) e) (λ k d l e. comes_after new (get_or links k d) (free k d l) e)
 
 -- a link is one of the same members' tables with other links
-link_kept : (members : List Member) (links others : List Link) (link : Link) → IsLink (record { members = members; links = links }) link → IsLink (record { members = members; links = others }) link
+link_kept : (members : List Member) (links others : List Link) (link : Link)
+    → IsLink (record { members = members; links = links }) link → IsLink (record { members = members; links = others }) link
 link_kept members links others link h = record { from = h.from; to = h.to; different = h.different; smaller_first = h.smaller_first }
 
 -- one more link
-pub Fit-with_link : (members : List Member) (links : List Link) (new : Link) → Fit (record { members = members; links = links }) → IsLink (record { members = members; links = links }) new → All (λ link. joins new.a new.b link ≡ false) links → length links < 1000000 → Fit (record { members = members; links = with_link new links })
+pub Fit-with_link : (members : List Member) (links : List Link) (new : Link) → Fit (record { members = members; links = links })
+    → IsLink (record { members = members; links = links }) new → All (λ link. joins new.a new.b link ≡ false) links
+    → length links < 1000000 → Fit (record { members = members; links = with_link new links })
 Fit-with_link members links new fit here free few =
     let pairs = with_in_place new links (in_place links fit.links_ascend fit.one_link) free in
     let after : Tables = record { members = members; links = with_link new links } in
     let kept : All (λ link. IsLink after link) links = λ k d l. link_kept members links (with_link new links) (get_or links k d) (fit.links_join k d l) in
-    let n : length (with_link new links) ≡ length links + 1 = length-insert links (count_by (is_before new) links) new (count_by-le-length (is_before new) links) in
+    let n : length (with_link new links) ≡ length links + 1 =
+    length-insert links (count_by (is_before new) links) new (count_by-le-length (is_before new) links) in
     record {
       ids = fit.ids;
       names = fit.names;
       members_ascend = fit.members_ascend;
-      links_join = All-insert (λ link. IsLink after link) links (count_by (is_before new) links) new kept (link_kept members links (with_link new links) new here);
+      links_join =
+          All-insert (λ link. IsLink after link) links (count_by (is_before new) links) new kept (link_kept members links (with_link new links) new here);
       links_ascend = λ i j d low l. let h = pairs i j d low l in (h.low, h.tied);
       one_link = λ i j d low l. (pairs i j d low l).apart;
       few_links = omega (arith, n);
     }
 
 -- one link less
-pub Fit-without_link : (members : List Member) (links : List Link) (a b : ℕ) → Fit (record { members = members; links = links }) → Fit (record { members = members; links = without_link a b links })
+pub Fit-without_link : (members : List Member) (links : List Link) (a b : ℕ)
+    → Fit (record { members = members; links = links }) → Fit (record { members = members; links = without_link a b links })
 Fit-without_link members links a b fit =
     let p : Link → Bool = λ link. not (joins a b link) in
     let after : Tables = record { members = members; links = without_link a b links } in
@@ -124,7 +137,8 @@ Fit-without_link members links a b fit =
     }
 
 -- a member that a test finds is there
-found_go : {X : Type 0} (p : X → Bool) (x : X) (xs : List X) (b : Bool) → (b || list_any p xs) ≡ true → (list_any p xs ≡ true → IsSome (find p xs)) → IsSome (cond b (Some x) (find p xs))
+found_go : {X : Type 0} (p : X → Bool) (x : X) (xs : List X) (b : Bool)
+    → (b || list_any p xs) ≡ true → (list_any p xs ≡ true → IsSome (find p xs)) → IsSome (cond b (Some x) (find p xs))
 found_go p x xs true e rest = refl
 found_go p x xs false e rest = rest e
 
@@ -148,7 +162,8 @@ not_true true e = absurd (false≢true e)
 not_true false e = refl
 
 -- after an invitation that applies
-pub Fit-invited : (members : List Member) (links : List Link) (a b : ℕ) → Fit (record { members = members; links = links }) → applies (Invite a b) (record { members = members; links = links }) ≡ true → Fit (record { members = members; links = with_link (invitation a b) links })
+pub Fit-invited : (members : List Member) (links : List Link) (a b : ℕ) → Fit (record { members = members; links = links })
+    → applies (Invite a b) (record { members = members; links = links }) ≡ true → Fit (record { members = members; links = with_link (invitation a b) links })
 Fit-invited members links a b fit e =
     let t : Tables = record { members = members; links = links } in
     let p4 = and_parts (not (a == b) && is_member a t && is_member b t && not (is_linked a b t)) (nat_lt (length links) 1000000) e in
@@ -166,7 +181,8 @@ Fit-invited members links a b fit e =
     Fit-with_link members links (invitation a b) fit here free (ltb-true _ _ p4.1)
 
 -- a friendship of two members
-pub friend_link : (t : Tables) (a b : ℕ) (first : Bool) → nat_lt a b ≡ first → IsMember a t → IsMember b t → a ≢ b → IsLink t (if first then record { a = a; b = b; state = Friend } else record { a = b; b = a; state = Friend })
+pub friend_link : (t : Tables) (a b : ℕ) (first : Bool) → nat_lt a b ≡ first
+    → IsMember a t → IsMember b t → a ≢ b → IsLink t (if first then record { a = a; b = b; state = Friend } else record { a = b; b = a; state = Friend })
 friend_link t a b true e from to differ = record { from = from; to = to; different = differ; smaller_first = λ _. ltb-true a b e }
 friend_link t a b false e from to differ =
     let less : b < a = grind (arith, nat_tests) in
@@ -175,7 +191,8 @@ friend_link t a b false e from to differ =
 joins_swap : (a b : ℕ) (link : Link) → joins a b link ≡ false → joins b a link ≡ false
 joins_swap a b link e = grind (arith, nat_tests)
 
-pub friend_free : (a b : ℕ) (first : Bool) (link : Link) → joins a b link ≡ false → (let new : Link = if first then record { a = a; b = b; state = Friend } else record { a = b; b = a; state = Friend } in joins new.a new.b link ≡ false)
+pub friend_free : (a b : ℕ) (first : Bool) (link : Link) → joins a b link ≡ false
+    → (let new : Link = if first then record { a = a; b = b; state = Friend } else record { a = b; b = a; state = Friend } in joins new.a new.b link ≡ false)
 friend_free a b true link e = e
 friend_free a b false link e = joins_swap a b link e
 
@@ -220,7 +237,9 @@ invited_parts t a b fit e =
     }
 
 -- after an invitation was accepted
-pub Fit-accepted : (members : List Member) (links : List Link) (a b : ℕ) → Fit (record { members = members; links = links }) → applies (Accept a b) (record { members = members; links = links }) ≡ true → Fit (record { members = members; links = with_link (friendship a b) (without_link a b links) })
+pub Fit-accepted : (members : List Member) (links : List Link) (a b : ℕ) → Fit (record { members = members; links = links })
+    → applies (Accept a b) (record { members = members; links = links }) ≡ true
+    → Fit (record { members = members; links = with_link (friendship a b) (without_link a b links) })
 Fit-accepted members links a b fit e =
     let t : Tables = record { members = members; links = links } in
     let h = invited_parts t a b fit e in
@@ -244,22 +263,27 @@ same_id_go member false name = refl
 pub same_id : (id : ℕ) (name : List ℕ) (member : Member) → (renamed id name member).id ≡ member.id
 same_id id name member = same_id_go member (member.id == id) name
 
-is_name_go : (member : Member) (b : Bool) (name : List ℕ) → IsName name → IsName member.name → (let m : Member = if b then record { id = member.id; name = name } else member in IsName m.name)
+is_name_go : (member : Member) (b : Bool) (name : List ℕ) → IsName name
+    → IsName member.name → (let m : Member = if b then record { id = member.id; name = name } else member in IsName m.name)
 is_name_go member true name new old = new
 is_name_go member false name new old = old
 
-find_go : (i : ℕ) (x y : Member) (xs ys : List Member) (b c : Bool) → b ≡ c → (IsSome (find (λ m. m.id == i) xs) → IsSome (find (λ m. m.id == i) ys)) → IsSome (cond c (Some x) (find (λ m. m.id == i) xs)) → IsSome (cond b (Some y) (find (λ m. m.id == i) ys))
+find_go : (i : ℕ) (x y : Member) (xs ys : List Member) (b c : Bool) → b ≡ c → (IsSome (find (λ m. m.id == i) xs) → IsSome (find (λ m. m.id == i) ys))
+    → IsSome (cond c (Some x) (find (λ m. m.id == i) xs)) → IsSome (cond b (Some y) (find (λ m. m.id == i) ys))
 find_go i x y xs ys true c e rest h = refl
 find_go i x y xs ys false true e rest h = absurd (false≢true e)
 find_go i x y xs ys false false e rest h = rest h
 
-find_kept : (id : ℕ) (name : List ℕ) (i : ℕ) (members : List Member) → IsSome (find (λ m. m.id == i) members) → IsSome (find (λ m. m.id == i) (map (renamed id name) members))
+find_kept : (id : ℕ) (name : List ℕ) (i : ℕ) (members : List Member)
+    → IsSome (find (λ m. m.id == i) members) → IsSome (find (λ m. m.id == i) (map (renamed id name) members))
 find_kept id name i [] h = h
 find_kept id name i (x ∷ xs) h =
-    find_go i x (renamed id name x) xs (map (renamed id name) xs) ((renamed id name x).id == i) (x.id == i) (ap (λ (n : ℕ). n == i) (same_id id name x)) (find_kept id name i xs) h
+    find_go i x (renamed id name x) xs (map (renamed id name) xs)
+    ((renamed id name x).id == i) (x.id == i) (ap (λ (n : ℕ). n == i) (same_id id name x)) (find_kept id name i xs) h
 
 -- after a member has another name
-pub Fit-renamed : (members : List Member) (links : List Link) (id : ℕ) (name : List ℕ) → Fit (record { members = members; links = links }) → IsName name → Fit (record { members = map (renamed id name) members; links = links })
+pub Fit-renamed : (members : List Member) (links : List Link) (id : ℕ) (name : List ℕ)
+    → Fit (record { members = members; links = links }) → IsName name → Fit (record { members = map (renamed id name) members; links = links })
 Fit-renamed members links id name fit new =
     let f = renamed id name in
     let n : length (map f members) ≡ length members = length-map members f in
@@ -279,8 +303,10 @@ Fit-renamed members links id name fit new =
           subst (λ (m : Member). IsName m.name) (sym at) (is_name_go member (member.id == id) name new (fit.names k d within));
       members_ascend = λ i j d low l.
           let within : j < length members = omega (arith, n) in
-          let at_i : (get_or (map f members) i d).id ≡ (get_or members i d).id = ap (λ (m : Member). m.id) (get_or-map f members i d d (omega arith)) ∙ same_id id name (get_or members i d) in
-          let at_j : (get_or (map f members) j d).id ≡ (get_or members j d).id = ap (λ (m : Member). m.id) (get_or-map f members j d d within) ∙ same_id id name (get_or members j d) in
+          let at_i : (get_or (map f members) i d).id ≡ (get_or members i d).id =
+          ap (λ (m : Member). m.id) (get_or-map f members i d d (omega arith)) ∙ same_id id name (get_or members i d) in
+          let at_j : (get_or (map f members) j d).id ≡ (get_or members j d).id =
+          ap (λ (m : Member). m.id) (get_or-map f members j d d within) ∙ same_id id name (get_or members j d) in
           let up = fit.members_ascend i j d low within in
           omega (arith, at_i, at_j, up);
       links_join = λ k d l.

@@ -11,23 +11,29 @@ use Rattle.rows_model.specs.Key.{same_key}
 use Rattle.rows_model.specs.Changes.{keys_of, foot_of, has_key, with_key}
 
 -- a key is one of a member's by its kind
-pub has_keys_of : (key : QKey) (id : ℕ) (kinds : List Kind) → has_key key (keys_of id kinds) ≡ list_any (λ kind. same_key key (record { kind = kind; id = id })) kinds
+pub has_keys_of : (key : QKey) (id : ℕ) (kinds : List Kind)
+    → has_key key (keys_of id kinds) ≡ list_any (λ kind. same_key key (record { kind = kind; id = id })) kinds
 has_keys_of key id [] = refl
 has_keys_of key id (kind ∷ kinds) = ap (λ (b : Bool). same_key key (record { kind = kind; id = id }) || b) (has_keys_of key id kinds)
 
 -- the keys of two members
-pub has_both : (key : QKey) (a b : ℕ) (of_a of_b : List Kind) → has_key key (keys_of a of_a ++ keys_of b of_b) ≡ (list_any (λ kind. same_key key (record { kind = kind; id = a })) of_a || list_any (λ kind. same_key key (record { kind = kind; id = b })) of_b)
+pub has_both : (key : QKey) (a b : ℕ) (of_a of_b : List Kind) → has_key key (keys_of a of_a ++ keys_of b of_b)
+    ≡ (list_any (λ kind. same_key key (record { kind = kind; id = a })) of_a || list_any (λ kind. same_key key (record { kind = kind; id = b })) of_b)
 has_both key a b of_a of_b =
     list_any-append (same_key key) (keys_of a of_a) (keys_of b of_b)
     ∙ (ap (λ (x : Bool). x || has_key key (keys_of b of_b)) (has_keys_of key a of_a)
     ∙ ap (λ (x : Bool). list_any (λ kind. same_key key (record { kind = kind; id = a })) of_a || x) (has_keys_of key b of_b))
 
 -- one more key of a member
-pub keys_more : (keys next : List QKey) (id : ℕ) (kinds : List Kind) (i : ℕ) (kind : Kind) → i < length kinds → kind ≡ get_or kinds i kind → next ≡ with_key keys (record { kind = kind; id = id }) → fold with_key next (keys_of id (drop (i + 1) kinds)) ≡ fold with_key keys (keys_of id (drop i kinds))
+pub keys_more : (keys next : List QKey) (id : ℕ) (kinds : List Kind) (i : ℕ) (kind : Kind) → i < length kinds → kind ≡ get_or kinds i kind
+    → next ≡ with_key keys (record { kind = kind; id = id })
+    → fold with_key next (keys_of id (drop (i + 1) kinds)) ≡ fold with_key keys (keys_of id (drop i kinds))
 keys_more keys next id kinds i kind l is put =
-    let step : fold with_key keys (keys_of id (drop i kinds)) ≡ fold with_key (with_key keys (record { kind = get_or kinds i kind; id = id })) (keys_of id (drop (i + 1) kinds)) =
+    let step : fold with_key keys (keys_of id (drop i kinds))
+    ≡ fold with_key (with_key keys (record { kind = get_or kinds i kind; id = id })) (keys_of id (drop (i + 1) kinds)) =
     at_drop_more (λ rest. fold with_key keys (keys_of id rest)) kinds i kind l in
-    ap (λ (ks : List QKey). fold with_key ks (keys_of id (drop (i + 1) kinds))) (put ∙ ap (λ (k : Kind). with_key keys (record { kind = k; id = id })) is) ∙ sym step
+    ap (λ (ks : List QKey). fold with_key ks (keys_of id (drop (i + 1) kinds))) (put ∙ ap (λ (k : Kind). with_key keys (record { kind = k; id = id })) is)
+    ∙ sym step
 
 pub keys_all : (keys : List QKey) (id : ℕ) (kinds : List Kind) (i : ℕ) → length kinds ≤ i → fold with_key keys (keys_of id (drop i kinds)) ≡ keys
 keys_all keys id kinds i l = at_drop_all (λ rest. fold with_key keys (keys_of id rest)) kinds i l
@@ -37,7 +43,10 @@ fold_on keys [] ys = refl
 fold_on keys (x ∷ xs) ys = fold_on (with_key keys x) xs ys
 
 -- the keys of one more change
-pub foot_more : (keys mid next : List QKey) (changes : List Change) (i : ℕ) (change : Change) (a b : ℕ) (of_a of_b : List Kind) → i < length changes → change ≡ get_or changes i change → keys_of a of_a ++ keys_of b of_b ≡ foot_of change → mid ≡ fold with_key keys (keys_of a of_a) → next ≡ fold with_key mid (keys_of b of_b) → fold with_key next (flat_map foot_of (drop (i + 1) changes)) ≡ fold with_key keys (flat_map foot_of (drop i changes))
+pub foot_more : (keys mid next : List QKey) (changes : List Change) (i : ℕ) (change : Change) (a b : ℕ) (of_a of_b : List Kind) → i < length changes
+    → change ≡ get_or changes i change → keys_of a of_a ++ keys_of b of_b ≡ foot_of change → mid ≡ fold with_key keys (keys_of a of_a)
+    → next ≡ fold with_key mid (keys_of b of_b)
+    → fold with_key next (flat_map foot_of (drop (i + 1) changes)) ≡ fold with_key keys (flat_map foot_of (drop i changes))
 foot_more keys mid next changes i change a b of_a of_b l is foot first second =
     let rest = flat_map foot_of (drop (i + 1) changes) in
     let step : fold with_key keys (flat_map foot_of (drop i changes)) ≡ fold with_key keys (foot_of (get_or changes i change) ++ rest) =

@@ -39,7 +39,8 @@ any-insert p xs i new =
     ∙ (or_last (list_any p (take i xs)) (p new) (list_any p (drop i xs)) ∙ ap (λ b. b || p new) (sym whole))
 
 -- a key is among the keys with one more where it is among them or is that one
-has_go : (key new : QKey) (keys : List QKey) (b : Bool) → has_key new keys ≡ b → has_key key (if b then keys else insert keys (count_by (is_key_before new) keys) new) ≡ (has_key key keys || same_key key new)
+has_go : (key new : QKey) (keys : List QKey) (b : Bool) → has_key new keys ≡ b
+    → has_key key (if b then keys else insert keys (count_by (is_key_before new) keys) new) ≡ (has_key key keys || same_key key new)
 has_go key new keys true e =
     or_absorbed (has_key key keys) (same_key key new) (λ same. ap (λ (k : QKey). has_key k keys) (same_key-true key new same) ∙ e)
 has_go key new keys false e =
@@ -66,13 +67,16 @@ stops new key later h e = grind (arith, nat_tests)
 comes_after : (new key : QKey) → same_key new key ≡ false → is_key_before new key ≡ false → is_key_before key new ≡ true
 comes_after new key other e = grind (arith, nat_tests)
 
-ascends_go : (new : QKey) (keys : List QKey) (b : Bool) → has_key new keys ≡ b → AllPairs (λ key later. is_key_before later key ≡ true) keys → AllPairs (λ key later. is_key_before later key ≡ true) (if b then keys else insert keys (count_by (is_key_before new) keys) new)
+ascends_go : (new : QKey) (keys : List QKey) (b : Bool) → has_key new keys ≡ b → AllPairs (λ key later. is_key_before later key ≡ true) keys
+    → AllPairs (λ key later. is_key_before later key ≡ true) (if b then keys else insert keys (count_by (is_key_before new) keys) new)
 ascends_go new keys true e pairs = pairs
 ascends_go new keys false e pairs =
     let others = none_passes (same_key new) keys e in
-    pairs_insert (λ key later. is_key_before later key ≡ true) (is_key_before new) new keys pairs (stops new) (λ k d l before. before) (λ k d l after. comes_after new (get_or keys k d) (others k d l) after)
+    pairs_insert (λ key later. is_key_before later key ≡ true) (is_key_before new) new keys pairs
+    (stops new) (λ k d l before. before) (λ k d l after. comes_after new (get_or keys k d) (others k d l) after)
 
-ascends_all : (keys more : List QKey) → AllPairs (λ key later. is_key_before later key ≡ true) keys → AllPairs (λ key later. is_key_before later key ≡ true) (fold with_key keys more)
+ascends_all : (keys more : List QKey) → AllPairs (λ key later. is_key_before later key ≡ true) keys
+    → AllPairs (λ key later. is_key_before later key ≡ true) (fold with_key keys more)
 ascends_all keys [] pairs = pairs
 ascends_all keys (new ∷ more) pairs = ascends_all (with_key keys new) more (ascends_go new keys (has_key new keys) refl pairs)
 

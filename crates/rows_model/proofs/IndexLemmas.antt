@@ -1,5 +1,6 @@
 -- Each member's list against the list of all links: what it keeps, and that all lists make the whole.
-use Rattle.std.proofs.Common.{ℕ, suc, ◌+◌, ◌<◌, ◌≤◌, ◌≡◌, Bool, true, false, not, List, [], ◌∷◌, ◌++◌, length, get_or, filter, All, AllPairs, refl, sym, ap, inl, inr, ◌∙◌, arith}
+use Rattle.std.proofs.Common.{ℕ, suc, ◌+◌, ◌<◌, ◌≤◌, ◌≡◌, Bool, true, false, not, List, [], ◌∷◌, ◌++◌, length, get_or, filter, All}
+use Rattle.std.proofs.Common.{AllPairs, refl, sym, ap, inl, inr, ◌∙◌, arith}
 use Rattle.std.specs.Prelude.{count_by, ◌==◌, ◌||◌, nat_lt, cond, if◌then◌else◌}
 use Rattle.std.specs.List.{list_any, insert, flat_map}
 use Rattle.std.proofs.lemmas.Bool.{false≢true, and_parts, or_parts, or_right, false_from_ne_true, cases_eq}
@@ -29,9 +30,11 @@ abbrev pub InOrder : List Link → Type 0
 InOrder links = AllPairs IsBefore links
 
 -- two filters, in whichever order
-comm_go : (p q : Link → Bool) (x : Link) (xs : List Link) (b c : Bool) → p x ≡ b → q x ≡ c → filter p (filter q xs) ≡ filter q (filter p xs) → filter p (cond c (x ∷ filter q xs) (filter q xs)) ≡ filter q (cond b (x ∷ filter p xs) (filter p xs))
+comm_go : (p q : Link → Bool) (x : Link) (xs : List Link) (b c : Bool) → p x ≡ b → q x ≡ c
+    → filter p (filter q xs) ≡ filter q (filter p xs) → filter p (cond c (x ∷ filter q xs) (filter q xs)) ≡ filter q (cond b (x ∷ filter p xs) (filter p xs))
 comm_go p q x xs true true ep eq rest =
-    ap (λ b. cond b (x ∷ filter p (filter q xs)) (filter p (filter q xs))) ep ∙ (ap (λ (ys : List Link). x ∷ ys) rest ∙ sym (ap (λ b. cond b (x ∷ filter q (filter p xs)) (filter q (filter p xs))) eq))
+    ap (λ b. cond b (x ∷ filter p (filter q xs)) (filter p (filter q xs))) ep
+    ∙ (ap (λ (ys : List Link). x ∷ ys) rest ∙ sym (ap (λ b. cond b (x ∷ filter q (filter p xs)) (filter q (filter p xs))) eq))
 comm_go p q x xs true false ep eq rest =
     rest ∙ sym (ap (λ b. cond b (x ∷ filter q (filter p xs)) (filter q (filter p xs))) eq)
 comm_go p q x xs false true ep eq rest =
@@ -55,7 +58,8 @@ with_first new xs none = ap (λ (k : ℕ). insert xs k new) (count_none (is_befo
 -- and behind one that does
 with_later : (new x : Link) (xs : List Link) → is_before new x ≡ true → with_link new (x ∷ xs) ≡ x ∷ with_link new xs
 with_later new x xs e =
-    let n : count_by (is_before new) (x ∷ xs) ≡ suc (count_by (is_before new) xs) = count_cons (is_before new) x xs ∙ (ap (λ b. cond b 1 0 + count_by (is_before new) xs) e ∙ omega arith) in
+    let n : count_by (is_before new) (x ∷ xs) ≡ suc (count_by (is_before new) xs) =
+    count_cons (is_before new) x xs ∙ (ap (λ b. cond b 1 0 + count_by (is_before new) xs) e ∙ omega arith) in
     ap (λ (k : ℕ). insert (x ∷ xs) k new) n
 
 stops : (new link later : Link) → IsBefore link later → is_before new link ≡ false → is_before new later ≡ false
@@ -72,9 +76,11 @@ all_stop new x xs order e =
     ]
 
 -- a link that passes, put among those that pass
-put_go : (p : Link → Bool) (new x : Link) (xs : List Link) (b c : Bool) → is_before new x ≡ b → p x ≡ c → p new ≡ true → InOrder (x ∷ xs) → filter p (with_link new xs) ≡ with_link new (filter p xs) → filter p (with_link new (x ∷ xs)) ≡ with_link new (cond c (x ∷ filter p xs) (filter p xs))
+put_go : (p : Link → Bool) (new x : Link) (xs : List Link) (b c : Bool) → is_before new x ≡ b → p x ≡ c → p new ≡ true → InOrder (x ∷ xs)
+    → filter p (with_link new xs) ≡ with_link new (filter p xs) → filter p (with_link new (x ∷ xs)) ≡ with_link new (cond c (x ∷ filter p xs) (filter p xs))
 put_go p new x xs true true eb ec en order rest =
-    ap (filter p) (with_later new x xs eb) ∙ (ap (λ b. cond b (x ∷ filter p (with_link new xs)) (filter p (with_link new xs))) ec ∙ (ap (λ (ys : List Link). x ∷ ys) rest ∙ sym (with_later new x (filter p xs) eb)))
+    ap (filter p) (with_later new x xs eb) ∙ (ap (λ b. cond b (x ∷ filter p (with_link new xs)) (filter p (with_link new xs))) ec
+    ∙ (ap (λ (ys : List Link). x ∷ ys) rest ∙ sym (with_later new x (filter p xs) eb)))
 put_go p new x xs true false eb ec en order rest =
     ap (filter p) (with_later new x xs eb) ∙ (ap (λ b. cond b (x ∷ filter p (with_link new xs)) (filter p (with_link new xs))) ec ∙ rest)
 put_go p new x xs false c eb ec en order rest =
@@ -91,7 +97,8 @@ filter_put p new (x ∷ xs) e order =
     put_go p new x xs (is_before new x) (p x) refl refl e order (filter_put p new xs e (pairs_tail IsBefore x xs order))
 
 -- a member's links after a link was put
-put_in_list : (id : ℕ) (new : Link) (links : List Link) (b : Bool) → is_end id new ≡ b → InOrder links → filter (is_end id) (with_link new links) ≡ (if b then with_link new (filter (is_end id) links) else filter (is_end id) links)
+put_in_list : (id : ℕ) (new : Link) (links : List Link) (b : Bool) → is_end id new ≡ b
+    → InOrder links → filter (is_end id) (with_link new links) ≡ (if b then with_link new (filter (is_end id) links) else filter (is_end id) links)
 put_in_list id new links true e order = filter_put (is_end id) new links e order
 put_in_list id new links false e order = filter_with (is_end id) new links e
 
@@ -99,25 +106,33 @@ other_end_joins : (id a b : ℕ) (link : Link) → ((a == id) || (b == id)) ≡ 
 other_end_joins id a b link e f = grind (arith, nat_tests)
 
 -- and after one was taken
-taken_from_list : (id a b : ℕ) (links : List Link) (c : Bool) → ((a == id) || (b == id)) ≡ c → filter (is_end id) (without_link a b links) ≡ (if c then without_link a b (filter (is_end id) links) else filter (is_end id) links)
+taken_from_list : (id a b : ℕ) (links : List Link) (c : Bool) → ((a == id) || (b == id)) ≡ c
+    → filter (is_end id) (without_link a b links) ≡ (if c then without_link a b (filter (is_end id) links) else filter (is_end id) links)
 taken_from_list id a b links true e = filter_comm (is_end id) (λ link. not (joins a b link)) links
 taken_from_list id a b links false e =
     filter_without (is_end id) a b links (λ k d l f. other_end_joins id a b (get_or links k d) e f)
 
-friend_ends : (id a b : ℕ) (first : Bool) → (let new : Link = if first then record { a = a; b = b; state = Friend } else record { a = b; b = a; state = Friend } in is_end id new ≡ ((a == id) || (b == id)))
+friend_ends : (id a b : ℕ) (first : Bool)
+    → (let new : Link = if first then record { a = a; b = b; state = Friend } else record { a = b; b = a; state = Friend } in
+    is_end id new ≡ ((a == id) || (b == id)))
 friend_ends id a b true = refl
 friend_ends id a b false = grind (arith, nat_tests)
 
-moved_go : (id a b : ℕ) (links : List Link) (c : Bool) → ((a == id) || (b == id)) ≡ c → InOrder links → filter (is_end id) (with_link (friendship a b) (without_link a b links)) ≡ (if c then with_link (friendship a b) (without_link a b (filter (is_end id) links)) else filter (is_end id) links)
+moved_go : (id a b : ℕ) (links : List Link) (c : Bool) → ((a == id) || (b == id)) ≡ c → InOrder links
+    → filter (is_end id) (with_link (friendship a b) (without_link a b links))
+    ≡ (if c then with_link (friendship a b) (without_link a b (filter (is_end id) links)) else filter (is_end id) links)
 moved_go id a b links true e order =
-    put_in_list id (friendship a b) (without_link a b links) true (friend_ends id a b (nat_lt a b) ∙ e) (AllPairs-filter IsBefore (λ link. not (joins a b link)) links order)
+    put_in_list id (friendship a b) (without_link a b links) true (friend_ends id a b (nat_lt a b)
+    ∙ e) (AllPairs-filter IsBefore (λ link. not (joins a b link)) links order)
     ∙ ap (with_link (friendship a b)) (taken_from_list id a b links true e)
 moved_go id a b links false e order =
-    put_in_list id (friendship a b) (without_link a b links) false (friend_ends id a b (nat_lt a b) ∙ e) (AllPairs-filter IsBefore (λ link. not (joins a b link)) links order)
+    put_in_list id (friendship a b) (without_link a b links) false (friend_ends id a b (nat_lt a b)
+    ∙ e) (AllPairs-filter IsBefore (λ link. not (joins a b link)) links order)
     ∙ taken_from_list id a b links false e
 
 -- a change of the whole is one of the lists of the members that it names
-pub near_changed : (id : ℕ) (change : Change) (links : List Link) → InOrder links → filter (is_end id) (links_after links change) ≡ near_after id (filter (is_end id) links) change
+pub near_changed : (id : ℕ) (change : Change) (links : List Link)
+    → InOrder links → filter (is_end id) (links_after links change) ≡ near_after id (filter (is_end id) links) change
 near_changed id (Invite a b) links order = put_in_list id (invitation a b) links ((a == id) || (b == id)) refl order
 near_changed id (Accept a b) links order = moved_go id a b links ((a == id) || (b == id)) refl order
 near_changed id (Reject a b) links order = taken_from_list id a b links ((a == id) || (b == id)) refl
@@ -133,14 +148,18 @@ none_by_first [] = refl
 none_by_first (one ∷ near) = none_by_first near
 
 -- a link that no member behind has first
-others_go : (l : Link) (ls : List Link) (one : Near) (near : List Near) (b : Bool) → (l.a == one.id) ≡ b → b ≡ false → flat_map (by_first (l ∷ ls)) near ≡ flat_map (by_first ls) near → cond b (l ∷ by_first ls one) (by_first ls one) ++ flat_map (by_first (l ∷ ls)) near ≡ by_first ls one ++ flat_map (by_first ls) near
+others_go : (l : Link) (ls : List Link) (one : Near) (near : List Near) (b : Bool) → (l.a == one.id) ≡ b → b ≡ false
+    → flat_map (by_first (l ∷ ls)) near ≡ flat_map (by_first ls) near
+    → cond b (l ∷ by_first ls one) (by_first ls one) ++ flat_map (by_first (l ∷ ls)) near ≡ by_first ls one ++ flat_map (by_first ls) near
 others_go l ls one near b e f rest =
     rw f (ap (λ (xs : List Link). by_first ls one ++ xs) rest)
 
-others : (l : Link) (ls : List Link) (near : List Near) → All (λ one. (l.a == one.id) ≡ false) near → flat_map (by_first (l ∷ ls)) near ≡ flat_map (by_first ls) near
+others : (l : Link) (ls : List Link) (near : List Near) → All (λ one. (l.a == one.id) ≡ false) near
+    → flat_map (by_first (l ∷ ls)) near ≡ flat_map (by_first ls) near
 others l ls [] all = refl
 others l ls (one ∷ near) all =
-    others_go l ls one near (l.a == one.id) refl (All-head (λ other. (l.a == other.id) ≡ false) one near all) (others l ls near (All-tail (λ other. (l.a == other.id) ≡ false) one near all))
+    others_go l ls one near (l.a == one.id) refl (All-head (λ other. (l.a == other.id) ≡ false) one near all)
+    (others l ls near (All-tail (λ other. (l.a == other.id) ≡ false) one near all))
 
 -- whether a list stands for this member
 abbrev pub has_list : ℕ → List Near → Bool
@@ -155,7 +174,8 @@ later_id one near id up e =
     grind (arith, nat_tests)
 
 -- the first of all links stands in front
-first_go : (l : Link) (ls : List Link) (one : Near) (near : List Near) (b : Bool) → (one.id == l.a) ≡ b → NearAscend (one ∷ near) → All (λ m. l.a ≤ m.a) ls → (b || has_list l.a near) ≡ true
+first_go : (l : Link) (ls : List Link) (one : Near) (near : List Near) (b : Bool)
+    → (one.id == l.a) ≡ b → NearAscend (one ∷ near) → All (λ m. l.a ≤ m.a) ls → (b || has_list l.a near) ≡ true
     → (has_list l.a near ≡ true → flat_map (by_first (l ∷ ls)) near ≡ l ∷ flat_map (by_first ls) near)
     → by_first (l ∷ ls) one ++ flat_map (by_first (l ∷ ls)) near ≡ l ∷ (by_first ls one ++ flat_map (by_first ls) near)
 first_go l ls one near true e up low has rest =
@@ -174,13 +194,15 @@ first_go l ls one near false e up low has rest =
     ∙ (ap (λ (xs : List Link). xs ++ flat_map (by_first (l ∷ ls)) near) empty
     ∙ (rest has ∙ sym (ap (λ (xs : List Link). l ∷ (xs ++ flat_map (by_first ls) near)) empty)))
 
-first_of_all : (l : Link) (ls : List Link) (near : List Near) → NearAscend near → All (λ m. l.a ≤ m.a) ls → has_list l.a near ≡ true → flat_map (by_first (l ∷ ls)) near ≡ l ∷ flat_map (by_first ls) near
+first_of_all : (l : Link) (ls : List Link) (near : List Near)
+    → NearAscend near → All (λ m. l.a ≤ m.a) ls → has_list l.a near ≡ true → flat_map (by_first (l ∷ ls)) near ≡ l ∷ flat_map (by_first ls) near
 first_of_all l ls [] up low has = absurd (false≢true has)
 first_of_all l ls (one ∷ near) up low has =
     first_go l ls one near (one.id == l.a) refl up low has (first_of_all l ls near (pairs_tail (λ x y. x.id < y.id) one near up) low)
 
 -- links in order, whose first ends all have lists, are had member by member
-gathered : (near : List Near) (links : List Link) → NearAscend near → InOrder links → All (λ l. has_list l.a near ≡ true) links → flat_map (by_first links) near ≡ links
+gathered : (near : List Near) (links : List Link) → NearAscend near
+    → InOrder links → All (λ l. has_list l.a near ≡ true) links → flat_map (by_first links) near ≡ links
 gathered near [] up order has = none_by_first near
 gathered near (l ∷ ls) up order has =
     let later = pairs_head IsBefore l ls order in
@@ -202,19 +224,23 @@ whole_by_first (one ∷ near) links index =
     ∙ ap (λ (xs : List Link). by_first links one ++ xs) (whole_by_first near links (All-tail P one near index))
 
 -- the lists of an index make the whole
-pub whole_is : (near : List Near) (links : List Link) → IsIndex near links → NearAscend near → InOrder links → All (λ l. has_list l.a near ≡ true) links → whole near ≡ links
+pub whole_is : (near : List Near) (links : List Link) → IsIndex near links
+    → NearAscend near → InOrder links → All (λ l. has_list l.a near ≡ true) links → whole near ≡ links
 whole_is near links index up order has = whole_by_first near links index ∙ gathered near links up order has
 
 -- what a test finds among a member's links, where it passes no others
-pub kept_in_list : (p : Link → Bool) (id : ℕ) (links : List Link) → ((link : Link) → p link ≡ true → is_end id link ≡ true) → filter p (filter (is_end id) links) ≡ filter p links
+pub kept_in_list : (p : Link → Bool) (id : ℕ) (links : List Link)
+    → ((link : Link) → p link ≡ true → is_end id link ≡ true) → filter p (filter (is_end id) links) ≡ filter p links
 kept_in_list p id links ends =
     filter_both p (is_end id) links (λ k d l e. false_from_ne_true (p (get_or links k d)) (λ t. false≢true (sym e ∙ ends (get_or links k d) t)))
 
-pub counted_in_list : (p : Link → Bool) (id : ℕ) (links : List Link) → ((link : Link) → p link ≡ true → is_end id link ≡ true) → count_by p (filter (is_end id) links) ≡ count_by p links
+pub counted_in_list : (p : Link → Bool) (id : ℕ) (links : List Link)
+    → ((link : Link) → p link ≡ true → is_end id link ≡ true) → count_by p (filter (is_end id) links) ≡ count_by p links
 counted_in_list p id links ends =
     sym (length-filter p (filter (is_end id) links)) ∙ (ap length (kept_in_list p id links ends) ∙ length-filter p links)
 
-pub any_in_list : (p : Link → Bool) (id : ℕ) (links : List Link) → ((link : Link) → p link ≡ true → is_end id link ≡ true) → list_any p (filter (is_end id) links) ≡ list_any p links
+pub any_in_list : (p : Link → Bool) (id : ℕ) (links : List Link)
+    → ((link : Link) → p link ≡ true → is_end id link ≡ true) → list_any p (filter (is_end id) links) ≡ list_any p links
 any_in_list p id links ends = any-filter_same p (is_end id) true ends links
 
 pub friend_is_end : (id : ℕ) (link : Link) → befriends id link ≡ true → is_end id link ≡ true

@@ -1,5 +1,7 @@
 -- Changes in turn, told one by one: what stands after them, and whether the next applies.
-use Rattle.std.proofs.Common.{ℕ, suc, ◌+◌, ◌<◌, ◌≡◌, ◌≢◌, Bool, true, false, not, List, [], ◌∷◌, ◌++◌, length, get_or, take, drop, map, take-append-drop, drop-cons, length-take, filter, find, fold, All, AllPairs, Option, Some, None, Result, Ok, Err, Bor, inl, inr, refl, sym, ap, subst, ◌∙◌, arith}
+use Rattle.std.proofs.Common.{ℕ, suc, ◌+◌, ◌<◌, ◌≡◌, ◌≢◌, Bool, true, false, not, List, [], ◌∷◌, ◌++◌, length, get_or, take, drop, map}
+use Rattle.std.proofs.Common.{take-append-drop, drop-cons, length-take, filter, find, fold, All, AllPairs, Option, Some, None, Result, Ok}
+use Rattle.std.proofs.Common.{Err, Bor, inl, inr, refl, sym, ap, subst, ◌∙◌, arith}
 use Rattle.std.specs.Prelude.{count_by, ◌==◌, ◌&&◌, ◌||◌, nat_lt, cond, if◌then◌else◌, ◌⊎◌}
 use Rattle.std.specs.List.{list_any}
 use Rattle.std.specs.Option.{is_some, option_copied}
@@ -18,7 +20,8 @@ use Rattle.rows_model.specs.declared.judging.Bond.TheVariants.{Any, Invitation, 
 use Rattle.rows_model.specs.declared.changes.Change.{Change}
 use Rattle.rows_model.specs.declared.changes.Change.TheVariants.{Invite, Accept, Reject, Thaw, Rename}
 use Rattle.rows_model.specs.Rows.{Tables, Fit, IsLink, joins}
-use Rattle.rows_model.specs.Changes.{HasIds, is_before, with_link, without_link, invitation, friendship, renamed, is_member, is_linked, is_invited, applies, changed, apply_from, apply_all}
+use Rattle.rows_model.specs.Changes.{HasIds, is_before, with_link, without_link, invitation, friendship, renamed, is_member, is_linked}
+use Rattle.rows_model.specs.Changes.{is_invited, applies, changed, apply_from, apply_all}
 use Rattle.rows_model.specs.Near.{AreTwo, links_after, members_after}
 use Rattle.rows_model.specs.Judge.{bonds, still_bonds, adds, ends}
 use Rattle.rows_model.proofs.FitLemmas.{pairs_head, pairs_tail, count_cons, same_id}
@@ -29,15 +32,18 @@ use Rattle.rows_model.proofs.ApplyLemmas.{apply_all_is}
 use Rattle.rows_model.proofs.StayFitLemmas.{Fit-changed}
 
 -- what is told of the tables step by step is told of them after changes in turn
-walk_go : {A : Type 0} (step : A → Change → A) (view : Tables → A) (place : ℕ) (change : Change) (changes : List Change) (t after : Tables) (b : Bool) → applies change t ≡ b → Fit t → HasIds change
+walk_go : {A : Type 0} (step : A → Change → A) (view : Tables → A) (place : ℕ) (change : Change) (changes : List Change) (t after : Tables) (b : Bool)
+    → applies change t ≡ b → Fit t → HasIds change
     → (if b then apply_from (place + 1) changes (changed change t) else Err place) ≡ Ok after
     → (Fit (changed change t) → apply_from (place + 1) changes (changed change t) ≡ Ok after → view after ≡ fold step (step (view t) change) changes)
     → view after ≡ fold step (step (view t) change) changes
 walk_go step view place change changes t after true takes fit ids e rest = rest (Fit-changed change t fit ids takes) e
 walk_go step view place change changes t after false takes fit ids e rest = absurd cc
 
-pub walked : {A : Type 0} (step : A → Change → A) (view : Tables → A) → ((change : Change) (t : Tables) → Fit t → view (changed change t) ≡ step (view t) change)
-    → (place : ℕ) (changes : List Change) (t after : Tables) → Fit t → All HasIds changes → apply_from place changes t ≡ Ok after → view after ≡ fold step (view t) changes
+pub walked : {A : Type 0} (step : A → Change → A) (view : Tables → A)
+    → ((change : Change) (t : Tables) → Fit t → view (changed change t) ≡ step (view t) change)
+    → (place : ℕ) (changes : List Change) (t after : Tables) → Fit t
+    → All HasIds changes → apply_from place changes t ≡ Ok after → view after ≡ fold step (view t) changes
 walked step view told place [] t after fit ids e =
     let same : t ≡ after = cc in ap view (sym same)
 walked step view told place (change ∷ changes) t after fit ids e =
@@ -64,14 +70,18 @@ members_changed (Rename a name) t = refl
 same_two : (a b c d : ℕ) (link : Link) → joins a b link ≡ true → not (joins c d link) ≡ not (joins a b (invitation c d))
 same_two a b c d link e = grind (arith, nat_tests)
 
-bond_parted : (bond : Bond) (a b c d : ℕ) (links : List Link) → list_any (bonds bond a b) (without_link c d links) ≡ (not (joins a b (invitation c d)) && list_any (bonds bond a b) links)
+bond_parted : (bond : Bond) (a b c d : ℕ) (links : List Link)
+    → list_any (bonds bond a b) (without_link c d links) ≡ (not (joins a b (invitation c d)) && list_any (bonds bond a b) links)
 bond_parted bond a b c d links =
-    any-filter_same (bonds bond a b) (λ link. not (joins c d link)) (not (joins a b (invitation c d))) (λ link e. same_two a b c d link (bond_joins bond a b link e)) links
+    any-filter_same (bonds bond a b) (λ link. not (joins c d link))
+    (not (joins a b (invitation c d))) (λ link e. same_two a b c d link (bond_joins bond a b link e)) links
 
-bond_put : (bond : Bond) (a b : ℕ) (new : Link) (links : List Link) → list_any (bonds bond a b) (with_link new links) ≡ (list_any (bonds bond a b) links || bonds bond a b new)
+bond_put : (bond : Bond) (a b : ℕ) (new : Link) (links : List Link)
+    → list_any (bonds bond a b) (with_link new links) ≡ (list_any (bonds bond a b) links || bonds bond a b new)
 bond_put bond a b new links = any-insert (bonds bond a b) links (count_by (is_before new) links) new
 
-bond_step : (bond : Bond) (a b : ℕ) (change : Change) (t : Tables) → list_any (bonds bond a b) (changed change t).links ≡ still_bonds bond a b (list_any (bonds bond a b) t.links) change
+bond_step : (bond : Bond) (a b : ℕ) (change : Change) (t : Tables)
+    → list_any (bonds bond a b) (changed change t).links ≡ still_bonds bond a b (list_any (bonds bond a b) t.links) change
 bond_step bond a b (Invite c d) t = bond_put bond a b (invitation c d) t.links
 bond_step bond a b (Accept c d) t =
     bond_put bond a b (friendship c d) (without_link c d t.links) ∙ ap (λ s. s || bonds bond a b (friendship c d)) (bond_parted bond a b c d t.links)
@@ -79,15 +89,18 @@ bond_step bond a b (Reject c d) t = bond_parted bond a b c d t.links
 bond_step bond a b (Thaw c d) t = bond_parted bond a b c d t.links
 bond_step bond a b (Rename c name) t = refl
 
-pub bonds_after : (bond : Bond) (a b place : ℕ) (changes : List Change) (t after : Tables) → Fit t → All HasIds changes → apply_from place changes t ≡ Ok after → list_any (bonds bond a b) after.links ≡ fold (still_bonds bond a b) (list_any (bonds bond a b) t.links) changes
+pub bonds_after : (bond : Bond) (a b place : ℕ) (changes : List Change) (t after : Tables) → Fit t → All HasIds changes
+    → apply_from place changes t ≡ Ok after → list_any (bonds bond a b) after.links ≡ fold (still_bonds bond a b) (list_any (bonds bond a b) t.links) changes
 bonds_after bond a b place changes t after fit ids e =
     walked (still_bonds bond a b) (λ u. list_any (bonds bond a b) u.links) (λ change u h. bond_step bond a b change u) place changes t after fit ids e
 
 -- who is a member stays
-members_stay_go : (id c : ℕ) (name : List ℕ) (members : List Member) → list_any (λ m. m.id == id) (map (renamed c name) members) ≡ list_any (λ m. m.id == id) members
+members_stay_go : (id c : ℕ) (name : List ℕ) (members : List Member)
+    → list_any (λ m. m.id == id) (map (renamed c name) members) ≡ list_any (λ m. m.id == id) members
 members_stay_go id c name [] = refl
 members_stay_go id c name (m ∷ ms) =
-    ap (λ (n : ℕ). (n == id) || list_any (λ m. m.id == id) (map (renamed c name) ms)) (same_id c name m) ∙ ap (λ s. (m.id == id) || s) (members_stay_go id c name ms)
+    ap (λ (n : ℕ). (n == id) || list_any (λ m. m.id == id) (map (renamed c name) ms)) (same_id c name m)
+    ∙ ap (λ s. (m.id == id) || s) (members_stay_go id c name ms)
 
 member_step : (id : ℕ) (change : Change) (t : Tables) → is_member id (changed change t) ≡ is_member id t
 member_step id (Invite a b) t = refl
@@ -96,13 +109,15 @@ member_step id (Reject a b) t = refl
 member_step id (Thaw a b) t = refl
 member_step id (Rename a name) t = members_stay_go id a name t.members
 
-pub members_stay : (id place : ℕ) (changes : List Change) (t after : Tables) → Fit t → All HasIds changes → apply_from place changes t ≡ Ok after → is_member id after ≡ is_member id t
+pub members_stay : (id place : ℕ) (changes : List Change) (t after : Tables)
+    → Fit t → All HasIds changes → apply_from place changes t ≡ Ok after → is_member id after ≡ is_member id t
 members_stay id place changes t after fit ids e =
     walked (λ (b : Bool) (change : Change). b) (λ u. is_member id u) (λ change u h. member_step id change u) place changes t after fit ids e
     ∙ fold_stays (λ (b : Bool) (change : Change). b) (is_member id t) (λ change. refl) changes
 
 -- a member that is found is there
-found_go : {X : Type 0} (p : X → Bool) (x : X) (xs : List X) (b : Bool) → is_some (find p xs) ≡ list_any p xs → is_some (cond b (Some x) (find p xs)) ≡ (b || list_any p xs)
+found_go : {X : Type 0} (p : X → Bool) (x : X) (xs : List X) (b : Bool)
+    → is_some (find p xs) ≡ list_any p xs → is_some (cond b (Some x) (find p xs)) ≡ (b || list_any p xs)
 found_go p x xs true rest = refl
 found_go p x xs false rest = rest
 
@@ -127,7 +142,10 @@ joined_differ t a b p fit joined e same =
 
 two_in : (change : Change) (t : Tables) → Fit t → applies change t ≡ true → AreTwo change
 two_in (Invite a b) t fit e = λ same.
-    let one = and_parts (not (a == b)) (is_member a t) (and_parts (not (a == b) && is_member a t) (is_member b t) (and_parts (not (a == b) && is_member a t && is_member b t) (not (is_linked a b t)) (and_parts (not (a == b) && is_member a t && is_member b t && not (is_linked a b t)) (nat_lt (length t.links) 1000000) e).0).0).0 in
+    let one =
+    and_parts (not (a == b)) (is_member a t) (and_parts (not (a == b) && is_member a t) (is_member b t)
+    (and_parts (not (a == b) && is_member a t && is_member b t) (not (is_linked a b t))
+    (and_parts (not (a == b) && is_member a t && is_member b t && not (is_linked a b t)) (nat_lt (length t.links) 1000000) e).0).0).0 in
     let eq : (a == b) ≡ true = eq-eqb a b same in
     false≢true (sym (ap not eq) ∙ one.0)
 two_in (Accept a b) t fit e = joined_differ t a b (bonds Invitation a b) fit (bond_joins Invitation a b) e
@@ -136,7 +154,8 @@ two_in (Thaw a b) t fit e = joined_differ t a b (bonds Friendship a b) fit (bond
 two_in (Rename a name) t fit e = tt
 
 -- changes that apply in turn name two members each
-two_go : (place : ℕ) (change : Change) (changes : List Change) (t after : Tables) (b : Bool) → applies change t ≡ b → Fit t → HasIds change → (if b then apply_from (place + 1) changes (changed change t) else Err place) ≡ Ok after
+two_go : (place : ℕ) (change : Change) (changes : List Change) (t after : Tables) (b : Bool)
+    → applies change t ≡ b → Fit t → HasIds change → (if b then apply_from (place + 1) changes (changed change t) else Err place) ≡ Ok after
     → (Fit (changed change t) → apply_from (place + 1) changes (changed change t) ≡ Ok after → All AreTwo changes) → All AreTwo (change ∷ changes)
 two_go place change changes t after true takes fit ids e rest =
     All-cons AreTwo change changes (two_in change t fit takes) (rest (Fit-changed change t fit ids takes) e)
@@ -159,7 +178,8 @@ joins_once : (a b : ℕ) (link later : Link) → joins later.a later.b link ≡ 
 joins_once a b link later h e = grind (arith, nat_tests)
 
 -- without their one link there is one less
-one_less_go : (a b : ℕ) (x : Link) (xs : List Link) (c : Bool) → joins a b x ≡ c → All (λ later. joins later.a later.b x ≡ false) xs → (c || list_any (joins a b) xs) ≡ true
+one_less_go : (a b : ℕ) (x : Link) (xs : List Link) (c : Bool)
+    → joins a b x ≡ c → All (λ later. joins later.a later.b x ≡ false) xs → (c || list_any (joins a b) xs) ≡ true
     → (list_any (joins a b) xs ≡ true → length (without_link a b xs) + 1 ≡ length xs)
     → length (cond (not c) (x ∷ without_link a b xs) (without_link a b xs)) + 1 ≡ suc (length xs)
 one_less_go a b x xs true ec apart e rest =
@@ -167,7 +187,8 @@ one_less_go a b x xs true ec apart e rest =
     omega (arith, ap length (filter_all (λ y. not (joins a b y)) xs all))
 one_less_go a b x xs false ec apart e rest = omega (arith, rest e)
 
-one_less : (a b : ℕ) (links : List Link) → AllPairs (λ link later. joins later.a later.b link ≡ false) links → list_any (joins a b) links ≡ true → length (without_link a b links) + 1 ≡ length links
+one_less : (a b : ℕ) (links : List Link) → AllPairs (λ link later. joins later.a later.b link ≡ false) links
+    → list_any (joins a b) links ≡ true → length (without_link a b links) + 1 ≡ length links
 one_less a b [] apart e = absurd (false≢true e)
 one_less a b (x ∷ xs) apart e =
     let R : Link → Link → Type 0 = λ link later. joins later.a later.b link ≡ false in
@@ -180,7 +201,8 @@ length-with : (new : Link) (links : List Link) → length (with_link new links) 
 length-with new links = length-insert links (count_by (is_before new) links) new (count_by-le-length (is_before new) links)
 
 -- how many links there are after a change that applies
-count_step : (change : Change) (t : Tables) → Fit t → applies change t ≡ true → length (changed change t).links + cond (ends change) 1 0 ≡ length t.links + cond (adds change) 1 0
+count_step : (change : Change) (t : Tables) → Fit t → applies change t ≡ true
+    → length (changed change t).links + cond (ends change) 1 0 ≡ length t.links + cond (adds change) 1 0
 count_step (Invite a b) t fit e = omega (arith, length-with (invitation a b) t.links)
 count_step (Accept a b) t fit e =
     let less = one_less a b t.links fit.one_link (any_of_bond Invitation a b t.links e) in
@@ -191,15 +213,18 @@ count_step (Thaw a b) t fit e =
     let less = one_less a b t.links fit.one_link (any_of_bond Friendship a b t.links e) in omega (arith, less)
 count_step (Rename a name) t fit e = omega arith
 
-count_go : (place : ℕ) (change : Change) (changes : List Change) (t after : Tables) (b : Bool) → applies change t ≡ b → Fit t → HasIds change → (if b then apply_from (place + 1) changes (changed change t) else Err place) ≡ Ok after
-    → (Fit (changed change t) → apply_from (place + 1) changes (changed change t) ≡ Ok after → length after.links + count_by ends changes ≡ length (changed change t).links + count_by adds changes)
+count_go : (place : ℕ) (change : Change) (changes : List Change) (t after : Tables) (b : Bool)
+    → applies change t ≡ b → Fit t → HasIds change → (if b then apply_from (place + 1) changes (changed change t) else Err place) ≡ Ok after
+    → (Fit (changed change t) → apply_from (place + 1) changes (changed change t) ≡ Ok after
+    → length after.links + count_by ends changes ≡ length (changed change t).links + count_by adds changes)
     → length after.links + count_by ends (change ∷ changes) ≡ length t.links + count_by adds (change ∷ changes)
 count_go place change changes t after true takes fit ids e rest =
     let later = rest (Fit-changed change t fit ids takes) e in
     omega (arith, later, count_step change t fit takes, count_cons ends change changes, count_cons adds change changes)
 count_go place change changes t after false takes fit ids e rest = absurd cc
 
-pub links_counted : (place : ℕ) (changes : List Change) (t after : Tables) → Fit t → All HasIds changes → apply_from place changes t ≡ Ok after → length after.links + count_by ends changes ≡ length t.links + count_by adds changes
+pub links_counted : (place : ℕ) (changes : List Change) (t after : Tables)
+    → Fit t → All HasIds changes → apply_from place changes t ≡ Ok after → length after.links + count_by ends changes ≡ length t.links + count_by adds changes
 links_counted place [] t after fit ids e =
     let same : t ≡ after = cc in
     let n : length t.links ≡ length after.links = ap (λ (u : Tables). length u.links) same in
@@ -212,30 +237,40 @@ links_counted place (change ∷ changes) t after fit ids e =
 few_alike : (n m adding ending : ℕ) → n + ending ≡ m + adding → nat_lt (m + adding) (1000000 + ending) ≡ nat_lt n 1000000
 few_alike n m adding ending e = grind (arith, nat_tests)
 
-pub invite_judged : (a b count : ℕ) (earlier : List Change) (t after : Tables) (r : Bool) → Fit t → All HasIds earlier → count ≡ length t.links → apply_all earlier t ≡ Ok after
-    → r ≡ (not (a == b) && is_member a t && is_member b t && not (fold (still_bonds Any a b) (list_any (joins a b) t.links) earlier) && nat_lt (count + count_by adds earlier) (1000000 + count_by ends earlier))
+pub invite_judged : (a b count : ℕ) (earlier : List Change) (t after : Tables) (r : Bool)
+    → Fit t → All HasIds earlier → count ≡ length t.links → apply_all earlier t ≡ Ok after
+    → r ≡ (not (a == b) && is_member a t && is_member b t && not (fold (still_bonds Any a b) (list_any (joins a b) t.links) earlier)
+    && nat_lt (count + count_by adds earlier) (1000000 + count_by ends earlier))
     → r ≡ applies (Invite a b) after
 invite_judged a b count earlier t after r fit ids counted e is =
     let made = sym (apply_all_is earlier t) ∙ e in
-    let n : length after.links + count_by ends earlier ≡ count + count_by adds earlier = links_counted 0 earlier t after fit ids made ∙ ap (λ (k : ℕ). k + count_by adds earlier) (sym counted) in
+    let n : length after.links + count_by ends earlier ≡ count + count_by adds earlier =
+    links_counted 0 earlier t after fit ids made ∙ ap (λ (k : ℕ). k + count_by adds earlier) (sym counted) in
     let few = few_alike (length after.links) count (count_by adds earlier) (count_by ends earlier) n in
-    let linked : fold (still_bonds Any a b) (list_any (joins a b) t.links) earlier ≡ is_linked a b after = sym (bonds_after Any a b 0 earlier t after fit ids made) in
+    let linked : fold (still_bonds Any a b) (list_any (joins a b) t.links) earlier ≡ is_linked a b after =
+    sym (bonds_after Any a b 0 earlier t after fit ids made) in
     let one = sym (members_stay a 0 earlier t after fit ids made) in
     let other = sym (members_stay b 0 earlier t after fit ids made) in
-    is ∙ (ap (λ s. not (a == b) && s && is_member b t && not (fold (still_bonds Any a b) (list_any (joins a b) t.links) earlier) && nat_lt (count + count_by adds earlier) (1000000 + count_by ends earlier)) one
-    ∙ (ap (λ s. not (a == b) && is_member a after && s && not (fold (still_bonds Any a b) (list_any (joins a b) t.links) earlier) && nat_lt (count + count_by adds earlier) (1000000 + count_by ends earlier)) other
-    ∙ (ap (λ s. not (a == b) && is_member a after && is_member b after && not s && nat_lt (count + count_by adds earlier) (1000000 + count_by ends earlier)) linked
+    is ∙ (ap (λ s. not (a == b) && s && is_member b t && not (fold (still_bonds Any a b) (list_any (joins a b) t.links) earlier)
+    && nat_lt (count + count_by adds earlier) (1000000 + count_by ends earlier)) one
+    ∙ (ap (λ s. not (a == b) && is_member a after && s && not (fold (still_bonds Any a b) (list_any (joins a b) t.links) earlier)
+    && nat_lt (count + count_by adds earlier) (1000000 + count_by ends earlier)) other
+    ∙ (ap (λ s. not (a == b) && is_member a after && is_member b after
+    && not s && nat_lt (count + count_by adds earlier) (1000000 + count_by ends earlier)) linked
     ∙ ap (λ s. not (a == b) && is_member a after && is_member b after && not (is_linked a b after) && s) few)))
 
-pub bond_judged : (bond : Bond) (a b : ℕ) (earlier : List Change) (t after : Tables) (r : Bool) → Fit t → All HasIds earlier → apply_all earlier t ≡ Ok after → r ≡ fold (still_bonds bond a b) (list_any (bonds bond a b) t.links) earlier → r ≡ list_any (bonds bond a b) after.links
+pub bond_judged : (bond : Bond) (a b : ℕ) (earlier : List Change) (t after : Tables) (r : Bool) → Fit t → All HasIds earlier
+    → apply_all earlier t ≡ Ok after → r ≡ fold (still_bonds bond a b) (list_any (bonds bond a b) t.links) earlier → r ≡ list_any (bonds bond a b) after.links
 bond_judged bond a b earlier t after r fit ids e is =
     is ∙ sym (bonds_after bond a b 0 earlier t after fit ids (sym (apply_all_is earlier t) ∙ e))
 
-pub rename_judged : (a : ℕ) (earlier : List Change) (t after : Tables) (r : Bool) → Fit t → All HasIds earlier → apply_all earlier t ≡ Ok after → r ≡ is_member a t → r ≡ is_member a after
+pub rename_judged : (a : ℕ) (earlier : List Change) (t after : Tables) (r : Bool)
+    → Fit t → All HasIds earlier → apply_all earlier t ≡ Ok after → r ≡ is_member a t → r ≡ is_member a after
 rename_judged a earlier t after r fit ids e is = is ∙ sym (members_stay a 0 earlier t after fit ids (sym (apply_all_is earlier t) ∙ e))
 
 -- changes in two parts
-append_go : (place : ℕ) (x : Change) (xs ys : List Change) (t mid : Tables) (b : Bool) → (if b then apply_from (place + 1) xs (changed x t) else Err place) ≡ Ok mid
+append_go : (place : ℕ) (x : Change) (xs ys : List Change) (t mid : Tables) (b : Bool)
+    → (if b then apply_from (place + 1) xs (changed x t) else Err place) ≡ Ok mid
     → (apply_from (place + 1) xs (changed x t) ≡ Ok mid → apply_from (place + 1) (xs ++ ys) (changed x t) ≡ apply_from (place + 1 + length xs) ys mid)
     → (if b then apply_from (place + 1) (xs ++ ys) (changed x t) else Err place) ≡ apply_from (place + suc (length xs)) ys mid
 append_go place x xs ys t mid true e rest =
@@ -243,7 +278,8 @@ append_go place x xs ys t mid true e rest =
     rest e ∙ ap (λ (k : ℕ). apply_from k ys mid) n
 append_go place x xs ys t mid false e rest = absurd cc
 
-applied_append : (place : ℕ) (xs ys : List Change) (t mid : Tables) → apply_from place xs t ≡ Ok mid → apply_from place (xs ++ ys) t ≡ apply_from (place + length xs) ys mid
+applied_append : (place : ℕ) (xs ys : List Change) (t mid : Tables)
+    → apply_from place xs t ≡ Ok mid → apply_from place (xs ++ ys) t ≡ apply_from (place + length xs) ys mid
 applied_append place [] ys t mid e =
     let same : t ≡ mid = cc in
     let n : place ≡ place + 0 = omega arith in
@@ -252,7 +288,9 @@ applied_append place (x ∷ xs) ys t mid e =
     append_go place x xs ys t mid (applies x t) e (applied_append (place + 1) xs ys (changed x t) mid)
 
 -- one more change that applies, and the first that doesn't
-pub one_more_applies : (changes : List Change) (i : ℕ) (d : Change) (t mid : Tables) → i < length changes → apply_all (take i changes) t ≡ Ok mid → applies (get_or changes i d) mid ≡ true → apply_all (take (i + 1) changes) t ≡ Ok (changed (get_or changes i d) mid)
+pub one_more_applies : (changes : List Change) (i : ℕ) (d : Change) (t mid : Tables) → i < length changes
+    → apply_all (take i changes) t ≡ Ok mid → applies (get_or changes i d) mid ≡ true
+    → apply_all (take (i + 1) changes) t ≡ Ok (changed (get_or changes i d) mid)
 one_more_applies changes i d t mid l e takes =
     let change = get_or changes i d in
     let made = sym (apply_all_is (take i changes) t) ∙ e in
@@ -261,16 +299,19 @@ one_more_applies changes i d t mid l e takes =
     ∙ (applied_append 0 (take i changes) (change ∷ []) t mid made
     ∙ ap (λ b. if b then Ok (changed change mid) else Err (0 + length (take i changes))) takes))
 
-pub first_fails : (changes : List Change) (i : ℕ) (d : Change) (t mid : Tables) → i < length changes → apply_all (take i changes) t ≡ Ok mid → applies (get_or changes i d) mid ≡ false → apply_all changes t ≡ Err i
+pub first_fails : (changes : List Change) (i : ℕ) (d : Change) (t mid : Tables)
+    → i < length changes → apply_all (take i changes) t ≡ Ok mid → applies (get_or changes i d) mid ≡ false → apply_all changes t ≡ Err i
 first_fails changes i d t mid l e refused =
     let change = get_or changes i d in
     let made = sym (apply_all_is (take i changes) t) ∙ e in
-    let whole : changes ≡ take i changes ++ (change ∷ drop (suc i) changes) = sym (take-append-drop i changes) ∙ ap (λ (cs : List Change). take i changes ++ cs) (drop-cons changes i d l) in
+    let whole : changes ≡ take i changes ++ (change ∷ drop (suc i) changes) =
+    sym (take-append-drop i changes) ∙ ap (λ (cs : List Change). take i changes ++ cs) (drop-cons changes i d l) in
     let n : 0 + length (take i changes) ≡ i = omega (arith, length-take i changes) in
     apply_all_is changes t
     ∙ (ap (λ (cs : List Change). apply_from 0 cs t) whole
     ∙ (applied_append 0 (take i changes) (change ∷ drop (suc i) changes) t mid made
-    ∙ (ap (λ b. if b then apply_from (0 + length (take i changes) + 1) (drop (suc i) changes) (changed change mid) else Err (0 + length (take i changes))) refused
+    ∙ (ap (λ b. if b then apply_from (0 + length (take i changes) + 1)
+    (drop (suc i) changes) (changed change mid) else Err (0 + length (take i changes))) refused
     ∙ ap (λ (k : ℕ). (let r : Result Tables ℕ = Err k in r)) n)))
 
 -- an acceptance and a rejection ask the same

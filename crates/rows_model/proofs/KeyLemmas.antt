@@ -1,5 +1,6 @@
 -- A key and its text tell one another.
-use Rattle.std.proofs.Common.{Option, IfSome, IfNone, ◌^◌, ◌*◌, ℕ, ◌+◌, ◌-◌, ◌<◌, ◌≡◌, List, ◌∷◌, ◌++◌, length, take, drop, get_or, decimal, Some, None, position, arith, sym, refl, ap, ◌∙◌, rules, take-append-drop, take_at}
+use Rattle.std.proofs.Common.{Option, IfSome, IfNone, ◌^◌, ◌*◌, ℕ, ◌+◌, ◌-◌, ◌<◌, ◌≡◌, List, ◌∷◌, ◌++◌, length, take, drop, get_or, decimal}
+use Rattle.std.proofs.Common.{Some, None, position, arith, sym, refl, ap, ◌∙◌, rules, take-append-drop, take_at}
 use Rattle.std.specs.List.{position_from}
 use Rattle.std.proofs.lemmas.Iterator.Adapters.{position_from-zero}
 use Rattle.std.proofs.lemmas.List.Quantifiers.{position-Some}
@@ -71,7 +72,8 @@ none_without_word text colon at none key h =
     none key.kind (rw e at s.word)
 
 -- nor is one whose back is no id
-pub none_without_id : (text : List ℕ) (colon : ℕ) → position is_colon text ≡ Some colon → IsNoIdText (take (length text - (colon + 1)) (drop (colon + 1) text)) → IsNoKeyText text
+pub none_without_id : (text : List ℕ) (colon : ℕ) → position is_colon text ≡ Some colon
+    → IsNoIdText (take (length text - (colon + 1)) (drop (colon + 1) text)) → IsNoKeyText text
 none_without_id text colon at none key h =
     let s = key_split text key h in
     let e = colon_is text colon key at h in
@@ -79,12 +81,14 @@ none_without_id text colon at none key h =
     none key.id (record { id_from = h.id_from; id_below = h.id_below; written = take_rest text (colon + 1) ∙ written })
 
 -- a word, a colon and an id make the text of a key
-pub key_joined : (text : List ℕ) (colon : ℕ) (kind : Kind) (id : ℕ) → position is_colon text ≡ Some colon → take colon text ≡ word_of kind → IsIdText (take (length text - (colon + 1)) (drop (colon + 1) text)) id → IsKeyText text (record { kind = kind; id = id })
+pub key_joined : (text : List ℕ) (colon : ℕ) (kind : Kind) (id : ℕ) → position is_colon text ≡ Some colon
+    → take colon text ≡ word_of kind → IsIdText (take (length text - (colon + 1)) (drop (colon + 1) text)) id → IsKeyText text (record { kind = kind; id = id })
 key_joined text colon kind id at word h =
     let place = position-Some is_colon text colon 0 at in
     let byte : get_or text colon 0 ≡ 58 = search (rules, nat_tests) in
     let back : drop colon text ≡ 58 ∷ decimal id =
-    drop_more text colon 0 place.0 ∙ (ap (λ (b : ℕ). b ∷ drop (colon + 1) text) byte ∙ ap (λ (ds : List ℕ). 58 ∷ ds) (sym (take_rest text (colon + 1)) ∙ h.written)) in
+    drop_more text colon 0 place.0
+    ∙ (ap (λ (b : ℕ). b ∷ drop (colon + 1) text) byte ∙ ap (λ (ds : List ℕ). 58 ∷ ds) (sym (take_rest text (colon + 1)) ∙ h.written)) in
     let whole : text ≡ word_of kind ++ 58 ∷ decimal id =
     sym (take-append-drop colon text) ∙ (ap (λ (front : List ℕ). front ++ drop colon text) word ∙ ap (λ (rest : List ℕ). word_of kind ++ rest) back) in
     record { id_from = h.id_from; id_below = h.id_below; written = whole ∙ sym (key_text_is (record { kind = kind; id = id })) }
@@ -132,7 +136,8 @@ key_text_injective a b below_a below_b e =
     key_from_parts a b (word_injective a.kind b.kind words) (decimal_injective a.id b.id below_a below_b backs)
 
 -- what `parse` answers to the text of a key
-pub parse_gives : (text : List ℕ) (key : QKey) (r : Option QKey) → IfSome r (λ found. IsKeyText text found) → IfNone r (IsNoKeyText text) → IsKeyText text key → r ≡ Some key
+pub parse_gives : (text : List ℕ) (key : QKey) (r : Option QKey)
+    → IfSome r (λ found. IsKeyText text found) → IfNone r (IsNoKeyText text) → IsKeyText text key → r ≡ Some key
 parse_gives text key (Some other) found none h =
     ap (λ (k : QKey). Some k) (key_text_injective other key (omega (arith, found.id_below)) (omega (arith, h.id_below)) (sym found.written ∙ h.written))
 parse_gives text key None found none h = absurd (none key h)

@@ -1,5 +1,6 @@
 -- Names, and their place at the front of 40 bytes.
-use Rattle.std.proofs.Common.{ℕ, ◌+◌, ◌-◌, ◌<◌, ◌≤◌, ◌^◌, ◌≡◌, List, ◌∷◌, ◌++◌, length, take, drop, replicate, decimal, All, arith, ap, ◌∙◌, add-one, take_at, drop_at, length-append}
+use Rattle.std.proofs.Common.{ℕ, ◌+◌, ◌-◌, ◌<◌, ◌≤◌, ◌^◌, ◌≡◌, List, ◌∷◌, ◌++◌, length, take, drop, replicate, decimal, All, arith, ap, ◌∙◌}
+use Rattle.std.proofs.Common.{add-one, take_at, drop_at, length-append}
 use Rattle.std.proofs.lemmas.List.{drop-replicate, length-replicate}
 use Rattle.std.proofs.lemmas.List.Elements.{All-cons, All-from_get_or}
 use Rattle.std.specs.Str.Parse.{AllDigits}
@@ -8,7 +9,8 @@ use Rattle.std.proofs.lemmas.Fmt.{digits_decimal, length-decimal-le}
 use Rattle.rows_model.specs.Name.{IsName, IsNameByte, IsPaddedName}
 
 -- a name that is written over the front of 40 zeros
-pub filled_is : (text front zeros : List ℕ) → IsName text → front ≡ text → zeros ≡ replicate 40 0 → IsPaddedName (length text) (front ++ drop (length text) zeros)
+pub filled_is : (text front zeros : List ℕ) → IsName text → front ≡ text
+    → zeros ≡ replicate 40 0 → IsPaddedName (length text) (front ++ drop (length text) zeros)
 filled_is text front zeros name e z =
     let n : length front ≡ length text = ap length e in
     let rest : drop (length text) zeros ≡ replicate (40 - length text) 0 =
@@ -27,7 +29,8 @@ filled_is text front zeros name e z =
 pub IsName-numbered : (n : ℕ) → n < 2 ^ 64 → IsName (109 ∷ decimal n)
 IsName-numbered n small =
     let all : AllDigits 10 (decimal n) = digits_decimal (numerals_by_value (AllDigits 10) tells_digits) n small in
-    let digits : All IsNameByte (decimal n) = All-from_get_or IsNameByte (decimal n) 0 (λ i l. let d = digit_at (decimal n) i all l in (omega (arith, d.0), omega (arith, d.1))) in
+    let digits : All IsNameByte (decimal n) =
+    All-from_get_or IsNameByte (decimal n) 0 (λ i l. let d = digit_at (decimal n) i all l in (omega (arith, d.0), omega (arith, d.1))) in
     let short : length (decimal n) ≤ 20 = length-decimal-le 20 n (omega arith) (omega arith) small in
     record {
       some = omega arith;
@@ -36,7 +39,8 @@ IsName-numbered n small =
     }
 
 -- the same, as the front of a longer text
-pub IsName-front : (n : ℕ) (digits front rest : List ℕ) → n < 2 ^ 64 → digits ≡ decimal n → front ≡ digits → IsName (take (length digits + 1) (109 ∷ (front ++ rest)))
+pub IsName-front : (n : ℕ) (digits front rest : List ℕ) → n < 2 ^ 64
+    → digits ≡ decimal n → front ≡ digits → IsName (take (length digits + 1) (109 ∷ (front ++ rest)))
 IsName-front n digits front rest small d f =
     let whole : take (length digits + 1) (109 ∷ (front ++ rest)) ≡ 109 ∷ decimal n =
     rw add-one (ap (λ (xs : List ℕ). 109 ∷ xs) (take_at front rest (length digits) (ap length f) ∙ (f ∙ d))) in

@@ -1,5 +1,6 @@
 -- The lists of the members, one by one: where a member's stands, and what a call leaves of each.
-use Rattle.std.proofs.Common.{ℕ, zero, suc, ◌+◌, ◌<◌, ◌≤◌, ◌≡◌, ◌≢◌, Bool, true, false, not, List, [], ◌∷◌, length, get_or, set, map, All, AllPairs, IfSome, IfNone, OnOk, Result, Ok, Err, refl, sym, ap, subst, ◌∙◌, inl, inr, arith}
+use Rattle.std.proofs.Common.{ℕ, zero, suc, ◌+◌, ◌<◌, ◌≤◌, ◌≡◌, ◌≢◌, Bool, true, false, not, List, [], ◌∷◌, length, get_or, set, map, All}
+use Rattle.std.proofs.Common.{AllPairs, IfSome, IfNone, OnOk, Result, Ok, Err, refl, sym, ap, subst, ◌∙◌, inl, inr, arith}
 use Rattle.std.specs.Prelude.{◌==◌, ◌&&◌, ◌||◌, if◌then◌else◌, count_by, vec_capacity, fold, ◌⊎◌}
 use Rattle.std.specs.List.{list_any, AllZip}
 use Rattle.std.specs.Result.{result_ok}
@@ -27,18 +28,21 @@ use Rattle.rows_model.specs.NearSteps.{HasRoomAt, HasRoomAtBoth, IsGrown, HasRoo
 use Rattle.rows_model.proofs.FitLemmas.{pairs_head, pairs_tail, none_passes, same_id}
 
 -- elements whose numbers ascend can be searched by halves
-sorted_by : {X : Type 0} (f : X → ℕ) (xs : List X) → AllPairs (λ x y. f x < f y) xs → (k : ℕ) (d : X) → 0 ≤ k → k + 1 < length xs → is_lt (nat_cmp (f (get_or xs (k + 1) d)) (f (get_or xs k d))) ≡ false
+sorted_by : {X : Type 0} (f : X → ℕ) (xs : List X) → AllPairs (λ x y. f x < f y) xs
+    → (k : ℕ) (d : X) → 0 ≤ k → k + 1 < length xs → is_lt (nat_cmp (f (get_or xs (k + 1) d)) (f (get_or xs k d))) ≡ false
 sorted_by f xs ascend k d low l =
     let up = ascend k (k + 1) d (omega arith) l in
     grind (arith, nat_tests)
 
 -- what the search by halves finds
-pub place_found : {X : Type 0} (f : X → ℕ) (xs : List X) (id : ℕ) (r : Result ℕ ℕ) → IsSearchInRange r (length xs) → IsBinarySearchResult (λ x. nat_cmp (f x) id) xs r → IfSome (result_ok r) (λ place. IsAt (λ x. f x == id) xs place)
+pub place_found : {X : Type 0} (f : X → ℕ) (xs : List X) (id : ℕ) (r : Result ℕ ℕ)
+    → IsSearchInRange r (length xs) → IsBinarySearchResult (λ x. nat_cmp (f x) id) xs r → IfSome (result_ok r) (λ place. IsAt (λ x. f x == id) xs place)
 place_found f xs id (Ok i) l h =
     record { within = l; passes = λ d. let same = ranked (f (get_or xs i d)) id Equal (sym (h d)) in grind (arith, nat_tests) }
 place_found f xs id (Err i) l h = tt
 
-pub place_none : {X : Type 0} (f : X → ℕ) (xs : List X) (id : ℕ) (r : Result ℕ ℕ) → AllPairs (λ x y. f x < f y) xs → IsBinarySearchResult (λ x. nat_cmp (f x) id) xs r → IfNone (result_ok r) (list_any (λ x. f x == id) xs ≡ false)
+pub place_none : {X : Type 0} (f : X → ℕ) (xs : List X) (id : ℕ) (r : Result ℕ ℕ)
+    → AllPairs (λ x y. f x < f y) xs → IsBinarySearchResult (λ x. nat_cmp (f x) id) xs r → IfNone (result_ok r) (list_any (λ x. f x == id) xs ≡ false)
 place_none f xs id (Ok i) ascend h = tt
 place_none f xs id (Err i) ascend h =
     let up = searchable_from_sorted nat_cmp_total f xs id (sorted_by f xs ascend) in
@@ -66,7 +70,8 @@ pub renamed_none : (id : ℕ) (name : List ℕ) (xs : List Member) → list_any 
 renamed_none id name xs none = sym (renamed_others id name xs (none_passes (λ m. m.id == id) xs none))
 
 -- the one member of an id, with another name
-pub renamed_is : (id : ℕ) (name : List ℕ) (xs : List Member) (i : ℕ) (d : Member) → AllPairs (λ member later. member.id < later.id) xs → i < length xs → ((get_or xs i d).id == id) ≡ true → set xs i (record { id = (get_or xs i d).id; name = name }) ≡ map (renamed id name) xs
+pub renamed_is : (id : ℕ) (name : List ℕ) (xs : List Member) (i : ℕ) (d : Member) → AllPairs (λ member later. member.id < later.id) xs
+    → i < length xs → ((get_or xs i d).id == id) ≡ true → set xs i (record { id = (get_or xs i d).id; name = name }) ≡ map (renamed id name) xs
 renamed_is id name [] i d up l here = absurd (omega arith)
 renamed_is id name (x ∷ xs) zero d up l here =
     let later = pairs_head (λ member later. member.id < later.id) x xs up in
@@ -88,13 +93,15 @@ zip_itself R [] all = tt
 zip_itself R (x ∷ near) all = (All-head (λ y. R y y) x near all, zip_itself R near (All-tail (λ y. R y y) x near all))
 
 -- the lists of other members stay, where this one has none
-pub zip_none : (R : Near → Near → Type 0) (near : List Near) (id : ℕ) → list_any (λ one. one.id == id) near ≡ false → ((x : Near) → (x.id ≡ id → ⊥) → R x x) → AllZip R near near
+pub zip_none : (R : Near → Near → Type 0) (near : List Near) (id : ℕ)
+    → list_any (λ one. one.id == id) near ≡ false → ((x : Near) → (x.id ≡ id → ⊥) → R x x) → AllZip R near near
 zip_none R near id none stay =
     let others = none_passes (λ one. one.id == id) near none in
     zip_itself R near (λ k d l. stay (get_or near k d) (λ e. (let h = others k d l in grind (arith, nat_tests))))
 
 -- and where its list was changed
-pub zip_at : (R : Near → Near → Type 0) (near : List Near) (id i : ℕ) (d y : Near) → NearAscend near → i < length near → ((get_or near i d).id == id) ≡ true → R (get_or near i d) y → ((x : Near) → (x.id ≡ id → ⊥) → R x x) → AllZip R near (set near i y)
+pub zip_at : (R : Near → Near → Type 0) (near : List Near) (id i : ℕ) (d y : Near) → NearAscend near
+    → i < length near → ((get_or near i d).id == id) ≡ true → R (get_or near i d) y → ((x : Near) → (x.id ≡ id → ⊥) → R x x) → AllZip R near (set near i y)
 zip_at R [] id i d y up l at here stay = absurd (omega arith)
 zip_at R (z ∷ near) id zero d y up l at here stay =
     let later = pairs_head (λ one later. one.id < later.id) z near up in
@@ -105,7 +112,8 @@ zip_at R (z ∷ near) id (suc i) d y up l at here stay =
     (stay z other, zip_at R near id i d y (pairs_tail (λ one later. one.id < later.id) z near up) (omega arith) at here stay)
 
 -- one call after another
-pub zip_chain : (R S T : Near → Near → Type 0) → ((x y z : Near) → R x y → S y z → T x z) → (xs ys zs : List Near) → AllZip R xs ys → AllZip S ys zs → AllZip T xs zs
+pub zip_chain : (R S T : Near → Near → Type 0) → ((x y z : Near) → R x y → S y z → T x z)
+    → (xs ys zs : List Near) → AllZip R xs ys → AllZip S ys zs → AllZip T xs zs
 zip_chain R S T step [] [] [] one two = tt
 zip_chain R S T step [] [] (z ∷ zs) one two = absurd two
 zip_chain R S T step [] (y ∷ ys) zs one two = absurd one
@@ -122,7 +130,8 @@ zip_all R P Q step (x ∷ xs) (y ∷ ys) zip all =
     All-cons Q y ys (step x y zip.0 (All-head P x xs all)) (zip_all R P Q step xs ys zip.1 (All-tail P x xs all))
 
 -- a call keeps the ids
-pub zip_ids : (R : Near → Near → Type 0) → ((x y : Near) → R x y → y.id ≡ x.id) → (xs ys : List Near) → AllZip R xs ys → map (λ one. one.id) ys ≡ map (λ one. one.id) xs
+pub zip_ids : (R : Near → Near → Type 0) → ((x y : Near) → R x y → y.id ≡ x.id)
+    → (xs ys : List Near) → AllZip R xs ys → map (λ one. one.id) ys ≡ map (λ one. one.id) xs
 zip_ids R same [] [] zip = refl
 zip_ids R same [] (y ∷ ys) zip = absurd zip
 zip_ids R same (x ∷ xs) [] zip = absurd zip
@@ -130,14 +139,17 @@ zip_ids R same (x ∷ xs) (y ∷ ys) zip =
     ap (λ (n : ℕ). n ∷ map (λ one. one.id) ys) (same x y zip.0) ∙ ap (λ (ns : List ℕ). x.id ∷ ns) (zip_ids R same xs ys zip.1)
 
 -- elements of the same numbers ascend alike
-pub ascend_alike : {X Y : Type 0} (f : X → ℕ) (g : Y → ℕ) (xs : List X) (ys : List Y) → map g ys ≡ map f xs → AllPairs (λ x y. f x < f y) xs → AllPairs (λ x y. g x < g y) ys
+pub ascend_alike : {X Y : Type 0} (f : X → ℕ) (g : Y → ℕ) (xs : List X) (ys : List Y)
+    → map g ys ≡ map f xs → AllPairs (λ x y. f x < f y) xs → AllPairs (λ x y. g x < g y) ys
 ascend_alike f g [] [] same up = λ i j d low l. absurd (omega arith)
 ascend_alike f g [] (y ∷ ys) same up = absurd cc
 ascend_alike f g (x ∷ xs) ys same up =
     λ i j d low l.
     let n : length ys ≡ length (x ∷ xs) = sym (length-map ys g) ∙ (ap length same ∙ length-map (x ∷ xs) f) in
-    let at_i : g (get_or ys i d) ≡ f (get_or (x ∷ xs) i x) = sym (get_or-map g ys i d 0 (omega arith)) ∙ (ap (λ (ns : List ℕ). get_or ns i 0) same ∙ get_or-map f (x ∷ xs) i x 0 (omega (arith, n))) in
-    let at_j : g (get_or ys j d) ≡ f (get_or (x ∷ xs) j x) = sym (get_or-map g ys j d 0 l) ∙ (ap (λ (ns : List ℕ). get_or ns j 0) same ∙ get_or-map f (x ∷ xs) j x 0 (omega (arith, n))) in
+    let at_i : g (get_or ys i d) ≡ f (get_or (x ∷ xs) i x) =
+    sym (get_or-map g ys i d 0 (omega arith)) ∙ (ap (λ (ns : List ℕ). get_or ns i 0) same ∙ get_or-map f (x ∷ xs) i x 0 (omega (arith, n))) in
+    let at_j : g (get_or ys j d) ≡ f (get_or (x ∷ xs) j x) =
+    sym (get_or-map g ys j d 0 l) ∙ (ap (λ (ns : List ℕ). get_or ns j 0) same ∙ get_or-map f (x ∷ xs) j x 0 (omega (arith, n))) in
     let h : f (get_or (x ∷ xs) i x) < f (get_or (x ∷ xs) j x) = up i j x low (omega (arith, n)) in
     omega (arith, at_i, at_j, h)
 
@@ -154,7 +166,8 @@ on_ok (Ok x) step h = step h
 on_ok (Err e) step h = tt
 
 -- the list in which a change was made
-pub made_here : (id : ℕ) (change : Change) (x y : Near) → (x.id == id) ≡ true → y.id ≡ x.id → y.links.items ≡ links_after x.links.items change → vec_capacity y.links ≡ vec_capacity x.links → IsMadeAt id change x y
+pub made_here : (id : ℕ) (change : Change) (x y : Near) → (x.id == id) ≡ true
+    → y.id ≡ x.id → y.links.items ≡ links_after x.links.items change → vec_capacity y.links ≡ vec_capacity x.links → IsMadeAt id change x y
 made_here id change x y here same made room = record {
   id = same;
   links = made ∙ sym (ap (λ b. if b then links_after x.links.items change else x.links.items) here);
@@ -191,7 +204,8 @@ made_both a b change two x y z one other = record {
       let P : ℕ → Type 0 = λ n. z.links.items ≡ (if n == b then links_after y.links.items change else y.links.items) in
       let at_b : z.links.items ≡ (if x.id == b then links_after y.links.items change else y.links.items) = subst P one.id other.links in
       made_both_go a b change x y z (x.id == a) (x.id == b) refl refl two one.links at_b
-      ∙ ap (λ t. if t then links_after x.links.items change else x.links.items) (ap (λ s. s || (x.id == b)) (swap_eq x.id a) ∙ ap (λ s. (a == x.id) || s) (swap_eq x.id b));
+      ∙ ap (λ t. if t then links_after x.links.items change else x.links.items) (ap (λ s. s || (x.id == b)) (swap_eq x.id a)
+      ∙ ap (λ s. (a == x.id) || s) (swap_eq x.id b));
   room = other.room ∙ one.room;
 }
 
@@ -236,7 +250,8 @@ either a b more x one other e = elim (or_cases (a == x.id) (b == x.id) e) [
   | inr second ↦ other (sym (eqb-true b x.id second))
 ]
 
-pub room_at_both : (a b more : ℕ) (xs ys : List Near) → AllZip IsGrown xs ys → All (HasRoomAt a more) xs → All (HasRoomAt b more) ys → All (HasRoomAtBoth a b more) ys
+pub room_at_both : (a b more : ℕ) (xs ys : List Near) → AllZip IsGrown xs ys
+    → All (HasRoomAt a more) xs → All (HasRoomAt b more) ys → All (HasRoomAtBoth a b more) ys
 room_at_both a b more xs ys grown one other =
     let first = zip_all IsGrown (HasRoomAt a more) (HasRoomAt a more) (at_kept a more) xs ys grown one in
     λ k d l. either a b more (get_or ys k d) (first k d l) (other k d l)
@@ -248,7 +263,8 @@ of_kept change more x y grown room e =
     let h : length x.links.items + more ≤ vec_capacity x.links = room (subst P grown.id e) in
     omega (arith, h, ap length grown.links, grown.room)
 
-for_more : (change : Change) (rest changes : List Change) (more : ℕ) → changes ≡ change ∷ rest → (x : Near) → HasRoomOf change more x → HasRoomFor rest more x → HasRoomFor changes more x
+for_more : (change : Change) (rest changes : List Change) (more : ℕ)
+    → changes ≡ change ∷ rest → (x : Near) → HasRoomOf change more x → HasRoomFor rest more x → HasRoomFor changes more x
 for_more change rest [] more parts x one others e = absurd cc
 for_more change rest (c ∷ cs) more parts x one others e =
     let same : c ≡ change = cc in
@@ -258,7 +274,8 @@ for_more change rest (c ∷ cs) more parts x one others e =
       | inr some ↦ others (subst (λ (cs : List Change). list_any (λ change. puts change && names x.id change) cs ≡ true) later some)
     ]
 
-pub room_for_all : (change : Change) (rest changes : List Change) (more : ℕ) (xs ys : List Near) → changes ≡ change ∷ rest → AllZip IsGrown xs ys → All (HasRoomOf change more) xs → All (HasRoomFor rest more) ys → All (HasRoomFor changes more) ys
+pub room_for_all : (change : Change) (rest changes : List Change) (more : ℕ) (xs ys : List Near)
+    → changes ≡ change ∷ rest → AllZip IsGrown xs ys → All (HasRoomOf change more) xs → All (HasRoomFor rest more) ys → All (HasRoomFor changes more) ys
 room_for_all change rest changes more xs ys parts grown one others =
     let first = zip_all IsGrown (HasRoomOf change more) (HasRoomOf change more) (of_kept change more) xs ys grown one in
     λ k d l. for_more change rest changes more parts (get_or ys k d) (first k d l) (others k d l)
@@ -271,7 +288,8 @@ zip_map R S step (x ∷ xs) [] zip = absurd zip
 zip_map R S step (x ∷ xs) (y ∷ ys) zip = (step x y zip.0, zip_map R S step xs ys zip.1)
 
 -- a change was made in the lists of the members that it names
-pub made_of_both : (a b : ℕ) (change : Change) → ((id : ℕ) → names id change ≡ ((a == id) || (b == id))) → (x y : Near) → IsMadeAtBoth a b change x y → IsMade change x y
+pub made_of_both : (a b : ℕ) (change : Change) → ((id : ℕ) → names id change ≡ ((a == id) || (b == id)))
+    → (x y : Near) → IsMadeAtBoth a b change x y → IsMade change x y
 made_of_both a b change named x y h = record {
   id = h.id;
   links = h.links ∙ sym (ap (λ t. if t then links_after x.links.items change else x.links.items) (named x.id));
@@ -302,34 +320,41 @@ near_more : (id : ℕ) (links : List Link) (change : Change) → length (near_af
 near_more id links change = near_more_go links change (names id change)
 
 -- room for the first of the changes, and for the rest after it
-pub first_of_room : (change : Change) (rest changes : List Change) → changes ≡ change ∷ rest → (x : Near) → HasRoomFor changes (length changes) x → HasRoomOf change 1 x
+pub first_of_room : (change : Change) (rest changes : List Change)
+    → changes ≡ change ∷ rest → (x : Near) → HasRoomFor changes (length changes) x → HasRoomOf change 1 x
 first_of_room change rest [] parts x room e = absurd cc
 first_of_room change rest (c ∷ cs) parts x room e =
     let same : c ≡ change = cc in
     let here : (puts c && names x.id c) ≡ true = subst (λ (other : Change). (puts other && names x.id other) ≡ true) (sym same) e in
-    let h : length x.links.items + suc (length cs) ≤ vec_capacity x.links = room (or_left (puts c && names x.id c) (list_any (λ change. puts change && names x.id change) cs) here) in
+    let h : length x.links.items + suc (length cs) ≤ vec_capacity x.links =
+    room (or_left (puts c && names x.id c) (list_any (λ change. puts change && names x.id change) cs) here) in
     omega (arith, h)
 
-pub rest_of_room : (change : Change) (rest changes : List Change) → changes ≡ change ∷ rest → (x y : Near) → IsMade change x y → HasRoomFor changes (length changes) x → HasRoomFor rest (length rest) y
+pub rest_of_room : (change : Change) (rest changes : List Change)
+    → changes ≡ change ∷ rest → (x y : Near) → IsMade change x y → HasRoomFor changes (length changes) x → HasRoomFor rest (length rest) y
 rest_of_room change rest [] parts x y made room e = absurd cc
 rest_of_room change rest (c ∷ cs) parts x y made room e =
     let later : cs ≡ rest = cc in
     let P : ℕ → Type 0 = λ n. list_any (λ change. puts change && names n change) rest ≡ true in
     let some : list_any (λ change. puts change && names x.id change) rest ≡ true = subst P made.id e in
-    let some_of : list_any (λ change. puts change && names x.id change) cs ≡ true = subst (λ (cs : List Change). list_any (λ change. puts change && names x.id change) cs ≡ true) (sym later) some in
-    let h : length x.links.items + suc (length cs) ≤ vec_capacity x.links = room (or_right (puts c && names x.id c) (list_any (λ change. puts change && names x.id change) cs) some_of) in
+    let some_of : list_any (λ change. puts change && names x.id change) cs ≡ true =
+    subst (λ (cs : List Change). list_any (λ change. puts change && names x.id change) cs ≡ true) (sym later) some in
+    let h : length x.links.items + suc (length cs) ≤ vec_capacity x.links =
+    room (or_right (puts c && names x.id c) (list_any (λ change. puts change && names x.id change) cs) some_of) in
     let n : length y.links.items ≡ length (near_after x.id x.links.items change) = ap length made.links in
     let m : length (near_after x.id x.links.items change) ≤ length x.links.items + 1 = near_more x.id x.links.items change in
     omega (arith, h, n, m, made.room, ap length later)
 
 -- changes made one after another
-pub made_all_on : (change : Change) (rest changes : List Change) → changes ≡ change ∷ rest → (x y z : Near) → IsMade change x y → IsMadeAll rest y z → IsMadeAll changes x z
+pub made_all_on : (change : Change) (rest changes : List Change)
+    → changes ≡ change ∷ rest → (x y z : Near) → IsMade change x y → IsMadeAll rest y z → IsMadeAll changes x z
 made_all_on change rest changes parts x y z one others =
     let P : ℕ → Type 0 = λ n. z.links.items ≡ fold (near_after n) y.links.items rest in
     let steps : z.links.items ≡ fold (near_after x.id) y.links.items rest = subst P one.id others.links in
     record {
       id = others.id ∙ one.id;
-      links = steps ∙ (ap (λ (ls : List Link). fold (near_after x.id) ls rest) one.links ∙ sym (ap (λ (cs : List Change). fold (near_after x.id) x.links.items cs) parts));
+      links = steps ∙ (ap (λ (ls : List Link). fold (near_after x.id) ls rest) one.links
+          ∙ sym (ap (λ (cs : List Change). fold (near_after x.id) x.links.items cs) parts));
     }
 
 pub none_made : (changes : List Change) → length changes ≡ 0 → (near : List Near) → AllZip (IsMadeAll changes) near near
@@ -349,12 +374,14 @@ same_ids_after (Reject a b) members = refl
 same_ids_after (Thaw a b) members = refl
 same_ids_after (Rename a name) members = same_ids_go a name members
 
-pub members_ascend_after : (change : Change) (members after : List Member) → after ≡ members_after members change → AllPairs (λ member later. member.id < later.id) members → AllPairs (λ member later. member.id < later.id) after
+pub members_ascend_after : (change : Change) (members after : List Member)
+    → after ≡ members_after members change → AllPairs (λ member later. member.id < later.id) members → AllPairs (λ member later. member.id < later.id) after
 members_ascend_after change members after made up =
     ascend_alike (λ m. m.id) (λ m. m.id) members after (ap (map (λ m. m.id)) made ∙ same_ids_after change members) up
 
 -- a change with two ends names these
-pub named_both : (a b : ℕ) (change : Change) → (change ≡ Invite a b) ⊎ ((change ≡ Accept a b) ⊎ ((change ≡ Reject a b) ⊎ (change ≡ Thaw a b))) → (id : ℕ) → names id change ≡ ((a == id) || (b == id))
+pub named_both : (a b : ℕ) (change : Change) → (change ≡ Invite a b) ⊎ ((change ≡ Accept a b) ⊎ ((change ≡ Reject a b) ⊎ (change ≡ Thaw a b)))
+    → (id : ℕ) → names id change ≡ ((a == id) || (b == id))
 named_both a b change (inl e) id = ap (names id) e
 named_both a b change (inr (inl e)) id = ap (names id) e
 named_both a b change (inr (inr (inl e))) id = ap (names id) e

@@ -1,5 +1,6 @@
 -- The digits of an id, and what parsing them answers.
-use Rattle.std.proofs.Common.{ℕ, zero, suc, ◌≡◌, ◌≢◌, ◌<◌, ◌≤◌, ◌^◌, List, [], ◌∷◌, length, get_or, decimal, Option, Some, None, MatchOption, IfSome, IfNone, Result, Ok, Err, arith, sym, ◌∙◌, ap}
+use Rattle.std.proofs.Common.{ℕ, zero, suc, ◌≡◌, ◌≢◌, ◌<◌, ◌≤◌, ◌^◌, List, [], ◌∷◌, length, get_or, decimal, Option, Some, None}
+use Rattle.std.proofs.Common.{MatchOption, IfSome, IfNone, Result, Ok, Err, arith, sym, ◌∙◌, ap}
 use Rattle.std.specs.Result.{result_ok}
 use Rattle.std.specs.Str.Parse.{AllDigits, ParsesUnsigned, digits_value}
 use Rattle.std.specs.Str.{IsUtf8}
@@ -36,7 +37,8 @@ not_zero digits zero first e =
 not_zero digits (suc n) first e = omega arith
 
 -- what `parse` answers where the first byte is one of 1 to 9
-pub id_parsed : {E : Type 0} (digits : List ℕ) (r : Result ℕ E) → ParsesUnsigned 32 10 digits r → 1 ≤ length digits → 49 ≤ get_or digits 0 0 → get_or digits 0 0 ≤ 57 → MatchOption (result_ok r) (IsNoIdText digits) (λ id. IsIdText digits id)
+pub id_parsed : {E : Type 0} (digits : List ℕ) (r : Result ℕ E) → ParsesUnsigned 32 10 digits r
+    → 1 ≤ length digits → 49 ≤ get_or digits 0 0 → get_or digits 0 0 ≤ 57 → MatchOption (result_ok r) (IsNoIdText digits) (λ id. IsIdText digits id)
 id_parsed {E} digits (Ok n) h some low high =
     let ne : get_or digits 0 0 ≢ 43 = omega arith in
     let f = parse_plain own {E = E} 32 digits (Ok n) h ne in

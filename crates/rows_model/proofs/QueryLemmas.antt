@@ -34,7 +34,8 @@ inviters_rise : (id : ℕ) (link later : Link) → InOrder link later → invite
 inviters_rise id link later h one two = grind (arith, nat_tests)
 
 -- what rises along the links that pass is a strictly increasing list
-rising : (p : Link → Bool) (f : Link → ℕ) (links : List Link) → AllPairs InOrder links → ((link later : Link) → InOrder link later → p link ≡ true → p later ≡ true → f link < f later) → IsStrictlyIncreasing (map f (filter p links))
+rising : (p : Link → Bool) (f : Link → ℕ) (links : List Link) → AllPairs InOrder links
+    → ((link later : Link) → InOrder link later → p link ≡ true → p later ≡ true → f link < f later) → IsStrictlyIncreasing (map f (filter p links))
 rising p f links order rise = λ k l.
     let kept = filter p links in
     let d : Link = record { a = 0; b = 0; state = Friend } in

@@ -1,5 +1,6 @@
 -- The answer before changes, refreshed by them, is the answer after them.
-use Rattle.std.proofs.Common.{ℕ, ◌+◌, ◌<◌, ◌≤◌, ◌≡◌, ◌^◌, Bool, true, false, not, List, [], ◌∷◌, length, get_or, map, filter, find, fold, decimal, All, Option, Some, None, IsSome, Ok, Err, refl, sym, ap, subst, ◌∙◌, arith}
+use Rattle.std.proofs.Common.{ℕ, ◌+◌, ◌<◌, ◌≤◌, ◌≡◌, ◌^◌, Bool, true, false, not, List, [], ◌∷◌, length, get_or, map, filter, find, fold}
+use Rattle.std.proofs.Common.{decimal, All, Option, Some, None, IsSome, Ok, Err, refl, sym, ap, subst, ◌∙◌, arith}
 use Rattle.std.specs.Prelude.{◌==◌, ◌&&◌, ◌||◌, nat_lt, cond, if◌then◌else◌, option_map}
 use Rattle.std.specs.Option.{option_and_then}
 use Rattle.std.proofs.lemmas.Bool.{false≢true, and_parts, eqb-true}
@@ -22,7 +23,8 @@ use Rattle.rows_model.specs.Name.{IsName}
 use Rattle.rows_model.specs.Rows.{Tables, Fit, IsMember, joins, member_of, is_friend}
 use Rattle.rows_model.specs.Query.{answer, answer_of, friend_count, pending_count, id_list, profile_text, other_end, befriends, invites}
 use Rattle.rows_model.specs.Changes.{applies, changed, apply_from, apply_all, renamed, HasIds, is_member, is_linked, are_friends, foot_of, has_key, touches}
-use Rattle.rows_model.specs.Refresh.{person_in, step_in, listed, counted, after_all, count_after, ids_after, named, person, person_after, person_text, refreshed, refreshed_of, refreshed_profile, refreshed_ids, refreshed_count}
+use Rattle.rows_model.specs.Refresh.{person_in, step_in, listed, counted, after_all, count_after, ids_after, named, person, person_after}
+use Rattle.rows_model.specs.Refresh.{person_text, refreshed, refreshed_of, refreshed_profile, refreshed_ids, refreshed_count}
 use Rattle.rows_model.specs.RefreshIsAnswer.{RefreshIsAnswer}
 use Rattle.rows_model.proofs.FitLemmas.{same_id, found_some, invited_parts}
 use Rattle.rows_model.proofs.StayFitLemmas.{Fit-changed}
@@ -70,7 +72,8 @@ count_refreshed : (circle : Circle) (id : ℕ) (changes : List Change) (t after 
     → apply_from 0 changes t ≡ Ok after
     → refreshed_count circle id (decimal (count_of circle id t)) changes ≡ Some (decimal (count_of circle id after))
 count_refreshed circle id changes t after fit ids e =
-    ap (λ (o : Option ℕ). option_map decimal (option_and_then (count_after circle id changes) o)) (small_number-decimal (count_of circle id t) (small_count circle id t fit))
+    ap (λ (o : Option ℕ). option_map decimal (option_and_then (count_after circle id changes) o))
+    (small_number-decimal (count_of circle id t) (small_count circle id t fit))
     ∙ ap (option_map decimal) (count_law circle id changes t after fit ids e)
 
 -- a member's id is small
@@ -80,7 +83,8 @@ id_go : (id : ℕ) (x : Member) (members : List Member) (b : Bool) → (x.id == 
 id_go id x members true e small h rest = let same = eqb-true x.id id e in omega (arith, same, small)
 id_go id x members false e small h rest = rest h
 
-found_id : (id : ℕ) (members : List Member) → All (λ member. (1 ≤ member.id) × (member.id ≤ 100000)) members → IsSome (find (λ member. member.id == id) members) → id ≤ 100000
+found_id : (id : ℕ) (members : List Member) → All (λ member. (1 ≤ member.id) × (member.id ≤ 100000)) members
+    → IsSome (find (λ member. member.id == id) members) → id ≤ 100000
 found_id id [] all h = absurd (false≢true h)
 found_id id (x ∷ members) all h =
     id_go id x members (x.id == id) refl (All-head (λ member. (1 ≤ member.id) × (member.id ≤ 100000)) x members all).1 h
@@ -159,7 +163,8 @@ step_named id (Rename a name) t = rename_named id a name t.members
 abbrev name_step : ℕ → Change → Option (List ℕ) → Option (Option (List ℕ))
 name_step id change o = Some (option_map (λ name. named id name change) o)
 
-names_folded : (id : ℕ) (changes : List Change) (o : Option (List ℕ)) → after_all (name_step id) changes o ≡ Some (option_map (λ name. fold (named id) name changes) o)
+names_folded : (id : ℕ) (changes : List Change) (o : Option (List ℕ))
+    → after_all (name_step id) changes o ≡ Some (option_map (λ name. fold (named id) name changes) o)
 names_folded id [] None = refl
 names_folded id [] (Some name) = refl
 names_folded id (change ∷ changes) None = names_folded id changes None
@@ -202,7 +207,8 @@ not_a_friend id a b t fit none takes =
     let two = not_member id link.b t none h.to in
     (not_first id a b link at one two, not_second id a b link at one two)
 
-untouched_by : (id : ℕ) (change : Change) (t : Tables) → Fit t → applies change t ≡ true → member_of id t ≡ None → has_key (record { kind = Profile; id = id }) (foot_of change) ≡ false
+untouched_by : (id : ℕ) (change : Change) (t : Tables) → Fit t
+    → applies change t ≡ true → member_of id t ≡ None → has_key (record { kind = Profile; id = id }) (foot_of change) ≡ false
 untouched_by id (Invite a b) t fit takes none =
     let p4 = and_parts (not (a == b) && is_member a t && is_member b t && not (is_linked a b t)) (nat_lt (length t.links) 1000000) takes in
     let p3 = and_parts (not (a == b) && is_member a t && is_member b t) (not (is_linked a b t)) p4.0 in
@@ -239,7 +245,8 @@ nobody_go : (place id : ℕ) (change : Change) (changes : List Change) (t after 
     → touches changes (record { kind = Profile; id = id }) ≡ false)
     → (has_key (record { kind = Profile; id = id }) (foot_of change) || touches changes (record { kind = Profile; id = id })) ≡ false
 nobody_go place id change changes t after true takes fit ids none e rest =
-    ap (λ (b : Bool). b || touches changes (record { kind = Profile; id = id })) (untouched_by id change t fit takes none) ∙ rest (Fit-changed change t fit ids takes) e
+    ap (λ (b : Bool). b || touches changes (record { kind = Profile; id = id })) (untouched_by id change t fit takes none)
+    ∙ rest (Fit-changed change t fit ids takes) e
 nobody_go place id change changes t after false takes fit ids none e rest = absurd cc
 
 -- nor do several that apply in turn
@@ -256,7 +263,8 @@ found_go : (P : Member → Type 0) (x m : Member) (xs : List Member) (id : ℕ) 
 found_go P x m xs id true here e rest = subst P (same_Some x m e) here
 found_go P x m xs id false here e rest = rest e
 
-found_name : (members : List Member) (id : ℕ) (m : Member) → All (λ member. IsName member.name) members → find (λ member. member.id == id) members ≡ Some m → IsName m.name
+found_name : (members : List Member) (id : ℕ) (m : Member) → All (λ member. IsName member.name) members
+    → find (λ member. member.id == id) members ≡ Some m → IsName m.name
 found_name [] id m all e = absurd (none-some m e)
 found_name (x ∷ members) id m all e =
     found_go (λ member. IsName member.name) x m members id (x.id == id) (All-head (λ member. IsName member.name) x members all) e
@@ -276,13 +284,15 @@ someone_refreshed id m changes t after fit ids e is =
     let name = fold (named id) m.name changes in
     let new : Person = record { name = name; friends = friend_count id after; pending = pending_count id after } in
     let is_name : IsName m.name = found_name t.members id m fit.names is in
-    let after_name : name_of id after ≡ Some name = names_law id changes t after fit ids e ∙ ap (λ (o : Option Member). option_map (λ n. fold (named id) n changes) (name_in o)) is in
+    let after_name : name_of id after ≡ Some name =
+    names_law id changes t after fit ids e ∙ ap (λ (o : Option Member). option_map (λ n. fold (named id) n changes) (name_in o)) is in
     ap (λ (b : Bool). if b then (if touches changes (record { kind = Profile; id = id }) then None else Some
     (person_text one)) else option_map person_text (option_and_then (person_after id changes) (person_in (person_text one))))
     (no_dash one is_name)
     ∙ (ap (λ (o : Option Person). option_map person_text (option_and_then (person_after id changes) o))
     (person_in-person_text one is_name (small_count Befriended id t fit) (small_count Inviting id t fit))
-    ∙ (ap (λ (o : Option ℕ). option_map person_text (person name o (count_after Inviting id changes (pending_count id t)))) (count_law Befriended id changes t after fit ids e)
+    ∙ (ap (λ (o : Option ℕ). option_map person_text (person name o (count_after Inviting id changes (pending_count id t))))
+    (count_law Befriended id changes t after fit ids e)
     ∙ (ap (λ (o : Option ℕ). option_map person_text (person name (Some (friend_count id after)) o)) (count_law Inviting id changes t after fit ids e)
     ∙ ap (λ (text : List ℕ). Some text) (sym (told (member_of id after) new after_name)))))
 

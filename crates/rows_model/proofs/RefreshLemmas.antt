@@ -1,5 +1,6 @@
 -- How an old value is read: the words of a profile, and the ids of a list one by one.
-use Rattle.std.proofs.Common.{ℕ, ◌+◌, ◌<◌, ◌≤◌, ◌≡◌, true, false, List, [], ◌∷◌, ◌++◌, length, get_or, drop, map, All, Option, Some, None, Bor, refl, sym, ap, arith, append_assoc}
+use Rattle.std.proofs.Common.{ℕ, ◌+◌, ◌<◌, ◌≤◌, ◌≡◌, true, false, List, [], ◌∷◌, ◌++◌, length, get_or, drop, map, All, Option, Some, None}
+use Rattle.std.proofs.Common.{Bor, refl, sym, ap, arith, append_assoc}
 use Rattle.std.specs.Prelude.{◌&&◌, nat_le, nat_lt, if◌then◌else◌, option_map}
 use Rattle.std.specs.Option.{option_and_then}
 use Rattle.std.specs.List.{list_all}
@@ -62,7 +63,8 @@ ids_too_low words i d least id ids l is low =
     let t : nat_lt id least ≡ true = grind (arith, nat_tests) in
     rw (r, sym is, t) refl
 
-two_maps : (ids : List ℕ) (id : ℕ) (o : Option (List ℕ)) → option_map (λ more. ids ++ more) (option_map (λ rest. id ∷ rest) o) ≡ option_map (λ more. (ids ++ id ∷ []) ++ more) o
+two_maps : (ids : List ℕ) (id : ℕ) (o : Option (List ℕ))
+    → option_map (λ more. ids ++ more) (option_map (λ rest. id ∷ rest) o) ≡ option_map (λ more. (ids ++ id ∷ []) ++ more) o
 two_maps ids id None = refl
 two_maps ids id (Some more) = ap (λ (xs : List ℕ). Some xs) (sym (append_assoc ids (id ∷ []) more))
 

@@ -1,5 +1,6 @@
 -- Ids that ascend: what is put in, taken out and counted, told by which ids are there.
-use Rattle.std.proofs.Common.{ℕ, suc, ◌+◌, ◌<◌, ◌≤◌, ◌≡◌, ◌^◌, ◌-◌, Bool, true, false, not, List, [], ◌∷◌, length, get_or, All, AllPairs, Some, None, refl, sym, ap, subst, ◌∙◌, arith}
+use Rattle.std.proofs.Common.{ℕ, suc, ◌+◌, ◌<◌, ◌≤◌, ◌≡◌, ◌^◌, ◌-◌, Bool, true, false, not, List, [], ◌∷◌, length, get_or, All, AllPairs}
+use Rattle.std.proofs.Common.{Some, None, refl, sym, ap, subst, ◌∙◌, arith}
 use Rattle.std.specs.Prelude.{◌==◌, ◌&&◌, ◌||◌, nat_lt, cond, count_by, if◌then◌else◌}
 use Rattle.std.proofs.lemmas.Bool.{false≢true, eq-eqb}
 use Rattle.std.proofs.lemmas.Bool.Decides.{nat_tests}
@@ -47,7 +48,8 @@ has_first : (x : ℕ) (xs : List ℕ) → has_id x (x ∷ xs) ≡ true
 has_first x xs =
     let t : (x == x) ≡ true = eq-eqb x x refl in rw t refl
 
-tail_go : (z x : ℕ) (xs ys : List ℕ) (b : Bool) → (x == z) ≡ b → (b || has_id z xs) ≡ (b || has_id z ys) → All (λ w. x < w) xs → All (λ w. x < w) ys → has_id z xs ≡ has_id z ys
+tail_go : (z x : ℕ) (xs ys : List ℕ) (b : Bool) → (x == z) ≡ b
+    → (b || has_id z xs) ≡ (b || has_id z ys) → All (λ w. x < w) xs → All (λ w. x < w) ys → has_id z xs ≡ has_id z ys
 tail_go z x xs ys true e h one two =
     let same : x ≡ z = grind (arith, nat_tests) in
     let P : ℕ → Type 0 = λ n. has_id n xs ≡ has_id n ys in
@@ -86,10 +88,12 @@ stops id x y l e = grind (arith, nat_tests)
 with_ascends : (id : ℕ) (ids : List ℕ) → Ascend ids → has_id id ids ≡ false → Ascend (with_id id ids)
 with_ascends id ids up none =
     let others = none_passes (λ other. other == id) ids none in
-    pairs_insert (λ x y. x < y) (λ other. nat_lt other id) id ids up (stops id) (λ k d l e. goes_before id (get_or ids k d) e) (λ k d l e. comes_after id (get_or ids k d) (others k d l) e)
+    pairs_insert (λ x y. x < y) (λ other. nat_lt other id) id ids up
+    (stops id) (λ k d l e. goes_before id (get_or ids k d) e) (λ k d l e. comes_after id (get_or ids k d) (others k d l) e)
 
 -- the list with one id more
-pub listed_put : (id : ℕ) (xs ys : List ℕ) → Ascend xs → Ascend ys → has_id id xs ≡ false → ((x : ℕ) → has_id x ys ≡ (has_id x xs || (id == x))) → listed (Put id) xs ≡ Some ys
+pub listed_put : (id : ℕ) (xs ys : List ℕ) → Ascend xs → Ascend ys
+    → has_id id xs ≡ false → ((x : ℕ) → has_id x ys ≡ (has_id x xs || (id == x))) → listed (Put id) xs ≡ Some ys
 listed_put id xs ys one two none h =
     let same : with_id id xs ≡ ys =
     same_ids (with_id id xs) ys (with_ascends id xs one none) two
@@ -101,7 +105,8 @@ kept_go id x b e y same =
     let at : y ≡ x = grind (arith, nat_tests) in ap (λ (n : ℕ). not (n == id)) at ∙ ap not e
 
 -- the list with one id less
-pub listed_take : (id : ℕ) (xs ys : List ℕ) → Ascend xs → Ascend ys → has_id id xs ≡ true → ((x : ℕ) → has_id x ys ≡ (not (x == id) && has_id x xs)) → listed (Take id) xs ≡ Some ys
+pub listed_take : (id : ℕ) (xs ys : List ℕ) → Ascend xs → Ascend ys
+    → has_id id xs ≡ true → ((x : ℕ) → has_id x ys ≡ (not (x == id) && has_id x xs)) → listed (Take id) xs ≡ Some ys
 listed_take id xs ys one two some h =
     let same : without_id id xs ≡ ys =
     same_ids (without_id id xs) ys (AllPairs-filter (λ x y. x < y) (λ other. not (other == id)) xs one) two
@@ -131,16 +136,19 @@ one_left id [] up e = absurd (false≢true e)
 one_left id (x ∷ ids) up e =
     one_left_go id x ids (x == id) refl up e (one_left id ids (pairs_tail (λ z w. z < w) x ids up))
 
-put_go : (id : ℕ) (xs ys : List ℕ) (b : Bool) → length ys < 2 ^ 32 → (if b then None else Some (with_id id xs)) ≡ Some ys → counted (Put id) (length xs) ≡ Some (length ys)
+put_go : (id : ℕ) (xs ys : List ℕ) (b : Bool) → length ys < 2 ^ 32
+    → (if b then None else Some (with_id id xs)) ≡ Some ys → counted (Put id) (length xs) ≡ Some (length ys)
 put_go id xs ys true small e = absurd (none-some ys e)
 put_go id xs ys false small e =
-    let n : length (with_id id xs) ≡ length xs + 1 = length-insert xs (count_by (λ other. nat_lt other id) xs) id (count_by-le-length (λ other. nat_lt other id) xs) in
+    let n : length (with_id id xs) ≡ length xs + 1 =
+    length-insert xs (count_by (λ other. nat_lt other id) xs) id (count_by-le-length (λ other. nat_lt other id) xs) in
     let m : length (with_id id xs) ≡ length ys = ap length (same_Some (with_id id xs) ys e) in
     let k : length xs + 1 ≡ length ys = omega (arith, n, m) in
     let t : nat_lt (length xs + 1) (2 ^ 32) ≡ true = grind (arith, nat_tests) in
     rw (t, k) refl
 
-take_go : (id : ℕ) (xs ys : List ℕ) (b : Bool) → has_id id xs ≡ b → Ascend xs → (if b then Some (without_id id xs) else None) ≡ Some ys → counted (Take id) (length xs) ≡ Some (length ys)
+take_go : (id : ℕ) (xs ys : List ℕ) (b : Bool) → has_id id xs ≡ b
+    → Ascend xs → (if b then Some (without_id id xs) else None) ≡ Some ys → counted (Take id) (length xs) ≡ Some (length ys)
 take_go id xs ys true has up e =
     let n : length (without_id id xs) + 1 ≡ length xs = one_left id xs up has in
     let m : length (without_id id xs) ≡ length ys = ap length (same_Some (without_id id xs) ys e) in

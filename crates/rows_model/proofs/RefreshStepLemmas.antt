@@ -1,5 +1,6 @@
 -- What a change that applies does to the ids of a circle, and to a member's name.
-use Rattle.std.proofs.Common.{ℕ, ◌≤◌, ◌≡◌, ◌≢◌, Bool, true, false, not, List, [], ◌∷◌, length, get_or, map, filter, AllPairs, Some, refl, sym, ap, subst, ◌∙◌, arith}
+use Rattle.std.proofs.Common.{ℕ, ◌≤◌, ◌≡◌, ◌≢◌, Bool, true, false, not, List, [], ◌∷◌, length, get_or, map, filter, AllPairs, Some, refl}
+use Rattle.std.proofs.Common.{sym, ap, subst, ◌∙◌, arith}
 use Rattle.std.specs.Prelude.{◌==◌, ◌&&◌, ◌||◌, nat_lt, cond, count_by, if◌then◌else◌}
 use Rattle.std.specs.List.{list_any}
 use Rattle.std.proofs.lemmas.Bool.{false≢true, and_parts, eqb-true, eq-eqb}
@@ -24,7 +25,8 @@ use Rattle.rows_model.proofs.FitLemmas.{InPlace, in_place, not_true}
 use Rattle.rows_model.proofs.FootprintLemmas.{any-insert}
 use Rattle.rows_model.proofs.QueryLemmas.{answers_ascend_is}
 use Rattle.rows_model.proofs.StayFitLemmas.{Fit-changed}
-use Rattle.rows_model.proofs.UntouchedLemmas.{invite_friends, invite_invites, reject_friends, invited_invites, accept_friends, parted_friends, thaw_invites, filter_with, friendship_invites, friends_only, pending_joins}
+use Rattle.rows_model.proofs.UntouchedLemmas.{invite_friends, invite_invites, reject_friends, invited_invites, accept_friends}
+use Rattle.rows_model.proofs.UntouchedLemmas.{parted_friends, thaw_invites, filter_with, friendship_invites, friends_only, pending_joins}
 use Rattle.rows_model.proofs.RefreshListLemmas.{Ascend, listed_put, listed_take, counted_listed}
 
 -- the ids of a circle, and how many there are
@@ -49,7 +51,8 @@ few_ids Befriended id t fit = let le = count_by-le-length (befriends id) t.links
 few_ids Inviting id t fit = let le = count_by-le-length (invites id) t.links in let most = fit.few_links in omega (arith, le, most)
 
 -- which ids are there, told by the links
-mapped_go : (f : Link → ℕ) (x : ℕ) (l : Link) (ls : List Link) (b c : Bool) → has_id x (cond b (f l ∷ map f ls) (map f ls)) ≡ ((b && (f l == x)) || has_id x (map f ls))
+mapped_go : (f : Link → ℕ) (x : ℕ) (l : Link) (ls : List Link) (b c : Bool)
+    → has_id x (cond b (f l ∷ map f ls) (map f ls)) ≡ ((b && (f l == x)) || has_id x (map f ls))
 mapped_go f x l ls true c = refl
 mapped_go f x l ls false c = refl
 
@@ -104,7 +107,8 @@ take_inviter a id t fit fit_after takes =
     let some : has_id a (inviter_ids id t) ≡ true =
     has_mapped (λ link. link.a) (invites id) a t.links
     ∙ any_implied (λ link. is_pending link.state && (link.a == a) && (link.b == id)) (invites_from id a) t.links (inv_is a id) takes in
-    listed_take a (inviter_ids id t) (inviter_ids id u) (ids_ascend Inviting id t fit) (ids_ascend Inviting id u fit_after) some (λ x. has_mapped (λ link. link.a) (invites id) x u.links
+    listed_take a (inviter_ids id t) (inviter_ids id u) (ids_ascend Inviting id t fit)
+    (ids_ascend Inviting id u fit_after) some (λ x. has_mapped (λ link. link.a) (invites id) x u.links
     ∙ (any-filter_same (invites_from id x) (λ link. not (joins a id link)) (not (x == a)) (inv_gone a id x (x == a) refl) t.links
     ∙ ap (λ (b : Bool). not (x == a) && b) (sym (has_mapped (λ link. link.a) (invites id) x t.links))))
 
@@ -112,16 +116,19 @@ inv_new : (a id x : ℕ) → invites_from id x (invitation a id) ≡ (a == x)
 inv_new a id x = ap (λ (b : Bool). b && (a == x)) (eq-eqb id id refl)
 
 -- one inviter more
-put_inviter : (a id : ℕ) (t : Tables) → Fit t → Fit (changed (Invite a id) t) → is_linked a id t ≡ false → listed (Put a) (inviter_ids id t) ≡ Some (inviter_ids id (changed (Invite a id) t))
+put_inviter : (a id : ℕ) (t : Tables) → Fit t → Fit (changed (Invite a id) t)
+    → is_linked a id t ≡ false → listed (Put a) (inviter_ids id t) ≡ Some (inviter_ids id (changed (Invite a id) t))
 put_inviter a id t fit fit_after free =
     let u = changed (Invite a id) t in
     let none : has_id a (inviter_ids id t) ≡ false =
     never_true _ (λ e. false≢true
     (sym free ∙ any_implied (invites_from id a) (joins a id) t.links (inv_joins a id)
     (sym (has_mapped (λ link. link.a) (invites id) a t.links) ∙ e))) in
-    listed_put a (inviter_ids id t) (inviter_ids id u) (ids_ascend Inviting id t fit) (ids_ascend Inviting id u fit_after) none (λ x. has_mapped (λ link. link.a) (invites id) x u.links
+    listed_put a (inviter_ids id t) (inviter_ids id u) (ids_ascend Inviting id t fit)
+    (ids_ascend Inviting id u fit_after) none (λ x. has_mapped (λ link. link.a) (invites id) x u.links
     ∙ (any-insert (invites_from id x) t.links (count_by (is_before (invitation a id)) t.links) (invitation a id)
-    ∙ (ap (λ (b : Bool). list_any (invites_from id x) t.links || b) (inv_new a id x) ∙ ap (λ (b : Bool). b || (a == x)) (sym (has_mapped (λ link. link.a) (invites id) x t.links)))))
+    ∙ (ap (λ (b : Bool). list_any (invites_from id x) t.links || b) (inv_new a id x)
+    ∙ ap (λ (b : Bool). b || (a == x)) (sym (has_mapped (λ link. link.a) (invites id) x t.links)))))
 
 -- friendships, from either side
 first_is : (a b : ℕ) (link : Link) → (is_friend link.state && joins a b link) ≡ true → befriends_by a b link ≡ true
@@ -144,11 +151,13 @@ second_gone : (a b x : ℕ) (same : Bool) → (x == a) ≡ same → (link : Link
 second_gone a b x true e link h = grind (arith, nat_tests)
 second_gone a b x false e link h = grind (arith, nat_tests)
 
-first_new : (a b x : ℕ) (first : Bool) → befriends_by a x (if first then record { a = a; b = b; state = Friend } else record { a = b; b = a; state = Friend }) ≡ (b == x)
+first_new : (a b x : ℕ) (first : Bool)
+    → befriends_by a x (if first then record { a = a; b = b; state = Friend } else record { a = b; b = a; state = Friend }) ≡ (b == x)
 first_new a b x true = grind (arith, nat_tests)
 first_new a b x false = grind (arith, nat_tests)
 
-second_new : (a b x : ℕ) (first : Bool) → befriends_by b x (if first then record { a = a; b = b; state = Friend } else record { a = b; b = a; state = Friend }) ≡ (a == x)
+second_new : (a b x : ℕ) (first : Bool)
+    → befriends_by b x (if first then record { a = a; b = b; state = Friend } else record { a = b; b = a; state = Friend }) ≡ (a == x)
 second_new a b x true = grind (arith, nat_tests)
 second_new a b x false = grind (arith, nat_tests)
 
@@ -194,7 +203,8 @@ put_friend a b me other t fit fit_after joined new takes =
     (any_implied (befriends_by me other) (λ link. is_friend link.state && joins a b link) t.links joined
     (sym (has_mapped (other_end me) (befriends me) other t.links) ∙ e))) in
     let same : map (other_end me) (filter (befriends me) left) ≡ friend_ids me t = ap (map (other_end me)) (reject_friends me a b t pairs takes) in
-    listed_put other (friend_ids me t) (friend_ids me u) (ids_ascend Befriended me t fit) (ids_ascend Befriended me u fit_after) none (λ x. has_mapped (other_end me) (befriends me) x u.links
+    listed_put other (friend_ids me t) (friend_ids me u) (ids_ascend Befriended me t fit)
+    (ids_ascend Befriended me u fit_after) none (λ x. has_mapped (other_end me) (befriends me) x u.links
     ∙ (any-insert (befriends_by me x) left (count_by (is_before (friendship a b)) left) (friendship a b)
     ∙ (ap (λ (c : Bool). list_any (befriends_by me x) left || c) (new x)
     ∙ ap (λ (c : Bool). c || (other == x)) (sym (has_mapped (other_end me) (befriends me) x left) ∙ ap (has_id x) same))))
@@ -226,7 +236,8 @@ reject_go id a b t false e fit fit_after takes =
 
 accepted_inviters : (id a b : ℕ) (t : Tables) → Some (inviter_ids id (changed (Reject a b) t)) ≡ Some (inviter_ids id (changed (Accept a b) t))
 accepted_inviters id a b t =
-    same_inviters id (changed (Reject a b) t) (changed (Accept a b) t) (filter_with (invites id) (friendship a b) (without_link a b t.links) (friendship_invites a b id (nat_lt a b)))
+    same_inviters id (changed (Reject a b) t) (changed (Accept a b) t)
+    (filter_with (invites id) (friendship a b) (without_link a b t.links) (friendship_invites a b id (nat_lt a b)))
 
 accept_go : (id a b : ℕ) (t : Tables) (c e : Bool) → (a == id) ≡ c → (b == id) ≡ e → Fit t → Fit (changed (Accept a b) t) → is_invited a b t ≡ true
     → listed (if c then Put b else (if e then Put a else Stay)) (friend_ids id t) ≡ Some (friend_ids id (changed (Accept a b) t))
@@ -265,7 +276,8 @@ step_listed Befriended id (Reject a b) t fit ids takes =
     same_friends id t (changed (Reject a b) t) (reject_friends id a b t (in_place t.links fit.links_ascend fit.one_link) takes)
 step_listed Befriended id (Thaw a b) t fit ids takes = thaw_go id a b t (a == id) (b == id) refl refl fit (Fit-changed (Thaw a b) t fit ids takes) takes
 step_listed Befriended id (Rename a name) t fit ids takes = refl
-step_listed Inviting id (Invite a b) t fit ids takes = invite_go id a b t (b == id) refl fit (Fit-changed (Invite a b) t fit ids takes) (invite_free a b t takes)
+step_listed Inviting id (Invite a b) t fit ids takes =
+    invite_go id a b t (b == id) refl fit (Fit-changed (Invite a b) t fit ids takes) (invite_free a b t takes)
 step_listed Inviting id (Accept a b) t fit ids takes =
     reject_go id a b t (b == id) refl fit (Fit-changed (Reject a b) t fit ids takes) takes ∙ accepted_inviters id a b t
 step_listed Inviting id (Reject a b) t fit ids takes = reject_go id a b t (b == id) refl fit (Fit-changed (Reject a b) t fit ids takes) takes

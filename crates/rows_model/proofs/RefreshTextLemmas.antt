@@ -1,5 +1,6 @@
 -- What is written of a number, of ids and of a person is read as these.
-use Rattle.std.proofs.Common.{ℕ, ◌+◌, ◌<◌, ◌≤◌, ◌≡◌, ◌^◌, Bool, true, false, List, [], ◌∷◌, ◌++◌, length, get_or, map, decimal, All, AllPairs, Some, refl, sym, ap, ◌∙◌, arith, append_assoc}
+use Rattle.std.proofs.Common.{ℕ, ◌+◌, ◌<◌, ◌≤◌, ◌≡◌, ◌^◌, Bool, true, false, List, [], ◌∷◌, ◌++◌, length, get_or, map, decimal, All}
+use Rattle.std.proofs.Common.{AllPairs, Some, refl, sym, ap, ◌∙◌, arith, append_assoc}
 use Rattle.std.specs.Prelude.{◌==◌, nat_lt}
 use Rattle.std.proofs.lemmas.Bool.Decides.{nat_tests}
 use Rattle.std.proofs.lemmas.List.Elements.{All-head, All-tail}
@@ -77,14 +78,17 @@ no_space byte h =
 text_parts : (one : Person) → person_text one ≡ one.name ++ 32 ∷ (decimal one.friends ++ 32 ∷ decimal one.pending)
 text_parts one = append_assoc one.name (32 ∷ decimal one.friends) (32 ∷ decimal one.pending)
 
-person_words : (one : Person) → IsName one.name → one.friends < 2 ^ 32 → one.pending < 2 ^ 32 → words_of 32 (person_text one) ≡ one.name ∷ decimal one.friends ∷ decimal one.pending ∷ []
+person_words : (one : Person) → IsName one.name → one.friends < 2 ^ 32
+    → one.pending < 2 ^ 32 → words_of 32 (person_text one) ≡ one.name ∷ decimal one.friends ∷ decimal one.pending ∷ []
 person_words one name friends pending =
     let p : ℕ → Bool = λ other. other == 32 in
     let spaces : All (λ byte. (byte == 32) ≡ false) one.name = λ k d l. no_space (get_or one.name k d) (name.printable k d l) in
     ap (words_of 32) (text_parts one)
     ∙ slice_split_at p one.name 32 (decimal one.friends ++ 32 ∷ decimal one.pending) spaces refl
-    ∙ ap (λ (words : List (List ℕ)). one.name ∷ words) (slice_split_at p (decimal one.friends) 32 (decimal one.pending) (decimal_without 32 one.friends (omega arith) refl) refl
-    ∙ ap (λ (words : List (List ℕ)). decimal one.friends ∷ words) (slice_split_none p (decimal one.pending) (decimal_without 32 one.pending (omega arith) refl)))
+    ∙ ap (λ (words : List (List ℕ)). one.name ∷ words)
+    (slice_split_at p (decimal one.friends) 32 (decimal one.pending) (decimal_without 32 one.friends (omega arith) refl) refl
+    ∙ ap (λ (words : List (List ℕ)). decimal one.friends ∷ words)
+    (slice_split_none p (decimal one.pending) (decimal_without 32 one.pending (omega arith) refl)))
 
 -- a person is read from its profile
 pub person_in-person_text : (one : Person) → IsName one.name → one.friends < 2 ^ 32 → one.pending < 2 ^ 32 → person_in (person_text one) ≡ Some one

@@ -1,5 +1,6 @@
 -- The rows at the start, member by member.
-use Rattle.std.proofs.Common.{zero, suc, Bool, true, false, eqb, Some, None, Result, Ok, Err, MatchResult, find, rules, tests, ℕ, ◌+◌, ◌-◌, ◌<◌, ◌≤◌, ◌≡◌, List, [], ◌∷◌, ◌++◌, length, get_or, map, decimal, arith, sym, refl, ap, ◌∙◌}
+use Rattle.std.proofs.Common.{zero, suc, Bool, true, false, eqb, Some, None, Result, Ok, Err, MatchResult, find, rules, tests, ℕ, ◌+◌, ◌-◌}
+use Rattle.std.proofs.Common.{◌<◌, ◌≤◌, ◌≡◌, List, [], ◌∷◌, ◌++◌, length, get_or, map, decimal, arith, sym, refl, ap, ◌∙◌}
 use Rattle.std.specs.List.{range_with_len}
 use Rattle.std.proofs.lemmas.List.FromFn.{length-map-range_with_len, get_or-map-range_with_len, map-range_with_len_more}
 use Rattle.std.specs.Ordering.{nat_cmp, is_lt}
@@ -13,7 +14,8 @@ use Rattle.rows_model.specs.Rows.{Tables, Fit, member_of, start_member, start_ta
 use Rattle.rows_model.proofs.NameLemmas.{IsName-numbered}
 
 -- the member at a place of the start
-at_start : (n k : ℕ) (d : Member) → k < length (map start_member (range_with_len 1 n)) → (k < n) × (get_or (map start_member (range_with_len 1 n)) k d ≡ start_member (1 + k))
+at_start : (n k : ℕ) (d : Member) → k < length (map start_member (range_with_len 1 n))
+    → (k < n) × (get_or (map start_member (range_with_len 1 n)) k d ≡ start_member (1 + k))
 at_start n k d l =
     let in_range : k < n = omega (arith, length-map-range_with_len start_member 1 n) in
     (in_range, get_or-map-range_with_len start_member 1 n k (1 + k) d in_range refl)
@@ -41,7 +43,8 @@ unfolding start_tables
 start_tables_is n = refl
 
 -- one more member at the start
-pub start_more : (items next : List Member) (name : List ℕ) (id : ℕ) → 1 ≤ id → items ≡ map start_member (range_with_len 1 (id - 1)) → name ≡ 109 ∷ decimal id → next ≡ items ++ record { id = id; name = name } ∷ [] → next ≡ map start_member (range_with_len 1 (id + 1 - 1))
+pub start_more : (items next : List Member) (name : List ℕ) (id : ℕ) → 1 ≤ id → items ≡ map start_member (range_with_len 1 (id - 1))
+    → name ≡ 109 ∷ decimal id → next ≡ items ++ record { id = id; name = name } ∷ [] → next ≡ map start_member (range_with_len 1 (id + 1 - 1))
 start_more items next name id low so_far named pushed =
     let last : id - 1 + 1 ≡ id + 1 - 1 = omega arith in
     let more : map start_member (range_with_len 1 (id - 1 + 1)) ≡ map start_member (range_with_len 1 (id - 1)) ++ start_member id ∷ [] =
@@ -52,7 +55,8 @@ start_more items next name id low so_far named pushed =
     end ∙ (sym more ∙ ap (λ (k : ℕ). map start_member (range_with_len 1 k)) last)
 
 -- `find` gives the first element that passes
-pub find_at : {X : Type 0} (p : X → Bool) (xs : List X) (i : ℕ) (d : X) → i < length xs → p (get_or xs i d) ≡ true → ((k : ℕ) → k < i → p (get_or xs k d) ≡ false) → find p xs ≡ Some (get_or xs i d)
+pub find_at : {X : Type 0} (p : X → Bool) (xs : List X) (i : ℕ) (d : X)
+    → i < length xs → p (get_or xs i d) ≡ true → ((k : ℕ) → k < i → p (get_or xs k d) ≡ false) → find p xs ≡ Some (get_or xs i d)
 find_at p [] i d l here before = absurd (omega arith)
 find_at p (x ∷ xs) zero d l here before = rw here
 find_at p (x ∷ xs) (suc i) d l here before =
@@ -67,7 +71,8 @@ find_none p (x ∷ xs) all =
     rw first (find_none p xs (λ k d l. all (suc k) d (omega arith)))
 
 -- a member's place tells the member of its id
-pub member_at : (tables : Tables) (id i : ℕ) (d : Member) → Fit tables → i < length tables.members → (get_or tables.members i d).id ≡ id → member_of id tables ≡ Some (get_or tables.members i d)
+pub member_at : (tables : Tables) (id i : ℕ) (d : Member) → Fit tables
+    → i < length tables.members → (get_or tables.members i d).id ≡ id → member_of id tables ≡ Some (get_or tables.members i d)
 member_at tables id i d fit l here =
     find_at (λ m. eqb m.id id) tables.members i d l (search (rules, tests)) (λ k below.
     let earlier = fit.members_ascend k i d below l in
@@ -75,18 +80,22 @@ member_at tables id i d fit l here =
     search (rules, tests))
 
 -- no place has the id: no member has it
-pub member_absent : (tables : Tables) (id : ℕ) → ((k : ℕ) (d : Member) → k < length tables.members → (get_or tables.members k d).id ≡ id → ⊥) → member_of id tables ≡ None
+pub member_absent : (tables : Tables) (id : ℕ) → ((k : ℕ) (d : Member) → k < length tables.members → (get_or tables.members k d).id ≡ id → ⊥)
+    → member_of id tables ≡ None
 member_absent tables id absent =
     find_none (λ m. eqb m.id id) tables.members (λ k d l. let other = absent k d l in search (rules, tests))
 
 -- members that ascend can be searched by halves
-members_sorted : (tables : Tables) → Fit tables → (k : ℕ) (d : Member) → 0 ≤ k → k + 1 < length tables.members → is_lt (nat_cmp (get_or tables.members (k + 1) d).id (get_or tables.members k d).id) ≡ false
+members_sorted : (tables : Tables) → Fit tables → (k : ℕ) (d : Member)
+    → 0 ≤ k → k + 1 < length tables.members → is_lt (nat_cmp (get_or tables.members (k + 1) d).id (get_or tables.members k d).id) ≡ false
 members_sorted tables fit k d low l =
     let up = fit.members_ascend k (k + 1) d (omega arith) l in
     grind (arith, nat_tests)
 
 -- what the search by halves finds
-pub member_searched : (tables : Tables) (id : ℕ) (r : Result ℕ ℕ) → Fit tables → IsSearchInRange r (length tables.members) → IsBinarySearchResult (λ m. nat_cmp m.id id) tables.members r → MatchResult r (λ i. (d : Member) → member_of id tables ≡ Some (get_or tables.members i d)) (λ _. member_of id tables ≡ None)
+pub member_searched : (tables : Tables) (id : ℕ) (r : Result ℕ ℕ) → Fit tables → IsSearchInRange r (length tables.members)
+    → IsBinarySearchResult (λ m. nat_cmp m.id id) tables.members r
+    → MatchResult r (λ i. (d : Member) → member_of id tables ≡ Some (get_or tables.members i d)) (λ _. member_of id tables ≡ None)
 member_searched tables id (Ok i) fit l h =
     λ d. member_at tables id i d fit l (ranked _ _ Equal (sym (h d)))
 member_searched tables id (Err i) fit l h =

@@ -1,5 +1,6 @@
 -- Decimal texts and the numbers in them.
-use Rattle.std.proofs.Common.{ℕ, zero, suc, ◌≡◌, ◌≢◌, ◌<◌, ◌≤◌, ◌^◌, Bool, true, false, List, [], ◌∷◌, length, get_or, decimal, Some, None, Result, Ok, Err, refl, sym, ap, ◌∙◌, arith, rules, tests}
+use Rattle.std.proofs.Common.{ℕ, zero, suc, ◌≡◌, ◌≢◌, ◌<◌, ◌≤◌, ◌^◌, Bool, true, false, List, [], ◌∷◌, length, get_or, decimal, Some, None}
+use Rattle.std.proofs.Common.{Result, Ok, Err, refl, sym, ap, ◌∙◌, arith, rules, tests}
 use Rattle.std.specs.List.{list_all}
 use Rattle.std.specs.Prelude.{nat_lt, if◌then◌else◌, ◌&&◌}
 use Rattle.std.specs.Result.{result_ok}
@@ -10,7 +11,8 @@ use Rattle.std.proofs.lemmas.Bool.{and_parts, and_from, false≢true}
 use Rattle.std.proofs.lemmas.Bool.Decides.{nat_tests}
 use Rattle.std.proofs.lemmas.Str.{IsUtf8-from_ascii}
 use Rattle.std.proofs.lemmas.Str.Parse.{IsNumeralModel, numerals_by_fold, parse_plain, digit_at}
-use Rattle.std.proofs.lemmas.Fmt.{IsAscii-from_digits, digits_decimal, digits_value-decimal, decimal-digits_value, decimal_nonempty, first_decimal, decimal_digit}
+use Rattle.std.proofs.lemmas.Fmt.{IsAscii-from_digits, digits_decimal, digits_value-decimal, decimal-digits_value, decimal_nonempty}
+use Rattle.std.proofs.lemmas.Fmt.{first_decimal, decimal_digit}
 use Rattle.rows_model.specs.Shift.{is_digit, number_from, is_number, number_in, NumbersAreDecimal}
 
 abbrev all_digits : List ℕ → Bool
@@ -61,7 +63,8 @@ plain (c ∷ []) l low high = grind (arith, nat_tests)
 plain (c ∷ d ∷ cs) l low high = grind (arith, nat_tests)
 
 -- such a text of digits holds the number that they stand for
-some_from : (text : List ℕ) → 1 ≤ length text → 49 ≤ get_or text 0 0 → get_or text 0 0 ≤ 57 → all_digits text ≡ true → number_from 0 text < 2 ^ 64 → number_in text ≡ Some (number_from 0 text)
+some_from : (text : List ℕ) → 1 ≤ length text → 49 ≤ get_or text 0 0
+    → get_or text 0 0 ≤ 57 → all_digits text ≡ true → number_from 0 text < 2 ^ 64 → number_in text ≡ Some (number_from 0 text)
 some_from text some low high digits small =
     let below : nat_lt (number_from 0 text) (2 ^ 64) ≡ true = search (rules, tests) in
     let both : (is_number text && nat_lt (number_from 0 text) (2 ^ 64)) ≡ true = and_from _ _ (plain text some low high ∙ digits) below in
@@ -71,7 +74,8 @@ nothing_from : (b : Bool) (n : ℕ) → (b ≡ true → ⊥) → (if b then Some
 nothing_from true n never = absurd (never refl)
 nothing_from false n never = refl
 
-nothing_by : (text : List ℕ) → 1 ≤ length text → 49 ≤ get_or text 0 0 → get_or text 0 0 ≤ 57 → (all_digits text ≡ true → number_from 0 text < 2 ^ 64 → ⊥) → number_in text ≡ None
+nothing_by : (text : List ℕ) → 1 ≤ length text → 49 ≤ get_or text 0 0
+    → get_or text 0 0 ≤ 57 → (all_digits text ≡ true → number_from 0 text < 2 ^ 64 → ⊥) → number_in text ≡ None
 nothing_by text some low high never =
     number_in_is text
     ∙ nothing_from _ (number_from 0 text) (λ e.
@@ -80,7 +84,8 @@ nothing_by text some low high never =
     never (sym (plain text some low high) ∙ parts.0) below)
 
 -- what `parse` answers to such a text
-pub number_parsed : {E : Type 0} (text : List ℕ) (r : Result ℕ E) → ParsesUnsigned 64 10 text r → 1 ≤ length text → 49 ≤ get_or text 0 0 → get_or text 0 0 ≤ 57 → result_ok r ≡ number_in text
+pub number_parsed : {E : Type 0} (text : List ℕ) (r : Result ℕ E)
+    → ParsesUnsigned 64 10 text r → 1 ≤ length text → 49 ≤ get_or text 0 0 → get_or text 0 0 ≤ 57 → result_ok r ≡ number_in text
 number_parsed {E} text (Ok n) h some low high =
     let ne : get_or text 0 0 ≢ 43 = omega arith in
     let f = parse_plain own {E = E} 64 text (Ok n) h ne in
@@ -106,7 +111,8 @@ number_in-decimal (suc n) small =
     let some : 0 < length (decimal (suc n)) = decimal_nonempty (suc n) small in
     let first : 48 < get_or (decimal (suc n)) 0 0 = first_decimal (suc n) (omega arith) small in
     let high = digit_at (decimal (suc n)) 0 (own.to (decimal (suc n)) digits) some in
-    let found : number_in (decimal (suc n)) ≡ Some (number_from 0 (decimal (suc n))) = some_from (decimal (suc n)) (omega arith) (omega arith) high.1 digits (omega arith) in
+    let found : number_in (decimal (suc n)) ≡ Some (number_from 0 (decimal (suc n))) =
+    some_from (decimal (suc n)) (omega arith) (omega arith) high.1 digits (omega arith) in
     found ∙ ap (λ (k : ℕ). Some k) value
 
 -- what a test lets through has passed it

@@ -17,7 +17,9 @@ Fit-changed (Reject a b) t fit ids e = Fit-without_link t.members t.links a b fi
 Fit-changed (Thaw a b) t fit ids e = Fit-without_link t.members t.links a b fit
 Fit-changed (Rename a name) t fit ids e = Fit-renamed t.members t.links a name fit ids.1
 
-fit_go : (place : ℕ) (change : Change) (changes : List Change) (t after : Tables) (b : Bool) → applies change t ≡ b → Fit t → HasIds change → (if b then apply_from (place + 1) changes (changed change t) else Err place) ≡ Ok after → (Fit (changed change t) → apply_from (place + 1) changes (changed change t) ≡ Ok after → Fit after) → Fit after
+fit_go : (place : ℕ) (change : Change) (changes : List Change) (t after : Tables) (b : Bool) → applies change t ≡ b → Fit t → HasIds change
+    → (if b then apply_from (place + 1) changes (changed change t) else Err place) ≡ Ok after
+    → (Fit (changed change t) → apply_from (place + 1) changes (changed change t) ≡ Ok after → Fit after) → Fit after
 fit_go place change changes t after true takes fit ids e rest = rest (Fit-changed change t fit ids takes) e
 fit_go place change changes t after false takes fit ids e rest = absurd cc
 
@@ -25,7 +27,8 @@ pub fit_from : (place : ℕ) (changes : List Change) (t after : Tables) → Fit 
 fit_from place [] t after fit ids e =
     let same : t ≡ after = cc in subst Fit same fit
 fit_from place (change ∷ changes) t after fit ids e =
-    fit_go place change changes t after (applies change t) refl fit (All-head HasIds change changes ids) e (λ kept made. fit_from (place + 1) changes (changed change t) after kept (All-tail HasIds change changes ids) made)
+    fit_go place change changes t after (applies change t) refl fit
+    (All-head HasIds change changes ids) e (λ kept made. fit_from (place + 1) changes (changed change t) after kept (All-tail HasIds change changes ids) made)
 
 -- after changes in turn, all of which apply
 pub Fit-apply_all : (changes : List Change) (tables after : Tables) → Fit tables → All HasIds changes → apply_all changes tables ≡ Ok after → Fit after

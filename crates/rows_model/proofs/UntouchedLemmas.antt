@@ -1,5 +1,6 @@
 -- A key that no change touches keeps its answer.
-use Rattle.std.proofs.Common.{ℕ, ◌+◌, ◌<◌, ◌≡◌, ◌≢◌, Bool, true, false, not, List, [], ◌∷◌, ◌++◌, length, get_or, take, drop, map, filter, find, decimal, All, AllPairs, Option, Some, Ok, Err, inl, inr, refl, sym, ap, ◌∙◌, arith, take-append-drop}
+use Rattle.std.proofs.Common.{ℕ, ◌+◌, ◌<◌, ◌≡◌, ◌≢◌, Bool, true, false, not, List, [], ◌∷◌, ◌++◌, length, get_or, take, drop, map, filter}
+use Rattle.std.proofs.Common.{find, decimal, All, AllPairs, Option, Some, Ok, Err, inl, inr, refl, sym, ap, ◌∙◌, arith, take-append-drop}
 use Rattle.std.specs.Prelude.{count_by, ◌==◌, ◌&&◌, ◌||◌, nat_lt, cond, if◌then◌else◌}
 use Rattle.std.proofs.lemmas.Bool.{false≢true, and_parts, eq-eqb, cases_order}
 use Rattle.std.proofs.lemmas.Bool.Decides.{nat_tests}
@@ -18,7 +19,8 @@ use Rattle.rows_model.specs.declared.changes.Change.{Change}
 use Rattle.rows_model.specs.declared.changes.Change.TheVariants.{Invite, Accept, Reject, Thaw, Rename}
 use Rattle.rows_model.specs.Rows.{Tables, joins, member_of, is_pending, is_friend}
 use Rattle.rows_model.specs.Query.{befriends, invites, answer, answer_of, friend_count, pending_count, other_end, id_list, profile_text}
-use Rattle.rows_model.specs.Changes.{with_link, without_link, invitation, friendship, renamed, applies, changed, apply_from, apply_all, foot_of, has_key, touches, is_linked, is_invited, are_friends, is_member, is_before}
+use Rattle.rows_model.specs.Changes.{with_link, without_link, invitation, friendship, renamed, applies, changed, apply_from, apply_all}
+use Rattle.rows_model.specs.Changes.{foot_of, has_key, touches, is_linked, is_invited, are_friends, is_member, is_before}
 use Rattle.rows_model.specs.Untouched.{UntouchedKeepsItsAnswer}
 use Rattle.rows_model.proofs.FitLemmas.{InPlace, in_place, with_in_place, none_go, none_passes, not_true, friend_free}
 
@@ -31,8 +33,10 @@ filter_with p new links e =
     ∙ (ap (λ (rest : List Link). filter p (take k links) ++ rest) back
     ∙ (sym (filter-append p (take k links) (drop k links)) ∙ ap (filter p) (take-append-drop k links)))
 
-both_go : (p q : Link → Bool) (x : Link) (xs : List Link) (b c : Bool) → q x ≡ b → p x ≡ c → (q x ≡ false → p x ≡ false) → filter p (filter q xs) ≡ filter p xs → filter p (cond b (x ∷ filter q xs) (filter q xs)) ≡ cond c (x ∷ filter p xs) (filter p xs)
-both_go p q x xs true c eq ep h rest = ap (λ b. cond b (x ∷ filter p (filter q xs)) (filter p (filter q xs))) ep ∙ ap (λ (ys : List Link). cond c (x ∷ ys) ys) rest
+both_go : (p q : Link → Bool) (x : Link) (xs : List Link) (b c : Bool) → q x ≡ b → p x ≡ c → (q x ≡ false → p x ≡ false)
+    → filter p (filter q xs) ≡ filter p xs → filter p (cond b (x ∷ filter q xs) (filter q xs)) ≡ cond c (x ∷ filter p xs) (filter p xs)
+both_go p q x xs true c eq ep h rest = ap (λ b. cond b (x ∷ filter p (filter q xs)) (filter p (filter q xs))) ep
+    ∙ ap (λ (ys : List Link). cond c (x ∷ ys) ys) rest
 both_go p q x xs false true eq ep h rest = absurd (false≢true (sym (h eq) ∙ ep))
 both_go p q x xs false false eq ep h rest = rest
 
@@ -40,13 +44,15 @@ both_go p q x xs false false eq ep h rest = rest
 pub filter_both : (p q : Link → Bool) (xs : List Link) → All (λ x. q x ≡ false → p x ≡ false) xs → filter p (filter q xs) ≡ filter p xs
 filter_both p q [] all = refl
 filter_both p q (x ∷ xs) all =
-    both_go p q x xs (q x) (p x) refl refl (All-head (λ y. q y ≡ false → p y ≡ false) x xs all) (filter_both p q xs (All-tail (λ y. q y ≡ false → p y ≡ false) x xs all))
+    both_go p q x xs (q x) (p x) refl refl (All-head (λ y. q y ≡ false → p y ≡ false) x xs all)
+    (filter_both p q xs (All-tail (λ y. q y ≡ false → p y ≡ false) x xs all))
 
 pub not_false : (b : Bool) → not b ≡ false → b ≡ true
 not_false true e = refl
 not_false false e = absurd (false≢true (sym e))
 
-pub filter_without : (p : Link → Bool) (a b : ℕ) (links : List Link) → All (λ link. joins a b link ≡ true → p link ≡ false) links → filter p (without_link a b links) ≡ filter p links
+pub filter_without : (p : Link → Bool) (a b : ℕ) (links : List Link)
+    → All (λ link. joins a b link ≡ true → p link ≡ false) links → filter p (without_link a b links) ≡ filter p links
 filter_without p a b links all =
     filter_both p (λ link. not (joins a b link)) links (λ k d l e. all k d l (not_false (joins a b (get_or links k d)) e))
 
@@ -55,7 +61,8 @@ pub clash : (a b : ℕ) (link later : Link) → joins a b link ≡ true → join
 clash a b link later e f = grind (arith, nat_tests)
 
 -- only one link joins two members
-only_link : (a b : ℕ) (links : List Link) (k : ℕ) (x : Link) → AllPairs InPlace links → k < length links → get_or links k x ≡ x → joins a b x ≡ true → All (λ link. joins a b link ≡ true → link ≡ x) links
+only_link : (a b : ℕ) (links : List Link) (k : ℕ) (x : Link)
+    → AllPairs InPlace links → k < length links → get_or links k x ≡ x → joins a b x ≡ true → All (λ link. joins a b link ≡ true → link ≡ x) links
 only_link a b links k x pairs l is e j d m f = elim (cases_order j k) [
   | inl same ↦ ap (λ (i : ℕ). get_or links i d) same ∙ (get_or_default links k d x l ∙ is)
   | inr other ↦ elim other [
@@ -74,7 +81,8 @@ pub pending_joins : (a b : ℕ) (link : Link) → (is_pending link.state && (lin
 pending_joins a b link e = grind (arith, nat_tests)
 
 -- the one link of an invitation
-pub invited_only : (a b : ℕ) (t : Tables) → AllPairs InPlace t.links → is_invited a b t ≡ true → All (λ link. joins a b link ≡ true → (is_pending link.state && (link.a == a) && (link.b == b)) ≡ true) t.links
+pub invited_only : (a b : ℕ) (t : Tables) → AllPairs InPlace t.links
+    → is_invited a b t ≡ true → All (λ link. joins a b link ≡ true → (is_pending link.state && (link.a == a) && (link.b == b)) ≡ true) t.links
 invited_only a b t pairs e =
     let p : Link → Bool = λ link. is_pending link.state && (link.a == a) && (link.b == b) in
     let w = Any-from_list_any p t.links e in
@@ -82,7 +90,8 @@ invited_only a b t pairs e =
     λ j d m f. ap p (only_link a b t.links w.0 w.1 pairs w.2 w.3 joined j d m f) ∙ w.4
 
 -- the one link of a friendship
-pub friends_only : (a b : ℕ) (t : Tables) → AllPairs InPlace t.links → are_friends a b t ≡ true → All (λ link. joins a b link ≡ true → is_friend link.state ≡ true) t.links
+pub friends_only : (a b : ℕ) (t : Tables) → AllPairs InPlace t.links
+    → are_friends a b t ≡ true → All (λ link. joins a b link ≡ true → is_friend link.state ≡ true) t.links
 friends_only a b t pairs e =
     let p : Link → Bool = λ link. is_friend link.state && joins a b link in
     let w = Any-from_list_any p t.links e in
@@ -106,19 +115,24 @@ friend_invites id link e = state_go link.state (link.b == id) e
 pending_befriends : (a b id : ℕ) (link : Link) → (is_pending link.state && (link.a == a) && (link.b == b)) ≡ true → befriends id link ≡ false
 pending_befriends a b id link e = grind (arith, nat_tests)
 
-friendship_befriends : (a b id : ℕ) (first : Bool) → a ≢ id → b ≢ id → befriends id (if first then record { a = a; b = b; state = Friend } else record { a = b; b = a; state = Friend }) ≡ false
+friendship_befriends : (a b id : ℕ) (first : Bool) → a ≢ id → b ≢ id
+    → befriends id (if first then record { a = a; b = b; state = Friend } else record { a = b; b = a; state = Friend }) ≡ false
 friendship_befriends a b id true n m = grind (arith, nat_tests)
 friendship_befriends a b id false n m = grind (arith, nat_tests)
 
-pub friendship_invites : (a b id : ℕ) (first : Bool) → invites id (if first then record { a = a; b = b; state = Friend } else record { a = b; b = a; state = Friend }) ≡ false
+pub friendship_invites : (a b id : ℕ) (first : Bool)
+    → invites id (if first then record { a = a; b = b; state = Friend } else record { a = b; b = a; state = Friend }) ≡ false
 friendship_invites a b id true = refl
 friendship_invites a b id false = refl
 
 -- a member with another id
-other_go : (id : ℕ) (name : List ℕ) (i : ℕ) (x : Member) (xs ys : List Member) (b : Bool) → x.id == id ≡ b → id ≢ i → find (λ m. m.id == i) ys ≡ find (λ m. m.id == i) xs → (let y : Member = if b then record { id = x.id; name = name } else x in cond (y.id == i) (Some y) (find (λ m. m.id == i) ys) ≡ cond (x.id == i) (Some x) (find (λ m. m.id == i) xs))
+other_go : (id : ℕ) (name : List ℕ) (i : ℕ) (x : Member) (xs ys : List Member) (b : Bool) → x.id == id ≡ b → id ≢ i
+    → find (λ m. m.id == i) ys ≡ find (λ m. m.id == i) xs → (let y : Member = if b then record { id = x.id; name = name } else x in
+    cond (y.id == i) (Some y) (find (λ m. m.id == i) ys) ≡ cond (x.id == i) (Some x) (find (λ m. m.id == i) xs))
 other_go id name i x xs ys true e n rest =
     let none : (x.id == i) ≡ false = grind (arith, nat_tests) in
-    ap (λ b. cond b (Some (record { id = x.id; name = name })) (find (λ m. m.id == i) ys)) none ∙ (rest ∙ sym (ap (λ b. cond b (Some x) (find (λ m. m.id == i) xs)) none))
+    ap (λ b. cond b (Some (record { id = x.id; name = name })) (find (λ m. m.id == i) ys)) none
+    ∙ (rest ∙ sym (ap (λ b. cond b (Some x) (find (λ m. m.id == i) xs)) none))
 other_go id name i x xs ys false e n rest = ap (λ (o : Option Member). cond (x.id == i) (Some x) o) rest
 
 other_member : (id : ℕ) (name : List ℕ) (i : ℕ) (xs : List Member) → id ≢ i → find (λ m. m.id == i) (map (renamed id name) xs) ≡ find (λ m. m.id == i) xs
@@ -173,7 +187,8 @@ invite_invites id a b t n = filter_with (invites id) (invitation a b) t.links (u
 pub parted_friends : (id a b : ℕ) (t : Tables) → a ≢ id → b ≢ id → filter (befriends id) (without_link a b t.links) ≡ filter (befriends id) t.links
 parted_friends id a b t n m = filter_without (befriends id) a b t.links (λ k d l e. other_befriends a b id (get_or t.links k d) e n m)
 
-pub invited_invites : (id a b : ℕ) (t : Tables) → AllPairs InPlace t.links → is_invited a b t ≡ true → b ≢ id → filter (invites id) (without_link a b t.links) ≡ filter (invites id) t.links
+pub invited_invites : (id a b : ℕ) (t : Tables) → AllPairs InPlace t.links
+    → is_invited a b t ≡ true → b ≢ id → filter (invites id) (without_link a b t.links) ≡ filter (invites id) t.links
 invited_invites id a b t pairs takes n =
     filter_without (invites id) a b t.links (λ k d l e. other_invites a b id (get_or t.links k d) (invited_only a b t pairs takes k d l e) n)
 
@@ -194,7 +209,8 @@ thaw_invites id a b t pairs takes =
     filter_without (invites id) a b t.links (λ k d l e. friend_invites id (get_or t.links k d) (friends_only a b t pairs takes k d l e))
 
 -- a change leaves the rows that the answer to an untouched key reads
-rows_kept : (change : Change) (kind : Kind) (id : ℕ) (t : Tables) → AllPairs InPlace t.links → applies change t ≡ true → has_key (record { kind = kind; id = id }) (foot_of change) ≡ false → SameRows kind id t (changed change t)
+rows_kept : (change : Change) (kind : Kind) (id : ℕ) (t : Tables) → AllPairs InPlace t.links
+    → applies change t ≡ true → has_key (record { kind = kind; id = id }) (foot_of change) ≡ false → SameRows kind id t (changed change t)
 rows_kept (Invite a b) Profile id t pairs takes e = (refl, invite_friends id a b t, invite_invites id a b t (apart id b _ e))
 rows_kept (Invite a b) Friends id t pairs takes e = invite_friends id a b t
 rows_kept (Invite a b) Pending id t pairs takes e = invite_invites id a b t (apart id b _ e)
@@ -233,22 +249,29 @@ pairs_kept (Invite a b) t pairs takes =
 pairs_kept (Accept a b) t pairs takes =
     let p : Link → Bool = λ link. not (joins a b link) in
     let passes = filter_passes p t.links in
-    with_in_place (friendship a b) (without_link a b t.links) (AllPairs-filter InPlace p t.links pairs) (λ k d l. friend_free a b (nat_lt a b) (get_or (without_link a b t.links) k d) (not_true _ (passes k d l)))
+    with_in_place (friendship a b) (without_link a b t.links) (AllPairs-filter InPlace p t.links pairs)
+    (λ k d l. friend_free a b (nat_lt a b) (get_or (without_link a b t.links) k d) (not_true _ (passes k d l)))
 pairs_kept (Reject a b) t pairs takes = AllPairs-filter InPlace (λ link. not (joins a b link)) t.links pairs
 pairs_kept (Thaw a b) t pairs takes = AllPairs-filter InPlace (λ link. not (joins a b link)) t.links pairs
 pairs_kept (Rename a name) t pairs takes = pairs
 
-untouched_go : (place : ℕ) (change : Change) (changes : List Change) (kind : Kind) (id : ℕ) (t after : Tables) (b : Bool) → applies change t ≡ b → AllPairs InPlace t.links → (if b then apply_from (place + 1) changes (changed change t) else Err place) ≡ Ok after → has_key (record { kind = kind; id = id }) (foot_of change) ≡ false → (AllPairs InPlace (changed change t).links → apply_from (place + 1) changes (changed change t) ≡ Ok after → answer_of kind id after ≡ answer_of kind id (changed change t)) → answer_of kind id after ≡ answer_of kind id t
+untouched_go : (place : ℕ) (change : Change) (changes : List Change) (kind : Kind) (id : ℕ) (t after : Tables) (b : Bool) → applies change t ≡ b
+    → AllPairs InPlace t.links → (if b then apply_from (place + 1) changes (changed change t) else Err place) ≡ Ok after
+    → has_key (record { kind = kind; id = id }) (foot_of change) ≡ false
+    → (AllPairs InPlace (changed change t).links → apply_from (place + 1) changes (changed change t) ≡ Ok after
+    → answer_of kind id after ≡ answer_of kind id (changed change t)) → answer_of kind id after ≡ answer_of kind id t
 untouched_go place change changes kind id t after true takes pairs e none rest =
     rest (pairs_kept change t pairs takes) e ∙ same_answer kind id t (changed change t) (rows_kept change kind id t pairs takes none)
 untouched_go place change changes kind id t after false takes pairs e none rest = absurd cc
 
-untouched_from : (place : ℕ) (changes : List Change) (kind : Kind) (id : ℕ) (t after : Tables) → AllPairs InPlace t.links → apply_from place changes t ≡ Ok after → touches changes (record { kind = kind; id = id }) ≡ false → answer_of kind id after ≡ answer_of kind id t
+untouched_from : (place : ℕ) (changes : List Change) (kind : Kind) (id : ℕ) (t after : Tables) → AllPairs InPlace t.links
+    → apply_from place changes t ≡ Ok after → touches changes (record { kind = kind; id = id }) ≡ false → answer_of kind id after ≡ answer_of kind id t
 untouched_from place [] kind id t after pairs e none =
     let same : t ≡ after = cc in ap (λ (u : Tables). answer_of kind id u) (sym same)
 untouched_from place (change ∷ changes) kind id t after pairs e none =
     let parts = none_go (has_key (record { kind = kind; id = id }) (foot_of change)) (touches changes (record { kind = kind; id = id })) none in
-    untouched_go place change changes kind id t after (applies change t) refl pairs e parts.0 (λ kept made. untouched_from (place + 1) changes kind id (changed change t) after kept made parts.1)
+    untouched_go place change changes kind id t after (applies change t) refl pairs e parts.0
+    (λ kept made. untouched_from (place + 1) changes kind id (changed change t) after kept made parts.1)
 
 pub untouched_keeps : UntouchedKeepsItsAnswer
 unfolding apply_all answer

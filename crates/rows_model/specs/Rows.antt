@@ -1,4 +1,5 @@
-use Rattle.std.specs.Prelude.{ℕ, Bool, true, false, ◌==◌, ◌&&◌, ◌||◌, ◌≡◌, ◌≢◌, ◌<◌, ◌≤◌, List, [], ◌∷◌, length, map, Option, IsSome, find, All, AllPairs, decimal}
+use Rattle.std.specs.Prelude.{ℕ, Bool, true, false, ◌==◌, ◌&&◌, ◌||◌, ◌≡◌, ◌≢◌, ◌<◌, ◌≤◌, List, [], ◌∷◌, length, map, Option, IsSome, find}
+use Rattle.std.specs.Prelude.{All, AllPairs, decimal}
 use Rattle.std.specs.List.{range_with_len}
 use Rattle.rows_model.specs.declared.rows.LinkState.{LinkState}
 use Rattle.rows_model.specs.declared.rows.LinkState.TheVariants.{Pending, Friend}

@@ -72,6 +72,7 @@ pub(crate) fn first_refused(rows: &Rows, changes: &[Change]) -> Option<u32>
     requires few { length changes.now ≤ 8 }
     ensures first { IfSome result (λ index. apply_all changes.now rows.now ≡ Err index) }
     ensures none { IfNone result (AllApply changes.now rows.now) }
+    ensures fit { Fit rows.now }
 {
     let count = rows.link_count();
     for index in 0..changes.len() {

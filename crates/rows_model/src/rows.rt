@@ -1,7 +1,7 @@
-ghost use Rattle.std.specs.Prelude.{◌≡◌, ◌≤◌, ◌&&◌, ◌==◌, Ok, Err, length, filter, IfOk, IfErr, OnOk, OnErr};
+ghost use Rattle.std.specs.Prelude.{◌≡◌, ◌≤◌, ◌&&◌, ◌==◌, Ok, Err, length, filter, All, IfSome, IfNone, IfOk, IfErr, OnOk, OnErr};
 ghost use Rattle.std.specs.Option.{option_copied};
 ghost use Rattle.rows_model.specs.Rows.{Fit, start_tables, member_of, joins, is_pending, is_friend};
-ghost use Rattle.rows_model.specs.Changes.{is_before, invitation, friendship, apply_all};
+ghost use Rattle.rows_model.specs.Changes.{HasIds, is_before, invitation, friendship, apply_all};
 ghost use Rattle.rows_model.specs.ApplyFaults.{IsRejection, AllApply};
 ghost use Rattle.rows_model.specs.Query.{invites, befriends, other_end, friend_count, pending_count};
 ghost use Rattle.rows_model.specs.Near.{is_end};
@@ -226,6 +226,18 @@ impl Rows {
             .count() as u64
     }
 
+    /// The place of the first change of the transaction that doesn't apply in its turn, or `None`
+    /// where all apply. It takes no memory, and looks at the members that the transaction names and
+    /// their links alone.
+    pub fn judge(&self, txn: &Txn) -> Option<u32>
+        ensures first { IfSome result (λ index. apply_all txn.now self.now ≡ Err index) }
+        ensures none { IfNone result (AllApply txn.now self.now) }
+        ensures fit { Fit self.now }
+        ensures ids { All HasIds txn.now }
+    {
+        first_refused(self, txn.changes())
+    }
+
     /// Makes the changes of the transaction in turn, all or none. `Rejected` comes exactly where a
     /// change doesn't apply, with the place of the first. Memory is asked for only once all are judged,
     /// where links are added, so `Memory` comes only where the transaction applies. After a fault the
@@ -237,7 +249,7 @@ impl Rows {
         ensures kept { OnErr result (self.new ≡ self.old) }
     {
         let changes = txn.changes();
-        if let Some(index) = first_refused(self, changes) {
+        if let Some(index) = self.judge(txn) {
             return Err(ApplyFault::Rejected { index });
         }
         make_room(self.near.as_mut_slice(), changes, changes.len())?;

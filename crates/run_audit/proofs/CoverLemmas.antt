@@ -1,5 +1,6 @@
 -- What was granted in the histories of the shards, and what that covers.
-use Rattle.std.proofs.Common.{◌≡◌, ℕ, ◌+◌, ◌<◌, ◌||◌, ◌==◌, Bool, true, false, List, [], ◌∷◌, ◌++◌, length, take, get_or, slice_get, Option, Some, None, option_map, reverse, All, refl, sym, ap, subst, ◌∙◌}
+use Rattle.std.proofs.Common.{◌≡◌, ℕ, ◌+◌, ◌<◌, ◌||◌, ◌==◌, Bool, true, false, List, [], ◌∷◌, ◌++◌, length, take, get_or, slice_get, Option}
+use Rattle.std.proofs.Common.{Some, None, option_map, reverse, All, refl, sym, ap, subst, ◌∙◌}
 use Rattle.std.specs.List.{list_any}
 use Rattle.std.specs.BTreeSet.{BTreeSet}
 use Rattle.std.proofs.lemmas.List.{take_more, map_push, length-map}
@@ -41,7 +42,8 @@ grants-more shards i shard old new in' is has adds hold =
     ∙ ap (list_any (grants_it hold)) (sym (histories-push shards i shard in' is))
 
 pub legal-more : (shards : List ShardView) (i : ℕ) (shard : ShardView) → i < length shards → shard ≡ get_or shards i shard
-    → All (λ one. Legal one.terms one.history) (take i shards) → Legal shard.terms shard.history → All (λ one. Legal one.terms one.history) (take (i + 1) shards)
+    → All (λ one. Legal one.terms one.history) (take i shards) → Legal shard.terms shard.history
+    → All (λ one. Legal one.terms one.history) (take (i + 1) shards)
 legal-more shards i shard in' is before here =
     All-more (λ (one : ShardView). Legal one.terms one.history) shards i shard in' before (subst (λ (one : ShardView). Legal one.terms one.history) is here)
 
@@ -55,15 +57,18 @@ granted-at_home : (terms : Terms) (past : List Step) (key : QKey) (who : Sid) (m
 granted-at_home terms past key who made answers = subst (GrantsAtHome terms key who) (sym answers.answer) (by answers.request answers.at_home)
   where
     by : (request : Request) → IsAtHome terms (key_of request) → GrantsAtHome terms key who (step_of terms past request)
-    by (Get on sid floor now) home = got_cases (GrantsAtHome terms key who) terms past on sid floor now (λ value stamp _ grants. cc) (λ grants. cc) (λ stands grants. cc) (λ none grants. cc)
+    by (Get on sid floor now) home =
+        got_cases (GrantsAtHome terms key who) terms past on sid floor now (λ value stamp _ grants. cc) (λ grants. cc) (λ stands grants. cc) (λ none grants. cc)
     by (Set on token value stamp now) home = set_cases (GrantsAtHome terms key who) terms past on token value stamp now (λ _ grants. cc) (λ _ grants. cc)
     by (Quarantine on sid mode shift now) home = quarantine_cases (GrantsAtHome terms key who) terms past on sid mode shift now
-        (λ none grants. (let parts = and_elim (same_key key on) (sid.number == who.number) grants in subst (IsAtHome terms) (sym (same_key-true key on parts.0)) home))
+        (λ none grants. (let parts = and_elim (same_key key on) (sid.number == who.number) grants in
+        subst (IsAtHome terms) (sym (same_key-true key on parts.0)) home))
         (λ grants. cc) (λ quar _ grants. cc)
     by (Release permit how) home = release_cases (GrantsAtHome terms key who) past permit how (λ quar _ grants. cc) (λ _ grants. cc)
     by (Replace permit value stamp) home = replace_cases (GrantsAtHome terms key who) terms past permit value stamp (λ quar _ grants. cc) (λ _ grants. cc)
 
-past-at_home : (terms : Terms) (key : QKey) (who : Sid) (past : List Step) → IsLegalPast terms past → list_any (quarantines key who) past ≡ true → IsAtHome terms key
+past-at_home : (terms : Terms) (key : QKey) (who : Sid) (past : List Step)
+    → IsLegalPast terms past → list_any (quarantines key who) past ≡ true → IsAtHome terms key
 past-at_home terms key who [] legal some = cc
 past-at_home terms key who (made ∷ past) legal some = by (quarantines key who made) refl (past-at_home terms key who past legal.1)
   where
@@ -71,7 +76,8 @@ past-at_home terms key who (made ∷ past) legal some = by (quarantines key who 
     by true grants later = granted-at_home terms past key who made legal.0 grants
     by false none later = later (rw none at some)
 
-legal-at_home : (terms : Terms) (key : QKey) (who : Sid) (history : List Step) → Legal terms history → list_any (quarantines key who) history ≡ true → IsAtHome terms key
+legal-at_home : (terms : Terms) (key : QKey) (who : Sid) (history : List Step)
+    → Legal terms history → list_any (quarantines key who) history ≡ true → IsAtHome terms key
 legal-at_home terms key who history legal some =
     past-at_home terms key who (reverse history) legal
     (sym (list_any-IsPermutation (quarantines key who) history (reverse history) (IsPermutation-reverse history)) ∙ some)
@@ -85,16 +91,20 @@ pub record AreShards (shards : List ShardView) (grants : BTreeSet Hold) : Type 0
   pub has : HasGrants (histories_in shards) grants
 
 -- the shard whose history stands at a place
-shard-at : (shards : List ShardView) (i : ℕ) (history : List Step) → slice_get (histories_in shards) i ≡ Some history → (shard : ShardView) × (slice_get shards i ≡ Some shard) × (shard.history ≡ history)
+shard-at : (shards : List ShardView) (i : ℕ) (history : List Step)
+    → slice_get (histories_in shards) i ≡ Some history → (shard : ShardView) × (slice_get shards i ≡ Some shard) × (shard.history ≡ history)
 shard-at shards i history there = by (slice_get shards i) refl
   where
     by : (found : Option ShardView) → slice_get shards i ≡ found → (shard : ShardView) × (slice_get shards i ≡ Some shard) × (shard.history ≡ history)
-    by None none = let clash' : None ≡ Some history = sym (slice_get-map (λ (one : ShardView). one.history) shards i ∙ ap (option_map (λ (one : ShardView). one.history)) none) ∙ there in cc
+    by None none = let clash' : None ≡ Some history =
+        sym (slice_get-map (λ (one : ShardView). one.history) shards i ∙ ap (option_map (λ (one : ShardView). one.history)) none) ∙ there in cc
     by (Some shard) at =
-        let same : Some shard.history ≡ Some history = sym (slice_get-map (λ (one : ShardView). one.history) shards i ∙ ap (option_map (λ (one : ShardView). one.history)) at) ∙ there in
+        let same : Some shard.history ≡ Some history =
+        sym (slice_get-map (λ (one : ShardView). one.history) shards i ∙ ap (option_map (λ (one : ShardView). one.history)) at) ∙ there in
         (shard, at, cc)
 
-pub granted-there : (shards : List ShardView) (grants : BTreeSet Hold) → AreShards shards grants → (who : Sid) (key : QKey) → holds grants who key ≡ true → IsGranted (histories_in shards) key who
+pub granted-there : (shards : List ShardView) (grants : BTreeSet Hold)
+    → AreShards shards grants → (who : Sid) (key : QKey) → holds grants who key ≡ true → IsGranted (histories_in shards) key who
 granted-there shards grants are who key held =
     let hold : Hold = record { sid = who; key = key } in
     let found = place-of (grants_it hold) (histories_in shards) (sym (are.has hold) ∙ held) in
@@ -102,22 +112,27 @@ granted-there shards grants are who key held =
     let numbered = are.numbered.each found.0 at.0 at.1 in
     let in' = slice_get_within shards found.0 at.0 at.1 in
     let is : get_or shards found.0 at.0 ≡ at.0 = get_or_from_slice_get shards found.0 at.0 at.0 at.1 in
-    let legal : Legal at.0.terms at.0.history = subst (λ (one : ShardView). Legal one.terms one.history) is (All-get_or (λ (one : ShardView). Legal one.terms one.history) shards found.0 at.0 in' are.legal) in
+    let legal : Legal at.0.terms at.0.history =
+    subst (λ (one : ShardView). Legal one.terms one.history) is
+    (All-get_or (λ (one : ShardView). Legal one.terms one.history) shards found.0 at.0 in' are.legal) in
     let some : list_any (quarantines key who) at.0.history ≡ true = ap (list_any (quarantines key who)) at.2 ∙ found.3 in
     let home : shard_of key at.0.terms.count ≡ at.0.terms.no = legal-at_home at.0.terms key who at.0.history legal some in
     let number : shard_of key (length (histories_in shards)) ≡ found.0 =
     ap (shard_of key) (length-map shards (λ (one : ShardView). one.history) ∙ sym numbered.count) ∙ home ∙ numbered.no in
     (found.1, ap (slice_get (histories_in shards)) number ∙ found.2, found.3)
 
-pub there-granted : (shards : List ShardView) (grants : BTreeSet Hold) → AreShards shards grants → (who : Sid) (key : QKey) → IsGranted (histories_in shards) key who → holds grants who key ≡ true
+pub there-granted : (shards : List ShardView) (grants : BTreeSet Hold)
+    → AreShards shards grants → (who : Sid) (key : QKey) → IsGranted (histories_in shards) key who → holds grants who key ≡ true
 there-granted shards grants are who key granted =
     are.has (record { sid = who; key = key })
     ∙ any-at (grants_it (record { sid = who; key = key })) (histories_in shards) (shard_of key (length (histories_in shards))) granted.0 granted.1 granted.2
 
 -- ---- what is covered
 
-pub covered-there : (shards : List ShardView) (grants : BTreeSet Hold) → AreShards shards grants → (log : List Commit) → AreCovered (holds grants) log → Covered log (histories_in shards)
-covered-there shards grants are log covered place commit key there touched = granted-there shards grants are commit.sid key (covered place commit key there touched)
+pub covered-there : (shards : List ShardView) (grants : BTreeSet Hold)
+    → AreShards shards grants → (log : List Commit) → AreCovered (holds grants) log → Covered log (histories_in shards)
+covered-there shards grants are log covered place commit key there touched =
+    granted-there shards grants are commit.sid key (covered place commit key there touched)
 
 pub gap-there : (shards : List ShardView) (grants : BTreeSet Hold) → AreShards shards grants → (log : List Commit) (number : ℕ) (key : QKey)
     → IsFirstGap (holds grants) log number key → IsFirstUncovered log (histories_in shards) number key

@@ -1,5 +1,6 @@
 -- The floors of keys, after one step more, and what makes a hit fresh.
-use Rattle.std.proofs.Common.{◌≡◌, ℕ, ◌<◌, ◌≤◌, ◌||◌, ◌&&◌, ◌==◌, ◌↔◌, max, Bool, true, false, cond, List, [], ◌∷◌, length, slice_get, Option, Some, None, is_some, IfSome, IsTrue, refl, sym, ap, ◌∙◌, arith}
+use Rattle.std.proofs.Common.{◌≡◌, ℕ, ◌<◌, ◌≤◌, ◌||◌, ◌&&◌, ◌==◌, ◌↔◌, max, Bool, true, false, cond, List, [], ◌∷◌, length, slice_get}
+use Rattle.std.proofs.Common.{Option, Some, None, is_some, IfSome, IsTrue, refl, sym, ap, ◌∙◌, arith}
 use Rattle.std.specs.List.{list_any}
 use Rattle.std.specs.Option.{unwrap_or}
 use Rattle.std.specs.BTreeMap.{BTreeMap, get, is_at}
@@ -45,7 +46,8 @@ floor-raised floors new numbers on sid token how number put number_is above key 
         let one : key ≡ on = same_key-true key on same in
         let got : get key_cmp new key ≡ Some number = put key ∙ rw (at, same) refl in
         let noted : floor_of key new ≡ number = ap (λ o. unwrap_or o 0) got in
-        let found : released_number numbers key (step.Released on sid token how) ≡ number = rw same (ap (λ k. number_of (record { sid = sid; key = k }) numbers) one ∙ sym number_is) in
+        let found : released_number numbers key (step.Released on sid token how) ≡ number =
+        rw same (ap (λ k. number_of (record { sid = sid; key = k }) numbers) one ∙ sym number_is) in
         let old : floor_of key floors ≡ floor_of on floors = ap (λ k. floor_of k floors) one in
         omega (arith, noted, found, old)
     by false apart =
@@ -63,7 +65,8 @@ floor-stays floors numbers on sid token how below key = by (same_key key on) ref
     by : (b : Bool) → same_key key on ≡ b → floor_of key floors ≡ max (floor_of key floors) (released_number numbers key (step.Released on sid token how))
     by true same =
         let one : key ≡ on = same_key-true key on same in
-        let found : released_number numbers key (step.Released on sid token how) ≡ number_of (record { sid = sid; key = on }) numbers = rw same (ap (λ k. number_of (record { sid = sid; key = k }) numbers) one) in
+        let found : released_number numbers key (step.Released on sid token how) ≡ number_of (record { sid = sid; key = on }) numbers =
+        rw same (ap (λ k. number_of (record { sid = sid; key = k }) numbers) one) in
         let old : floor_of key floors ≡ floor_of on floors = ap (λ k. floor_of k floors) one in
         omega (arith, found, old)
     by false apart =
@@ -84,12 +87,15 @@ eqb-swap : (m n : ℕ) → (m == n) ≡ (n == m)
 eqb-swap m n = grind (arith, nat_tests)
 
 none-ended : (log : List Commit) (key : QKey) (made : Step) → ((who : Sid) → releases key who made ≡ false) → 0 ≡ last_number (is_ended key made) log
-none-ended log key made none = sym (last-none (is_ended key made) log (λ commit. ap (λ b. touches commit.txn key && b) (none commit.sid) ∙ and_none (touches commit.txn key)))
+none-ended log key made none =
+    sym (last-none (is_ended key made) log (λ commit. ap (λ b. touches commit.txn key && b) (none commit.sid) ∙ and_none (touches commit.txn key)))
 
-ended-number : (log : List Commit) (numbers : BTreeMap Hold ℕ) (key : QKey) → AreNumbers log numbers → (made : Step) → released_number numbers key made ≡ last_number (is_ended key made) log
+ended-number : (log : List Commit) (numbers : BTreeMap Hold ℕ) (key : QKey)
+    → AreNumbers log numbers → (made : Step) → released_number numbers key made ≡ last_number (is_ended key made) log
 ended-number log numbers key are (step.Released on sid token how) = by (same_key key on) refl
   where
-    by : (b : Bool) → same_key key on ≡ b → released_number numbers key (step.Released on sid token how) ≡ last_number (is_ended key (step.Released on sid token how)) log
+    by : (b : Bool) → same_key key on ≡ b
+        → released_number numbers key (step.Released on sid token how) ≡ last_number (is_ended key (step.Released on sid token how)) log
     by true same =
         let found : released_number numbers key (step.Released on sid token how) ≡ number_of (record { sid = sid; key = key }) numbers = rw same refl in
         found ∙ are (record { sid = sid; key = key })
@@ -102,15 +108,18 @@ ended-number log numbers key are (step.Hit on sid floor value stamp) = none-ende
 ended-number log numbers key are (step.Lease on sid floor now token deadline) = none-ended log key (step.Lease on sid floor now token deadline) (λ who. refl)
 ended-number log numbers key are (step.Again on sid floor now stands) = none-ended log key (step.Again on sid floor now stands) (λ who. refl)
 ended-number log numbers key are (step.Own on sid) = none-ended log key (step.Own on sid) (λ who. refl)
-ended-number log numbers key are (step.Stored on token now value stamp evicted) = none-ended log key (step.Stored on token now value stamp evicted) (λ who. refl)
+ended-number log numbers key are (step.Stored on token now value stamp evicted) =
+    none-ended log key (step.Stored on token now value stamp evicted) (λ who. refl)
 ended-number log numbers key are (step.Void on token now) = none-ended log key (step.Void on token now) (λ who. refl)
-ended-number log numbers key are (step.Granted on sid mode shift now token deadline) = none-ended log key (step.Granted on sid mode shift now token deadline) (λ who. refl)
+ended-number log numbers key are (step.Granted on sid mode shift now token deadline) =
+    none-ended log key (step.Granted on sid mode shift now token deadline) (λ who. refl)
 ended-number log numbers key are (step.Held on sid mode) = none-ended log key (step.Held on sid mode) (λ who. refl)
 ended-number log numbers key are (step.Refused on sid mode holder held) = none-ended log key (step.Refused on sid mode holder held) (λ who. refl)
 ended-number log numbers key are (step.Gone on sid token) = none-ended log key (step.Gone on sid token) (λ who. refl)
 
 -- one step more
-pub floors-more : (log : List Commit) (past : List Step) (made : Step) (numbers : BTreeMap Hold ℕ) (old new : BTreeMap QKey ℕ) → AreNumbers log numbers → AreFloors log past old
+pub floors-more : (log : List Commit) (past : List Step) (made : Step) (numbers : BTreeMap Hold ℕ) (old new : BTreeMap QKey ℕ)
+    → AreNumbers log numbers → AreFloors log past old
     → ((key : QKey) → floor_of key new ≡ max (floor_of key old) (released_number numbers key made)) → AreFloors log (made ∷ past) new
 floors-more log past made numbers old new are were raised key =
     let both = last-agree (is_released key (made ∷ past)) (λ commit. is_ended key made commit || is_released key past commit) log
@@ -124,7 +133,8 @@ floors-more log past made numbers old new are were raised key =
 -- ---- hits
 
 -- a hit within the log and not below the floor is fresh exactly where it has the key's value
-pub hit-fresh : (opening : Tables) (log : List Commit) (past : List Step) (notes : Notes) (floors : BTreeMap QKey ℕ) (key : QKey) (value : List ℕ) (stamp : ℕ) (says : Bool)
+pub hit-fresh : (opening : Tables) (log : List Commit) (past : List Step)
+    (notes : Notes) (floors : BTreeMap QKey ℕ) (key : QKey) (value : List ℕ) (stamp : ℕ) (says : Bool)
     → AreNotes opening log notes → AreFloors log past floors → IsTrue (is_some (noted key notes.answers))
     → stamp ≤ notes.count → floor_of key floors ≤ stamp
     → IfSome (noted key notes.answers) (λ versions. InTurn versions → IsTrue says ↔ value_at stamp versions ≡ Some value)
@@ -135,7 +145,8 @@ hit-fresh opening log past notes floors key value stamp says are floor_is known 
     in_log : stamp ≤ length log
     in_log = let count = are.count in omega (arith, count)
 
-    current : (place : ℕ) (commit : Commit) → slice_get log place ≡ Some commit → touches commit.txn key ≡ true → list_any (releases key commit.sid) past ≡ true → place < stamp
+    current : (place : ℕ) (commit : Commit) → slice_get log place ≡ Some commit
+        → touches commit.txn key ≡ true → list_any (releases key commit.sid) past ≡ true → place < stamp
     current place commit there touched ended =
         let passes : is_released key past commit ≡ true = rw (touched, ended) refl in
         let below = last-above (is_released key past) log place commit there passes in

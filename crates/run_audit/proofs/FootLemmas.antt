@@ -34,5 +34,6 @@ pub none-twice : (keys : List QKey) (i : ℕ) (d : QKey) → i < length keys →
 none-twice keys i d in' order = none-before keys i i d (omega arith) in' order
 
 -- one key more
-pub has_key-more : (keys : List QKey) (i : ℕ) (d key : QKey) → i < length keys → has_key key (take (i + 1) keys) ≡ (same_key key (get_or keys i d) || has_key key (take i keys))
+pub has_key-more : (keys : List QKey) (i : ℕ) (d key : QKey)
+    → i < length keys → has_key key (take (i + 1) keys) ≡ (same_key key (get_or keys i d) || has_key key (take i keys))
 has_key-more keys i d key in' = ap (has_key key) (take_more keys i d in') ∙ any-push (same_key key) (take i keys) (get_or keys i d)

@@ -1,5 +1,6 @@
 -- The first commit that isn't covered, and the least of its keys.
-use Rattle.std.proofs.Common.{◌≡◌, ℕ, suc, ◌+◌, ◌<◌, ⊎_elim, ◌||◌, not, find, Bool, true, false, List, [], ◌∷◌, ◌++◌, length, take, get_or, Option, Some, None, refl, sym, ap, subst, ◌∙◌, arith}
+use Rattle.std.proofs.Common.{◌≡◌, ℕ, suc, ◌+◌, ◌<◌, ⊎_elim, ◌||◌, not, find, Bool, true, false, List, [], ◌∷◌, ◌++◌, length, take, get_or}
+use Rattle.std.proofs.Common.{Option, Some, None, refl, sym, ap, subst, ◌∙◌, arith}
 use Rattle.std.proofs.lemmas.Bool.Decides.{nat_tests}
 use Rattle.std.proofs.lemmas.List.{take_more}
 use Rattle.std.proofs.lemmas.Option.{get_or_from_slice_get, slice_get_within, slice_get_read}
@@ -54,7 +55,8 @@ found-least test (one ∷ keys) key order found = by (test one) refl (found-leas
           least = λ other before there. absurd (first_is_least same other before (same_key other one) refl there);
         }
       where
-        first_is_least : one ≡ key → (other : QKey) → is_key_before key other ≡ true → (b : Bool) → same_key other one ≡ b → (b || has_key other keys) ≡ true → ⊥
+        first_is_least : one ≡ key → (other : QKey) → is_key_before key other ≡ true
+            → (b : Bool) → same_key other one ≡ b → (b || has_key other keys) ≡ true → ⊥
         first_is_least same other before true at there =
             let one' : other ≡ key = same_key-true other one at ∙ same in
             before-itself key (subst (λ k. is_key_before key k ≡ true) one' before)
@@ -70,7 +72,8 @@ found-least test (one ∷ keys) key order found = by (test one) refl (found-leas
           least = λ other before there. each h other before (same_key other one) refl there;
         }
       where
-        each : IsLeast test keys key → (other : QKey) → is_key_before key other ≡ true → (b : Bool) → same_key other one ≡ b → (b || has_key other keys) ≡ true → test other ≡ true
+        each : IsLeast test keys key → (other : QKey) → is_key_before key other ≡ true
+            → (b : Bool) → same_key other one ≡ b → (b || has_key other keys) ≡ true → test other ≡ true
         each h other before true at there = ap test (same_key-true other one at) ∙ passes
         each h other before false at there = h.least other before there
 

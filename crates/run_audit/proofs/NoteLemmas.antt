@@ -1,5 +1,6 @@
 -- What is noted of a log, with one commit more.
-use Rattle.std.proofs.Common.{◌≡◌, ℕ, ◌+◌, ◌-◌, ◌<◌, ◌≤◌, ◌||◌, ◌&&◌, ◌==◌, Bool, true, false, cond, List, [], ◌∷◌, ◌++◌, length, take, get_or, Option, Some, None, option_map, option_and_then, IfSome, refl, sym, ap, ◌∙◌, arith}
+use Rattle.std.proofs.Common.{◌≡◌, ℕ, ◌+◌, ◌-◌, ◌<◌, ◌≤◌, ◌||◌, ◌&&◌, ◌==◌, Bool, true, false, cond, List, [], ◌∷◌, ◌++◌, length, take}
+use Rattle.std.proofs.Common.{get_or, Option, Some, None, option_map, option_and_then, IfSome, refl, sym, ap, ◌∙◌, arith}
 use Rattle.std.specs.BTreeMap.{BTreeMap}
 use Rattle.std.specs.Global.{Vec}
 use Rattle.std.specs.Option.{unwrap_or}
@@ -56,7 +57,8 @@ renewed-is opening log commit rows key versions is_led are =
 -- the answers, where each key that the commit touches has one version more
 pub answers-more : (opening : Tables) (log : List Commit) (commit : Commit) (rows : Tables) (old new : BTreeMap QKey (Vec Version))
     → IsLed true commit (rows_after opening log) rows → AreAnswers opening log old
-    → ((key : QKey) → noted key new ≡ cond (has_key key (footprint commit.txn)) (pushed (length log + 1) (renewed key commit.txn rows) (noted key old)) (noted key old))
+    → ((key : QKey)
+    → noted key new ≡ cond (has_key key (footprint commit.txn)) (pushed (length log + 1) (renewed key commit.txn rows) (noted key old)) (noted key old))
     → AreAnswers opening (log ++ commit ∷ []) new
 answers-more opening log commit rows old new is_led are notes key =
     rw (notes key) (by (has_key key (footprint commit.txn)) (noted key old) (foot-exact commit.txn key) (are key))
@@ -65,21 +67,25 @@ answers-more opening log commit rows old new is_led are notes key =
     same n le = ap (answer key) (state-front opening log (commit ∷ []) n le)
 
     now : answer key rows ≡ answer_after opening (log ++ commit ∷ []) key (length log + 1)
-    now = ap (answer key) (is_led.led ∙ sym (rows-push opening log commit) ∙ sym (state-all opening (log ++ commit ∷ []) (length log + 1) (omega (arith, length_push log commit))))
+    now = ap (answer key) (is_led.led ∙ sym (rows-push opening log commit)
+        ∙ sym (state-all opening (log ++ commit ∷ []) (length log + 1) (omega (arith, length_push log commit))))
 
     then' : answer key (rows_after opening log) ≡ answer_after opening log key (length log)
     then' = ap (answer key) (sym (state-all opening log (length log) (omega arith)))
 
     by : (b : Bool) (found : Option (List Version)) → b ≡ touches commit.txn key → IfSome found (AreVersions (answer_after opening log key) (length log))
-        → IfSome (cond b (pushed (length log + 1) (renewed key commit.txn rows) found) found) (AreVersions (answer_after opening (log ++ commit ∷ []) key) (length (log ++ commit ∷ [])))
+        → IfSome (cond b (pushed (length log + 1) (renewed key commit.txn rows) found) found)
+        (AreVersions (answer_after opening (log ++ commit ∷ []) key) (length (log ++ commit ∷ [])))
     by true None touched were = tt
     by false None touched were = tt
     by true (Some versions) touched were =
         rw (length_push log commit, renewed-is opening log commit rows key versions is_led were, now)
         (versions-push (answer_after opening log key) (answer_after opening (log ++ commit ∷ []) key) (length log) versions same were)
     by false (Some versions) touched were =
-        let leaves : answer key rows ≡ answer key (rows_after opening log) = untouched_keeps commit.txn key (rows_after opening log) rows is_led.fit (is_led.made refl) (sym touched) in
-        rw (length_push log commit) (versions-stay (answer_after opening log key) (answer_after opening (log ++ commit ∷ []) key) (length log) versions same (sym now ∙ leaves ∙ then') were)
+        let leaves : answer key rows ≡ answer key (rows_after opening log) =
+        untouched_keeps commit.txn key (rows_after opening log) rows is_led.fit (is_led.made refl) (sym touched) in
+        rw (length_push log commit) (versions-stay (answer_after opening log key)
+        (answer_after opening (log ++ commit ∷ []) key) (length log) versions same (sym now ∙ leaves ∙ then') were)
 
 -- the same answers, where the commit doesn't apply
 pub answers-stay : (opening : Tables) (log : List Commit) (commit : Commit) (rows : Tables) (answers : BTreeMap QKey (Vec Version))
@@ -100,11 +106,13 @@ answers-stay opening log commit rows answers is_led are key = by (noted key answ
         → IfSome found (AreVersions (answer_after opening (log ++ commit ∷ []) key) (length (log ++ commit ∷ [])))
     by None were = tt
     by (Some versions) were =
-        rw (length_push log commit) (versions-stay (answer_after opening log key) (answer_after opening (log ++ commit ∷ []) key) (length log) versions same last were)
+        rw (length_push log commit)
+        (versions-stay (answer_after opening log key) (answer_after opening (log ++ commit ∷ []) key) (length log) versions same last were)
 
 -- the numbers, where the session has this commit as its last on each key that it touches
 pub numbers-more : (log : List Commit) (commit : Commit) (old new : BTreeMap Hold ℕ) → AreNumbers log old
-    → ((hold : Hold) → number_of hold new ≡ cond ((commit.sid.number == hold.sid.number) && has_key hold.key (footprint commit.txn)) (length log + 1) (number_of hold old))
+    → ((hold : Hold)
+    → number_of hold new ≡ cond ((commit.sid.number == hold.sid.number) && has_key hold.key (footprint commit.txn)) (length log + 1) (number_of hold old))
     → AreNumbers (log ++ commit ∷ []) new
 numbers-more log commit old new are notes hold =
     let touched = foot-exact commit.txn hold.key in
@@ -113,7 +121,8 @@ numbers-more log commit old new are notes hold =
     notes hold ∙ (λ i. cond (test i) (length log + 1) (are hold i)) ∙ sym (last-push (is_on hold) log commit)
 
 -- the versions of each key, where one key of some in order is noted more
-pub versions-more : (value : QKey → List Version → List ℕ) (from : ℕ) (keys : List QKey) (i : ℕ) (d : QKey) (old now new : QKey → Option (List Version)) → i < length keys → InOrder keys
+pub versions-more : (value : QKey → List Version → List ℕ) (from : ℕ) (keys : List QKey) (i : ℕ) (d : QKey) (old now new : QKey → Option (List Version))
+    → i < length keys → InOrder keys
     → ((key : QKey) → now key ≡ cond (has_key key (take i keys)) (pushed from (value key) (old key)) (old key))
     → ((key : QKey) → new key ≡ cond (same_key key (get_or keys i d)) (pushed from (value key) (now key)) (now key))
     → (key : QKey) → new key ≡ cond (has_key key (take (i + 1) keys)) (pushed from (value key) (old key)) (old key)

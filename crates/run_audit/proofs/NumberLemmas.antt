@@ -1,5 +1,6 @@
 -- The number of the last commit that passes a test.
-use Rattle.std.proofs.Common.{◌≡◌, ℕ, zero, suc, ◌+◌, ◌<◌, ◌≤◌, ◌||◌, max, Bool, true, false, cond, List, [], ◌∷◌, ◌++◌, length, slice_get, Some, refl, ap, ◌∙◌, arith}
+use Rattle.std.proofs.Common.{◌≡◌, ℕ, zero, suc, ◌+◌, ◌<◌, ◌≤◌, ◌||◌, max, Bool, true, false, cond, List, [], ◌∷◌, ◌++◌, length, slice_get}
+use Rattle.std.proofs.Common.{Some, refl, ap, ◌∙◌, arith}
 use Rattle.sql_keeper.specs.declared.stores.Commit.{Commit}
 use Rattle.run_audit.specs.Numbers.{one_further, last_number}
 
@@ -64,7 +65,8 @@ further-passes : (n : ℕ) → 0 < one_further true n
 further-passes zero = omega arith
 further-passes (suc n) = omega arith
 
-pub last-above : (test : Commit → Bool) (log : List Commit) (place : ℕ) (commit : Commit) → slice_get log place ≡ Some commit → test commit ≡ true → place < last_number test log
+pub last-above : (test : Commit → Bool) (log : List Commit) (place : ℕ) (commit : Commit)
+    → slice_get log place ≡ Some commit → test commit ≡ true → place < last_number test log
 last-above test [] place commit there passes = cc
 last-above test (one ∷ log) zero commit there passes =
     let same : one ≡ commit = cc in

@@ -12,5 +12,6 @@ state-front opening log more n le = ap (rows_after opening) (take-append-le n lo
 pub state-all : (opening : Tables) (log : List Commit) (n : ℕ) → length log ≤ n → state opening log n ≡ rows_after opening log
 state-all opening log n le = ap (rows_after opening) (take_all n log le)
 
-pub rows-push : (opening : Tables) (log : List Commit) (commit : Commit) → rows_after opening (log ++ commit ∷ []) ≡ after_commit (rows_after opening log) commit
+pub rows-push : (opening : Tables) (log : List Commit) (commit : Commit)
+    → rows_after opening (log ++ commit ∷ []) ≡ after_commit (rows_after opening log) commit
 rows-push opening log commit = fold-append after_commit opening log (commit ∷ [])

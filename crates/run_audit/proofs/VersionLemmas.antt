@@ -1,5 +1,6 @@
 -- The value after a number of commits, by the versions of a key.
-use Rattle.std.proofs.Common.{◌≡◌, ℕ, zero, suc, ◌+◌, ◌-◌, ◌<◌, ◌≤◌, ◌⊎◌, Bool, true, false, cond, List, [], ◌∷◌, ◌++◌, length, get_or, Option, Some, None, refl, sym, ap, ◌∙◌, arith, ⊎_elim, All}
+use Rattle.std.proofs.Common.{◌≡◌, ℕ, zero, suc, ◌+◌, ◌-◌, ◌<◌, ◌≤◌, ◌⊎◌, Bool, true, false, cond, List, [], ◌∷◌, ◌++◌, length, get_or}
+use Rattle.std.proofs.Common.{Option, Some, None, refl, sym, ap, ◌∙◌, arith, ⊎_elim, All}
 use Rattle.std.specs.Prelude.{nat_le}
 use Rattle.std.specs.Option.{option_or}
 use Rattle.std.proofs.lemmas.Bool.{cases_lt}
@@ -34,14 +35,20 @@ value_at-push n (one ∷ later) last =
     ∙ one_more (nat_le one.from n) (nat_le last.from n) (value_at n later) last.value one.value
 
 -- after more commits than the last version is from
-pub value_at-later : (count n : ℕ) (versions : List Version) → All (λ one. one.from ≤ count) versions → count ≤ n → value_at n versions ≡ value_at count versions
+pub value_at-later : (count n : ℕ) (versions : List Version)
+    → All (λ one. one.from ≤ count) versions → count ≤ n → value_at n versions ≡ value_at count versions
 value_at-later count n [] few le = refl
 value_at-later count n (one ∷ later) few le =
     let here : one.from ≤ count = All-head (λ v. v.from ≤ count) one later few in
-    rw (within one.from n (omega (arith, here)), within one.from count here, value_at-later count n later (All-tail (λ v. v.from ≤ count) one later few) le) refl
+    rw (
+      within one.from n (omega (arith, here)),
+      within one.from count here,
+      value_at-later count n later (All-tail (λ v. v.from ≤ count) one later few) le,
+    ) refl
 
 -- where each is from more commits on there is no value
-pub value_at-none : (n : ℕ) (versions : List Version) (d : Version) → ((k : ℕ) → k < length versions → n < (get_or versions k d).from) → value_at n versions ≡ None
+pub value_at-none : (n : ℕ) (versions : List Version) (d : Version)
+    → ((k : ℕ) → k < length versions → n < (get_or versions k d).from) → value_at n versions ≡ None
 value_at-none n [] d above = refl
 value_at-none n (one ∷ later) d above =
     rw (past one.from n (above 0 (omega arith)), value_at-none n later d (λ k h. above (suc k) (omega arith))) refl
@@ -55,7 +62,10 @@ value_at-some n i [] d in' front back = absurd (omega arith)
 value_at-some n zero (one ∷ later) d in' front back =
     rw (within one.from n (front 0 (omega arith)), value_at-none n later d (λ k h. back (suc k) (omega arith) (omega arith))) refl
 value_at-some n (suc i) (one ∷ later) d in' front back =
-    rw (within one.from n (front 0 (omega arith)), value_at-some n i later d (omega arith) (λ k h. front (suc k) (omega arith)) (λ k low high. back (suc k) (omega arith) (omega arith))) refl
+    rw (
+      within one.from n (front 0 (omega arith)),
+      value_at-some n i later d (omega arith) (λ k h. front (suc k) (omega arith)) (λ k low high. back (suc k) (omega arith) (omega arith)),
+    ) refl
 
 -- what a binary search finds
 abbrev pub IsPoint : ℕ → List Version → ℕ → Type 0
@@ -90,7 +100,8 @@ versions-first value = record {
 }
 
 raised : (count : ℕ) (versions : List Version) → All (λ one. one.from ≤ count) versions → All (λ one. one.from ≤ count + 1) versions
-raised count versions few = All-weaker (λ (one : Version). one.from ≤ count) (λ (one : Version). one.from ≤ count + 1) (λ one le. omega (arith, le)) versions few
+raised count versions few =
+    All-weaker (λ (one : Version). one.from ≤ count) (λ (one : Version). one.from ≤ count + 1) (λ one le. omega (arith, le)) versions few
 
 -- one more that tells the value after one more commit
 pub versions-push : (old new : ℕ → List ℕ) (count : ℕ) (versions : List Version) → ((n : ℕ) → n ≤ count → new n ≡ old n)

@@ -1,5 +1,6 @@
 -- The versions of a key's answer: what it is after each number of commits.
-use Rattle.std.specs.Prelude.{ℕ, ◌≡◌, ◌≤◌, true, List, [], ◌∷◌, ◌++◌, length, nat_le, if◌then◌else◌, All, AllPairs, Option, Some, None, is_some, option_map, option_and_then, slice_get, ◌-◌, IsTrue, IfSome}
+use Rattle.std.specs.Prelude.{ℕ, ◌≡◌, ◌≤◌, true, List, [], ◌∷◌, ◌++◌, length, nat_le, if◌then◌else◌, All, AllPairs, Option, Some, None}
+use Rattle.std.specs.Prelude.{is_some, option_map, option_and_then, slice_get, ◌-◌, IsTrue, IfSome}
 use Rattle.std.specs.List.Sorted.{IsNonDecreasingBy}
 use Rattle.std.specs.Option.{option_or, unwrap_or}
 use Rattle.std.specs.BTreeMap.{BTreeMap, get}

@@ -31,7 +31,9 @@ abbrev pub IsGranted : List (List Step) → QKey → Sid → Type 0
 IsGranted histories key who =
     (history : List Step) × (slice_get histories (shard_of key (length histories)) ≡ Some history) × HasGranted key who history
 
--- The commit of this number, counted from 1, is the first that isn't covered, and this is the least key that it touches and that wasn't granted to its session: each commit before it is covered, and each key before this one that it touches was granted.
+-- The commit of this number, counted from 1, is the first that isn't covered, and
+-- this is the least key that it touches and that wasn't granted to its session: each
+-- commit before it is covered, and each key before this one that it touches was granted.
 pub record IsFirstUncovered (log : List Commit) (histories : List (List Step)) (number : ℕ) (key : QKey) : Type 0 where
   pub place : ℕ
   pub commit : Commit
@@ -62,7 +64,8 @@ IsFoundIn opening log histories Clean = Fresh opening log histories
 IsFoundIn opening log histories (Stale shard place) = IsFirstStale opening log histories shard place
 IsFoundIn opening log histories (Uncovered commit key) = ⊥
 
--- The finding is right: each commit is covered and each hit is fresh; or it names the first commit that isn't covered; or each is covered, and it names the first hit that isn't fresh.
+-- The finding is right: each commit is covered and each hit is fresh; or it names the first
+-- commit that isn't covered; or each is covered, and it names the first hit that isn't fresh.
 abbrev pub IsFinding : Tables → List Commit → List (List Step) → Finding → Type 0
 IsFinding opening log histories Clean = Covered log histories × Fresh opening log histories
 IsFinding opening log histories (Uncovered commit key) = IsFirstUncovered log histories commit key

@@ -1,5 +1,6 @@
 -- How a text is cut at a byte.
-use Rattle.std.proofs.Common.{◌==◌, ◌+◌, ℕ, ◌≡◌, ◌<◌, ◌≤◌, Bool, false, cond, ltb, List, [], ◌∷◌, length, take, drop, position, Some, None, arith, refl, ap, ◌∙◌}
+use Rattle.std.proofs.Common.{◌==◌, ◌+◌, ℕ, ◌≡◌, ◌<◌, ◌≤◌, Bool, false, cond, ltb, List, [], ◌∷◌, length, take, drop, position, Some, None}
+use Rattle.std.proofs.Common.{arith, refl, ap, ◌∙◌}
 use Rattle.std.specs.List.{position_or_len, All}
 use Rattle.std.proofs.lemmas.Bool.Decides.{nat_tests}
 use Rattle.std.proofs.lemmas.List.Elements.{All-from_get_or}

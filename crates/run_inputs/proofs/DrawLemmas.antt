@@ -1,5 +1,6 @@
 -- What a generator draws, one word after another, and what a session's draws give.
-use Rattle.std.proofs.Common.{ℕ, zero, suc, ◌+◌, ◌^◌, ◌≤◌, ◌<◌, ◌≡◌, Bool, true, false, List, [], ◌∷◌, ◌++◌, length, decimal, All, refl, sym, ap, ◌∙◌, arith, zero-add, add-zero, suc-add, add-one, take, take_at}
+use Rattle.std.proofs.Common.{ℕ, zero, suc, ◌+◌, ◌^◌, ◌≤◌, ◌<◌, ◌≡◌, Bool, true, false, List, [], ◌∷◌, ◌++◌, length, decimal, All, refl}
+use Rattle.std.proofs.Common.{sym, ap, ◌∙◌, arith, zero-add, add-zero, suc-add, add-one, take, take_at}
 use Rattle.std.specs.Prelude.{nat_le, if◌then◌else◌, codes}
 use Rattle.std.proofs.lemmas.List.Elements.{All-cons, All-from_get_or}
 use Rattle.std.specs.Str.Parse.{AllDigits}
@@ -64,7 +65,8 @@ draws_more k g =
     cc
 
 -- four draws, one after another
-pub four_drawn : (g g₁ g₂ g₃ g₄ : Lcg) (roll first second manner : ℕ) → (roll, g₁) ≡ pcg32 g → (first, g₂) ≡ pcg32 g₁ → (second, g₃) ≡ pcg32 g₂ → (manner, g₄) ≡ pcg32 g₃ → (record { roll = roll; first = first; second = second; manner = manner } ≡ draws_after 0 g) × (g₄ ≡ after_draws 4 g)
+pub four_drawn : (g g₁ g₂ g₃ g₄ : Lcg) (roll first second manner : ℕ) → (roll, g₁) ≡ pcg32 g → (first, g₂) ≡ pcg32 g₁ → (second, g₃) ≡ pcg32 g₂
+    → (manner, g₄) ≡ pcg32 g₃ → (record { roll = roll; first = first; second = second; manner = manner } ≡ draws_after 0 g) × (g₄ ≡ after_draws 4 g)
 four_drawn g g₁ g₂ g₃ g₄ roll first second manner e₁ e₂ e₃ e₄ =
     let one = drawn 0 roll g g g₁ (sym (after_none g)) e₁ in
     let two = drawn 1 first g g₁ g₂ one.1 e₂ in
@@ -76,7 +78,8 @@ four_drawn g g₁ g₂ g₃ g₄ roll first second manner e₁ e₂ e₃ e₄ =
 pub name_drawn : (n : ℕ) → n < 2 ^ 64 → IsName (codes "n" ++ decimal n)
 name_drawn n small =
     let all : AllDigits 10 (decimal n) = digits_decimal (numerals_by_value (AllDigits 10) tells_digits) n small in
-    let digits : All IsNameByte (decimal n) = All-from_get_or IsNameByte (decimal n) 0 (λ i l. let d = digit_at (decimal n) i all l in (omega (arith, d.0), omega (arith, d.1))) in
+    let digits : All IsNameByte (decimal n) =
+    All-from_get_or IsNameByte (decimal n) 0 (λ i l. let d = digit_at (decimal n) i all l in (omega (arith, d.0), omega (arith, d.1))) in
     let short : length (decimal n) ≤ 20 = length-decimal-le 20 n (omega arith) (omega arith) small in
     record {
       some = omega arith;
@@ -85,7 +88,8 @@ name_drawn n small =
     }
 
 -- the same, as the front of a longer text
-pub name_front : (n : ℕ) (digits front rest : List ℕ) → n < 2 ^ 64 → digits ≡ decimal n → front ≡ digits → IsName (take (length digits + 1) (110 ∷ (front ++ rest)))
+pub name_front : (n : ℕ) (digits front rest : List ℕ) → n < 2 ^ 64
+    → digits ≡ decimal n → front ≡ digits → IsName (take (length digits + 1) (110 ∷ (front ++ rest)))
 name_front n digits front rest small d f =
     let whole : take (length digits + 1) (110 ∷ (front ++ rest)) ≡ 110 ∷ decimal n =
     rw add-one (ap (λ (xs : List ℕ). 110 ∷ xs) (take_at front rest (length digits) (ap length f) ∙ (f ∙ d))) in

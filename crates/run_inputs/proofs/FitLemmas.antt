@@ -17,7 +17,8 @@ use Rattle.run_inputs.specs.declared.stages.Progress.{Progress}
 use Rattle.run_inputs.specs.declared.scripts.Act.{Act}
 use Rattle.run_inputs.specs.Texts.{words_in}
 use Rattle.run_inputs.specs.Lines.{AreArgs, AreWords, verb_of}
-use Rattle.run_inputs.specs.Script.{start, after, after_all, is_in_place, stage_after, shape_after, sessions_in, turns_in, acts_in, is_numbered, has_key, fault_of, AreSound, IsScript}
+use Rattle.run_inputs.specs.Script.{start, after, after_all, is_in_place, stage_after, shape_after, sessions_in, turns_in, acts_in}
+use Rattle.run_inputs.specs.Script.{is_numbered, has_key, fault_of, AreSound, IsScript}
 use Rattle.run_inputs.specs.Fit.{turns_of, AreFit, IsShape, IsPlayable}
 use Rattle.run_inputs.proofs.ScriptLemmas.{Passes, passes, few_turns}
 
@@ -180,7 +181,8 @@ turns_all progress (line ∷ lines) (x ∷ said) few k =
     let now = few_turns progress x k.0.none in
     let rest : (progress.turns + turns_in x) + sum_by turns_of (flat_map acts_in said) ≤ 1000000 = turns_all (after progress x) lines said now k.1 in
     let here = turns_at_most x in
-    let sums : sum_by turns_of (acts_in x ++ flat_map acts_in said) ≡ sum_by turns_of (acts_in x) + sum_by turns_of (flat_map acts_in said) = sum_by-append turns_of (acts_in x) (flat_map acts_in said) in
+    let sums : sum_by turns_of (acts_in x ++ flat_map acts_in said) ≡ sum_by turns_of (acts_in x) + sum_by turns_of (flat_map acts_in said) =
+    sum_by-append turns_of (acts_in x) (flat_map acts_in said) in
     let whole : progress.turns + sum_by turns_of (acts_in x ++ flat_map acts_in said) ≤ 1000000 = omega arith in
     whole
 

@@ -74,14 +74,16 @@ is_of_saying kind.Key = true
 is_of_saying kind.Turns = true
 is_of_saying other = false
 
-of_saying : (a b c : Bool) (k : ScriptKind) → (if a then Some kind.Number else if b then Some kind.Key else if c then Some kind.Turns else None) ≡ Some k → is_of_saying k ≡ true
+of_saying : (a b c : Bool) (k : ScriptKind) → (if a then Some kind.Number else if b then Some kind.Key else if c then Some kind.Turns else None) ≡ Some k
+    → is_of_saying k ≡ true
 of_saying true b c k e = let same : kind.Number ≡ k = cc in ap is_of_saying (sym same)
 of_saying false true c k e = let same : kind.Key ≡ k = cc in ap is_of_saying (sym same)
 of_saying false false true k e = let same : kind.Turns ≡ k = cc in ap is_of_saying (sym same)
 of_saying false false false k e = absurd cc
 
 -- the first fault of what a line says is the line's
-pub faulty : (progress : Progress) (line : List ℕ) (said : Line) (k : ScriptKind) → MayStand progress line → Says progress line said → fault_of progress said ≡ Some k → IsFaulty progress line k
+pub faulty : (progress : Progress) (line : List ℕ) (said : Line) (k : ScriptKind)
+    → MayStand progress line → Says progress line said → fault_of progress said ≡ Some k → IsFaulty progress line k
 faulty progress line said kind.Number h w e = (h, said, w, e)
 faulty progress line said kind.Key h w e = (h, said, w, e)
 faulty progress line said kind.Turns h w e = (h, said, w, e)

@@ -1,9 +1,11 @@
 -- Plans that are dealt to workers, one session after another.
-use Rattle.std.proofs.Common.{ℕ, ◌+◌, ◌*◌, ◌%◌, ◌≤◌, ◌<◌, ◌≡◌, Bool, true, false, cond, List, [], ◌∷◌, ◌++◌, length, map, get_or, set, replicate, All, refl, sym, ap, ◌∙◌, inl, inr, arith, eqb, rules, tests}
+use Rattle.std.proofs.Common.{ℕ, ◌+◌, ◌*◌, ◌%◌, ◌≤◌, ◌<◌, ◌≡◌, Bool, true, false, cond, List, [], ◌∷◌, ◌++◌, length, map, get_or, set}
+use Rattle.std.proofs.Common.{replicate, All, refl, sym, ap, ◌∙◌, inl, inr, arith, eqb, rules, tests}
 use Rattle.std.specs.List.{range_with_len, filter}
 use Rattle.std.proofs.Math.ListN.{length-set}
 use Rattle.std.proofs.lemmas.Bool.{cases_eq, eq-eqb}
-use Rattle.std.proofs.lemmas.List.{map-id, map-set, map-append, length-map, get_or-set_same, get_or-set_other, get_or-map, append-nil, length-replicate, get_or-replicate}
+use Rattle.std.proofs.lemmas.List.{map-id, map-set, map-append, length-map, get_or-set_same, get_or-set_other, get_or-map, append-nil}
+use Rattle.std.proofs.lemmas.List.{length-replicate, get_or-replicate}
 use Rattle.std.proofs.lemmas.List.Elements.{filter-append, All-map, All-same}
 use Rattle.std.proofs.lemmas.List.FromFn.{length-map-range_with_len, get_or-map-range_with_len, map-range_with_len_more, fill_by_all}
 use Rattle.session_client.specs.declared.plans.Plan.{Plan}
@@ -34,7 +36,8 @@ range_more a n j e =
     sym (map-id (range_with_len a (n + 1))) ∙ (one_more ∙ ap (λ (ks : List ℕ). ks ++ j ∷ []) (map-id (range_with_len a n)))
 
 -- the plans of a worker with one session more
-until_more : (spec : WorkSpec) (n worker : ℕ) → plans_until spec (n + 1) worker ≡ plans_until spec n worker ++ map (plan_at spec) (cond (eqb (n % spec.workers) worker) (n ∷ []) [])
+until_more : (spec : WorkSpec) (n worker : ℕ)
+    → plans_until spec (n + 1) worker ≡ plans_until spec n worker ++ map (plan_at spec) (cond (eqb (n % spec.workers) worker) (n ∷ []) [])
 until_more spec n worker =
     let test = λ (session : ℕ). eqb (session % spec.workers) worker in
     let kept : filter test (range_with_len 0 (n + 1)) ≡ filter test (range_with_len 0 n) ++ filter test (n ∷ []) =
@@ -56,7 +59,8 @@ other_more spec n worker not =
     ∙ append-nil (plans_until spec n worker))
 
 -- the session is dealt to its worker
-pub dealt_more : (spec : WorkSpec) (n at : ℕ) (lists : List (List Plan)) → 1 ≤ spec.workers → at ≡ n % spec.workers → lists ≡ dealt spec n → set lists at (get_or lists at [] ++ plan_at spec n ∷ []) ≡ dealt spec (n + 1)
+pub dealt_more : (spec : WorkSpec) (n at : ℕ) (lists : List (List Plan))
+    → 1 ≤ spec.workers → at ≡ n % spec.workers → lists ≡ dealt spec n → set lists at (get_or lists at [] ++ plan_at spec n ∷ []) ≡ dealt spec (n + 1)
 dealt_more spec n at lists some e h =
     let count : length lists ≡ spec.workers = ap length h ∙ length-map-range_with_len (plans_until spec n) 0 spec.workers in
     let below : at < length lists = omega arith in
@@ -83,7 +87,9 @@ dealt_len items spec n vs h =
     sym (length-map vs items) ∙ (ap length h ∙ length-map-range_with_len (plans_until spec n) 0 spec.workers)
 
 -- a plan is put behind the others of its worker
-pub dealt_push : {V : Type 0} (items : V → List Plan) (spec : WorkSpec) (n : ℕ) (vs : List V) (old new : V) (plan : Plan) → IsWork spec → map items vs ≡ dealt spec n → old ≡ get_or vs (n % spec.workers) old → items new ≡ items old ++ plan ∷ [] → plan ≡ plan_at spec n → map items (set vs (n % spec.workers) new) ≡ dealt spec (n + 1)
+pub dealt_push : {V : Type 0} (items : V → List Plan) (spec : WorkSpec) (n : ℕ) (vs : List V) (old new : V) (plan : Plan) → IsWork spec
+    → map items vs ≡ dealt spec n → old ≡ get_or vs (n % spec.workers) old
+    → items new ≡ items old ++ plan ∷ [] → plan ≡ plan_at spec n → map items (set vs (n % spec.workers) new) ≡ dealt spec (n + 1)
 dealt_push items spec n vs old new plan work h was pushed p =
     let at = n % spec.workers in
     let some : 1 ≤ spec.workers = work.some_workers in
@@ -94,7 +100,8 @@ dealt_push items spec n vs old new plan work h was pushed p =
     map-set items vs at new ∙ (ap (λ (ps : List Plan). set (map items vs) at ps) more ∙ dealt_more spec n at (map items vs) some refl h)
 
 -- the plan of the session whose turn it is
-pub plan_is : (spec : WorkSpec) (n : ℕ) (g : Lcg) (draws : Draws) (plan : Plan) → g ≡ after_draws (4 * n) (generator_of spec.seed) → draws ≡ draws_after 0 g → plan ≡ plan_of_draws spec.members draws → plan ≡ plan_at spec n
+pub plan_is : (spec : WorkSpec) (n : ℕ) (g : Lcg) (draws : Draws) (plan : Plan)
+    → g ≡ after_draws (4 * n) (generator_of spec.seed) → draws ≡ draws_after 0 g → plan ≡ plan_of_draws spec.members draws → plan ≡ plan_at spec n
 unfolding plan_at
 plan_is spec n g draws plan e d p =
     p ∙ ap (plan_of_draws spec.members) (d ∙ (ap (draws_after 0) e ∙ draws_more (4 * n) (generator_of spec.seed)))
@@ -116,7 +123,8 @@ plan_at_is spec session work =
     let b = other_drawn spec.members draws in
     plan_is_plan (draws.roll % 100) a b draws.manner (omega arith) (omega arith) (omega arith)
 
-pub plans_are : {V : Type 0} (items : V → List Plan) (spec : WorkSpec) (vs : List V) → IsWork spec → map items vs ≡ dealt spec spec.sessions → All (λ v. All IsPlan (items v)) vs
+pub plans_are : {V : Type 0} (items : V → List Plan) (spec : WorkSpec) (vs : List V)
+    → IsWork spec → map items vs ≡ dealt spec spec.sessions → All (λ v. All IsPlan (items v)) vs
 plans_are items spec vs work h k d l =
     let n = spec.sessions in
     let below : k < spec.workers = omega (arith, dealt_len items spec n vs h) in

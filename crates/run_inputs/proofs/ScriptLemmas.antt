@@ -1,5 +1,6 @@
 -- What lines come to, one after another.
-use Rattle.std.proofs.Common.{ℕ, ◌+◌, ◌≡◌, ◌<◌, ◌≤◌, Bool, true, false, List, [], ◌∷◌, ◌++◌, length, Some, None, arith, refl, sym, ap, ◌∙◌, append_assoc, append-nil, length-append, subst}
+use Rattle.std.proofs.Common.{ℕ, ◌+◌, ◌≡◌, ◌<◌, ◌≤◌, Bool, true, false, List, [], ◌∷◌, ◌++◌, length, Some, None, arith, refl, sym, ap, ◌∙◌}
+use Rattle.std.proofs.Common.{append_assoc, append-nil, length-append, subst}
 use Rattle.std.specs.Prelude.{nat_lt, if◌then◌else◌, flat_map, not}
 use Rattle.std.proofs.lemmas.Bool.Decides.{nat_tests}
 use Rattle.std.proofs.lemmas.Grind.{flat_map-append}
@@ -91,7 +92,8 @@ read_more text acts progress number rest line behind said h cut less is =
       lines_are = h.lines_are ∙ (ap (λ (ls : List (List ℕ)). h.front ++ ls) cut ∙ sym (append_assoc h.front (line ∷ []) (lines_in behind)));
       sound = sound_more start h.front h.said line said h.sound (subst (λ (p : Progress). IsSound p line said) (sym h.progress_is) is);
       progress_is = after_more start h.said said ∙ ap (λ (p : Progress). after p said) h.progress_is;
-      acts_are = ap (λ (xs : List Act). xs ++ acts_in said) h.acts_are ∙ (ap (λ (xs : List Act). flat_map acts_in h.said ++ xs) (sym (append-nil (acts_in said))) ∙ sym (flat_map-append acts_in h.said (said ∷ [])));
+      acts_are = ap (λ (xs : List Act). xs ++ acts_in said) h.acts_are
+          ∙ (ap (λ (xs : List Act). flat_map acts_in h.said ++ xs) (sym (append-nil (acts_in said))) ∙ sym (flat_map-append acts_in h.said (said ∷ [])));
       number_is = ap (λ (n : ℕ). n + 1) h.number_is ∙ sym (length-append h.front (line ∷ []));
       begun = omega arith;
       size = omega arith;
@@ -103,7 +105,8 @@ empty [] e = refl
 empty (x ∷ xs) e = absurd (omega arith)
 
 -- the lines of a text that is read to its end
-all_lines : (text : List ℕ) (acts : List Act) (progress : Progress) (number : ℕ) (rest : List ℕ) (h : HasRead text acts progress number rest) → length rest ≡ 0 → h.front ≡ lines_in text
+all_lines : (text : List ℕ) (acts : List Act) (progress : Progress) (number : ℕ) (rest : List ℕ) (h : HasRead text acts progress number rest)
+    → length rest ≡ 0 → h.front ≡ lines_in text
 all_lines text acts progress number rest h none =
     sym (h.lines_are ∙ (ap (λ (r : List ℕ). h.front ++ lines_in r) (empty rest none) ∙ append-nil h.front))
 

@@ -9,7 +9,8 @@ use Rattle.run_inputs.specs.declared.faults.ScriptKind.{ScriptKind}
 use Rattle.run_inputs.specs.declared.faults.ScriptKind.TheVariants as kind
 use Rattle.run_inputs.specs.declared.scripts.Act.{Act}
 use Rattle.run_inputs.specs.Texts.{lines_in, words_in}
-use Rattle.run_inputs.specs.Script.{start, after, after_all, acts_in, fault_of, Says, MayStand, IsSound, AreSound, IsFaulty, IsScript, HasFault, HasNoEnd, IsFault, TextsTellScripts}
+use Rattle.run_inputs.specs.Script.{start, after, after_all, acts_in, fault_of, Says, MayStand, IsSound, AreSound, IsFaulty, IsScript}
+use Rattle.run_inputs.specs.Script.{HasFault, HasNoEnd, IsFault, TextsTellScripts}
 use Rattle.run_inputs.proofs.OnceLemmas.{line_once}
 
 says_once : (progress : Progress) (line : List ℕ) (a b : Line) → Says progress line a → Says progress line b → a ≡ b
@@ -77,7 +78,8 @@ no_line : (a : List ℕ) (as' : List (List ℕ)) → [] ≡ a ∷ as' → ⊥
 no_line a as' e = let lengths = ap (λ (ls : List (List ℕ)). length ls) e in omega arith
 
 -- where lines are without a fault, none of them is faulty
-none_faulty : (progress : Progress) (lines : List (List ℕ)) (said : List Line) (front : List (List ℕ)) (line : List ℕ) (behind : List (List ℕ)) (said' : List Line) (fault : ScriptKind)
+none_faulty : (progress : Progress) (lines : List (List ℕ)) (said : List Line)
+    (front : List (List ℕ)) (line : List ℕ) (behind : List (List ℕ)) (said' : List Line) (fault : ScriptKind)
     → AreSound progress lines said → lines ≡ front ++ line ∷ behind → AreSound progress front said' → IsFaulty (after_all progress said') line fault → ⊥
 none_faulty progress [] said [] line behind said' fault h e k f = no_line line behind e
 none_faulty progress [] said (l ∷ front) line behind said' fault h e k f = no_line l (front ++ line ∷ behind) e
@@ -95,7 +97,8 @@ none_faulty progress (x ∷ lines) (s ∷ said) (l ∷ front) line behind (t ∷
     none_faulty (after progress t) lines said front line behind said' fault later parts.1 k.1 f
 
 -- the first faulty line is one
-first_once : (progress : Progress) (front front' : List (List ℕ)) (line line' : List ℕ) (behind behind' : List (List ℕ)) (said said' : List Line) (a b : ScriptKind)
+first_once : (progress : Progress) (front front' : List (List ℕ))
+    (line line' : List ℕ) (behind behind' : List (List ℕ)) (said said' : List Line) (a b : ScriptKind)
     → front ++ line ∷ behind ≡ front' ++ line' ∷ behind' → AreSound progress front said → AreSound progress front' said'
     → IsFaulty (after_all progress said) line a → IsFaulty (after_all progress said') line' b → (length front ≡ length front') × (a ≡ b)
 first_once progress [] [] line line' behind behind' [] [] a b e h k f g =
@@ -154,7 +157,8 @@ once text number number' a b (at_end e h) (at_end f k) = (h.number_is ∙ sym k.
 
 never : (text : List ℕ) (shape : Shape) (acts : List Act) (number : ℕ) (fault : ScriptKind) → IsScript text shape acts → HasHow text number fault → ⊥
 never text shape acts number fault h (in_whole e long n) = let short = h.short in omega arith
-never text shape acts number fault h (in_line k) = none_faulty start (lines_in text) h.said k.front k.line k.behind k.said fault h.sound k.lines_are k.sound k.faulty
+never text shape acts number fault h (in_line k) =
+    none_faulty start (lines_in text) h.said k.front k.line k.behind k.said fault h.sound k.lines_are k.sound k.faulty
 never text shape acts number fault h (at_end e k) =
     let same = sound_once start (lines_in text) h.said k.said h.sound k.sound in
     k.goes_on (ap (λ (said : List Line). (after_all start said).stage) (sym same) ∙ h.ended)
@@ -162,8 +166,11 @@ never text shape acts number fault h (at_end e k) =
 pub texts_tell : TextsTellScripts
 texts_tell = record {
   one_script = λ text shape shape' acts acts' h k.
-      let same = sound_once start (lines_in text) h.said k.said h.sound k.sound in
-      (h.shape_is ∙ (ap (λ (said : List Line). (after_all start said).shape) same ∙ sym k.shape_is), h.acts_are ∙ (ap (λ (said : List Line). flat_map acts_in said) same ∙ sym k.acts_are));
+      let same = sound_once start (lines_in text) h.said k.said h.sound k.sound in (
+        h.shape_is ∙ (ap (λ (said : List Line). (after_all start said).shape) same ∙ sym k.shape_is),
+        h.acts_are
+            ∙ (ap (λ (said : List Line). flat_map acts_in said) same ∙ sym k.acts_are),
+      );
   one_fault = λ text number number' fault fault' h k. once text number number' fault fault' (has_how text number fault h) (has_how text number' fault' k);
   never_both = λ text shape acts number fault h k. never text shape acts number fault h (has_how text number fault k);
 }

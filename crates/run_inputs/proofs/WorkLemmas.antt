@@ -15,7 +15,8 @@ no_number word least most small none number h =
     cc
 
 -- and a word is one number
-pub one_number : (word : List ℕ) (least most this number : ℕ) → most < 2 ^ 32 → number_in word ≡ Some this → IsNumberWithin word least most number → number ≡ this
+pub one_number : (word : List ℕ) (least most this number : ℕ)
+    → most < 2 ^ 32 → number_in word ≡ Some this → IsNumberWithin word least most number → number ≡ this
 one_number word least most this number small found h =
     let below : number < 2 ^ 64 = (let to = h.to in omega arith) in
     let read : number_in word ≡ Some number = ap number_in h.written ∙ number_in-decimal number below in
@@ -28,7 +29,8 @@ no_decimal word none number below written =
     cc
 
 -- six words
-pub six : {X : Type 0} (xs : List X) (a b c d e f : X) → length xs ≡ 6 → a ≡ get_or xs 0 a → b ≡ get_or xs 1 b → c ≡ get_or xs 2 c → d ≡ get_or xs 3 d → e ≡ get_or xs 4 e → f ≡ get_or xs 5 f → xs ≡ a ∷ b ∷ c ∷ d ∷ e ∷ f ∷ []
+pub six : {X : Type 0} (xs : List X) (a b c d e f : X) → length xs ≡ 6
+    → a ≡ get_or xs 0 a → b ≡ get_or xs 1 b → c ≡ get_or xs 2 c → d ≡ get_or xs 3 d → e ≡ get_or xs 4 e → f ≡ get_or xs 5 f → xs ≡ a ∷ b ∷ c ∷ d ∷ e ∷ f ∷ []
 six [] a b c d e f n p q r s t u = absurd (omega arith)
 six (x ∷ []) a b c d e f n p q r s t u = absurd (omega arith)
 six (x ∷ y ∷ []) a b c d e f n p q r s t u = absurd (omega arith)
@@ -39,7 +41,8 @@ six (x ∷ y ∷ z ∷ v ∷ w ∷ k ∷ []) a b c d e f n p q r s t u = cc
 six (x ∷ y ∷ z ∷ v ∷ w ∷ k ∷ more ∷ xs) a b c d e f n p q r s t u = absurd (omega arith)
 
 -- the word `work` and five others
-pub work_and_five : {X : Type 0} (items : X → List ℕ) (xs : List X) (x y z v w k : X) (a b c d e : List ℕ) → xs ≡ x ∷ y ∷ z ∷ v ∷ w ∷ k ∷ [] → items x ≡ codes "work" → a ≡ items y → b ≡ items z → c ≡ items v → d ≡ items w → e ≡ items k → map items xs ≡ codes "work" ∷ a ∷ b ∷ c ∷ d ∷ e ∷ []
+pub work_and_five : {X : Type 0} (items : X → List ℕ) (xs : List X) (x y z v w k : X) (a b c d e : List ℕ) → xs ≡ x ∷ y ∷ z ∷ v ∷ w ∷ k ∷ []
+    → items x ≡ codes "work" → a ≡ items y → b ≡ items z → c ≡ items v → d ≡ items w → e ≡ items k → map items xs ≡ codes "work" ∷ a ∷ b ∷ c ∷ d ∷ e ∷ []
 work_and_five items xs x y z v w k a b c d e all first p q r s t = rw (all, first, p, q, r, s, t) refl
 
 -- what an option holds, by another fact
@@ -48,7 +51,8 @@ some_by None P Q h f = tt
 some_by (Some x) P Q h f = f x h
 
 -- the word `work` and five words that are the numbers of a load
-pub works : (words : List (List ℕ)) (a b c d e : List ℕ) → words ≡ codes "work" ∷ a ∷ b ∷ c ∷ d ∷ e ∷ [] → (spec : WorkSpec) → AreNumbers a b c d e spec → AreWork words spec
+pub works : (words : List (List ℕ)) (a b c d e : List ℕ) → words ≡ codes "work" ∷ a ∷ b ∷ c ∷ d ∷ e ∷ []
+    → (spec : WorkSpec) → AreNumbers a b c d e spec → AreWork words spec
 works words a b c d e six spec h =
     record {
       written = rw (six, h.members_are.written, h.sessions_are.written, h.workers_are.written, h.shards_are.written, h.seed_is) refl;
@@ -65,7 +69,8 @@ works words a b c d e six spec h =
     }
 
 -- and back
-pub numbers : (words : List (List ℕ)) (a b c d e : List ℕ) → words ≡ codes "work" ∷ a ∷ b ∷ c ∷ d ∷ e ∷ [] → (spec : WorkSpec) → AreWork words spec → AreNumbers a b c d e spec
+pub numbers : (words : List (List ℕ)) (a b c d e : List ℕ) → words ≡ codes "work" ∷ a ∷ b ∷ c ∷ d ∷ e ∷ []
+    → (spec : WorkSpec) → AreWork words spec → AreNumbers a b c d e spec
 numbers words a b c d e six spec h =
     let written = h.written in
     let fits = h.fits in
@@ -94,7 +99,8 @@ one_small word least most m n small h k =
     one_decimal m n (omega arith) (omega arith) (sym h.written ∙ k.written)
 
 -- loads with the same five numbers are one
-same_load : (spec other : WorkSpec) → spec.members ≡ other.members → spec.sessions ≡ other.sessions → spec.workers ≡ other.workers → spec.shards ≡ other.shards → spec.seed ≡ other.seed → spec ≡ other
+same_load : (spec other : WorkSpec) → spec.members ≡ other.members
+    → spec.sessions ≡ other.sessions → spec.workers ≡ other.workers → spec.shards ≡ other.shards → spec.seed ≡ other.seed → spec ≡ other
 same_load spec other p q r s t =
     let with : ℕ → ℕ → ℕ → ℕ → ℕ → WorkSpec = λ m n w k d. record { members = m; sessions = n; workers = w; shards = k; seed = d } in
     let e : with spec.members spec.sessions spec.workers spec.shards spec.seed ≡ with other.members other.sessions other.workers other.shards other.seed = cc in
@@ -111,6 +117,7 @@ one_load a b c d e spec other h k =
     same_load spec other members sessions workers shards seed
 
 -- so what they are is told
-pub told_by : (o : Option WorkSpec) (a b c d e : List ℕ) → IfSome o (AreNumbers a b c d e) → IfNone o ((spec : WorkSpec) → AreNumbers a b c d e spec → ⊥) → (spec : WorkSpec) → AreNumbers a b c d e spec → o ≡ Some spec
+pub told_by : (o : Option WorkSpec) (a b c d e : List ℕ) → IfSome o (AreNumbers a b c d e)
+    → IfNone o ((spec : WorkSpec) → AreNumbers a b c d e spec → ⊥) → (spec : WorkSpec) → AreNumbers a b c d e spec → o ≡ Some spec
 told_by None a b c d e h none spec k = absurd (none spec k)
 told_by (Some found) a b c d e h none spec k = ap (λ (x : WorkSpec). Some x) (one_load a b c d e found spec h k)

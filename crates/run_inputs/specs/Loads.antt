@@ -65,7 +65,8 @@ member_drawn members draws = 1 + draws.first % members
 abbrev pub other_drawn : ℕ → Draws → ℕ
 other_drawn members draws = 1 + (member_drawn members draws + draws.second % 4) % members
 
--- The change that a writer makes, by its share of a hundred: 80 to 87 an invitation, 88 to 93 an acceptance, 94 to 96 a rejection, 97 and 98 a thaw, and 99 a new name for the first member, which is `n` and the second one's id.
+-- The change that a writer makes, by its share of a hundred: 80 to 87 an invitation, 88 to 93 an acceptance, 94
+-- to 96 a rejection, 97 and 98 a thaw, and 99 a new name for the first member, which is `n` and the second one's id.
 abbrev pub change_drawn : ℕ → ℕ → ℕ → Change
 change_drawn share a b =
     if nat_le share 87 then Invite a b else
@@ -73,7 +74,8 @@ change_drawn share a b =
     if nat_le share 96 then Reject a b else
     if nat_le share 98 then Thaw a b else Rename a (codes "n" ++ decimal b)
 
--- The plan of a session by its share of a hundred, its two members and how it goes about it: 0 to 79 reads a key of the first member, and the others write one change.
+-- The plan of a session by its share of a hundred, its two members and how it goes
+-- about it: 0 to 79 reads a key of the first member, and the others write one change.
 abbrev pub plan_drawn : ℕ → ℕ → ℕ → ℕ → Plan
 plan_drawn share a b manner =
     if nat_le share 79

@@ -1,5 +1,6 @@
 -- Scripts: which text says which acts, and which fault a text has.
-use Rattle.std.specs.Prelude.{ℕ, ◌≡◌, ◌≢◌, ◌+◌, ◌≤◌, ◌<◌, Bool, true, false, ◌==◌, ◌&&◌, not, nat_le, nat_lt, if◌then◌else◌, List, [], ◌∷◌, ◌++◌, length, flat_map, codes, Option, Some, None, unwrap_or}
+use Rattle.std.specs.Prelude.{ℕ, ◌≡◌, ◌≢◌, ◌+◌, ◌≤◌, ◌<◌, Bool, true, false, ◌==◌, ◌&&◌, not, nat_le, nat_lt, if◌then◌else◌, List, [], ◌∷◌}
+use Rattle.std.specs.Prelude.{◌++◌, length, flat_map, codes, Option, Some, None, unwrap_or}
 use Rattle.rows_model.specs.Changes.{touches}
 use Rattle.session_client.specs.declared.plans.Plan.{Plan}
 use Rattle.session_client.specs.declared.plans.Plan.TheVariants as plan
@@ -217,6 +218,9 @@ kind_word kind.AfterEnd = codes "afterend"
 
 -- A text says one script at most and has one fault at most, and never both.
 pub record TextsTellScripts : Type 0 where
-  pub one_script : (text : List ℕ) (shape shape' : Shape) (acts acts' : List Act) → IsScript text shape acts → IsScript text shape' acts' → (shape ≡ shape') × (acts ≡ acts')
-  pub one_fault : (text : List ℕ) (number number' : ℕ) (fault fault' : ScriptKind) → IsFault text number fault → IsFault text number' fault' → (number ≡ number') × (fault ≡ fault')
-  pub never_both : (text : List ℕ) (shape : Shape) (acts : List Act) (number : ℕ) (fault : ScriptKind) → IsScript text shape acts → IsFault text number fault → ⊥
+  pub one_script : (text : List ℕ) (shape shape' : Shape) (acts acts' : List Act)
+      → IsScript text shape acts → IsScript text shape' acts' → (shape ≡ shape') × (acts ≡ acts')
+  pub one_fault : (text : List ℕ) (number number' : ℕ) (fault fault' : ScriptKind)
+      → IsFault text number fault → IsFault text number' fault' → (number ≡ number') × (fault ≡ fault')
+  pub never_both : (text : List ℕ) (shape : Shape) (acts : List Act) (number : ℕ) (fault : ScriptKind)
+      → IsScript text shape acts → IsFault text number fault → ⊥

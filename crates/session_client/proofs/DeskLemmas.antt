@@ -1,5 +1,6 @@
 -- What a desk over a store and shards begins and answers.
-use Rattle.std.proofs.Common.{◌≡◌, ◌≢◌, ◌-◌, ◌<◌, ℕ, zero, suc, Bool, true, false, if◌then◌else◌, List, [], ◌∷◌, length, All, Some, refl, ap, subst, ◌∙◌, length-append, arith}
+use Rattle.std.proofs.Common.{◌≡◌, ◌≢◌, ◌-◌, ◌<◌, ℕ, zero, suc, Bool, true, false, if◌then◌else◌, List, [], ◌∷◌, length, All, Some, refl}
+use Rattle.std.proofs.Common.{ap, subst, ◌∙◌, length-append, arith}
 use Rattle.std.proofs.lemmas.List.{length-set}
 use Rattle.std.specs.Prelude.{Option, unwrap_or, Result, Ok, Err, OnOk, IfOk}
 use Rattle.rows_model.specs.declared.keys.Sid.{Sid}
@@ -28,19 +29,23 @@ sid_is_new writes phases sid h =
     let new = sids_to-less (length phases) sid (omega (arith, h, more)) in
     λ told e. subst (λ (sids : List Sid). All (λ other. other ≢ sid) sids) (ap (λ (o : Option (List Sid)). unwrap_or o []) e) new
 
-pub sids_to_begun : (writes : Bool) (phases : List Phase) (sid : Sid) → sid.number ≡ length (begun writes phases) → Some (sids_to (length (begun writes phases))) ≡ with_member sid (Some (sids_to (length phases)))
+pub sids_to_begun : (writes : Bool) (phases : List Phase) (sid : Sid)
+    → sid.number ≡ length (begun writes phases) → Some (sids_to (length (begun writes phases))) ≡ with_member sid (Some (sids_to (length phases)))
 sids_to_begun writes phases sid h =
     let more = one_more writes phases in
     let number : suc (length phases) ≡ sid.number = omega (arith, h, more) in
     ap (λ (n : ℕ). Some (sids_to n)) more ∙ ap (λ (n : ℕ). Some (record { number = n } ∷ sids_to (length phases))) number
 
 -- what becomes of the ledger as a session begins, and that it has the last number
-pub begin_is_new : (writes : Bool) (old new : Ledger) (result : Result Sid Memory) → OnOk result (new ≡ with_session writes old) → IfOk result (λ sid. sid.number ≡ length new.sessions) → IfOk result (λ sid. IsNew sid (Some (sids_to (length old.sessions))))
+pub begin_is_new : (writes : Bool) (old new : Ledger) (result : Result Sid Memory) → OnOk result (new ≡ with_session writes old)
+    → IfOk result (λ sid. sid.number ≡ length new.sessions) → IfOk result (λ sid. IsNew sid (Some (sids_to (length old.sessions))))
 begin_is_new writes old new (Ok sid) ledger number =
     sid_is_new writes old.sessions sid (number ∙ ap (λ (l : Ledger). length l.sessions) ledger)
 begin_is_new writes old new (Err memory) ledger number = tt
 
-pub begin_is_told : (writes : Bool) (old new : Ledger) (result : Result Sid Memory) → OnOk result (new ≡ with_session writes old) → IfOk result (λ sid. sid.number ≡ length new.sessions) → IfOk result (λ sid. Some (sids_to (length new.sessions)) ≡ with_member sid (Some (sids_to (length old.sessions))))
+pub begin_is_told : (writes : Bool) (old new : Ledger) (result : Result Sid Memory) → OnOk result (new ≡ with_session writes old)
+    → IfOk result (λ sid. sid.number ≡ length new.sessions)
+    → IfOk result (λ sid. Some (sids_to (length new.sessions)) ≡ with_member sid (Some (sids_to (length old.sessions))))
 begin_is_told writes old new (Ok sid) ledger number =
     let more = ap (λ (l : Ledger). length l.sessions) ledger in
     ap (λ (n : ℕ). Some (sids_to n)) more ∙ sids_to_begun writes old.sessions sid (number ∙ more)

@@ -1,5 +1,6 @@
 -- What a writer has in hand, and what it wants by that.
-use Rattle.std.proofs.Common.{append-nil, ◌≡◌, ◌+◌, ◌<◌, ◌≤◌, ℕ, zero, suc, Bool, false, List, [], ◌∷◌, length, map, take, drop, set, get_or, Option, Some, None, slice_get, count_by, refl, ap, sym, subst, ◌∙◌, arith}
+use Rattle.std.proofs.Common.{append-nil, ◌≡◌, ◌+◌, ◌<◌, ◌≤◌, ℕ, zero, suc, Bool, false, List, [], ◌∷◌, length, map, take, drop, set}
+use Rattle.std.proofs.Common.{get_or, Option, Some, None, slice_get, count_by, refl, ap, sym, subst, ◌∙◌, arith}
 use Rattle.rows_model.specs.declared.keys.QKey.{QKey}
 use Rattle.rows_model.specs.declared.changes.Change.{Change}
 use Rattle.lease_table.specs.declared.records.Mode.{Mode}
@@ -18,7 +19,9 @@ use Rattle.session_client.specs.declared.stages.WriteStage.{WriteStage}
 use Rattle.session_client.specs.declared.stages.WriteStage.TheVariants as stages
 use Rattle.session_client.specs.Follows.{CommitAwaits, HasNew, IsEnding, IsNext, IsOut, PartsFollow, WriteIsReady, write_is_over}
 use Rattle.session_client.specs.Plans.{mode_on}
-use Rattle.session_client.specs.Wants.{Given, Writing, Then, Commits, Looks, Quits, Drops, given, granted, released, is_had, is_nothing, quarantine_as, quarantine_next, quarantine_or_then, release_after, release_of, finish, write_wants, commit_outcome, end_outcome}
+use Rattle.session_client.specs.Wants.{Given, Writing, Then, Commits, Looks, Quits, Drops, given, granted, released, is_had, is_nothing}
+use Rattle.session_client.specs.Wants.{quarantine_as, quarantine_next, quarantine_or_then, release_after, release_of, finish, write_wants}
+use Rattle.session_client.specs.Wants.{commit_outcome, end_outcome}
 use Rattle.session_client.specs.Grants.{GrantsView}
 use Rattle.session_client.specs.Wants as wants
 use Rattle.session_client.specs.Writers.{HandView, HasRoom, IsNewBeside, release_as, old_value, renewed, all_renewed, new_values}
@@ -64,9 +67,11 @@ of_permit (one ∷ ones) (suc n) grant e =
     record { one = found.one; at = found.at; permit = found.permit }
 
 -- the first grant in hand is that of what was given next
-pub next_given : (heard : List Reply) (n : ℕ) (items : List Permit) (grant : Permit) → items ≡ drop n (granted heard) → slice_get items 0 ≡ Some grant → IsOfGiven (given heard) n grant
+pub next_given : (heard : List Reply) (n : ℕ) (items : List Permit) (grant : Permit)
+    → items ≡ drop n (granted heard) → slice_get items 0 ≡ Some grant → IsOfGiven (given heard) n grant
 next_given heard n items grant left first =
-    of_permit (given heard) n grant (ap (λ l. slice_get l n) (sym (granted-given heard)) ∙ sym (at_place (granted heard) n) ∙ ap (λ l. slice_get l 0) (sym left) ∙ first)
+    of_permit (given heard) n grant (ap (λ l. slice_get l n) (sym (granted-given heard))
+    ∙ sym (at_place (granted heard) n) ∙ ap (λ l. slice_get l 0) (sym left) ∙ first)
 
 none_past : (ones : List Given) (n : ℕ) → drop n (permits ones) ≡ [] → slice_get ones n ≡ None
 none_past [] n e = refl
@@ -99,18 +104,22 @@ drop_new txn (one ∷ ones) zero = refl
 drop_new txn (one ∷ ones) (suc n) = drop_new txn ones n
 
 -- the values behind it are those beside the other grants
-pub rest_new : (how : Release) (txn : List Change) (ones : List Given) (values : List (Option (List ℕ))) (n : ℕ) → HasNew how txn (drop n ones) values → HasNew how txn (drop (n + 1) ones) (drop 1 values)
+pub rest_new : (how : Release) (txn : List Change) (ones : List Given) (values : List (Option (List ℕ))) (n : ℕ)
+    → HasNew how txn (drop n ones) values → HasNew how txn (drop (n + 1) ones) (drop 1 values)
 rest_new releases.Keep txn ones values n h = tt
 rest_new releases.Drop txn ones values n h = tt
-rest_new (releases.Finish number) txn ones values n h = ap (λ (l : List (Option (List ℕ))). drop 1 l) h ∙ drop_new txn ones n ∙ ap (λ m. new_values txn (drop m ones)) (suc-plus n)
+rest_new (releases.Finish number) txn ones values n h =
+    ap (λ (l : List (Option (List ℕ))). drop 1 l) h ∙ drop_new txn ones n ∙ ap (λ m. new_values txn (drop m ones)) (suc-plus n)
 
 -- the old values beside what was given become its new ones
 pub renewed_all : (txn : List Change) (ones : List Given) → all_renewed txn (permits ones) (map old_value ones) ≡ new_values txn ones
 renewed_all txn [] = refl
 renewed_all txn (one ∷ ones) = ap (λ (l : List (Option (List ℕ))). renewed txn one.permit (old_value one) ∷ l) (renewed_all txn ones)
 
-next_step : (txn : List Change) (grants : List Permit) (values : List (Option (List ℕ))) (i : ℕ) (d : Permit) (old : Option (List ℕ)) → i < length grants → length values ≡ length grants
-    → set (all_renewed txn (take i grants) values) i (renewed txn (get_or grants i d) (get_or (all_renewed txn (take i grants) values) i old)) ≡ all_renewed txn (take (suc i) grants) values
+next_step : (txn : List Change) (grants : List Permit) (values : List (Option (List ℕ))) (i : ℕ) (d : Permit) (old : Option (List ℕ))
+    → i < length grants → length values ≡ length grants
+    → set (all_renewed txn (take i grants) values) i (renewed txn (get_or grants i d) (get_or (all_renewed txn (take i grants) values) i old))
+    ≡ all_renewed txn (take (suc i) grants) values
 next_step txn [] values i d old less same = absurd (omega (arith, less))
 next_step txn (grant ∷ grants) [] i d old less same = absurd (omega (arith, same))
 next_step txn (grant ∷ grants) (value ∷ values) zero d old less same = refl
@@ -118,8 +127,10 @@ next_step txn (grant ∷ grants) (value ∷ values) (suc i) d old less same =
     ap (λ (l : List (Option (List ℕ))). renewed txn grant value ∷ l) (next_step txn grants values i d old (omega (arith, less)) (omega (arith, same)))
 
 -- with the next value renewed, one more is
-pub renewed_next : (txn : List Change) (grants : List Permit) (values now : List (Option (List ℕ))) (i : ℕ) (grant : Permit) (old new : Option (List ℕ)) → i < length grants → length values ≡ length grants
-    → now ≡ all_renewed txn (take i grants) values → grant ≡ get_or grants i grant → new ≡ renewed txn grant (get_or now i old) → set now i new ≡ all_renewed txn (take (i + 1) grants) values
+pub renewed_next : (txn : List Change) (grants : List Permit) (values now : List (Option (List ℕ))) (i : ℕ) (grant : Permit) (old new : Option (List ℕ))
+    → i < length grants → length values ≡ length grants
+    → now ≡ all_renewed txn (take i grants) values → grant ≡ get_or grants i grant
+    → new ≡ renewed txn grant (get_or now i old) → set now i new ≡ all_renewed txn (take (i + 1) grants) values
 renewed_next txn grants values now i grant old new less same so_far at renew =
     ap (λ v. set now i v) (renew ∙ ap (λ g. renewed txn g (get_or now i old)) at)
     ∙ ap (λ l. set l i (renewed txn (get_or grants i grant) (get_or l i old))) so_far
@@ -146,7 +157,8 @@ lets_go wants.Keeps txn one = refl
 lets_go wants.Drops txn one = refl
 lets_go (wants.Finishes number) txn one = finishes one.permit.mode txn number one
 
-asks : (writing : Writing) (heard : List Reply) (o : Option QKey) → slice_get writing.keys (count_by is_had heard) ≡ o → count_by is_had heard < length writing.keys
+asks : (writing : Writing) (heard : List Reply) (o : Option QKey)
+    → slice_get writing.keys (count_by is_had heard) ≡ o → count_by is_had heard < length writing.keys
     → is_nothing (quarantine_or_then writing heard o) ≡ false
 asks writing heard (Some key) at within = quarantines (mode_on writing.mode key) key writing.txn
 asks writing heard None at within = absurd (some_within writing.keys (count_by is_had heard) within at)
@@ -160,7 +172,8 @@ has_first : (items : List Permit) → 1 ≤ length items → HasFirst items
 has_first [] h = absurd (omega (arith, h))
 has_first (grant ∷ items) h = record { grant = grant; first = refl }
 
-goes_on : (txn : List Change) (how : wants.Release) (heard : List Reply) (items : List Permit) → items ≡ drop (released heard) (granted heard) → 1 ≤ length items
+goes_on : (txn : List Change) (how : wants.Release) (heard : List Reply) (items : List Permit)
+    → items ≡ drop (released heard) (granted heard) → 1 ≤ length items
     → is_nothing (release_of txn how (slice_get (given heard) (released heard))) ≡ false
 goes_on txn how heard items left some =
     let front = has_first items some in
@@ -168,7 +181,8 @@ goes_on txn how heard items left some =
     subst (λ o. is_nothing (release_of txn how o) ≡ false) (sym next.at) (lets_go how txn next.one)
 
 -- a writer that isn't at its end wants something
-pub wants_more : (writing : Writing) (hand : HandView) (stage : WriteStage) (short : Bool) (heard : List Reply) → HasRoom writing.keys hand stage → WriteIsReady stage → write_is_over stage ≡ false
+pub wants_more : (writing : Writing) (hand : HandView) (stage : WriteStage) (short : Bool) (heard : List Reply)
+    → HasRoom writing.keys hand stage → WriteIsReady stage → write_is_over stage ≡ false
     → PartsFollow writing hand stage short heard → is_nothing (write_wants writing short heard) ≡ false
 wants_more writing hand (stages.Quarantining count txn) short heard room ready over h =
     let less = room.0 in
@@ -198,31 +212,49 @@ pub asks_next : (writing : Writing) (heard : List Reply) (count : ℕ) (key : QK
 asks_next writing heard count key counted at =
     ap (quarantine_or_then writing heard) (ap (λ n. slice_get writing.keys n) counted ∙ at)
 
-next_back : (back : Option Permit) (grant : Permit) (heard : List Reply) → IfSome back (λ note. note ≡ grant) → slice_get (granted heard) (released heard) ≡ Some grant → IsNext back heard
+next_back : (back : Option Permit) (grant : Permit) (heard : List Reply)
+    → IfSome back (λ note. note ≡ grant) → slice_get (granted heard) (released heard) ≡ Some grant → IsNext back heard
 next_back None grant heard same at = tt
 next_back (Some note) grant heard same at = at ∙ ap (λ (g : Permit). Some g) (sym same)
 
 -- a writer that hands out its first grant, with the value beside it, has the others
-pub after_take : (writing : Writing) (hand : HandView) (ended : Outcome) (how : Release) (back : Option Permit) (grant : Permit) (short : Bool) (heard : List Reply)
+pub after_take : (writing : Writing) (hand : HandView) (ended : Outcome)
+    (how : Release) (back : Option Permit) (grant : Permit) (short : Bool) (heard : List Reply)
     → slice_get hand.grants.items 0 ≡ Some grant → IfSome back (λ note. note ≡ grant) → PartsFollow writing hand (stages.Releasing ended how) short heard
-    → PartsFollow writing (record { room = hand.room; given = hand.given; grants = record { items = drop 1 hand.grants.items; room = hand.grants.room }; values = drop 1 hand.values }) (stages.Returning ended how back) short heard
+    → PartsFollow writing (record {
+      room = hand.room;
+      given = hand.given;
+      grants = record { items = drop 1 hand.grants.items; room = hand.grants.room };
+      values = drop 1 hand.values;
+    }) (stages.Returning ended how back) short heard
 after_take writing hand ended how back grant short heard first same (wanted, ending) =
     let (items, values, way, outcome) = ending in
     let at = sym (at_place (granted heard) (released heard)) ∙ ap (λ l. slice_get l 0) (sym items) ∙ first in (
       next_back back grant heard same at,
-      (ap (λ (l : List Permit). drop 1 l) items ∙ drop_more (granted heard) (released heard), rest_new how writing.txn (given heard) hand.values (released heard) values, way, outcome),
+      (
+        ap (λ (l : List Permit). drop 1 l) items ∙ drop_more (granted heard) (released heard),
+        rest_new how writing.txn (given heard) hand.values (released heard) values,
+        way,
+        outcome,
+      ),
     )
 
 -- and so where that grant came back, and has no value beside it
 pub after_take_alone : (writing : Writing) (hand : HandView) (ended : Outcome) (how : Release) (short : Bool) (heard : List Reply)
     → PartsFollow writing hand (stages.Dropping ended how) short heard
-    → PartsFollow writing (record { room = hand.room; given = hand.given; grants = record { items = drop 1 hand.grants.items; room = hand.grants.room }; values = hand.values }) (stages.Returning ended how None) short heard
+    → PartsFollow writing (record {
+      room = hand.room;
+      given = hand.given;
+      grants = record { items = drop 1 hand.grants.items; room = hand.grants.room };
+      values = hand.values;
+    }) (stages.Returning ended how None) short heard
 after_take_alone writing hand ended how short heard (wanted, ending) =
     let (items, values, way, outcome) = ending in
     (tt, (ap (λ (l : List Permit). drop 1 l) items ∙ drop_more (granted heard) (released heard), values, way, outcome))
 
 -- the next release is that of the first grant in hand, with the value beside it
-pub next_release : (writing : Writing) (hand : HandView) (ended : Outcome) (how : Release) (grant : Permit) (value : Option (List ℕ)) (request : Wanted) (short : Bool) (heard : List Reply)
+pub next_release : (writing : Writing) (hand : HandView) (ended : Outcome)
+    (how : Release) (grant : Permit) (value : Option (List ℕ)) (request : Wanted) (short : Bool) (heard : List Reply)
     → slice_get hand.grants.items 0 ≡ Some grant → slice_get hand.values 0 ≡ Some value
     → ((one : Given) (txn : List Change) → one.permit ≡ grant → IsNewBeside how txn one value → request ≡ release_of txn (release_as how) (Some one))
     → PartsFollow writing hand (stages.Releasing ended how) short heard → request ≡ write_wants writing short heard
@@ -234,7 +266,8 @@ next_release writing hand ended how grant value request short heard first beside
 
 -- where it came back, its value is dropped
 pub next_drop : (writing : Writing) (hand : HandView) (ended : Outcome) (how : Release) (grant : Permit) (short : Bool) (heard : List Reply)
-    → slice_get hand.grants.items 0 ≡ Some grant → PartsFollow writing hand (stages.Dropping ended how) short heard → wanted.Dar grant ≡ write_wants writing short heard
+    → slice_get hand.grants.items 0 ≡ Some grant → PartsFollow writing hand (stages.Dropping ended how) short heard
+    → wanted.Dar grant ≡ write_wants writing short heard
 next_drop writing hand ended how grant short heard first (wants, ending) =
     let (items, values, way, outcome) = ending in
     let next = next_given heard (released heard) hand.grants.items grant items first in
@@ -246,9 +279,15 @@ in_front (y ∷ xs) zero x e = ap (λ (z : Permit). z ∷ xs) (sym (some_same e)
 in_front (y ∷ xs) (suc n) x e = in_front xs n x e
 
 -- a grant that came back is in front again
-pub after_back : (writing : Writing) (hand : HandView) (ended : Outcome) (how : Release) (back : Option Permit) (grant : Permit) (short : Bool) (heard : List Reply)
+pub after_back : (writing : Writing) (hand : HandView) (ended : Outcome)
+    (how : Release) (back : Option Permit) (grant : Permit) (short : Bool) (heard : List Reply)
     → back ≡ Some grant → PartsFollow writing hand (stages.Returning ended how back) short heard
-    → PartsFollow writing (record { room = hand.room; given = hand.given; grants = record { items = grant ∷ hand.grants.items; room = hand.grants.room }; values = hand.values }) (stages.Dropping ended how) short (reply.SarBack grant ∷ heard)
+    → PartsFollow writing (record {
+      room = hand.room;
+      given = hand.given;
+      grants = record { items = grant ∷ hand.grants.items; room = hand.grants.room };
+      values = hand.values;
+    }) (stages.Dropping ended how) short (reply.SarBack grant ∷ heard)
 after_back writing hand ended how back grant short heard named (next, ending) =
     let (items, values, way, outcome) = ending in
     let at : slice_get (granted heard) (released heard) ≡ Some grant = subst (λ o. IsNext o heard) named next in
@@ -256,7 +295,8 @@ after_back writing hand ended how back grant short heard named (next, ending) =
     let all = append-nil (given heard) in (
       refl,
       (
-        ap (λ (l : List Permit). grant ∷ l) (items ∙ ap (λ m. drop m (granted heard)) (sym (suc-plus (released heard)))) ∙ in_front (granted heard) (released heard) grant at
+        ap (λ (l : List Permit). grant ∷ l) (items ∙ ap (λ m. drop m (granted heard)) (sym (suc-plus (released heard))))
+            ∙ in_front (granted heard) (released heard) grant at
             ∙ ap (λ l. drop (released heard) l) (sym same),
         subst (λ l. HasNew how writing.txn (drop (released heard + 1) l) hand.values) (sym all) values,
         way,
@@ -272,20 +312,25 @@ ended_so Quits ended = refl
 -- a writer that was told of its commit, with memory for the new values, finishes its grants
 pub committed_wants : (writing : Writing) (number : ℕ) (txn : List Change) (back : GrantsView) (short : Bool) (heard : List Reply) → short ≡ false
     → write_wants writing short (reply.Committed number txn back ∷ heard)
-    ≡ release_of writing.txn (wants.Finishes number) (slice_get (given (reply.Committed number txn back ∷ heard)) (released (reply.Committed number txn back ∷ heard)))
+    ≡ release_of writing.txn (wants.Finishes number)
+    (slice_get (given (reply.Committed number txn back ∷ heard)) (released (reply.Committed number txn back ∷ heard)))
 committed_wants writing number txn back short heard roomy =
-    ap (λ b. release_of writing.txn (release_after b (Some number)) (slice_get (given (reply.Committed number txn back ∷ heard)) (released (reply.Committed number txn back ∷ heard)))) roomy
+    ap (λ b. release_of writing.txn (release_after b (Some number))
+    (slice_get (given (reply.Committed number txn back ∷ heard)) (released (reply.Committed number txn back ∷ heard)))) roomy
 
 -- it has its grants again, and the new values beside them
 pub after_commit : (writing : Writing) (hand : HandView) (number room : ℕ) (txn : List Change) (back : GrantsView) (short : Bool) (heard : List Reply)
-    → CommitAwaits writing.txn (record { items = hand.given; room = room }) (reply.Committed number txn back) → hand.given ≡ granted heard → IsOut hand short heard
-    → IsEnding writing (record { room = hand.room; given = hand.given; grants = back; values = all_renewed txn hand.given hand.values }) (outcomes.Committed number) (releases.Finish number)
+    → CommitAwaits writing.txn (record { items = hand.given; room = room }) (reply.Committed number txn back)
+    → hand.given ≡ granted heard → IsOut hand short heard
+    → IsEnding writing (record { room = hand.room; given = hand.given; grants = back; values = all_renewed txn hand.given hand.values })
+    (outcomes.Committed number) (releases.Finish number)
     (released (reply.Committed number txn back ∷ heard)) (released (reply.Committed number txn back ∷ heard)) short (reply.Committed number txn back ∷ heard)
 after_commit writing hand number room txn back short heard awaits told (values, none, before, roomy) =
     let same = append-nil (granted heard) in
     let all = append-nil (given heard) in (
       awaits.1.same ∙ told ∙ ap (λ m. drop m (granted heard)) (sym none) ∙ ap (λ l. drop (released heard) l) (sym same),
-      ap (λ l. all_renewed txn l hand.values) (told ∙ granted-given heard) ∙ ap (λ l. all_renewed txn (permits (given heard)) l) values ∙ renewed_all txn (given heard)
+      ap (λ l. all_renewed txn l hand.values) (told ∙ granted-given heard)
+          ∙ ap (λ l. all_renewed txn (permits (given heard)) l) values ∙ renewed_all txn (given heard)
           ∙ ap (λ l. new_values l (given heard)) awaits.0 ∙ ap (λ m. new_values writing.txn (drop m (given heard))) (sym none)
           ∙ ap (λ l. new_values writing.txn (drop (released heard) l)) (sym all),
       ap (λ b. release_after b (Some number)) (sym roomy),
@@ -293,6 +338,7 @@ after_commit writing hand number room txn back short heard awaits told (values, 
     )
 
 -- what holds however a result came out holds with what each outcome gives
-pub with_fact : {T E : Type 0} (r : Result T E) (A : Type 0) (P : T → Type 0) (Q : E → Type 0) → A → MatchResult r P Q → MatchResult r (λ x. A × P x) (λ e. A × Q e)
+pub with_fact : {T E : Type 0} (r : Result T E) (A : Type 0) (P : T → Type 0) (Q : E → Type 0)
+    → A → MatchResult r P Q → MatchResult r (λ x. A × P x) (λ e. A × Q e)
 with_fact (Ok x) A P Q a h = (a, h)
 with_fact (Err e) A P Q a h = (a, h)

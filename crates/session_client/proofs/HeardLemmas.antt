@@ -29,7 +29,8 @@ pub record OfPlace (who : Sid) (mode : Mode) (keys : List QKey) (count : ℕ) (t
   pub key : QKey
   pub awaits : QuarantineAwaits who mode (Some key) told
 
-pub awaited_key : (who : Sid) (mode : Mode) (keys : List QKey) (count : ℕ) (told : Reply) → QuarantineAwaits who mode (slice_get keys count) told → OfPlace who mode keys count told
+pub awaited_key : (who : Sid) (mode : Mode) (keys : List QKey) (count : ℕ) (told : Reply)
+    → QuarantineAwaits who mode (slice_get keys count) told → OfPlace who mode keys count told
 awaited_key who mode keys count told h =
     let found = key_from who mode (slice_get keys count) told h in
     record { within = slice_get_within keys count found.key' found.some; key = found.key'; awaits = found.awaits }

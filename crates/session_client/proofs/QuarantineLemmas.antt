@@ -33,7 +33,8 @@ quarantine_belongs terms past key who mode by now answer =
     P : QAnswer → Type 0
     P a = IsQuarantineOf who key mode a
 
-    granted : (token : ℕ) → answer ≡ told.Granted (record { shard = terms.no; key = key; sid = who; mode = mode; token = token }) (old_value mode (entry key past))
+    granted : (token : ℕ)
+        → answer ≡ told.Granted (record { shard = terms.no; key = key; sid = who; mode = mode; token = token }) (old_value mode (entry key past))
         → IsQuarantineOf who key mode answer
     granted token is = subst P (sym is) (record { of_key = refl; of_session = refl; in_mode = refl }, fits_old mode (entry key past))
 

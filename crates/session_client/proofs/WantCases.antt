@@ -1,5 +1,7 @@
 -- What a session wants, by cases of what it was told, and which keys it quarantines.
-use Rattle.std.proofs.Common.{append-nil, ℕ, zero, suc, ◌≡◌, ◌+◌, ◌<◌, Bool, true, false, not, nat_lt, List, [], ◌∷◌, ◌++◌, length, append_assoc, count_by, map, Option, Some, None, slice_get, get_or, AllPairs, refl, sym, ap, subst, ◌∙◌, inl, inr, ◌⊎◌, arith}
+use Rattle.std.proofs.Common.{append-nil, ℕ, zero, suc, ◌≡◌, ◌+◌, ◌<◌, Bool, true, false, not, nat_lt, List, [], ◌∷◌, ◌++◌, length}
+use Rattle.std.proofs.Common.{append_assoc, count_by, map, Option, Some, None, slice_get, get_or, AllPairs, refl, sym, ap, subst, ◌∙◌, inl}
+use Rattle.std.proofs.Common.{inr, ◌⊎◌, arith}
 use Rattle.std.proofs.lemmas.Bool.{cases_order, cond_both}
 use Rattle.std.proofs.lemmas.Bool.Decides.{nat_tests}
 use Rattle.std.proofs.lemmas.Option.{slice_get_within, get_or_from_slice_get}
@@ -24,7 +26,10 @@ use Rattle.session_client.specs.declared.replies.Reply.TheVariants as reply
 use Rattle.session_client.specs.declared.replies.Wanted.{Wanted}
 use Rattle.session_client.specs.declared.replies.Wanted.TheVariants as wanted
 use Rattle.session_client.specs.Plans.{keys_of, mode_on, without_key}
-use Rattle.session_client.specs.Wants.{Given, given, given_in, granted, grants_in, is_had, released, was_committed, number_of, Then, Commits, Looks, Quits, Writing, quarantine_as, commit_with, then_wants, quarantine_or_then, quarantine_next, has_all, look_after, after_fault, Release, Keeps, Drops, Finishes, release_after, release_by, new_value, finish, release_of, release_next, write_wants, read_wants, set_after, agains}
+use Rattle.session_client.specs.Wants.{Given, given, given_in, granted, grants_in, is_had, released, was_committed, number_of, Then}
+use Rattle.session_client.specs.Wants.{Commits, Looks, Quits, Writing, quarantine_as, commit_with, then_wants, quarantine_or_then}
+use Rattle.session_client.specs.Wants.{quarantine_next, has_all, look_after, after_fault, Release, Keeps, Drops, Finishes, release_after}
+use Rattle.session_client.specs.Wants.{release_by, new_value, finish, release_of, release_next, write_wants, read_wants, set_after, agains}
 
 -- the grants of what was heard later follow those of what was heard before
 pub grants-append : (new heard : List Reply) → granted (new ++ heard) ≡ granted heard ++ granted new
@@ -157,14 +162,16 @@ release_cases : (P : Wanted → Type 0) (writing : Writing) (short : Bool) (hear
     → ((one : Given) → slice_get (given heard) (released heard) ≡ Some one → P (wanted.Dar one.permit))
     → ((one : Given) (number : ℕ) → slice_get (given heard) (released heard) ≡ Some one → number_of heard ≡ Some number → one.permit.mode ≡ mode.Refresh
     → P (wanted.Sar one.permit (new_value one.permit.key writing.txn one.old) number))
-    → ((one : Given) (number : ℕ) → slice_get (given heard) (released heard) ≡ Some one → number_of heard ≡ Some number → one.permit.mode ≡ mode.Delta → P (wanted.Apply one.permit number))
+    → ((one : Given) (number : ℕ) → slice_get (given heard) (released heard) ≡ Some one
+    → number_of heard ≡ Some number → one.permit.mode ≡ mode.Delta → P (wanted.Apply one.permit number))
     → P wanted.Nothing → P (release_next writing short heard)
 release_cases P writing short heard abort dar sar apply nothing = by heard refl
   where
     Result : Release → Type 0
     Result how = P (release_of writing.txn how (slice_get (given heard) (released heard)))
 
-    finished : (one : Given) (number : ℕ) → slice_get (given heard) (released heard) ≡ Some one → number_of heard ≡ Some number → (m : Mode) → one.permit.mode ≡ m → P (finish m writing.txn number one)
+    finished : (one : Given) (number : ℕ) → slice_get (given heard) (released heard) ≡ Some one
+        → number_of heard ≡ Some number → (m : Mode) → one.permit.mode ≡ m → P (finish m writing.txn number one)
     finished one number at told mode.Invalidate e = dar one at
     finished one number at told mode.Refresh e = sar one number at told e
     finished one number at told mode.Delta e = apply one number at told e
@@ -177,7 +184,8 @@ release_cases P writing short heard abort dar sar apply nothing = by heard refl
     drops (Some one) at = dar one at
     drops None at = nothing
 
-    finishes : (number : ℕ) → number_of heard ≡ Some number → (o : Option Given) → slice_get (given heard) (released heard) ≡ o → P (release_of writing.txn (Finishes number) o)
+    finishes : (number : ℕ) → number_of heard ≡ Some number → (o : Option Given)
+        → slice_get (given heard) (released heard) ≡ o → P (release_of writing.txn (Finishes number) o)
     finishes number told (Some one) at = finished one number at told one.permit.mode refl
     finishes number told None at = nothing
 
@@ -205,18 +213,22 @@ release_cases P writing short heard abort dar sar apply nothing = by heard refl
     by (reply.Fault fault ∷ rest) e = kept (reply.Fault fault ∷ rest) refl e
     by (reply.Nothing ∷ rest) e = kept (reply.Nothing ∷ rest) refl e
 
--- what a writer wants: a quarantine, a commit, its own key, the store's answer after its transaction, to be ended, one of four releases of the next grant, or nothing
+-- what a writer wants: a quarantine, a commit, its own key, the store's answer after
+-- its transaction, to be ended, one of four releases of the next grant, or nothing
 pub write_cases : (P : Wanted → Type 0) (writing : Writing) (short : Bool) (heard : List Reply)
-    → ((key : QKey) → slice_get writing.keys (count_by is_had heard) ≡ Some key → is_asking heard ≡ true → P (quarantine_as (mode_on writing.mode key) key writing.txn))
+    → ((key : QKey) → slice_get writing.keys (count_by is_had heard) ≡ Some key
+    → is_asking heard ≡ true → P (quarantine_as (mode_on writing.mode key) key writing.txn))
     → (is_ending heard ≡ false → P (commit_with writing heard))
     → ((key : QKey) → writing.next ≡ Looks key → is_asking heard ≡ true → slice_get writing.keys (count_by is_had heard) ≡ None → P (wanted.Get key 0))
     → ((key : QKey) → writing.next ≡ Looks key → is_ending heard ≡ false → P (wanted.Staged key writing.txn))
     → (is_ending heard ≡ false → P wanted.End)
     → ((one : Given) → slice_get (given heard) (released heard) ≡ Some one → is_ending heard ≡ true → number_of heard ≡ None → P (wanted.Abort one.permit))
     → ((one : Given) → slice_get (given heard) (released heard) ≡ Some one → is_ending heard ≡ true → P (wanted.Dar one.permit))
-    → ((one : Given) (number : ℕ) → slice_get (given heard) (released heard) ≡ Some one → is_ending heard ≡ true → number_of heard ≡ Some number → one.permit.mode ≡ mode.Refresh
+    → ((one : Given) (number : ℕ) → slice_get (given heard) (released heard) ≡ Some one
+    → is_ending heard ≡ true → number_of heard ≡ Some number → one.permit.mode ≡ mode.Refresh
     → P (wanted.Sar one.permit (new_value one.permit.key writing.txn one.old) number))
-    → ((one : Given) (number : ℕ) → slice_get (given heard) (released heard) ≡ Some one → is_ending heard ≡ true → number_of heard ≡ Some number → one.permit.mode ≡ mode.Delta
+    → ((one : Given) (number : ℕ) → slice_get (given heard) (released heard) ≡ Some one
+    → is_ending heard ≡ true → number_of heard ≡ Some number → one.permit.mode ≡ mode.Delta
     → P (wanted.Apply one.permit number))
     → P wanted.Nothing → P (write_wants writing short heard)
 write_cases P writing short heard ask commit get staged end abort dar sar apply nothing = by heard refl
@@ -225,7 +237,8 @@ write_cases P writing short heard ask commit get staged end abort dar sar apply 
     due told rest e ending =
         let ends : is_ending heard ≡ true = ap is_ending e ∙ ending in
         subst (λ l. P (release_next writing short l)) e
-        (release_cases P writing short heard (λ one at none. abort one at ends none) (λ one at. dar one at ends) (λ one number at told fits. sar one number at ends told fits)
+        (release_cases P writing short heard (λ one at none. abort one at ends none)
+        (λ one at. dar one at ends) (λ one number at told fits. sar one number at ends told fits)
         (λ one number at told fits. apply one number at ends told fits) nothing)
 
     next : is_asking heard ≡ true → is_ending heard ≡ false → P (quarantine_next writing heard)
@@ -234,7 +247,8 @@ write_cases P writing short heard ask commit get staged end abort dar sar apply 
     more : (l : List Reply) → heard ≡ l → is_asking l ≡ true → is_ending l ≡ false → P (quarantine_next writing l)
     more l e asks going = subst (λ l. P (quarantine_next writing l)) e (next (ap is_asking e ∙ asks) (ap is_ending e ∙ going))
 
-    committing : (told : Reply) (rest : List Reply) → heard ≡ told ∷ rest → is_ending (told ∷ rest) ≡ false → granted (told ∷ rest) ≡ granted rest → P (commit_with writing rest)
+    committing : (told : Reply) (rest : List Reply) → heard ≡ told ∷ rest
+        → is_ending (told ∷ rest) ≡ false → granted (told ∷ rest) ≡ granted rest → P (commit_with writing rest)
     committing told rest e going same =
         let all : granted heard ≡ granted rest = ap granted e ∙ same in
         subst (λ items. P (wanted.Commit writing.txn (record { items = items; room = length writing.keys }))) all (commit (ap is_ending e ∙ going))
@@ -277,7 +291,8 @@ set_cases P key answer (reply.Got (got.Lease token) ∷ heard) set nothing = set
 set_cases P key answer heard set nothing = nothing
 
 pub read_cases : (P : Wanted → Type 0) (key : QKey) (floor : ℕ) (heard : List Reply) → P (wanted.Get key floor) → P (wanted.Ask key)
-    → ((token : ℕ) (answer : Answer) (rest : List Reply) → heard ≡ reply.Answer answer ∷ reply.Got (got.Lease token) ∷ rest → P (wanted.Set key token answer.value answer.stamp))
+    → ((token : ℕ) (answer : Answer) (rest : List Reply) → heard ≡ reply.Answer answer ∷ reply.Got (got.Lease token) ∷ rest
+    → P (wanted.Set key token answer.value answer.stamp))
     → P wanted.Nothing → P (read_wants key floor heard)
 read_cases P key floor [] get ask set nothing = get
 read_cases P key floor (reply.Got (got.Lease token) ∷ heard) get ask set nothing = ask
@@ -299,7 +314,8 @@ ascend_once keys pairs i j key at_i at_j =
     clash : (i j : ℕ) → i < j → slice_get keys i ≡ Some key → slice_get keys j ≡ Some key → ⊥
     clash i j less at_i at_j =
         let e = pairs i j key less (slice_get_within keys j key at_j) in
-        never_before key (subst (λ k. is_key_before k key ≡ true) (get_or_from_slice_get keys j key key at_j) (subst (λ k. is_key_before (get_or keys j key) k ≡ true) (get_or_from_slice_get keys i key key at_i) e))
+        never_before key (subst (λ k. is_key_before k key ≡ true) (get_or_from_slice_get keys j key key at_j)
+        (subst (λ k. is_key_before (get_or keys j key) k ≡ true) (get_or_from_slice_get keys i key key at_i) e))
 
     by : (i ≡ j) ⊎ ((i < j) ⊎ (j < i)) → i ≡ j
     by (inl same) = same
@@ -311,7 +327,8 @@ footprint-once txn = ascend_once (footprint txn) (footprints_are_exact_is txn).a
 
 pub skipped-once : (key : QKey) (txn : List Change) → AreOnce (without_key key (footprint txn))
 skipped-once key txn =
-    ascend_once (without_key key (footprint txn)) (AllPairs-filter (λ k later. is_key_before later k ≡ true) (λ other. not (same_key key other)) (footprint txn) (footprints_are_exact_is txn).ascends)
+    ascend_once (without_key key (footprint txn))
+    (AllPairs-filter (λ k later. is_key_before later k ≡ true) (λ other. not (same_key key other)) (footprint txn) (footprints_are_exact_is txn).ascends)
 
 -- each key of a plan stands once among those that it quarantines
 pub plan-once : (plan : Plan) → AreOnce (keys_of plan)

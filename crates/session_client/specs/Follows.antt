@@ -11,7 +11,9 @@ use Rattle.sql_keeper.specs.declared.stores.Answer.{Answer}
 use Rattle.session_client.specs.Grants.{GrantsView}
 use Rattle.session_client.specs.Plans.{changes_of, mode_on}
 use Rattle.session_client.specs.Belongs.{IsShardFault, IsStoreFault, IsQuarantineOf, AreBack}
-use Rattle.session_client.specs.Wants.{agains, set_after, read_wants, is_had, given, granted, released, number_of, Writing, Given, Looks, Drops, commit_with, quarantine_next, has_all, release_after, release_of, write_wants, wants, read_outcome, write_outcome, writing_outcome, outcome_of}
+use Rattle.session_client.specs.Wants.{agains, set_after, read_wants, is_had, given, granted, released, number_of, Writing, Given, Looks}
+use Rattle.session_client.specs.Wants.{Drops, commit_with, quarantine_next, has_all, release_after, release_of, write_wants, wants}
+use Rattle.session_client.specs.Wants.{read_outcome, write_outcome, writing_outcome, outcome_of}
 use Rattle.session_client.specs.Writers.{HandView, WriterView, writing_as, release_as, old_value, new_values}
 use Rattle.session_client.specs.declared.plans.Plan.{Plan}
 use Rattle.session_client.specs.declared.plans.Plan.TheVariants.{Read}

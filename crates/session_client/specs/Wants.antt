@@ -38,7 +38,8 @@ abbrev pub set_after : QKey → Answer → List Reply → Wanted
 set_after key answer (reply.Got (got.Lease token) ∷ heard) = wanted.Set key token answer.value answer.stamp
 set_after key answer heard = wanted.Nothing
 
--- A reader gets the key until it has it or a lease, asks the store after a lease, after 16 Agains or where it has quarantined the key itself, and stores the answer under its lease.
+-- A reader gets the key until it has it or a lease, asks the store after a lease, after 16
+-- Agains or where it has quarantined the key itself, and stores the answer under its lease.
 abbrev pub read_wants : QKey → ℕ → List Reply → Wanted
 read_wants key floor [] = wanted.Get key floor
 read_wants key floor (reply.Got (got.Lease token) ∷ heard) = wanted.Ask key
@@ -210,7 +211,9 @@ abbrev pub release_next : Writing → Bool → List Reply → Wanted
 release_next writing short heard =
     release_of writing.txn (release_by short heard) (slice_get (given heard) (released heard))
 
--- What a writer wants: it quarantines its keys in turn, goes on as it is to, and releases its grants. Where it was refused a quarantine or the commit it is ended at the store first. The flag says that memory ran out when it was told of its commit.
+-- What a writer wants: it quarantines its keys in turn, goes on as it is to, and
+-- releases its grants. Where it was refused a quarantine or the commit it is ended
+-- at the store first. The flag says that memory ran out when it was told of its commit.
 abbrev pub write_wants : Writing → Bool → List Reply → Wanted
 write_wants writing short [] = quarantine_next writing []
 write_wants writing short (reply.Quar (quarantine.Granted grant old) ∷ heard) =

@@ -1,10 +1,11 @@
-ghost use Rattle.std.specs.Prelude.{◌≡◌, ◌<◌, [], ◌∷◌, ◌++◌, length, ◌↔◌, IfOk, IsTrue, Some, slice_get};
-ghost use Rattle.std.specs.List.{remove};
+ghost use Rattle.std.specs.Prelude.{◌≡◌, ◌<◌, ◌≤◌, [], ◌∷◌, ◌++◌, length, ◌↔◌, IfOk, IsTrue, Some, slice_get};
+ghost use Rattle.std.specs.List.{insert, remove};
 
 use key_shard::Grant;
 use rows_model::Memory;
 use std::alloc::Global;
 use std::marker::Model;
+use std::mem;
 
 /// The grants of a session, in the order in which they were given. There is room for so many, taken
 /// when the list is made.
@@ -82,25 +83,38 @@ impl Grants {
         self.items.push_reserved(grant);
     }
 
-    /// Takes out the grant at this place, from 0. The others keep their order. It takes no memory.
+    /// Takes out the grant at this place, from 0. The others keep their order, and there is room to put
+    /// it back. It takes no memory.
     pub fn take(&mut self, place: usize) -> Grant
         requires { place < length self.old.items }
         ensures grant { slice_get self.old.items place ≡ Some result }
         ensures items { self.new.items ≡ remove self.old.items place }
         ensures room { self.new.room ≡ self.old.room }
+        ensures vacant { length self.new.items < self.new.room }
     {
         self.items.remove(place)
     }
 
-    /// Puts a grant first. It takes no memory.
-    pub(crate) fn put_back(&mut self, grant: Grant)
-        requires { length self.old.items < self.old.room }
-        ensures items { self.new.items ≡ grant ∷ self.old.items }
+    /// Puts a grant in at this place, from 0, in front of the one that stood there. The others keep
+    /// their order. It takes no memory.
+    pub fn put_back(&mut self, place: usize, grant: Grant)
+        requires room { length self.old.items < self.old.room }
+        requires place { place ≤ length self.old.items }
+        ensures items { self.new.items ≡ insert self.old.items place grant }
         ensures room { self.new.room ≡ self.old.room }
     {
-        if let Err(failed) = self.items.insert(0, grant) {
+        if let Err(failed) = self.items.insert(place, grant) {
             failed.value.let_go();
         }
+    }
+
+    /// Hands all the grants out, with their room: none are left, and no room for any. It takes no memory.
+    pub fn lend(&mut self) -> Grants
+        ensures grants { result ≡ self.old }
+        ensures none { self.new ≡ record { items = []; room = 0 } }
+    {
+        let alloc = *self.items.allocator();
+        mem::replace(self, Grants::none(alloc))
     }
 
     /// Lets go of all the grants. Their quarantines are not ended by that, and stand until others end

@@ -176,7 +176,7 @@ impl Hand {
           values = self.old.values;
         } }
     {
-        self.grants.put_back(grant);
+        self.grants.put_back(0, grant);
     }
 
     /// Lets go of the grants. Their quarantines are not ended by that, and stand until others end them.

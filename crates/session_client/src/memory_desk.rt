@@ -13,7 +13,7 @@ use crate::{Desk, Fault, Grants, Outcome, Plan, Reply, Session, Wanted};
 use key_shard::{Back, Got, Grant, How, Shard, ShardFault};
 use lease_table::Mode;
 use rows_model::{Change, Kind, Memory, QKey, Sid, Txn, Value, shard_number, touches};
-use sql_keeper::{CommitFault, KeepFault, MapKeeper, Place, Store};
+use sql_keeper::{CommitFault, MapKeeper, Place, Store};
 use std::alloc::Global;
 use std::marker::Model;
 use std::process::Abort;
@@ -205,6 +205,7 @@ fn replace(shards: &mut Vec<Shard>, grant: Grant, value: Option<Value>, stamp: u
     }
 }
 
+/// A keeper in memory fails for want of memory alone.
 #[tactic(auto, using(crate::proofs::DeskLemmas::as_many_called))]
 fn ask(store: &mut Store<MapKeeper>, key: QKey) -> Reply
     ensures as_many { length store.new.ledger.sessions ≡ length store.old.ledger.sessions }
@@ -212,8 +213,7 @@ fn ask(store: &mut Store<MapKeeper>, key: QKey) -> Reply
 {
     match store.ask(&key) {
         Ok(answer) => Reply::Answer { answer },
-        Err(KeepFault::Failed) => Reply::Fault { fault: Fault::Keep },
-        Err(KeepFault::Memory) => Reply::Fault {
+        Err(_) => Reply::Fault {
             fault: Fault::Memory,
         },
     }
@@ -234,20 +234,20 @@ fn commit(store: &mut Store<MapKeeper>, who: Sid, txn: Txn, grants: Grants) -> R
     ensures as_many { length store.new.ledger.sessions ≡ length store.old.ledger.sessions }
     ensures belongs { Belongs who (wanted.Commit txn grants) result }
 {
-    let Ok(copy) = txn.copy() else {
-        return Reply::NotCommitted {
-            fault: CommitFault::Memory,
-            txn,
-            grants,
-        };
+    let made = match txn.copy() {
+        Ok(copy) => match store.commit(who, copy, grants.items()) {
+            Ok(number) => Ok(number),
+            Err((fault, _)) => Err(fault),
+        },
+        Err(_) => Err(CommitFault::Memory),
     };
-    match store.commit(who, copy, grants.items()) {
+    match made {
         Ok(number) => Reply::Committed {
             number,
             txn,
             grants,
         },
-        Err((fault, _)) => Reply::NotCommitted { fault, txn, grants },
+        Err(fault) => Reply::NotCommitted { fault, txn, grants },
     }
 }
 

@@ -3,8 +3,9 @@ ghost use Rattle.session_client.specs.Follows.{IsReady};
 
 use super::*;
 use crate::tests::{
-    N_PENDING, OTHER, PENDING, PROFILE, WHO, check_end, commit, end, get, invitation, keep_all,
-    make, new_shard, quarantine, quarantine_all, refuse, release, takes, tell, writer,
+    N_PENDING, OTHER, PENDING, PROFILE, WHO, check_end, commit, end, get, give_back_all,
+    invitation, keep_all, make, new_shard, quarantine, quarantine_all, refuse, release, takes,
+    tell, writer,
 };
 use key_shard::{Got, How, QAnswer, Rel, SetAnswer, Shard};
 use lease_table::Mode;
@@ -303,12 +304,7 @@ fn commits_what_was_rejected_when_it_looked(rt: HostRuntime) -> Result<(), Fail>
     let txn = stage(&rt, &mut session);
     let fault = AfterFault::Rejected { index: 0 };
     tell(&rt, &mut session, Reply::NotStaged { fault, txn });
-    let fault = CommitFault::Rejected { index: 0 };
-    refuse(&rt, &mut session, fault);
-    end(&rt, &mut session);
-    keep_all(&rt, &mut session);
-    check_end(&rt, &mut session, Outcome::NotCommitted { fault });
-    session.let_go();
+    give_back_all(&rt, session);
     Ok(())
 }
 

@@ -257,6 +257,19 @@ pub fn keep_all(rt: &impl Abort, session: &mut Session)
     release(rt, session, How::Keep, N_PENDING);
 }
 
+/// The session has its commit rejected, is ended at the store, gives back the grants of the three keys of
+/// the invitation, and is done.
+pub fn give_back_all(rt: &impl Abort, mut session: Session)
+    requires { IsReady session }
+{
+    let fault = CommitFault::Rejected { index: 0 };
+    refuse(rt, &mut session, fault);
+    end(rt, &mut session);
+    keep_all(rt, &mut session);
+    check_end(rt, &mut session, Outcome::NotCommitted { fault });
+    session.let_go();
+}
+
 /// The session wants nothing more, and ended so.
 pub fn check_end(rt: &impl Abort, session: &mut Session, outcome: Outcome)
     requires { IsReady session.old }
@@ -464,12 +477,7 @@ fn gives_back_all_when_it_is_not_committed(rt: HostRuntime) -> Result<(), Fail> 
     let mut shard = new_shard(alloc)?;
     let mut session = writer(alloc, Mode::Invalidate)?;
     quarantine_all(&rt, &mut session, &mut shard, Mode::Invalidate);
-    let fault = CommitFault::Rejected { index: 0 };
-    refuse(&rt, &mut session, fault);
-    end(&rt, &mut session);
-    keep_all(&rt, &mut session);
-    check_end(&rt, &mut session, Outcome::NotCommitted { fault });
-    session.let_go();
+    give_back_all(&rt, session);
     Ok(())
 }
 

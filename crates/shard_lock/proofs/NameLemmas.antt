@@ -73,7 +73,8 @@ made old new who other told h = absurd h
 
 -- a store has the names that it had before a request
 pub made_named : (old new : StoreView) (who : Sid) (request : Wanted) (reply : Reply) → MakesAtStore old who request new reply → old.faults ≤ new.faults
-    → (opening : Tables) (most : ℕ) (told : Option Tables) (start : Option ℕ) → IsNamedStore opening most told start old → IsNamedStore opening most told start new
+    → (opening : Tables) (most : ℕ) (told : Option Tables) (start : Option ℕ)
+    → IsNamedStore opening most told start old → IsNamedStore opening most told start new
 made_named old new who request reply makes rises opening most told start named =
     let stays = made old new who request reply makes in
     record {

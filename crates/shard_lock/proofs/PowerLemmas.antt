@@ -35,32 +35,34 @@ powers_lowered [] = refl
 powers_lowered (zero ∷ ns) = let h = powers_lowered ns in omega (arith, h)
 powers_lowered (suc n ∷ ns) = let h = powers_lowered ns in let p = two-pow-succ n in omega (arith, h, p)
 
+-- one less than a power, halved: the lowered ones come to one less than the power below, with half of the ones that are left
+halves : (k : ℕ) (ns : List ℕ) (ones : ℕ) → powers ns + ones + 1 ≡ 2 ^ suc k
+    → (m : ℕ) × (zeros ns + ones ≡ m + m + 1) × (powers (lowered ns) + m + 1 ≡ 2 ^ k)
+halves k ns ones h =
+    let s = powers_lowered ns in
+    let p = two-pow-succ k in (
+      2 ^ k - 1 - powers (lowered ns),
+      omega (arith, h, s, p),
+      omega (arith, h, s, p),
+    )
+
 -- it takes k powers of two at least, of which some may be ones, to come to one less than the k-th
 fewest : (k : ℕ) (ns : List ℕ) (ones : ℕ) → powers ns + ones + 1 ≡ 2 ^ k → k ≤ length ns + ones
 fewest zero ns ones h = omega arith
 fewest (suc k) ns ones h =
-    let s = powers_lowered ns in
-    let l = length_lowered ns in
-    let p = two-pow-succ k in
-    let d = 2 ^ k - 1 - powers (lowered ns) in
-    let here : powers (lowered ns) + d + 1 ≡ 2 ^ k = omega (arith, h, s, p) in
-    let less = fewest k (lowered ns) d here in
-    omega (arith, h, s, l, p, here, less)
+    let half = halves k ns ones h in
+    omega (arith, length_lowered ns, half.1, fewest k (lowered ns) half.0 half.2)
 
 -- where just so many do, one of them is 0, and the others lowered do too
 one_zero : (k : ℕ) (ns : List ℕ) → length ns ≡ suc k → powers ns + 1 ≡ 2 ^ suc k
     → (zeros ns ≡ 1) × (length (lowered ns) ≡ k) × (powers (lowered ns) + 1 ≡ 2 ^ k)
 one_zero k ns many h =
-    let s = powers_lowered ns in
+    let half = halves k ns 0 (omega (arith, h)) in
     let l = length_lowered ns in
-    let p = two-pow-succ k in
-    let d = 2 ^ k - 1 - powers (lowered ns) in
-    let here : powers (lowered ns) + d + 1 ≡ 2 ^ k = omega (arith, h, s, p) in
-    let less = fewest k (lowered ns) d here in
-    let none : d ≡ 0 = omega (arith, h, s, l, p, here, less, many) in (
-      omega (arith, h, s, p, here, none),
-      omega (arith, h, s, l, p, here, none, many),
-      omega (arith, here, none),
+    let none : half.0 ≡ 0 = omega (arith, l, many, half.1, fewest k (lowered ns) half.0 half.2) in (
+      omega (arith, half.1, none),
+      omega (arith, l, many, half.1, none),
+      omega (arith, half.2, none),
     )
 
 -- each is at most the next, and the first is at least so much

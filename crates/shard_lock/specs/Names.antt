@@ -33,7 +33,8 @@ ArePlaced shards = (place : ℕ) (shard : ShardView) → slice_get shards place 
 abbrev pub AreLegal : List ShardView → Type 0
 AreLegal shards = All (λ shard. Legal shard.terms shard.history) shards
 
--- A store with the opening rows and the cap that are named. Its keeper tells its rows only if it is named as having told some, and its count of faults hasn't fallen since it was named.
+-- A store with the opening rows and the cap that are named. Its keeper tells its rows only
+-- if it is named as having told some, and its count of faults hasn't fallen since it was named.
 pub record IsNamedStore (opening : Tables) (cap : ℕ) (told : Option Tables) (start : Option ℕ) (store : StoreView) : Type 0 where
   pub opening_is : store.ledger.opening ≡ opening
   pub cap_is : store.ledger.cap ≡ cap

@@ -28,7 +28,8 @@ IsAtStore (wanted.Commit txn grants) = Unit {0}
 IsAtStore wanted.End = Unit {0}
 IsAtStore other = ⊥
 
--- The store has this ledger now. Its keeper failed in the call or it didn't, and its count of faults tells which; where its rows are told now they were told before.
+-- The store has this ledger now. Its keeper failed in the call or it didn't, and
+-- its count of faults tells which; where its rows are told now they were told before.
 pub record Goes (failed : Bool) (ledger : Ledger) (old new : StoreView) : Type 0 where
   pub ledger_is : new.ledger ≡ ledger
   pub counted : Counts failed old.faults new.faults
@@ -59,7 +60,8 @@ TellsStaged key txn old new (reply.Staged value back) = (back ≡ txn) × IsStag
 TellsStaged key txn old new (reply.NotStaged fault back) = (back ≡ txn) × IsStaged key txn old new (Err fault)
 TellsStaged key txn old new other = ⊥
 
--- The session's transaction was committed under these grants, with this number: nothing stood against it, the log has it last, and where the rows are told they took it.
+-- The session's transaction was committed under these grants, with this number: nothing
+-- stood against it, the log has it last, and where the rows are told they took it.
 pub record IsCommitted (who : Sid) (txn : List Change) (grants : List Permit) (old new : StoreView) (number : ℕ) : Type 0 where
   pub admitted : first_fault old.ledger who grants txn ≡ None
   pub goes : Goes false (with_commit who txn old.ledger) old new

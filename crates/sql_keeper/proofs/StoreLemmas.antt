@@ -1,5 +1,7 @@
 -- What a store tells after a commit, and which sessions are open.
-use Rattle.std.proofs.Common.{◌≡◌, ◌≢◌, ℕ, ◌+◌, ◌-◌, ◌^◌, ◌≤◌, ◌⊎◌, inl, inr, Bool, true, false, List, [], ◌∷◌, ◌++◌, length, Option, Some, None, IsSome, Ok, slice_get, slice_set, slice_index_or, if◌then◌else◌, ◌==◌, zero, suc, refl, sym, ap, ◌∙◌, arith}
+use Rattle.std.proofs.Common.{◌≡◌, ◌≢◌, ℕ, ◌+◌, ◌-◌, ◌^◌, ◌≤◌, ◌⊎◌, inl, inr, Bool, true, false, List, [], ◌∷◌, ◌++◌, length, Option, Some}
+use Rattle.std.proofs.Common.{None, IsSome, Ok, slice_get, slice_set, slice_index_or, if◌then◌else◌, ◌==◌, zero, suc, refl, sym, ap, ◌∙◌}
+use Rattle.std.proofs.Common.{arith}
 use Rattle.std.proofs.lemmas.List.Sums.{fold-append}
 use Rattle.std.proofs.lemmas.List.Elements.{All-push, All-weaker}
 use Rattle.std.proofs.lemmas.List.Quantifiers.{all_pairs_push}
@@ -104,8 +106,11 @@ ledger-committed ledger sid txn h may few =
     let was : Commit → Type 0 = λ commit. phase_of commit.sid ledger.sessions ≡ Some Committed in
     record {
       few = omega (arith, length_push ledger.log new, h.few, few);
-      committed = All-push Done ledger.log new (All-weaker was Done (λ commit done. still-committed sid commit.sid Committed ledger.sessions is_open done) ledger.log h.committed) (has-phase sid Committed ledger.sessions is_open);
-      once = all_pairs_push (λ (commit later : Commit). commit.sid.number ≢ later.sid.number) ledger.log new h.once (λ k d within. other-number sid (slice_index_or ledger.log k d).sid ledger.sessions is_open (h.committed k d within));
+      committed =
+          All-push Done ledger.log new (All-weaker was Done (λ commit done. still-committed sid commit.sid Committed ledger.sessions is_open done)
+          ledger.log h.committed) (has-phase sid Committed ledger.sessions is_open);
+      once = all_pairs_push (λ (commit later : Commit). commit.sid.number ≢ later.sid.number) ledger.log new h.once
+          (λ k d within. other-number sid (slice_index_or ledger.log k d).sid ledger.sessions is_open (h.committed k d within));
     }
 
 -- a commit that no fault refuses is one of an open session, and the log has room for it

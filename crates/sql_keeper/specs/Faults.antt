@@ -53,6 +53,7 @@ abbrev pub Counts : Bool → ℕ → ℕ → Type 0
 Counts true before after = Rose before after × (after ≤ 2 ^ 64 - 1)
 Counts false before after = after ≡ before
 
--- so many calls failed, and no more than the count of faults rose by since it stood at the first number, where one is named; or the count stands at the end of its type
+-- so many calls failed, and no more than the count of faults rose by since it stood
+-- at the first number, where one is named; or the count stands at the end of its type
 abbrev pub FewFailed : Option ℕ → ℕ → ℕ → Type 0
 FewFailed first failed faults = ForSome first (λ start. (start + failed ≤ faults) ⊎ (faults ≡ 2 ^ 64 - 1))

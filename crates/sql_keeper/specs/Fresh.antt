@@ -23,11 +23,14 @@ abbrev pub quarantines : QKey → Sid → Step → Bool
 quarantines key who (Granted on sid mode shift now token deadline) = same_key key on && (sid.number == who.number)
 quarantines key who other = false
 
--- A hit of this value and stamp is fresh, after these steps of its shard: the stamp is a number of commits, the value is the key's answer on the rows after so many, and among these is each commit on the key whose quarantine there had ended.
+-- A hit of this value and stamp is fresh, after these steps of its shard: the
+-- stamp is a number of commits, the value is the key's answer on the rows after so
+-- many, and among these is each commit on the key whose quarantine there had ended.
 pub record IsFreshHit (opening : Tables) (log : List Commit) (past : List Step) (key : QKey) (value : List ℕ) (stamp : ℕ) : Type 0 where
   pub known : stamp ≤ length log
   pub right : value ≡ answer key (state opening log stamp)
-  pub current : (place : ℕ) (commit : Commit) → slice_get log place ≡ Some commit → touches commit.txn key ≡ true → list_any (releases key commit.sid) past ≡ true → place < stamp
+  pub current : (place : ℕ) (commit : Commit) → slice_get log place ≡ Some commit
+      → touches commit.txn key ≡ true → list_any (releases key commit.sid) past ≡ true → place < stamp
 
 -- a step after these is fresh: of other steps than hits nothing is said
 abbrev pub IsFreshStep : Tables → List Commit → List Step → Step → Type 0

@@ -15,7 +15,8 @@ use Rattle.sql_keeper.specs.Log.{rows_after}
 use Rattle.sql_keeper.specs.Sessions.{phase_of, is_open, begun, ended, with_phase}
 use Rattle.sql_keeper.specs.Commits.{commit_fault}
 
--- what a store itself knows: the rows that its keeper started with, the commits so far, where each session stands, how many commits there may be, and how many calls of the keeper failed
+-- what a store itself knows: the rows that its keeper started with, the commits so far, where
+-- each session stands, how many commits there may be, and how many calls of the keeper failed
 pub record Ledger : Type 0 where
   pub opening : Tables
   pub log : List Commit
@@ -73,7 +74,8 @@ with_call true ledger =
     record { opening = ledger.opening; log = ledger.log; sessions = ledger.sessions; cap = ledger.cap; failed = count_up ledger.failed }
 with_call false ledger = ledger
 
--- A commit is refused for this fault: for the first that is found before the keeper is asked; where there is none, for one of the keeper's. Memory may run out instead, but for a session that isn't open.
+-- A commit is refused for this fault: for the first that is found before the keeper is asked; where
+-- there is none, for one of the keeper's. Memory may run out instead, but for a session that isn't open.
 abbrev pub IsRefusal : Option CommitFault → CommitFault → Type 0
 IsRefusal first faults.Memory = first ≢ Some faults.Ended
 IsRefusal (Some fault) refused = refused ≡ fault

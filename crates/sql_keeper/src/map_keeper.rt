@@ -10,7 +10,7 @@ ghost use Rattle.sql_keeper.specs.MapKeepers.{MapView, counted, with_rows};
 
 use crate::faults::{AfterFault, KeepFault};
 use crate::keepers::{Keeper, Place};
-use rows_model::{ApplyFault, QKey, Rows, Txn, Value, ask};
+use rows_model::{QKey, Rows, Txn, Value, ask, refresh};
 use std::alloc::Global;
 use std::marker::Model;
 
@@ -32,14 +32,16 @@ impl Model for MapKeeper {
     ghost view = { λ k. record { rows = k.rows; fails = k.fails.items; calls = k.calls; faults = k.faults } };
 }
 
-// The answer to a key on the rows after a transaction.
+// The answer to a key on the rows after a transaction: the one before it, with the changes made in it.
 fn staged(alloc: Global, rows: &Rows, txn: &Txn, key: &QKey) -> Result<Value, AfterFault>
     ensures answers { AnswersAfter txn.now key.now rows.now result }
     ensures never_fails { IsFalse (staged_failed result) }
 {
-    let mut after = rows.copy()?;
-    after.apply(txn)?;
-    Ok(ask(alloc, &after, key)?)
+    if let Some(index) = rows.judge(txn) {
+        return Err(AfterFault::Rejected { index });
+    }
+    let before = ask(alloc, rows, key)?;
+    Ok(refresh(alloc, key, &before, txn)?.unwrap())
 }
 
 impl MapKeeper {

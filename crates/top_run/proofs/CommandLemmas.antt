@@ -58,7 +58,8 @@ not_rose : (before after : ℕ) → Rose before after → after ≡ before → b
 not_rose before after (inl up) same below = omega (arith, up, same)
 not_rose before after (inr end) same below = omega (arith, end, same, below)
 
-pub load_not_failed : (ended : Status) (spec : WorkSpec) (held : Held) (before after : Tells) (left : Left) (written : ℕ) → WorkEnded ended spec held before after left written
+pub load_not_failed : (ended : Status) (spec : WorkSpec) (held : Held) (before after : Tells) (left : Left) (written : ℕ)
+    → WorkEnded ended spec held before after left written
     → after.keeps_failed ≡ before.keeps_failed → before.keeps_failed < 2 ^ 64 - 1 → ended ≡ status.KeepFault → ⊥
 load_not_failed ended spec held before after left written h same below is =
     let failed = subst (λ (e : Status). WorkEnded e spec held before after left written) is h in

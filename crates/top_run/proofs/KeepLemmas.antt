@@ -31,7 +31,8 @@ history_in : Shape → List Event → ℕ → List Step
 history_in shape past place = reverse (steps_of place past)
 
 -- the histories of the shards after some events
-pub histories_are : (shards : List ShardView) (shape : Shape) (past : List Event) → HasShards shards shape past → map (λ shard. shard.history) shards ≡ histories_of shape past
+pub histories_are : (shards : List ShardView) (shape : Shape) (past : List Event)
+    → HasShards shards shape past → map (λ shard. shard.history) shards ≡ histories_of shape past
 histories_are shards shape past h =
     let kept = length-map shards (λ shard. shard.history) in
     let made = length-map-range_with_len (λ place. reverse (steps_of place past)) 0 shape.shards in
@@ -44,7 +45,8 @@ histories_are shards shape past h =
     ∙ sym (get_or-map-range_with_len (λ place. reverse (steps_of place past)) 0 shape.shards i i [] within (omega arith)))
 
 -- the history at a place
-history_is : (shape : Shape) (past : List Event) (place : ℕ) (history : List Step) → slice_get (histories_of shape past) place ≡ Some history → history ≡ reverse (steps_of place past)
+history_is : (shape : Shape) (past : List Event) (place : ℕ) (history : List Step)
+    → slice_get (histories_of shape past) place ≡ Some history → history ≡ reverse (steps_of place past)
 history_is shape past place history is =
     let made = length-map-range_with_len (λ place. reverse (steps_of place past)) 0 shape.shards in
     let within : place < shape.shards = subst (λ (n : ℕ). place < n) made (slice_get_within (histories_of shape past) place history is) in
@@ -53,7 +55,8 @@ history_is shape past place history is =
 
 -- the last line of a core
 pub end_line_of : (core : CoreView) (origin : Origin) (moves : List Move) → HasKept core origin moves
-    → end_line core.store.ledger.log (histories_in core) ≡ end_line (log_of (past_of origin.shape moves)) (histories_of origin.shape (past_of origin.shape moves))
+    → end_line core.store.ledger.log (histories_in core)
+    ≡ end_line (log_of (past_of origin.shape moves)) (histories_of origin.shape (past_of origin.shape moves))
 end_line_of core origin moves h =
     let past = past_of origin.shape moves in
     ap (λ (log : List Commit). end_line log (histories_in core)) h.store.log
@@ -64,7 +67,8 @@ for_some : {P : Type 0} (rows : Option Tables) → (IsSome rows → P) → ForSo
 for_some rows h = λ told is. h (subst (λ (r : Option Tables). IsSome r) (sym is) refl)
 
 -- what is kept of a run
-pub keeps : (core : CoreView) (origin : Origin) (moves : List Move) (rows : Option Tables) → HasKept core origin moves → IsSound core origin moves → rows ≡ core.store.told
+pub keeps : (core : CoreView) (origin : Origin) (moves : List Move) (rows : Option Tables)
+    → HasKept core origin moves → IsSound core origin moves → rows ≡ core.store.told
     → Keeps origin.shape origin.opening moves rows core.store.ledger.log (histories_in core)
 keeps core origin moves rows kept sound told =
     let past = past_of origin.shape moves in
@@ -104,7 +108,8 @@ opened_since held shape opening told now before h = record {
 }
 
 -- so they are at the end of a run of turns
-pub opened_still : (held : Held) (core : CoreView) (origin : Origin) (moves : List Move) (rows : Option Tables) → HasKept core origin moves → rows ≡ core.store.told
+pub opened_still : (held : Held) (core : CoreView) (origin : Origin) (moves : List Move) (rows : Option Tables)
+    → HasKept core origin moves → rows ≡ core.store.told
     → IsOpened held origin.shape origin.opening origin.told → IsOpened held origin.shape origin.opening rows
 opened_still held core origin moves rows kept told =
     opened_since held origin.shape origin.opening origin.told rows (λ some. kept.store.telling (subst (λ (r : Option Tables). IsSome r) told some))
@@ -122,7 +127,8 @@ unreversed moves others same = sym (backwards moves) ∙ ap reverse same ∙ bac
         ∙ ap (λ (l : List Call). call_of move ∷ l) (backwards moves)
 
 -- what is printed is told by the script, the opening rows and the turns that were answered FAULT
-pub the_text_is : (shape : Shape) (acts : List Act) (opening : Tables) (turns : List ℕ) (moves : List Move) → AreMoves acts moves → IsTruePast opening (past_of shape moves) → turns ≡ fault_turns (past_of shape moves) → IsTheText shape acts opening turns (out shape moves)
+pub the_text_is : (shape : Shape) (acts : List Act) (opening : Tables) (turns : List ℕ) (moves : List Move) → AreMoves acts moves
+    → IsTruePast opening (past_of shape moves) → turns ≡ fault_turns (past_of shape moves) → IsTheText shape acts opening turns (out shape moves)
 the_text_is shape acts opening turns moves made truth are others also true_too same =
     ap (λ (past : List Event). lines_of past ++ end_line (log_of past) (histories_of shape past))
     (runs_determined shape opening others moves (unreversed others moves (also ∙ sym made)) true_too truth (same ∙ are))

@@ -1,5 +1,6 @@
 -- A core after acts and turns that were played.
-use Rattle.std.proofs.Common.{take, drop, get_or, take-append-drop, ℕ, zero, suc, ◌≡◌, ◌+◌, ◌-◌, ◌^◌, ◌<◌, List, [], ◌∷◌, ◌++◌, length, map, reverse, arith, refl, sym, ap, ◌∙◌, subst, inl, inr, append_assoc, append-nil}
+use Rattle.std.proofs.Common.{take, drop, get_or, take-append-drop, ℕ, zero, suc, ◌≡◌, ◌+◌, ◌-◌, ◌^◌, ◌<◌, List, [], ◌∷◌, ◌++◌, length, map}
+use Rattle.std.proofs.Common.{reverse, arith, refl, sym, ap, ◌∙◌, subst, inl, inr, append_assoc, append-nil}
 use Rattle.std.specs.Prelude.{Bool, true, false, ◌||◌, cond, ◌⊎◌, Option, Result, OnErr, Ok, Err, replicate, sum_by, count_by}
 use Rattle.std.proofs.lemmas.List.{take_more, drop_more, length-append, length-map, map-append, reverse-append, replicate-append-replicate}
 use Rattle.std.proofs.lemmas.List.Concat.{flat_map-append}
@@ -34,12 +35,14 @@ calls_after moves = map call_of (reverse moves)
 pub calls_more : (move : Move) (moves : List Move) → map call_of (reverse (move ∷ moves)) ≡ map call_of (reverse moves) ++ call_of move ∷ []
 calls_more move moves = ap (map call_of) (reverse-append (move ∷ []) moves) ∙ map-append call_of (reverse moves) (move ∷ [])
 
-made_more : (move : Move) (moves : List Move) (calls : List Call) → map call_of (reverse moves) ≡ calls → map call_of (reverse (move ∷ moves)) ≡ calls ++ call_of move ∷ []
+made_more : (move : Move) (moves : List Move) (calls : List Call)
+    → map call_of (reverse moves) ≡ calls → map call_of (reverse (move ∷ moves)) ≡ calls ++ call_of move ∷ []
 made_more move moves calls e = calls_more move moves ∙ ap (λ (xs : List Call). xs ++ call_of move ∷ []) e
 
 -- counts of calls
 count_push : (test : Call → Bool) (calls : List Call) (call : Call) → count_by test (calls ++ call ∷ []) ≡ count_by test calls + cond (test call) 1 0
-count_push test calls call = sum_by-append (λ c. cond (test c) 1 0) calls (call ∷ []) ∙ ap (λ n. count_by test calls + n) (sum_by-cons (λ c. cond (test c) 1 0) call [] ∙ omega arith)
+count_push test calls call = sum_by-append (λ c. cond (test c) 1 0) calls (call ∷ [])
+    ∙ ap (λ n. count_by test calls + n) (sum_by-cons (λ c. cond (test c) 1 0) call [] ∙ omega arith)
 
 count_append : (test : Call → Bool) (xs ys : List Call) → count_by test (xs ++ ys) ≡ count_by test xs + count_by test ys
 count_append test xs ys = sum_by-append (λ c. cond (test c) 1 0) xs ys
@@ -76,9 +79,11 @@ noted true now n h = omega (arith, h)
 noted false true n h = omega arith
 noted false false n h = omega (arith, h)
 
-pub noted_more : (was fault : Bool) (event : Event) (past : List Event) → fault ≡ is_fault event → IsNoted was (count_by is_fault past) → IsNoted (was || fault) (count_by is_fault (event ∷ past))
+pub noted_more : (was fault : Bool) (event : Event) (past : List Event)
+    → fault ≡ is_fault event → IsNoted was (count_by is_fault past) → IsNoted (was || fault) (count_by is_fault (event ∷ past))
 noted_more was fault event past is h =
-    subst (λ (n : ℕ). IsNoted (was || fault) n) (ap (λ (b : Bool). cond b 1 0 + count_by is_fault past) is ∙ sym (count_fault event past)) (noted was fault (count_by is_fault past) h)
+    subst (λ (n : ℕ). IsNoted (was || fault) n) (ap (λ (b : Bool). cond b 1 0 + count_by is_fault past) is
+    ∙ sym (count_fault event past)) (noted was fault (count_by is_fault past) h)
 
 -- the lines of some events begin with those of all but the latest
 pub lines_split : (past : List Event) → (last : List ℕ) × (lines_of past ≡ lines_of (earlier past) ++ last)
@@ -118,7 +123,8 @@ stopped_at_turn core new origin calls turn taken_old taken_new tally h (inr kept
     }
 
 -- a turn whose line wasn't taken whole
-pub stopped_at_line : (core new : CoreView) (origin : Origin) (calls : List Call) (turn : Turn) (said : Said) (taken_old taken_was taken_new : Option (List ℕ)) (was tally : Tally) (line : List ℕ)
+pub stopped_at_line : (core new : CoreView) (origin : Origin)
+    (calls : List Call) (turn : Turn) (said : Said) (taken_old taken_was taken_new : Option (List ℕ)) (was tally : Tally) (line : List ℕ)
     → (h : Stands core origin calls taken_old taken_was was)
     → line ≡ line_of (turn_event origin.shape (world_of origin.shape h.moves) turn said) → IsAt new origin (Take turn said ∷ h.moves)
     → (front : List ℕ) × (rest : List ℕ) × (front ++ rest ≡ line) × Prints taken_old taken_new (lines_of (past_of origin.shape h.moves) ++ front) tally.written
@@ -141,7 +147,8 @@ stopped_at_line core new origin calls turn said taken_old taken_was taken_new wa
     }
 
 -- a turn whose line was taken
-pub stands_after_turn : (core new : CoreView) (origin : Origin) (calls : List Call) (turn : Turn) (said : Said) (taken_old taken_was taken_new : Option (List ℕ)) (was tally : Tally) (line : List ℕ) (fault : Bool)
+pub stands_after_turn : (core new : CoreView) (origin : Origin)
+    (calls : List Call) (turn : Turn) (said : Said) (taken_old taken_was taken_new : Option (List ℕ)) (was tally : Tally) (line : List ℕ) (fault : Bool)
     → (h : Stands core origin calls taken_old taken_was was)
     → line ≡ line_of (turn_event origin.shape (world_of origin.shape h.moves) turn said)
     → fault ≡ is_fault (turn_event origin.shape (world_of origin.shape h.moves) turn said)
@@ -180,13 +187,15 @@ stops_within core origin calls after taken_old taken_new tally h = record {
 
 -- a session begins
 pub stands_begun : (core new : CoreView) (origin : Origin) (calls : List Call) (plan : Plan) (taken_old taken_new : Option (List ℕ)) (tally : Tally)
-    → (h : Stands core origin calls taken_old taken_new tally) → IsAt new origin (Begin plan ∷ h.moves) → Stands new origin (calls ++ Adds plan ∷ []) taken_old taken_new tally
+    → (h : Stands core origin calls taken_old taken_new tally) → IsAt new origin (Begin plan ∷ h.moves)
+    → Stands new origin (calls ++ Adds plan ∷ []) taken_old taken_new tally
 stands_begun core new origin calls plan taken_old taken_new tally h at =
     record { moves = Begin plan ∷ h.moves; at = at; made = made_more (Begin plan) h.moves calls h.made; prints = h.prints; noted = h.noted }
 
 -- an act begins a session
 pub act_begun : (core new : CoreView) (origin : Origin) (calls : List Call) (a : Act) (plan : Plan) (taken_old taken_new : Option (List ℕ)) (tally : Tally)
-    → a ≡ act.Add plan → ((moves : List Move) → IsAt core origin moves → IsAt new origin (Begin plan ∷ moves)) → Stands core origin calls taken_old taken_new tally → Stands new origin (calls ++ calls_in a) taken_old taken_new tally
+    → a ≡ act.Add plan → ((moves : List Move) → IsAt core origin moves → IsAt new origin (Begin plan ∷ moves))
+    → Stands core origin calls taken_old taken_new tally → Stands new origin (calls ++ calls_in a) taken_old taken_new tally
 act_begun core new origin calls a plan taken_old taken_new tally is begins h =
     let P : Act → Type 0 = λ b. Stands new origin (calls ++ calls_in b) taken_old taken_new tally in
     subst P (sym is) (stands_begun core new origin calls plan taken_old taken_new tally h (begins h.moves h.at))
@@ -208,11 +217,13 @@ stops_here core origin calls others taken_old taken_new tally h = record {
 }
 
 -- a core that stands somewhere has as many sessions as began there
-sessions_at : (core : CoreView) (origin : Origin) (moves : List Move) → IsAt core origin moves → length core.sessions ≡ length (world_of origin.shape moves).plans
+sessions_at : (core : CoreView) (origin : Origin) (moves : List Move)
+    → IsAt core origin moves → length core.sessions ≡ length (world_of origin.shape moves).plans
 sessions_at core origin moves h = sym (length-map core.sessions _) ∙ ap length h.sessions.plans
 
 -- a turn of a session that began there, or another turn
-has_begun : (core : CoreView) (origin : Origin) (moves : List Move) (turn : Turn) → IsAt core origin moves → IsTurnOf (begun_in (map call_of (reverse moves))) turn → HasBegun core turn
+has_begun : (core : CoreView) (origin : Origin) (moves : List Move) (turn : Turn)
+    → IsAt core origin moves → IsTurnOf (begun_in (map call_of (reverse moves))) turn → HasBegun core turn
 has_begun core origin moves (Session who) at of =
     let same = sessions_at core origin moves at in
     let count = begun_are origin.shape moves in
@@ -223,7 +234,8 @@ has_begun core origin moves (Tick by) at of = tt
 has_begun core origin moves Sweep at of = tt
 
 -- a core that can play a turn can take it
-pub can_take : (core : CoreView) (turn : Turn) (count : ℕ) (taken_new : Option (List ℕ)) (tally : Tally) → CanPlay core (act.Run turn count ∷ []) taken_new tally → IsRunning core × HasBegun core turn
+pub can_take : (core : CoreView) (turn : Turn) (count : ℕ) (taken_new : Option (List ℕ)) (tally : Tally)
+    → CanPlay core (act.Run turn count ∷ []) taken_new tally → IsRunning core × HasBegun core turn
 can_take core turn count taken_new tally h =
     let few = h.few in
     let moves = h.stands.moves in
@@ -240,15 +252,21 @@ count_replicate turn (suc count) =
     let t = sum_by-cons (λ c. cond (is_turn c) 1 0) (Turns turn) (replicate count (Turns turn)) in
     (a ∙ ap (λ n. 0 + n) rest.0, t ∙ ap (λ n. 1 + n) rest.1 ∙ omega arith)
 
-pub act_adds : (calls : List Call) (a : Act) → (begun_in (calls ++ calls_in a) ≡ begun_in calls + sessions_of a) × (taken_in (calls ++ calls_in a) ≡ taken_in calls + turns_of a)
+pub act_adds : (calls : List Call) (a : Act) → (begun_in (calls ++ calls_in a) ≡ begun_in calls + sessions_of a)
+    × (taken_in (calls ++ calls_in a) ≡ taken_in calls + turns_of a)
 act_adds calls (act.Add plan) = (count_push is_add calls (Adds plan), count_push is_turn calls (Adds plan))
 act_adds calls (act.Run turn count) =
-    let rest = count_replicate turn count in
-    (count_append is_add calls (replicate count (Turns turn)) ∙ ap (λ n. begun_in calls + n) rest.0, count_append is_turn calls (replicate count (Turns turn)) ∙ ap (λ n. taken_in calls + n) rest.1)
+    let rest = count_replicate turn count in (
+      count_append is_add calls (replicate count (Turns turn)) ∙ ap (λ n. begun_in calls + n) rest.0,
+      count_append is_turn calls (replicate count (Turns turn))
+          ∙ ap (λ n. taken_in calls + n) rest.1,
+    )
 
 -- what a core can play after an act
-pub can_rest : (core new : CoreView) (a : Act) (acts : List Act) (taken_new taken_new' : Option (List ℕ)) (tally tally' : Tally) → CanPlay core (a ∷ acts) taken_new tally
-    → ((origin : Origin) (calls : List Call) (taken : Option (List ℕ)) → Stands core origin calls taken taken_new tally → Stands new origin (calls ++ calls_in a) taken taken_new' tally')
+pub can_rest : (core new : CoreView) (a : Act) (acts : List Act) (taken_new taken_new' : Option (List ℕ)) (tally tally' : Tally)
+    → CanPlay core (a ∷ acts) taken_new tally
+    → ((origin : Origin) (calls : List Call) (taken : Option (List ℕ))
+    → Stands core origin calls taken taken_new tally → Stands new origin (calls ++ calls_in a) taken taken_new' tally')
     → CanPlay new acts taken_new' tally'
 can_rest core new a acts taken_new taken_new' tally tally' h on =
     let few : taken_in h.calls + sum_by turns_of (a ∷ acts) < 2 ^ 32 = h.few in
@@ -265,7 +283,8 @@ can_rest core new a acts taken_new taken_new' tally tally' h on =
     }
 
 -- the first of some acts can be played
-pub can_first : (core : CoreView) (a : Act) (acts : List Act) (taken_new : Option (List ℕ)) (tally : Tally) → CanPlay core (a ∷ acts) taken_new tally → CanPlay core (a ∷ []) taken_new tally
+pub can_first : (core : CoreView) (a : Act) (acts : List Act) (taken_new : Option (List ℕ)) (tally : Tally)
+    → CanPlay core (a ∷ acts) taken_new tally → CanPlay core (a ∷ []) taken_new tally
 can_first core a acts taken_new tally h =
     let few : taken_in h.calls + sum_by turns_of (a ∷ acts) < 2 ^ 32 = h.few in
     let all = sum_by-cons turns_of a acts in
@@ -273,8 +292,10 @@ can_first core a acts taken_new tally h =
     record { origin = h.origin; calls = h.calls; taken_old = h.taken_old; stands = h.stands; fit = (h.fit.0, tt); few = omega arith }
 
 -- and so for turns
-pub can_turn : (core new : CoreView) (turn : Turn) (count rest : ℕ) (taken_new taken_new' : Option (List ℕ)) (tally tally' : Tally) → count ≡ rest + 1 → CanPlay core (act.Run turn count ∷ []) taken_new tally
-    → ((origin : Origin) (calls : List Call) (taken : Option (List ℕ)) → Stands core origin calls taken taken_new tally → Stands new origin (calls ++ Turns turn ∷ []) taken taken_new' tally')
+pub can_turn : (core new : CoreView) (turn : Turn) (count rest : ℕ) (taken_new taken_new' : Option (List ℕ)) (tally tally' : Tally)
+    → count ≡ rest + 1 → CanPlay core (act.Run turn count ∷ []) taken_new tally
+    → ((origin : Origin) (calls : List Call) (taken : Option (List ℕ))
+    → Stands core origin calls taken taken_new tally → Stands new origin (calls ++ Turns turn ∷ []) taken taken_new' tally')
     → CanPlay new (act.Run turn rest ∷ []) taken_new' tally'
 can_turn core new turn count rest taken_new taken_new' tally tally' one h on =
     let few : taken_in h.calls + sum_by turns_of (act.Run turn count ∷ []) < 2 ^ 32 = h.few in
@@ -292,18 +313,23 @@ can_turn core new turn count rest taken_new taken_new' tally tally' one h on =
     }
 
 -- one turn more
-turns_push : (calls : List Call) (turn : Turn) (done : ℕ) → (calls ++ replicate done (Turns turn)) ++ Turns turn ∷ [] ≡ calls ++ replicate (done + 1) (Turns turn)
-turns_push calls turn done = append_assoc calls (replicate done (Turns turn)) (Turns turn ∷ []) ∙ ap (λ (xs : List Call). calls ++ xs) (replicate-append-replicate done 1 (Turns turn))
+turns_push : (calls : List Call) (turn : Turn) (done : ℕ)
+    → (calls ++ replicate done (Turns turn)) ++ Turns turn ∷ [] ≡ calls ++ replicate (done + 1) (Turns turn)
+turns_push calls turn done = append_assoc calls (replicate done (Turns turn)) (Turns turn ∷ [])
+    ∙ ap (λ (xs : List Call). calls ++ xs) (replicate-append-replicate done 1 (Turns turn))
 
-pub stands_turn : (core new : CoreView) (turn : Turn) (done : ℕ) (origin : Origin) (calls : List Call) (taken_old taken_new taken_new' : Option (List ℕ)) (tally tally' : Tally)
+pub stands_turn : (core new : CoreView) (turn : Turn) (done : ℕ)
+    (origin : Origin) (calls : List Call) (taken_old taken_new taken_new' : Option (List ℕ)) (tally tally' : Tally)
     → Stands core origin (calls ++ replicate done (Turns turn)) taken_old taken_new tally
     → ((o : Origin) (cs : List Call) (t : Option (List ℕ)) → Stands core o cs t taken_new tally → Stands new o (cs ++ Turns turn ∷ []) t taken_new' tally')
     → Stands new origin (calls ++ replicate (done + 1) (Turns turn)) taken_old taken_new' tally'
 stands_turn core new turn done origin calls taken_old taken_new taken_new' tally tally' h on =
-    subst (λ (cs : List Call). Stands new origin cs taken_old taken_new' tally') (turns_push calls turn done) (on origin (calls ++ replicate done (Turns turn)) taken_old h)
+    subst (λ (cs : List Call). Stands new origin cs taken_old taken_new' tally')
+    (turns_push calls turn done) (on origin (calls ++ replicate done (Turns turn)) taken_old h)
 
 -- a stop at one of the turns
-pub stops_turn : (core : CoreView) (turn : Turn) (count done : ℕ) (origin : Origin) (calls : List Call) (taken_old taken_new : Option (List ℕ)) (tally : Tally) → done < count
+pub stops_turn : (core : CoreView) (turn : Turn) (count done : ℕ) (origin : Origin) (calls : List Call) (taken_old taken_new : Option (List ℕ)) (tally : Tally)
+    → done < count
     → Stops core origin ((calls ++ replicate done (Turns turn)) ++ Turns turn ∷ []) taken_old taken_new tally
     → Stops core origin (calls ++ replicate count (Turns turn)) taken_old taken_new tally
 stops_turn core turn count done origin calls taken_old taken_new tally below h =
@@ -319,7 +345,8 @@ stops_turn core turn count done origin calls taken_old taken_new tally below h =
 calls_push : (calls : List Call) (done : List Act) (a : Act) → (calls ++ calls_of done) ++ calls_in a ≡ calls ++ calls_of (done ++ a ∷ [])
 calls_push calls done a =
     append_assoc calls (calls_of done) (calls_in a)
-    ∙ ap (λ (xs : List Call). calls ++ xs) (sym (flat_map-append calls_in done (a ∷ []) ∙ ap (λ (xs : List Call). calls_of done ++ xs) (append-nil (calls_in a))))
+    ∙ ap (λ (xs : List Call). calls ++ xs)
+    (sym (flat_map-append calls_in done (a ∷ []) ∙ ap (λ (xs : List Call). calls_of done ++ xs) (append-nil (calls_in a))))
 
 -- the act at a place, behind those before it and before those after it
 dropped : (acts : List Act) (i : ℕ) (a : Act) → i < length acts → a ≡ get_or acts i a → drop i acts ≡ a ∷ drop (i + 1) acts
@@ -328,11 +355,13 @@ dropped acts i a below is = drop_more acts i a below ∙ ap (λ (x : Act). x ∷
 took : (acts : List Act) (i : ℕ) (a : Act) → i < length acts → a ≡ get_or acts i a → take (i + 1) acts ≡ take i acts ++ a ∷ []
 took acts i a below is = take_more acts i a below ∙ ap (λ (x : Act). take i acts ++ x ∷ []) (sym is)
 
-pub can_act : (core : CoreView) (acts : List Act) (i : ℕ) (a : Act) (taken_new : Option (List ℕ)) (tally : Tally) → i < length acts → a ≡ get_or acts i a → CanPlay core (drop i acts) taken_new tally
+pub can_act : (core : CoreView) (acts : List Act) (i : ℕ) (a : Act) (taken_new : Option (List ℕ)) (tally : Tally)
+    → i < length acts → a ≡ get_or acts i a → CanPlay core (drop i acts) taken_new tally
     → CanPlay core (a ∷ drop (i + 1) acts) taken_new tally
 can_act core acts i a taken_new tally below is h = subst (λ (xs : List Act). CanPlay core xs taken_new tally) (dropped acts i a below is) h
 
-pub stands_at : (core new : CoreView) (acts : List Act) (i : ℕ) (a : Act) (origin : Origin) (calls : List Call) (taken_old taken_new taken_new' : Option (List ℕ)) (tally tally' : Tally) → i < length acts → a ≡ get_or acts i a
+pub stands_at : (core new : CoreView) (acts : List Act) (i : ℕ) (a : Act)
+    (origin : Origin) (calls : List Call) (taken_old taken_new taken_new' : Option (List ℕ)) (tally tally' : Tally) → i < length acts → a ≡ get_or acts i a
     → Stands core origin (calls ++ calls_of (take i acts)) taken_old taken_new tally
     → ((o : Origin) (cs : List Call) (t : Option (List ℕ)) → Stands core o cs t taken_new tally → Stands new o (cs ++ calls_in a) t taken_new' tally')
     → Stands new origin (calls ++ calls_of (take (i + 1) acts)) taken_old taken_new' tally'
@@ -341,7 +370,8 @@ stands_at core new acts i a origin calls taken_old taken_new taken_new' tally ta
     (calls_push calls (take i acts) a ∙ ap (λ (xs : List Act). calls ++ calls_of xs) (sym (took acts i a below is)))
     (on origin (calls ++ calls_of (take i acts)) taken_old h)
 
-pub stops_at : (core : CoreView) (acts : List Act) (i : ℕ) (a : Act) (origin : Origin) (calls : List Call) (taken_old taken_new : Option (List ℕ)) (tally : Tally) → i < length acts → a ≡ get_or acts i a
+pub stops_at : (core : CoreView) (acts : List Act) (i : ℕ) (a : Act)
+    (origin : Origin) (calls : List Call) (taken_old taken_new : Option (List ℕ)) (tally : Tally) → i < length acts → a ≡ get_or acts i a
     → Stops core origin ((calls ++ calls_of (take i acts)) ++ calls_in a) taken_old taken_new tally
     → Stops core origin (calls ++ calls_of acts) taken_old taken_new tally
 stops_at core acts i a origin calls taken_old taken_new tally below is h =

@@ -1,5 +1,6 @@
 -- What was printed, and how it is counted.
-use Rattle.std.proofs.Common.{ℕ, ◌≡◌, ◌+◌, ◌-◌, ◌*◌, ◌^◌, ◌<◌, ◌≤◌, min, List, [], ◌∷◌, ◌++◌, length, take, drop, decimal, arith, refl, sym, ap, ◌∙◌, append_assoc, append-nil, take-append-drop, reverse, flat_map}
+use Rattle.std.proofs.Common.{ℕ, ◌≡◌, ◌+◌, ◌-◌, ◌*◌, ◌^◌, ◌<◌, ◌≤◌, min, List, [], ◌∷◌, ◌++◌, length, take, drop, decimal, arith, refl, sym}
+use Rattle.std.proofs.Common.{ap, ◌∙◌, append_assoc, append-nil, take-append-drop, reverse, flat_map}
 use Rattle.std.specs.Prelude.{Bool, Option, Some, codes, cond, count_by, slice_get}
 use Rattle.std.proofs.lemmas.List.{length-append, length-take-le, reverse-append, take_more}
 use Rattle.std.proofs.lemmas.List.Sums.{sum_by-append}
@@ -66,7 +67,8 @@ count_more test histories i history is =
     let here : take (i + 1) histories ≡ take i histories ++ history ∷ [] =
     take_more histories i [] below ∙ ap (λ (h : List Step). take i histories ++ h ∷ []) (get_or_from_slice_get histories i history [] is) in
     ap (count_in test) here
-    ∙ ap (count_by test) (flat_map-append (λ (h : List Step). h) (take i histories) (history ∷ []) ∙ ap (λ (h : List Step). flat_map (λ (x : List Step). x) (take i histories) ++ h) (append-nil history))
+    ∙ ap (count_by test) (flat_map-append (λ (h : List Step). h) (take i histories) (history ∷ [])
+    ∙ ap (λ (h : List Step). flat_map (λ (x : List Step). x) (take i histories) ++ h) (append-nil history))
     ∙ sum_by-append (λ step. cond (test step) 1 0) (flat_map (λ (x : List Step). x) (take i histories)) history
 
 pub counted_more : (test : Step → Bool) (histories : List (List Step)) (i : ℕ) (history : List Step) (a n : ℕ) → slice_get histories i ≡ Some history
@@ -82,7 +84,10 @@ regroup a b c d e f g h t = simp append_assoc
 
 -- the last line, word by word
 pub end_line_is : (log : List Commit) (histories : List (List Step))
-    → end_line log histories ≡ (((((((codes "end commits " ++ decimal (length log)) ++ codes " hits ") ++ decimal (count_in is_hit histories)) ++ codes " stores ") ++ decimal (count_in is_stored histories)) ++ codes " agains ") ++ decimal (count_in is_again histories)) ++ 10 ∷ []
+    → end_line log histories
+    ≡ (((((((codes "end commits " ++ decimal (length log)) ++ codes " hits ") ++ decimal (count_in is_hit histories)) ++ codes " stores ")
+    ++ decimal (count_in is_stored histories)) ++ codes " agains ") ++ decimal (count_in is_again histories)) ++ 10 ∷ []
 unfolding end_line
 end_line_is log histories =
-    sym (regroup (codes "end commits ") (decimal (length log)) (codes " hits ") (decimal (count_in is_hit histories)) (codes " stores ") (decimal (count_in is_stored histories)) (codes " agains ") (decimal (count_in is_again histories)) (10 ∷ []))
+    sym (regroup (codes "end commits ") (decimal (length log)) (codes " hits ") (decimal (count_in is_hit histories))
+    (codes " stores ") (decimal (count_in is_stored histories)) (codes " agains ") (decimal (count_in is_again histories)) (10 ∷ []))

@@ -1,5 +1,6 @@
 -- The ends of a run.
-use Rattle.std.proofs.Common.{get_or, ℕ, ◌≡◌, ◌+◌, ◌-◌, ◌^◌, ◌<◌, ◌≤◌, List, [], ◌∷◌, ◌++◌, length, map, arith, refl, sym, ap, ◌∙◌, subst, inl, inr, append_assoc, append-nil}
+use Rattle.std.proofs.Common.{get_or, ℕ, ◌≡◌, ◌+◌, ◌-◌, ◌^◌, ◌<◌, ◌≤◌, List, [], ◌∷◌, ◌++◌, length, map, arith, refl, sym, ap, ◌∙◌, subst}
+use Rattle.std.proofs.Common.{inl, inr, append_assoc, append-nil}
 use Rattle.std.specs.Prelude.{Bool, true, false, Option, Some, Result, OnErr, OnOk, Ok, Err, sum_by}
 use Rattle.iq_outside.specs.Outside.{Rose}
 use Rattle.iq_outside.proofs.OutsideLemmas.{Gains-none}
@@ -15,14 +16,16 @@ use Rattle.top_run.specs.declared.plays.Tally.{Tally}
 use Rattle.top_run.specs.declared.runs.Status.{Status}
 use Rattle.top_run.specs.declared.runs.Status.TheVariants as status
 use Rattle.core_history.specs.Determined.{Call}
-use Rattle.top_run.specs.Runs.{calls_of, past_of, faults_in, earlier, Held, Prints, IsRead, Tells, Left, IsOpened, AreTold, IsWhole, IsCutOff, Keeps, Ended, is_read_fault, is_write_fault}
+use Rattle.top_run.specs.Runs.{calls_of, past_of, faults_in, earlier, Held, Prints, IsRead, Tells, Left, IsOpened, AreTold, IsWhole}
+use Rattle.top_run.specs.Runs.{IsCutOff, Keeps, Ended, is_read_fault, is_write_fault}
 use Rattle.top_run.specs.Plays.{CanPlay, Stands, Stops, IsNoted, IsNew, IsFinished, IsStopped, status_of, at_write}
 use Rattle.top_run.proofs.PrintLemmas.{lines_none}
 use Rattle.top_run.proofs.KeepLemmas.{end_line_of, keeps, opened_still, the_text_is, no_turns, some_turns, none_told, rose_since, rose_of, never_fell}
 use Rattle.top_run.proofs.PlayLemmas.{lines_split}
 
 -- a new core stands at the start
-pub stands_new : (core : CoreView) (shape : Shape) (taken : Option (List ℕ)) (tally : Tally) → IsNew core shape → tally ≡ record { written = 0; faulted = false } → Stands core (origin_of shape core) [] taken taken tally
+pub stands_new : (core : CoreView) (shape : Shape) (taken : Option (List ℕ)) (tally : Tally)
+    → IsNew core shape → tally ≡ record { written = 0; faulted = false } → Stands core (origin_of shape core) [] taken taken tally
 stands_new core shape taken tally h none =
     subst (λ (t : Tally). Stands core (origin_of shape core) [] taken taken t) (sym none) (record {
       moves = [];
@@ -32,10 +35,18 @@ stands_new core shape taken tally h none =
       noted = refl;
     })
 
-pub can_start : (core : CoreView) (shape : Shape) (acts : List Act) (taken : Option (List ℕ)) (tally : Tally) → IsPlayable shape acts → IsNew core shape → tally ≡ record { written = 0; faulted = false } → CanPlay core acts taken tally
+pub can_start : (core : CoreView) (shape : Shape) (acts : List Act) (taken : Option (List ℕ)) (tally : Tally)
+    → IsPlayable shape acts → IsNew core shape → tally ≡ record { written = 0; faulted = false } → CanPlay core acts taken tally
 can_start core shape acts taken tally playable h none =
     let few = playable.short in
-    record { origin = origin_of shape core; calls = []; taken_old = taken; stands = stands_new core shape taken tally h none; fit = playable.fit; few = few_turns (sum_by turns_of acts) few }
+    record {
+      origin = origin_of shape core;
+      calls = [];
+      taken_old = taken;
+      stands = stands_new core shape taken tally h none;
+      fit = playable.fit;
+      few = few_turns (sum_by turns_of acts) few;
+    }
   where
     few_turns : (n : ℕ) → n ≤ 1000000 → 0 + n < 2 ^ 32
     few_turns n h = omega arith
@@ -68,7 +79,8 @@ stopped_at_act core origin acts taken_old taken_new tally h =
     }
 
 -- a stop at the last line
-pub stopped_at_end : (core : CoreView) (origin : Origin) (acts : List Act) (taken_old taken_was taken_new : Option (List ℕ)) (was tally : Tally) (front rest : List ℕ)
+pub stopped_at_end : (core : CoreView) (origin : Origin) (acts : List Act)
+    (taken_old taken_was taken_new : Option (List ℕ)) (was tally : Tally) (front rest : List ℕ)
     → (h : Stands core origin ([] ++ calls_of acts) taken_old taken_was was)
     → front ++ rest ≡ end_line core.store.ledger.log (histories_in core)
     → Prints taken_old taken_new (lines_of (past_of origin.shape h.moves) ++ front) tally.written
@@ -82,7 +94,11 @@ stopped_at_end core origin acts taken_old taken_was taken_new was tally front re
       printed = lines_of past ++ front;
       part = record {
         more = rest;
-        first = inr (h.made, append_assoc (lines_of past) front rest ∙ ap (λ (bytes : List ℕ). lines_of past ++ bytes) (parts ∙ end_line_of core origin h.moves h.at.kept));
+        first = inr (
+          h.made,
+          append_assoc (lines_of past) front rest
+              ∙ ap (λ (bytes : List ℕ). lines_of past ++ bytes) (parts ∙ end_line_of core origin h.moves h.at.kept),
+        );
         last = (lines_split past).0 ++ front;
         prompt = ap (λ (bytes : List ℕ). bytes ++ front) (lines_split past).1 ∙ append_assoc (lines_of (earlier past)) (lines_split past).0 front;
       };
@@ -138,17 +154,23 @@ pub record HasBegunRun (held : Held) (core new : CoreView) (shape : Shape) (acts
   pub rows : after.rows ≡ new.store.told
   pub count : after.keeps_failed ≡ new.store.faults
 
-module _ (held : Held) (core new : CoreView) (shape : Shape) (acts : List Act) (before after : Tells) (h : HasBegunRun held core new shape acts before after) where
-  kept_of : (moves : List Move) → HasKept new (origin_of shape core) moves → Keeps shape core.store.ledger.opening moves after.rows new.store.ledger.log (histories_in new)
+module _ (held : Held) (core new : CoreView) (shape : Shape)
+    (acts : List Act) (before after : Tells) (h : HasBegunRun held core new shape acts before after) where
+  kept_of : (moves : List Move) → HasKept new (origin_of shape core) moves
+      → Keeps shape core.store.ledger.opening moves after.rows new.store.ledger.log (histories_in new)
   kept_of moves kept = keeps new (origin_of shape core) moves after.rows kept (h.sound (origin_of shape core) moves kept) h.rows
 
   told_of : (moves : List Move) → HasKept new (origin_of shape core) moves → AreTold shape moves before.keeps_failed after.keeps_failed
   told_of moves kept =
       let P : ℕ → ℕ → Type 0 = λ one two. AreTold shape moves one two in
       subst (λ (n : ℕ). P n after.keeps_failed) (sym h.start) (subst (P core.store.faults) (sym h.count)
-      (record { few = rose_since (faults_in shape moves) core.store.faults core.store.faults new.store.faults (omega arith) kept.store.faults; none = kept.store.quiet }))
+      (record {
+        few = rose_since (faults_in shape moves) core.store.faults core.store.faults new.store.faults (omega arith) kept.store.faults;
+        none = kept.store.quiet;
+      }))
 
-  whole : (tally : Tally) (turns : List ℕ) → (done : IsFinished new (origin_of shape core) acts before.taken after.taken tally) → turns ≡ fault_turns (past_of shape done.moves)
+  whole : (tally : Tally) (turns : List ℕ) → (done : IsFinished new (origin_of shape core) acts before.taken after.taken tally)
+      → turns ≡ fault_turns (past_of shape done.moves)
       → IsWhole held before after (left_by new) tally.written turns
   whole tally turns done are =
       let keeps = kept_of done.moves done.kept in
@@ -185,7 +207,8 @@ module _ (held : Held) (core new : CoreView) (shape : Shape) (acts : List Act) (
     told = told_of stopped.moves stopped.kept;
   }
 
-  done_is : (faulted : Bool) (tally : Tally) → (done : IsFinished new (origin_of shape core) acts before.taken after.taken tally) → IsNoted faulted (faults_in shape done.moves)
+  done_is : (faulted : Bool) (tally : Tally) → (done : IsFinished new (origin_of shape core) acts before.taken after.taken tally)
+      → IsNoted faulted (faults_in shape done.moves)
       → Ended (status_of (Ok tt) faulted) held before after (left_by new) tally.written
   done_is false tally done noted = whole tally [] done (no_turns (past_of shape done.moves) noted)
   done_is true tally done noted =
@@ -242,7 +265,8 @@ done_quiet ended held before after left written h is =
     whole.told.none (none_told (past_of whole.shape whole.moves) whole.turns_are)
 
 -- however a run ended, there is room for its histories
-pub room_at_end : (ended : Result (Unit {0}) Stop) (core : CoreView) (origin : Origin) (acts : List Act) (taken_old taken_new : Option (List ℕ)) (tally : Tally) (room : ℕ)
+pub room_at_end : (ended : Result (Unit {0}) Stop) (core : CoreView)
+    (origin : Origin) (acts : List Act) (taken_old taken_new : Option (List ℕ)) (tally : Tally) (room : ℕ)
     → OnOk ended (IsFinished core origin acts taken_old taken_new tally)
     → OnErr ended (IsStopped core origin acts taken_old taken_new tally)
     → origin.shape.shards ≤ room → length core.shards ≤ room
@@ -272,7 +296,8 @@ write_end (Err stop.WriteFault) faulted = refl
 write_end (Err stop.Memory) faulted = refl
 
 -- a keeper's count doesn't fall in a run
-pub faults_at_end : (ended : Result (Unit {0}) Stop) (core : CoreView) (origin : Origin) (acts : List Act) (taken_old taken_new : Option (List ℕ)) (tally : Tally)
+pub faults_at_end : (ended : Result (Unit {0}) Stop) (core : CoreView)
+    (origin : Origin) (acts : List Act) (taken_old taken_new : Option (List ℕ)) (tally : Tally)
     → OnOk ended (IsFinished core origin acts taken_old taken_new tally)
     → OnErr ended (IsStopped core origin acts taken_old taken_new tally)
     → origin.faults ≤ core.store.faults

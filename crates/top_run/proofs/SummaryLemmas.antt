@@ -21,7 +21,8 @@ use Rattle.top_run.proofs.PrintLemmas.{counted_more}
 five : (t a b c d e n : List ℕ) → ((((((t ++ a) ++ b) ++ c) ++ d) ++ e) ++ n) ≡ t ++ ((a ++ (b ++ (c ++ (d ++ e)))) ++ n)
 five t a b c d e n = simp append_assoc
 
-eight : (t a b c d e f g h n : List ℕ) → ((((((((((t ++ a) ++ b) ++ c) ++ d) ++ e) ++ f) ++ g) ++ h) ++ n)) ≡ t ++ ((a ++ (b ++ (c ++ (d ++ (e ++ (f ++ (g ++ h))))))) ++ n)
+eight : (t a b c d e f g h n : List ℕ)
+    → ((((((((((t ++ a) ++ b) ++ c) ++ d) ++ e) ++ f) ++ g) ++ h) ++ n)) ≡ t ++ ((a ++ (b ++ (c ++ (d ++ (e ++ (f ++ (g ++ h))))))) ++ n)
 eight t a b c d e f g h n = simp append_assoc
 
 two : (t a b n : List ℕ) → (((t ++ a) ++ b) ++ n) ≡ t ++ ((a ++ b) ++ n)
@@ -41,21 +42,33 @@ inner-eight a1 d1 a2 d2 a3 d3 a4 d4 a5 d5 a6 d6 a7 d7 a8 d8 = simp append_assoc
 
 -- the line of a load behind some text
 pub load_line_is : (text : List ℕ) (spec : WorkSpec)
-    → ((((((text ++ (codes "work members " ++ decimal spec.members)) ++ (codes " sessions " ++ decimal spec.sessions)) ++ (codes " workers " ++ decimal spec.workers)) ++ (codes " shards " ++ decimal spec.shards)) ++ (codes " seed " ++ decimal spec.seed)) ++ 10 ∷ [])
+    → ((((((text ++ (codes "work members " ++ decimal spec.members)) ++ (codes " sessions " ++ decimal spec.sessions))
+    ++ (codes " workers " ++ decimal spec.workers)) ++ (codes " shards " ++ decimal spec.shards)) ++ (codes " seed " ++ decimal spec.seed)) ++ 10 ∷ [])
     ≡ text ++ load_line spec
 unfolding load_line
 load_line_is text spec =
-    five text (codes "work members " ++ decimal spec.members) (codes " sessions " ++ decimal spec.sessions) (codes " workers " ++ decimal spec.workers) (codes " shards " ++ decimal spec.shards) (codes " seed " ++ decimal spec.seed) (10 ∷ [])
-    ∙ ap (λ (line : List ℕ). text ++ (line ++ 10 ∷ [])) (inner (codes "work members ") (decimal spec.members) (codes " sessions ") (decimal spec.sessions) (codes " workers ") (decimal spec.workers) (codes " shards ") (decimal spec.shards) (codes " seed ") (decimal spec.seed))
+    five text (codes "work members " ++ decimal spec.members) (codes " sessions " ++ decimal spec.sessions)
+    (codes " workers " ++ decimal spec.workers) (codes " shards " ++ decimal spec.shards) (codes " seed " ++ decimal spec.seed) (10 ∷ [])
+    ∙ ap (λ (line : List ℕ). text ++ (line ++ 10 ∷ [])) (inner (codes "work members ") (decimal spec.members) (codes " sessions ")
+    (decimal spec.sessions) (codes " workers ") (decimal spec.workers) (codes " shards ") (decimal spec.shards) (codes " seed ") (decimal spec.seed))
 
 -- the line of the totals behind some text
 pub totals_line_is : (text : List ℕ) (log : List Commit) (histories : List (List Step)) (bypasses rejected : ℕ)
-    → (((((((((text ++ (codes "hits " ++ decimal (count_in is_hit histories))) ++ (codes " stores " ++ decimal (count_in is_stored histories))) ++ (codes " voids " ++ decimal (count_in is_void histories))) ++ (codes " agains " ++ decimal (count_in is_again histories))) ++ (codes " bypasses " ++ decimal bypasses)) ++ (codes " commits " ++ decimal (length log))) ++ (codes " rejected " ++ decimal rejected)) ++ (codes " refused " ++ decimal (count_in is_refused histories))) ++ 10 ∷ [])
+    → (((((((((text ++ (codes "hits " ++ decimal (count_in is_hit histories))) ++ (codes " stores " ++ decimal (count_in is_stored histories)))
+    ++ (codes " voids " ++ decimal (count_in is_void histories))) ++ (codes " agains " ++ decimal (count_in is_again histories)))
+    ++ (codes " bypasses " ++ decimal bypasses)) ++ (codes " commits " ++ decimal (length log))) ++ (codes " rejected " ++ decimal rejected))
+    ++ (codes " refused " ++ decimal (count_in is_refused histories))) ++ 10 ∷ [])
     ≡ text ++ totals_line log histories bypasses rejected
 unfolding totals_line
 totals_line_is text log histories bypasses rejected =
-    eight text (codes "hits " ++ decimal (count_in is_hit histories)) (codes " stores " ++ decimal (count_in is_stored histories)) (codes " voids " ++ decimal (count_in is_void histories)) (codes " agains " ++ decimal (count_in is_again histories)) (codes " bypasses " ++ decimal bypasses) (codes " commits " ++ decimal (length log)) (codes " rejected " ++ decimal rejected) (codes " refused " ++ decimal (count_in is_refused histories)) (10 ∷ [])
-    ∙ ap (λ (line : List ℕ). text ++ (line ++ 10 ∷ [])) (inner-eight (codes "hits ") (decimal (count_in is_hit histories)) (codes " stores ") (decimal (count_in is_stored histories)) (codes " voids ") (decimal (count_in is_void histories)) (codes " agains ") (decimal (count_in is_again histories)) (codes " bypasses ") (decimal bypasses) (codes " commits ") (decimal (length log)) (codes " rejected ") (decimal rejected) (codes " refused ") (decimal (count_in is_refused histories)))
+    eight text (codes "hits " ++ decimal (count_in is_hit histories)) (codes " stores " ++ decimal (count_in is_stored histories)) (codes " voids "
+    ++ decimal (count_in is_void histories)) (codes " agains " ++ decimal (count_in is_again histories)) (codes " bypasses " ++ decimal bypasses)
+    (codes " commits " ++ decimal (length log)) (codes " rejected "
+    ++ decimal rejected) (codes " refused " ++ decimal (count_in is_refused histories)) (10 ∷ [])
+    ∙ ap (λ (line : List ℕ). text ++ (line ++ 10 ∷ [])) (inner-eight (codes "hits ") (decimal (count_in is_hit histories)) (codes " stores ")
+    (decimal (count_in is_stored histories)) (codes " voids ") (decimal (count_in is_void histories)) (codes " agains ") (decimal (count_in is_again histories))
+    (codes " bypasses ") (decimal bypasses) (codes " commits ") (decimal (length log))
+    (codes " rejected ") (decimal rejected) (codes " refused ") (decimal (count_in is_refused histories)))
 
 -- the line of an audit behind some text
 pub clean_line_is : (text : List ℕ) → ((text ++ codes "audit clean") ++ 10 ∷ []) ≡ text ++ audit_line finding.Clean
@@ -83,7 +96,8 @@ unfolding summary
 summary_is spec log histories bypasses rejected found = append_assoc (load_line spec) (totals_line log histories bypasses rejected) (audit_line found)
 
 -- the history of a shard at a place
-pub history_at : (shards : List ShardView) (i : ℕ) (shard : ShardView) → i < length shards → shard ≡ get_or shards i shard → slice_get (histories_in shards) i ≡ Some shard.history
+pub history_at : (shards : List ShardView) (i : ℕ) (shard : ShardView)
+    → i < length shards → shard ≡ get_or shards i shard → slice_get (histories_in shards) i ≡ Some shard.history
 history_at shards i shard within is =
     slice_get-map (λ (s : ShardView). s.history) shards i
     ∙ ap (option_map (λ (s : ShardView). s.history)) (slice_get_read shards (length shards) i shard refl within is)

@@ -1,6 +1,7 @@
 -- The ends of a load's run.
 use Rattle.std.proofs.Common.{ℕ, ◌≡◌, ◌+◌, ◌-◌, ◌^◌, ◌≤◌, List, [], ◌∷◌, length, arith, refl, sym, ap, ◌∙◌, subst, inl, inr, All}
-use Rattle.std.specs.Prelude.{Bool, true, false, ◌⊎◌, nat_lt, cond, Option, Some, None, Result, Ok, Err, IfOk, IfErr, slice_get, option_map, unwrap_or, is_some, get_or, position}
+use Rattle.std.specs.Prelude.{Bool, true, false, ◌⊎◌, nat_lt, cond, Option, Some, None, Result, Ok, Err, IfOk, IfErr, slice_get, option_map}
+use Rattle.std.specs.Prelude.{unwrap_or, is_some, get_or, position}
 use Rattle.std.specs.List.{position_from}
 use Rattle.std.proofs.lemmas.Iterator.Adapters.{position_from-zero}
 use Rattle.std.specs.Option.{ForSome}
@@ -59,7 +60,8 @@ new_are_legal shards new = λ place default below.
     subst (λ (h : List Step). Legal shard.terms h) (sym is) tt
 
 -- a mapped value is that of a value
-unmapped : (o : Option ShardView) (history : List Step) → option_map (λ (s : ShardView). s.history) o ≡ Some history → (shard : ShardView) × (o ≡ Some shard) × (shard.history ≡ history)
+unmapped : (o : Option ShardView) (history : List Step) → option_map (λ (s : ShardView). s.history) o ≡ Some history
+    → (shard : ShardView) × (o ≡ Some shard) × (shard.history ≡ history)
 unmapped None history is = absurd (false≢true (ap (λ (o : Option (List Step)). is_some o) is))
 unmapped (Some shard) history is = (shard, refl, ap (λ (o : Option (List Step)). unwrap_or o history) is)
 
@@ -76,7 +78,8 @@ legal_of terms spec shards are all legal place history is =
 -- ---- the least shard that is spent
 
 -- a test of histories is one of shards
-spent_from : (i : ℕ) (shards : List ShardView) → position_from (λ (s : ShardView). has_spent s.history) i shards ≡ position_from has_spent i (histories_in shards)
+spent_from : (i : ℕ) (shards : List ShardView)
+    → position_from (λ (s : ShardView). has_spent s.history) i shards ≡ position_from has_spent i (histories_in shards)
 spent_from i [] = refl
 spent_from i (shard ∷ shards) = ap (λ (later : Option ℕ). cond (has_spent shard.history) (Some i) later) (spent_from (i + 1) shards)
 
@@ -118,7 +121,8 @@ kept_of spec held before after store shards terms start rows count starts short 
       (subst (λ (o : Option ℕ). FewFailed o store.ledger.failed store.faults) starts few);
 }
 
-module _ (spec : WorkSpec) (held : Held) (before after : Tells) (left : Left) (written : ℕ) (opening : Tables) (failed : ℕ) (kept : IsKept spec held before after left opening failed) where
+module _ (spec : WorkSpec) (held : Held) (before after : Tells)
+    (left : Left) (written : ℕ) (opening : Tables) (failed : ℕ) (kept : IsKept spec held before after left opening failed) where
   same_status : (b : Bool) (spent : Option ℕ) (found : Finding) → nat_lt 0 failed ≡ b → first_spent left.histories ≡ spent
       → work_status b spent found ≡ work_status (nat_lt 0 failed) (first_spent left.histories) found
   same_status b spent found is first =
@@ -136,9 +140,23 @@ module _ (spec : WorkSpec) (held : Held) (before after : Tells) (left : Left) (w
   summed false None finding.Clean is first told =
       record { opening = opening; failed = failed; kept = kept; found = finding.Clean; told = told; ends = same_status false None finding.Clean is first }
   summed false None (finding.Stale shard place) is first told =
-      record { opening = opening; failed = failed; kept = kept; found = finding.Stale shard place; told = told; ends = same_status false None (finding.Stale shard place) is first }
+      record {
+        opening = opening;
+        failed = failed;
+        kept = kept;
+        found = finding.Stale shard place;
+        told = told;
+        ends = same_status false None (finding.Stale shard place) is first;
+      }
   summed false None (finding.Uncovered commit key) is first told =
-      record { opening = opening; failed = failed; kept = kept; found = finding.Uncovered commit key; told = told; ends = same_status false None (finding.Uncovered commit key) is first }
+      record {
+        opening = opening;
+        failed = failed;
+        kept = kept;
+        found = finding.Uncovered commit key;
+        told = told;
+        ends = same_status false None (finding.Uncovered commit key) is first;
+      }
 
   -- the end of a run that began
   pub work_ended : (told : Result Finding Stop)

@@ -55,7 +55,8 @@ pub record CanPlay (core : CoreView) (acts : List Act) (taken_new : Option (List
   pub fit : AreFit (begun_in calls) acts
   pub few : taken_in calls + sum_by turns_of acts < 2 ^ 32
 
--- The core stopped after moves that do the first of these calls, and the sink took the first bytes of their lines, those of all events but the latest among them.
+-- The core stopped after moves that do the first of these calls, and the sink took
+-- the first bytes of their lines, those of all events but the latest among them.
 pub record Stops (core : CoreView) (origin : Origin) (calls : List Call) (taken_old taken_new : Option (List ℕ)) (tally : Tally) : Type 0 where
   pub moves : List Move
   pub others : List Call

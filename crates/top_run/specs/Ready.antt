@@ -6,7 +6,8 @@ use Rattle.shard_lock.specs.Names.{AreAll, AreLegal}
 use Rattle.run_inputs.specs.declared.loads.WorkSpec.{WorkSpec}
 use Rattle.top_run.specs.declared.works.Ready.{Ready}
 
--- There are plans for each worker, as many shards as the load says, with the terms that are named and legal histories, a ledger with a part for each, and room for their histories.
+-- There are plans for each worker, as many shards as the load says, with the terms that
+-- are named and legal histories, a ledger with a part for each, and room for their histories.
 pub record IsReady (spec : WorkSpec) (terms : ℕ → Terms) (ready : Ready) : Type 0 where
   pub plans : All (λ list. All IsPlan list.items) ready.plans.items
   pub workers : length ready.plans.items ≡ spec.workers

@@ -1,5 +1,6 @@
 -- What a run reads, prints and keeps.
-use Rattle.std.specs.Prelude.{ℕ, ◌≡◌, ◌≢◌, ◌+◌, ◌-◌, ◌^◌, ◌≤◌, ◌⊎◌, Bool, true, false, min, List, [], ◌∷◌, ◌++◌, length, map, reverse, replicate, flat_map, count_by, Option, Some, None, slice_get, codes}
+use Rattle.std.specs.Prelude.{ℕ, ◌≡◌, ◌≢◌, ◌+◌, ◌-◌, ◌^◌, ◌≤◌, ◌⊎◌, Bool, true, false, min, List, [], ◌∷◌, ◌++◌, length, map, reverse}
+use Rattle.std.specs.Prelude.{replicate, flat_map, count_by, Option, Some, None, slice_get, codes}
 use Rattle.std.specs.List.{AllByRecursion}
 use Rattle.std.specs.Option.{ForSome}
 use Rattle.iq_outside.specs.Outside.{Rose, Takes, TakesAtMost, AtEnd, Gains}
@@ -56,7 +57,8 @@ abbrev pub out : Shape → List Move → List ℕ
 out shape moves =
     let past = past_of shape moves in lines_of past ++ end_line (log_of past) (histories_of shape past)
 
--- The text of a script over these opening rows, where these turns are answered FAULT: whatever moves do what it says, with a keeper whose word is true, this is what they print.
+-- The text of a script over these opening rows, where these turns are answered FAULT:
+-- whatever moves do what it says, with a keeper whose word is true, this is what they print.
 abbrev pub IsTheText : Shape → List Act → Tables → List ℕ → List ℕ → Type 0
 IsTheText shape acts opening turns text =
     (moves : List Move) → AreMoves acts moves → IsTruePast opening (past_of shape moves) → fault_turns (past_of shape moves) ≡ turns
@@ -140,12 +142,16 @@ pub record AreTold (shape : Shape) (moves : List Move) (failed_old failed_new : 
   pub few : FewFaults (faults_in shape moves) failed_old failed_new
   pub none : faults_in shape moves ≡ 0 → failed_new ≡ failed_old
 
--- The opening rows are those of the place: where the keeper tells its rows, and the place's rows are told. A fresh place holds as many members as the script says.
+-- The opening rows are those of the place: where the keeper tells its rows, and
+-- the place's rows are told. A fresh place holds as many members as the script says.
 pub record IsOpened (held : Held) (shape : Shape) (opening : Tables) (rows : Option Tables) : Type 0 where
   pub fresh : held.place ≡ Fresh → held.rows shape.members ≡ Some (start_tables shape.members)
   pub opened : ForSome rows (λ _. ForSome (held.rows shape.members) (λ there. opening ≡ there))
 
--- The log and the histories are those after these moves over these opening rows. Each history is legal, each commit was quarantined when it was made and is covered, and each value that was put or shifted has the number of its session's commit. Where the keeper tells its rows, they are the opening rows after the log, its word was true, and each hit is fresh.
+-- The log and the histories are those after these moves over these opening rows. Each history is legal, each commit was
+-- quarantined when it was made and is covered, and each value that was put or
+-- shifted has the number of its session's commit. Where the keeper tells its rows,
+-- they are the opening rows after the log, its word was true, and each hit is fresh.
 pub record Keeps (shape : Shape) (opening : Tables) (moves : List Move) (rows : Option Tables) (log : List Commit) (histories : List (List Step)) : Type 0 where
   pub log_is : log ≡ log_of (past_of shape moves)
   pub histories_are : histories ≡ histories_of shape (past_of shape moves)
@@ -157,7 +163,8 @@ pub record Keeps (shape : Shape) (opening : Tables) (moves : List Move) (rows : 
   pub truth : ForSome rows (λ _. IsTruePast opening (past_of shape moves))
   pub fresh : ForSome rows (λ _. AreFresh opening log histories)
 
--- A script was read, and what it says was done to its end, with these turns answered FAULT: all is printed. Where the keeper tells its rows, it is the one text of the script over the opening rows and these turns.
+-- A script was read, and what it says was done to its end, with these turns answered FAULT: all is printed.
+-- Where the keeper tells its rows, it is the one text of the script over the opening rows and these turns.
 pub record IsWhole (held : Held) (before after : Tells) (left : Left) (written : ℕ) (turns : List ℕ) : Type 0 where
   pub shape : Shape
   pub acts : List Act
@@ -178,14 +185,16 @@ abbrev pub earlier : List Event → List Event
 earlier [] = []
 earlier (event ∷ past) = past
 
--- These bytes are the first of the lines of these events, or where all was done of all that is printed, and the lines of all events but the latest are among them.
+-- These bytes are the first of the lines of these events, or where all was done
+-- of all that is printed, and the lines of all events but the latest are among them.
 pub record IsFirstPart (shape : Shape) (acts : List Act) (moves : List Move) (printed : List ℕ) : Type 0 where
   pub more : List ℕ
   pub first : (printed ++ more ≡ lines_of (past_of shape moves)) ⊎ (AreMoves acts moves × (printed ++ more ≡ out shape moves))
   pub last : List ℕ
   pub prompt : printed ≡ lines_of (earlier (past_of shape moves)) ++ last
 
--- A script was read, and what it says was done up to some point, where the run stopped at once: the first bytes of the lines so far are printed, and of the end line where all was done.
+-- A script was read, and what it says was done up to some point, where the run stopped at
+-- once: the first bytes of the lines so far are printed, and of the end line where all was done.
 pub record IsCutOff (held : Held) (before after : Tells) (left : Left) (written : ℕ) : Type 0 where
   pub shape : Shape
   pub acts : List Act

@@ -1,5 +1,6 @@
 -- What the run of a load prints and keeps.
-use Rattle.std.specs.Prelude.{ℕ, ◌≡◌, ◌≤◌, ◌-◌, ◌^◌, ◌==◌, ◌⊎◌, nat_lt, Bool, true, false, List, [], ◌∷◌, ◌++◌, length, position, count_by, Option, Some, None, Result, Ok, Err, slice_get, codes, decimal}
+use Rattle.std.specs.Prelude.{ℕ, ◌≡◌, ◌≤◌, ◌-◌, ◌^◌, ◌==◌, ◌⊎◌, nat_lt, Bool, true, false, List, [], ◌∷◌, ◌++◌, length, position, count_by}
+use Rattle.std.specs.Prelude.{Option, Some, None, Result, Ok, Err, slice_get, codes, decimal}
 use Rattle.std.specs.Option.{ForSome}
 use Rattle.iq_outside.specs.Outside.{Rose}
 use Rattle.rows_model.specs.Key.{key_text}
@@ -82,7 +83,8 @@ has_spent history = count_by draws history == 2 ^ 64 - 2
 abbrev pub first_spent : List (List Step) → Option ℕ
 first_spent histories = position has_spent histories
 
--- The status of a run whose summary was written: by whether a call of its keeper failed, the least shard that is spent, and what the audit found, in this order.
+-- The status of a run whose summary was written: by whether a call of its keeper
+-- failed, the least shard that is spent, and what the audit found, in this order.
 abbrev pub work_status : Bool → Option ℕ → Finding → Status
 work_status true spent found = status.KeepFault
 work_status false (Some shard) found = status.Spent shard
@@ -103,7 +105,8 @@ at_write_told (Err stop.WriteFault) = true
 at_write_told (Err stop.Memory) = false
 
 -- The name of a hub names what a load is run with: a shard's terms, and the store as it was handed in.
-pub record IsNameOf (spec : WorkSpec) (store : StoreView) (terms : ℕ → Terms) (opening : Tables) (cap : ℕ) (told : Option Tables) (start : Option ℕ) : Type 0 where
+pub record IsNameOf (spec : WorkSpec) (store : StoreView) (terms : ℕ → Terms)
+    (opening : Tables) (cap : ℕ) (told : Option Tables) (start : Option ℕ) : Type 0 where
   pub terms_are : (place : ℕ) → terms place ≡ terms_of (work_shape spec) place
   pub opening_is : store.ledger.opening ≡ opening
   pub cap_is : cap ≡ log_cap
@@ -118,13 +121,15 @@ pub record IsSummary (spec : WorkSpec) (opening : Tables) (log : List Commit) (h
   pub text_is : text ≡ summary spec log histories bypasses rejected found
 
 -- The summary was written.
-pub record IsTold (spec : WorkSpec) (opening : Tables) (log : List Commit) (histories : List (List Step)) (taken_old taken_new : Option (List ℕ)) (written : ℕ) (found : Finding) : Type 0 where
+pub record IsTold (spec : WorkSpec) (opening : Tables) (log : List Commit)
+    (histories : List (List Step)) (taken_old taken_new : Option (List ℕ)) (written : ℕ) (found : Finding) : Type 0 where
   pub text : List ℕ
   pub is_summary : IsSummary spec opening log histories found text
   pub prints : Prints taken_old taken_new text written
 
 -- The first bytes of a summary were written.
-pub record IsCut (spec : WorkSpec) (opening : Tables) (log : List Commit) (histories : List (List Step)) (taken_old taken_new : Option (List ℕ)) (written : ℕ) : Type 0 where
+pub record IsCut (spec : WorkSpec) (opening : Tables) (log : List Commit)
+    (histories : List (List Step)) (taken_old taken_new : Option (List ℕ)) (written : ℕ) : Type 0 where
   pub found : Finding
   pub text : List ℕ
   pub is_summary : IsSummary spec opening log histories found text
@@ -139,7 +144,9 @@ IsHalted spec opening log histories taken_old taken_new written stop.WriteFault 
     IsCut spec opening log histories taken_old taken_new written
 IsHalted spec opening log histories taken_old taken_new written stop.Memory = Prints taken_old taken_new [] written
 
--- What a run that began leaves: the rows that it began with, which are those of the place, a log that isn't too long, and a legal history of each shard. Where the keeper tells its rows, they are the opening rows after the log. So many of the keeper's calls failed, no more than its count of faults rose by, unless that stands at the end of its type.
+-- What a run that began leaves: the rows that it began with, which are those of the place, a log that isn't too long,
+-- and a legal history of each shard. Where the keeper tells its rows, they are the opening rows after the log. So many
+-- of the keeper's calls failed, no more than its count of faults rose by, unless that stands at the end of its type.
 pub record IsKept (spec : WorkSpec) (held : Held) (before after : Tells) (left : Left) (opening : Tables) (failed : ℕ) : Type 0 where
   pub opening_is : left.opening ≡ Some opening
   pub opened : IsOpened held (work_shape spec) opening after.rows
@@ -198,7 +205,8 @@ pub record AreNoCommand (words : List (List ℕ)) : Type 0 where
   pub no_replay : AreReplay words → ⊥
   pub no_work : (spec : WorkSpec) → AreWork words spec → ⊥
 
--- What is so at an end of a command, by its words. The word `replay` alone replays a script, as the call of that name does. The words of a load run it, and read nothing. Other words do nothing.
+-- What is so at an end of a command, by its words. The word `replay` alone replays a script, as
+-- the call of that name does. The words of a load run it, and read nothing. Other words do nothing.
 pub record CommandEnded (words : List (List ℕ)) (ended : Status) (held : Held) (before after : Tells) (left : Left) (written : ℕ) : Type 0 where
   pub replayed : AreReplay words → Ended ended held before after left written
   pub worked : (spec : WorkSpec) → AreWork words spec → IsUnread before after × WorkEnded ended spec held before after left written

@@ -62,7 +62,8 @@ pub record SameOn (evicted : Option QKey) (key : QKey) (old new : List Step) : T
   pub same_lease : recorded key new ≡ recorded key old
   pub same_standing : standing key new ≡ standing key old
 
--- A quarantine stood and stands no longer; the others on its key and the I lease are as before, the key has this entry now, and each other key is as before, but for the entry of the one that made room.
+-- A quarantine stood and stands no longer; the others on its key and the I lease are as before, the
+-- key has this entry now, and each other key is as before, but for the entry of the one that made room.
 pub record EndedWith (found : Option (List ℕ × ℕ)) (evicted : Option QKey) (permit : Permit) (old new : List Step) : Type 0 where
   pub stood : IsSome (quar_of permit.key permit.token old)
   pub ended : quar_of permit.key permit.token new ≡ None
@@ -99,7 +100,8 @@ abbrev pub LeavesNew : Option (List ℕ) → ℕ → Permit → List Step → Li
 LeavesNew (Some value) stamp permit old new rel = LeavesPut value stamp permit old new rel
 LeavesNew None stamp permit old new rel = LeavesNone permit old new rel
 
--- The entry of a permit's key, shifted by the shift of the quarantine of its token, with this stamp: none where no such quarantine stands, where there is no entry, and where its value is no number.
+-- The entry of a permit's key, shifted by the shift of the quarantine of its token, with this stamp:
+-- none where no such quarantine stands, where there is no entry, and where its value is no number.
 abbrev pub shifted_entry : ℕ → Permit → List Step → Option (List ℕ × ℕ)
 shifted_entry stamp permit past =
     option_and_then (λ quar. entry_shifted quar.shift stamp (entry permit.key past)) (quar_of permit.key permit.token past)

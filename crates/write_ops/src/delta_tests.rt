@@ -1,6 +1,7 @@
 ghost use Rattle.std.specs.Prelude.{◌≤◌};
 
 use super::*;
+use crate::tests::alone;
 use key_shard::{Got, Grant, QAnswer, Rel, SetAnswer, Shard, ShardFault};
 use lease_table::Mode;
 use rows_model::{Kind, QKey, Sid, Value};
@@ -60,18 +61,7 @@ fn warm_shard(alloc: Global, rt: &impl Abort, room: u32, value: &[u8]) -> Result
 /// The grant of a quarantine to shift the count that is to be granted.
 fn granted(rt: &impl Abort, shard: &mut Shard, by: i32) -> Grant {
     match iq_delta(shard, KEY, WRITER, by, 0) {
-        Ok(QAnswer::Granted { grant, old: None }) => grant,
-        Ok(
-            QAnswer::Granted {
-                grant,
-                old: Some(_),
-            },
-        ) => {
-            grant.let_go();
-            panic!(rt; "an old value")
-        }
-        Ok(QAnswer::Held) => panic!(rt; "held"),
-        Ok(QAnswer::Refused { holder, mode: _ }) => panic!(rt; "refused by {}", holder.number),
+        Ok(answer) => alone(rt, answer),
         Err(fault) => panic!(rt; "{fault:?}"),
     }
 }

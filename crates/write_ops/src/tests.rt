@@ -25,26 +25,32 @@ fn warm_shard(alloc: Global, rt: &impl Abort) -> Result<Shard, Fail> {
     Ok(shard)
 }
 
+/// The grant of a quarantine that is granted, where no old value comes along.
+pub fn alone(rt: &impl Abort, answer: QAnswer) -> Grant {
+    match answer {
+        QAnswer::Granted { grant, old: None } => grant,
+        QAnswer::Granted {
+            grant,
+            old: Some(_),
+        } => {
+            grant.let_go();
+            panic!(rt; "an old value")
+        }
+        QAnswer::Held => panic!(rt; "held"),
+        QAnswer::Refused { holder, mode: _ } => panic!(rt; "refused by {}", holder.number),
+    }
+}
+
 /// The grant of a quarantine that is to be granted, with this token.
 fn granted(rt: &impl Abort, shard: &mut Shard, token: u64) -> Grant {
     match qa_reg(shard, KEY, WRITER, 0) {
-        Ok(QAnswer::Granted { grant, old: None }) => {
+        Ok(answer) => {
+            let grant = alone(rt, answer);
             assert_eq!(rt; grant.key(), KEY);
             assert_eq!(rt; grant.sid(), WRITER);
             assert_eq!(rt; grant.token(), token);
             grant
         }
-        Ok(
-            QAnswer::Granted {
-                grant,
-                old: Some(_),
-            },
-        ) => {
-            grant.let_go();
-            panic!(rt; "an old value")
-        }
-        Ok(QAnswer::Held) => panic!(rt; "held"),
-        Ok(QAnswer::Refused { holder, mode: _ }) => panic!(rt; "refused by {}", holder.number),
         Err(fault) => panic!(rt; "{fault:?}"),
     }
 }

@@ -4,6 +4,7 @@ use Rattle.callers.proofs.runs.run_twice.Goals as goal
 
 pub returns : goal.returns
 returns g c =
-    two-alike c.texts_tell_scripts.ensures c.runs_are_determined.ensures c.replay-first.result.status c.replay-then.result.status _ _ _ _ _ _ _ _ c.replay-first.result.written c.replay-then.result.written
+    two-alike c.texts_tell_scripts.ensures c.runs_are_determined.ensures
+    c.replay-first.result.status c.replay-then.result.status _ _ _ _ _ _ _ _ c.replay-first.result.written c.replay-then.result.written
     c.replay-first.ensures.ended c.replay-then.ensures.ended refl refl c.replay-first.ensures.started c.replay-then.ensures.started
     c.requires.told c.requires.one_text c.requires.empty c.requires.empty_too

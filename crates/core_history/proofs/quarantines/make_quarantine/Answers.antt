@@ -12,13 +12,15 @@ use Rattle.core_history.proofs.quarantines.make_quarantine.Goals as goal
 pub quarantine_on-requires-clause-home : goal.quarantine_on-requires-clause-home
 quarantine_on-requires-clause-home c =
     let shards = c.args.shards.now.items in
-    let found = slice_get_read shards (length shards) c.home_of-place.result c.index_mut.result.now refl c.home_of-place.ensures.within c.index_mut.ensures.value in
+    let found =
+    slice_get_read shards (length shards) c.home_of-place.result c.index_mut.result.now refl c.home_of-place.ensures.within c.index_mut.ensures.value in
     c.requires.home.at_home c.index_mut.result.now (ap (λ (n : ℕ). slice_get shards n) (sym c.home_of-place.ensures.is) ∙ found)
 
 pub quarantine_on-requires-clause-unspent : goal.quarantine_on-requires-clause-unspent
 quarantine_on-requires-clause-unspent c =
     let shards = c.args.shards.now.items in
-    let found = slice_get_read shards (length shards) c.home_of-place.result c.index_mut.result.now refl c.home_of-place.ensures.within c.index_mut.ensures.value in
+    let found =
+    slice_get_read shards (length shards) c.home_of-place.result c.index_mut.result.now refl c.home_of-place.ensures.within c.index_mut.ensures.value in
     c.requires.home.unspent c.index_mut.result.now (ap (λ (n : ℕ). slice_get shards n) (sym c.home_of-place.ensures.is) ∙ found)
 
 pub returns-in-Ok-clause-makes : goal.returns-in-Ok-clause-makes
@@ -30,10 +32,13 @@ returns-in-Ok-clause-makes c shape world has time =
     let step : ℤ → Step = λ by. quarantine_step old.terms (past_of old) c.args.key c.args.who c.args.mode by c.args.now in
     let P : ℤ → Type 0 = λ by. (c.quarantine_on.new.shard ≡ stepped old (step by)) × ShowsQuarantine old.terms (past_of old) (step by) c.in-Ok.told in
     let h = subst P (to_z-of_z w32 c.args.by c.ranges.by) (c.in-Ok.ensures.step, c.in-Ok.ensures.shows) in
-    quarantine_made shape world c.args.who c.args.key c.args.mode c.args.by c.args.now shards c.home_of-place.result old c.quarantine_on.new.shard c.in-Ok.told c.requires.shift time has is h.0 h.1
+    quarantine_made shape world c.args.who c.args.key c.args.mode
+    c.args.by c.args.now shards c.home_of-place.result old c.quarantine_on.new.shard c.in-Ok.told c.requires.shift time has is h.0 h.1
 
 pub returns-in-Ok-clause-belongs : goal.returns-in-Ok-clause-belongs
 returns-in-Ok-clause-belongs c =
     let old = c.index_mut.result.now in
-    let P : ℤ → Type 0 = λ by. ShowsQuarantine old.terms (past_of old) (quarantine_step old.terms (past_of old) c.args.key c.args.who c.args.mode by c.args.now) c.in-Ok.told in
-    quarantine_belongs old.terms (past_of old) c.args.key c.args.who c.args.mode c.args.by c.args.now c.in-Ok.told (subst P (to_z-of_z w32 c.args.by c.ranges.by) c.in-Ok.ensures.shows)
+    let P : ℤ → Type 0 =
+    λ by. ShowsQuarantine old.terms (past_of old) (quarantine_step old.terms (past_of old) c.args.key c.args.who c.args.mode by c.args.now) c.in-Ok.told in
+    quarantine_belongs old.terms (past_of old) c.args.key c.args.who c.args.mode c.args.by c.args.now c.in-Ok.told
+    (subst P (to_z-of_z w32 c.args.by c.ranges.by) c.in-Ok.ensures.shows)

@@ -10,15 +10,20 @@ pub put_on-requires-clause-out : goal.put_on-requires-clause-out
 put_on-requires-clause-out c =
     let shards = c.args.shards.now.items in
     let grant = c.args.grant in
-    let found = slice_get_read shards (length shards) c.home_of-place.result c.index_mut.result.now refl c.home_of-place.ensures.within c.index_mut.ensures.value in
-    let home : c.home_of-place.result ≡ shard_of grant.key (length shards) = c.home_of-place.ensures.is ∙ ap (λ (k : QKey). shard_of k (length shards)) c.key.ensures in
+    let found =
+    slice_get_read shards (length shards) c.home_of-place.result c.index_mut.result.now refl c.home_of-place.ensures.within c.index_mut.ensures.value in
+    let home : c.home_of-place.result ≡ shard_of grant.key (length shards) =
+    c.home_of-place.ensures.is ∙ ap (λ (k : QKey). shard_of k (length shards)) c.key.ensures in
     c.requires.out c.index_mut.result.now (ap (λ (n : ℕ). slice_get shards n) (sym home) ∙ found)
 
 pub returns-in-Ok-clause-makes : goal.returns-in-Ok-clause-makes
 returns-in-Ok-clause-makes c shape world who has =
     let shards = c.args.shards.now.items in
     let grant = c.args.grant in
-    let found = slice_get_read shards (length shards) c.home_of-place.result c.index_mut.result.now refl c.home_of-place.ensures.within c.index_mut.ensures.value in
-    let home : c.home_of-place.result ≡ shard_of grant.key (length shards) = c.home_of-place.ensures.is ∙ ap (λ (k : QKey). shard_of k (length shards)) c.key.ensures in
+    let found =
+    slice_get_read shards (length shards) c.home_of-place.result c.index_mut.result.now refl c.home_of-place.ensures.within c.index_mut.ensures.value in
+    let home : c.home_of-place.result ≡ shard_of grant.key (length shards) =
+    c.home_of-place.ensures.is ∙ ap (λ (k : QKey). shard_of k (length shards)) c.key.ensures in
     let is = shard_found shape world.past grant.key shards c.home_of-place.result c.index_mut.result.now has home found in
-    sar_made shape world who grant c.args.value c.args.stamp shards c.home_of-place.result c.index_mut.result.now c.put_on.new.shard c.in-Ok.told has is c.in-Ok.ensures.step c.in-Ok.ensures.shows
+    sar_made shape world who grant c.args.value c.args.stamp shards
+    c.home_of-place.result c.index_mut.result.now c.put_on.new.shard c.in-Ok.told has is c.in-Ok.ensures.step c.in-Ok.ensures.shows

@@ -40,28 +40,32 @@ returns-in-Get-clause-makes g c origin world stands time =
     let who = c.args.who in
     let request : Wanted = wanted.Get c.in-Get.key c.in-Get.floor in
     let P : Wanted → Type 0 = λ w. Makes origin world who w c.make_get.new.shards.items c.args.store.now c.make_get.result in
-    subst P (sym c.in-Get.is) (makes_step origin world who request c.make_get.new.shards.items c.args.store.now c.make_get.result tt stands.1 (c.make_get.ensures.makes origin.shape world stands.0 time))
+    subst P (sym c.in-Get.is) (makes_step origin world who request c.make_get.new.shards.items c.args.store.now c.make_get.result tt stands.1
+    (c.make_get.ensures.makes origin.shape world stands.0 time))
 
 pub returns-in-Set-clause-makes : goal.returns-in-Set-clause-makes
 returns-in-Set-clause-makes g c origin world stands time =
     let who = c.args.who in
     let request : Wanted = wanted.Set c.in-Set.key c.in-Set.token c.in-Set.value c.in-Set.stamp in
     let P : Wanted → Type 0 = λ w. Makes origin world who w c.make_set.new.shards.items c.args.store.now c.make_set.result in
-    subst P (sym c.in-Set.is) (makes_step origin world who request c.make_set.new.shards.items c.args.store.now c.make_set.result tt stands.1 (c.make_set.ensures.makes origin.shape world who stands.0 time))
+    subst P (sym c.in-Set.is) (makes_step origin world who request c.make_set.new.shards.items c.args.store.now c.make_set.result tt stands.1
+    (c.make_set.ensures.makes origin.shape world who stands.0 time))
 
 pub returns-in-QaReg-clause-makes : goal.returns-in-QaReg-clause-makes
 returns-in-QaReg-clause-makes g c origin world stands time =
     let who = c.args.who in
     let request : Wanted = wanted.QaReg c.in-QaReg.key in
     let P : Wanted → Type 0 = λ w. Makes origin world who w c.make_quarantine.new.shards.items c.args.store.now c.make_quarantine.result in
-    subst P (sym c.in-QaReg.is) (makes_step origin world who request c.make_quarantine.new.shards.items c.args.store.now c.make_quarantine.result tt stands.1 (c.make_quarantine.ensures.makes origin.shape world stands.0 time))
+    subst P (sym c.in-QaReg.is) (makes_step origin world who request c.make_quarantine.new.shards.items c.args.store.now c.make_quarantine.result tt stands.1
+    (c.make_quarantine.ensures.makes origin.shape world stands.0 time))
 
 pub returns-in-QaRead-clause-makes : goal.returns-in-QaRead-clause-makes
 returns-in-QaRead-clause-makes g c origin world stands time =
     let who = c.args.who in
     let request : Wanted = wanted.QaRead c.in-QaRead.key in
     let P : Wanted → Type 0 = λ w. Makes origin world who w c.make_quarantine-in-QaRead.new.shards.items c.args.store.now c.make_quarantine-in-QaRead.result in
-    subst P (sym c.in-QaRead.is) (makes_step origin world who request c.make_quarantine-in-QaRead.new.shards.items c.args.store.now c.make_quarantine-in-QaRead.result tt stands.1 (c.make_quarantine-in-QaRead.ensures.makes origin.shape world stands.0 time))
+    subst P (sym c.in-QaRead.is) (makes_step origin world who request c.make_quarantine-in-QaRead.new.shards.items
+    c.args.store.now c.make_quarantine-in-QaRead.result tt stands.1 (c.make_quarantine-in-QaRead.ensures.makes origin.shape world stands.0 time))
 
 pub returns-in-Delta-clause-makes : goal.returns-in-Delta-clause-makes
 returns-in-Delta-clause-makes g c origin world stands time =
@@ -80,28 +84,32 @@ returns-in-Dar-clause-makes g c origin world stands time =
     let who = c.args.who in
     let request : Wanted = wanted.Dar c.in-Dar.grant in
     let P : Wanted → Type 0 = λ w. Makes origin world who w c.make_release.new.shards.items c.args.store.now (Ok c.make_release.result) in
-    subst P (sym c.in-Dar.is) (makes_step origin world who request c.make_release.new.shards.items c.args.store.now (Ok c.make_release.result) tt stands.1 (c.make_release.ensures.makes origin.shape world who stands.0))
+    subst P (sym c.in-Dar.is) (makes_step origin world who request c.make_release.new.shards.items c.args.store.now
+    (Ok c.make_release.result) tt stands.1 (c.make_release.ensures.makes origin.shape world who stands.0))
 
 pub returns-in-Sar-clause-makes : goal.returns-in-Sar-clause-makes
 returns-in-Sar-clause-makes g c origin world stands time =
     let who = c.args.who in
     let request : Wanted = wanted.Sar c.in-Sar.grant c.in-Sar.value c.in-Sar.stamp in
     let P : Wanted → Type 0 = λ w. Makes origin world who w c.make_sar.new.shards.items c.args.store.now c.make_sar.result in
-    subst P (sym c.in-Sar.is) (makes_step origin world who request c.make_sar.new.shards.items c.args.store.now c.make_sar.result tt stands.1 (c.make_sar.ensures.makes origin.shape world who stands.0))
+    subst P (sym c.in-Sar.is) (makes_step origin world who request c.make_sar.new.shards.items c.args.store.now c.make_sar.result tt stands.1
+    (c.make_sar.ensures.makes origin.shape world who stands.0))
 
 pub returns-in-Apply-clause-makes : goal.returns-in-Apply-clause-makes
 returns-in-Apply-clause-makes g c origin world stands time =
     let who = c.args.who in
     let request : Wanted = wanted.Apply c.in-Apply.grant c.in-Apply.stamp in
     let P : Wanted → Type 0 = λ w. Makes origin world who w c.make_release-in-Apply.new.shards.items c.args.store.now (Ok c.make_release-in-Apply.result) in
-    subst P (sym c.in-Apply.is) (makes_step origin world who request c.make_release-in-Apply.new.shards.items c.args.store.now (Ok c.make_release-in-Apply.result) tt stands.1 (c.make_release-in-Apply.ensures.makes origin.shape world who stands.0))
+    subst P (sym c.in-Apply.is) (makes_step origin world who request c.make_release-in-Apply.new.shards.items c.args.store.now
+    (Ok c.make_release-in-Apply.result) tt stands.1 (c.make_release-in-Apply.ensures.makes origin.shape world who stands.0))
 
 pub returns-in-Abort-clause-makes : goal.returns-in-Abort-clause-makes
 returns-in-Abort-clause-makes g c origin world stands time =
     let who = c.args.who in
     let request : Wanted = wanted.Abort c.in-Abort.grant in
     let P : Wanted → Type 0 = λ w. Makes origin world who w c.make_release-in-Abort.new.shards.items c.args.store.now (Ok c.make_release-in-Abort.result) in
-    subst P (sym c.in-Abort.is) (makes_step origin world who request c.make_release-in-Abort.new.shards.items c.args.store.now (Ok c.make_release-in-Abort.result) tt stands.1 (c.make_release-in-Abort.ensures.makes origin.shape world who stands.0))
+    subst P (sym c.in-Abort.is) (makes_step origin world who request c.make_release-in-Abort.new.shards.items c.args.store.now
+    (Ok c.make_release-in-Abort.result) tt stands.1 (c.make_release-in-Abort.ensures.makes origin.shape world who stands.0))
 
 pub returns-in-Ask-clause-makes : goal.returns-in-Ask-clause-makes
 returns-in-Ask-clause-makes g c origin world stands time =
@@ -109,7 +117,8 @@ returns-in-Ask-clause-makes g c origin world stands time =
     let shards = c.args.shards.now.items in
     let request : Wanted = wanted.Ask c.in-Ask.key in
     let P : Wanted → Type 0 = λ w. Makes origin world who w shards c.make_ask.new.store c.make_ask.result in
-    subst P (sym c.in-Ask.is) (makes_call origin world who request shards c.make_ask.new.store c.make_ask.result tt stands.0 (c.make_ask.ensures.makes origin world who stands.1))
+    subst P (sym c.in-Ask.is)
+    (makes_call origin world who request shards c.make_ask.new.store c.make_ask.result tt stands.0 (c.make_ask.ensures.makes origin world who stands.1))
 
 pub returns-in-Staged-clause-makes : goal.returns-in-Staged-clause-makes
 returns-in-Staged-clause-makes g c origin world stands time =
@@ -117,7 +126,8 @@ returns-in-Staged-clause-makes g c origin world stands time =
     let shards = c.args.shards.now.items in
     let request : Wanted = wanted.Staged c.in-Staged.key c.in-Staged.txn in
     let P : Wanted → Type 0 = λ w. Makes origin world who w shards c.make_staged.new.store c.make_staged.result in
-    subst P (sym c.in-Staged.is) (makes_call origin world who request shards c.make_staged.new.store c.make_staged.result tt stands.0 (c.make_staged.ensures.makes origin world who stands.1))
+    subst P (sym c.in-Staged.is) (makes_call origin world who request shards c.make_staged.new.store c.make_staged.result tt stands.0
+    (c.make_staged.ensures.makes origin world who stands.1))
 
 pub returns-in-Commit-clause-makes : goal.returns-in-Commit-clause-makes
 returns-in-Commit-clause-makes g c origin world stands time =
@@ -125,7 +135,8 @@ returns-in-Commit-clause-makes g c origin world stands time =
     let shards = c.args.shards.now.items in
     let request : Wanted = wanted.Commit c.in-Commit.txn c.in-Commit.grants in
     let P : Wanted → Type 0 = λ w. Makes origin world who w shards c.make_commit.new.store c.make_commit.result in
-    subst P (sym c.in-Commit.is) (makes_call origin world who request shards c.make_commit.new.store c.make_commit.result tt stands.0 (c.make_commit.ensures.makes origin world stands.1))
+    subst P (sym c.in-Commit.is)
+    (makes_call origin world who request shards c.make_commit.new.store c.make_commit.result tt stands.0 (c.make_commit.ensures.makes origin world stands.1))
 
 pub returns-in-End-clause-makes : goal.returns-in-End-clause-makes
 returns-in-End-clause-makes g c origin world stands time =
@@ -133,7 +144,8 @@ returns-in-End-clause-makes g c origin world stands time =
     let shards = c.args.shards.now.items in
     let request : Wanted = wanted.End in
     let P : Wanted → Type 0 = λ w. Makes origin world who w shards c.make_end.new.store (Ok c.make_end.result) in
-    subst P (sym c.in-End.is) (makes_call origin world who request shards c.make_end.new.store (Ok c.make_end.result) tt stands.0 (c.make_end.ensures.makes origin world stands.1))
+    subst P (sym c.in-End.is)
+    (makes_call origin world who request shards c.make_end.new.store (Ok c.make_end.result) tt stands.0 (c.make_end.ensures.makes origin world stands.1))
 
 pub returns-in-Ask-clause-belongs : goal.returns-in-Ask-clause-belongs
 returns-in-Ask-clause-belongs g c =

@@ -22,4 +22,5 @@ returns-clause-makes g c origin world stands =
       counts = h.counts;
       never_falls = h.never_falls;
     } in
-    commit_makes old new origin world c.args.who c.args.txn c.args.grants items c.commit-made.result c.told_of_commit.result stands c.requires c.items.ensures (subst P c.in-Ok.ensures says) c.told_of_commit.ensures
+    commit_makes old new origin world c.args.who c.args.txn c.args.grants items c.commit-made.result c.told_of_commit.result stands c.requires c.items.ensures
+    (subst P c.in-Ok.ensures says) c.told_of_commit.ensures

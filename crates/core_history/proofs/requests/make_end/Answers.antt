@@ -22,7 +22,8 @@ returns-clause-makes g c origin world stands =
       Failed,
       ap reply.End (c.end.ensures.was ∙ stands.1.opens who c.requires),
       (
-        store_ended c.args.store.now c.end.new.self origin world.past who event stands.0 c.end.ensures.ledger c.end.ensures.keeper.0 c.end.ensures.keeper.1 refl refl (λ rows. tt),
+        store_ended c.args.store.now c.end.new.self origin world.past
+            who event stands.0 c.end.ensures.ledger c.end.ensures.keeper.0 c.end.ensures.keeper.1 refl refl (λ rows. tt),
         subst P (sym sessions) (phases_ended c.args.store.now.ledger.sessions world who stands.1 c.requires),
       ),
     )

@@ -17,4 +17,5 @@ returns-clause-sweeps c shape world has =
     let found =
     slice_get_read shards (length shards) c.home_of-place.result c.index_mut.result.now refl c.home_of-place.ensures.within c.index_mut.ensures.value in
     let is = shard_found shape world.past c.args.key shards c.home_of-place.result c.index_mut.result.now has c.home_of-place.ensures.is found in
-    drop_told_is shape world c.args.key c.args.token shards c.home_of-place.result c.index_mut.result.now c.sweep_drop.new.self c.sweep_drop.result has is c.sweep_drop.ensures.step c.sweep_drop.ensures.told
+    drop_told_is shape world c.args.key c.args.token shards c.home_of-place.result
+    c.index_mut.result.now c.sweep_drop.new.self c.sweep_drop.result has is c.sweep_drop.ensures.step c.sweep_drop.ensures.told

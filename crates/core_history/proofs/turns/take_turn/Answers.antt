@@ -30,8 +30,10 @@ returns-in-Ok-told-clause-takes g c origin world heard stands time so_far =
     let request = c.wants-request.result in
     let P : Wanted → Type 0 = λ w. TakesTurn origin world who w heard c.make.new.shards.items c.make.new.store c.told.new.self c.told_of.result in
     subst P (c.wants-request.ensures.wanted false heard so_far)
-    (turn_told origin world who request c.of-asked.result heard c.make.new.shards.items c.make.new.store c.told.new.self c.in-Ok.reply c.line_of-line.result c.tells_fault-fault.result c.told_of.result
-    c.of-asked.ensures c.line_of-line.ensures c.tells_fault-fault.ensures c.told_of.ensures.ok (c.in-Ok.ensures.makes origin world stands time) (c.in-Ok-told.ensures.follows false heard (c.wants-request.ensures.follows false heard so_far)))
+    (turn_told origin world who request c.of-asked.result heard c.make.new.shards.items
+    c.make.new.store c.told.new.self c.in-Ok.reply c.line_of-line.result c.tells_fault-fault.result c.told_of.result
+    c.of-asked.ensures c.line_of-line.ensures c.tells_fault-fault.ensures c.told_of.ensures.ok
+    (c.in-Ok.ensures.makes origin world stands time) (c.in-Ok-told.ensures.follows false heard (c.wants-request.ensures.follows false heard so_far)))
 
 pub returns-in-Err-told-clause-takes : goal.returns-in-Err-told-clause-takes
 returns-in-Err-told-clause-takes g c origin world heard stands time so_far =

@@ -3,4 +3,5 @@ use Rattle.gate_workers.proofs.sessions.drive.Given as goal
 
 abbrev pub invariant-loop : goal.invariant-loop
 invariant-loop g l =
-    HasDriven l.initial.session l.session (g.D.Desk.record_of l.initial.desk) (g.D.Desk.record_of l.desk) l.initial.notes l.notes × (goal.iterator-loop g).can_next l.iterator' × (goal.iterator-loop g).is_finite l.iterator'
+    HasDriven l.initial.session l.session (g.D.Desk.record_of l.initial.desk) (g.D.Desk.record_of l.desk) l.initial.notes l.notes
+    × (goal.iterator-loop g).can_next l.iterator' × (goal.iterator-loop g).is_finite l.iterator'

@@ -19,18 +19,31 @@ returns-in_default-clause-stop g c =
 pub returns-then-eq-clause-stop : goal.returns-then-eq-clause-stop
 returns-then-eq-clause-stop g c =
     let before = g.D.Desk.record_of c.args.desk.now in
-    let ended : HasEnded c.in_ok-sid.sid c.args.plan.now c.drive-outcome.result before (g.D.Desk.record_of c.drive-outcome.new.desk) c.drive-outcome.new.notes = runs_to_end c.in_ok-sid.sid c.args.plan.now c.in_ok-copy.copy c.writes.result c.in-Ok.session before (g.D.Desk.record_of c.begin.new.self) (g.D.Desk.record_of c.drive-outcome.new.desk) c.new-notes.result c.drive-outcome.new.notes c.drive-outcome.result c.in-Ok.ensures.plan c.in_ok-copy.ensures c.in-Ok.ensures.sid c.in-Ok.ensures.follows c.in_ok-sid.ensures.recorded c.writes.ensures c.new-notes.ensures c.drive-outcome.ensures in
-    stops_after c.in_ok-sid.sid c.args.plan.now c.drive-outcome.result before (g.D.Desk.record_of c.drive-outcome.new.desk) (g.D.Desk.record_of c.tend.new.self) c.drive-outcome.new.notes ended c.tend.ensures.recorded
+    let ended : HasEnded c.in_ok-sid.sid c.args.plan.now c.drive-outcome.result before (g.D.Desk.record_of c.drive-outcome.new.desk) c.drive-outcome.new.notes =
+    runs_to_end c.in_ok-sid.sid c.args.plan.now c.in_ok-copy.copy c.writes.result c.in-Ok.session before (g.D.Desk.record_of c.begin.new.self)
+    (g.D.Desk.record_of c.drive-outcome.new.desk) c.new-notes.result c.drive-outcome.new.notes c.drive-outcome.result c.in-Ok.ensures.plan c.in_ok-copy.ensures
+    c.in-Ok.ensures.sid c.in-Ok.ensures.follows c.in_ok-sid.ensures.recorded c.writes.ensures c.new-notes.ensures c.drive-outcome.ensures in
+    stops_after c.in_ok-sid.sid c.args.plan.now c.drive-outcome.result before
+    (g.D.Desk.record_of c.drive-outcome.new.desk) (g.D.Desk.record_of c.tend.new.self) c.drive-outcome.new.notes ended c.tend.ensures.recorded
 
 pub returns-in_err-kept-clause-stop : goal.returns-in_err-kept-clause-stop
 returns-in_err-kept-clause-stop g c =
     let before = g.D.Desk.record_of c.args.desk.now in
-    let ended : HasEnded c.in_ok-sid.sid c.args.plan.now c.drive-outcome.result before (g.D.Desk.record_of c.drive-outcome.new.desk) c.drive-outcome.new.notes = runs_to_end c.in_ok-sid.sid c.args.plan.now c.in_ok-copy.copy c.writes.result c.in-Ok.session before (g.D.Desk.record_of c.begin.new.self) (g.D.Desk.record_of c.drive-outcome.new.desk) c.new-notes.result c.drive-outcome.new.notes c.drive-outcome.result c.in-Ok.ensures.plan c.in_ok-copy.ensures c.in-Ok.ensures.sid c.in-Ok.ensures.follows c.in_ok-sid.ensures.recorded c.writes.ensures c.new-notes.ensures c.drive-outcome.ensures in
-    MatchResult-from_err c.from_residual-in_err-kept.result (λ _. Unit {0}) (λ _. AddsStop c.args.plan.now before (g.D.Desk.record_of c.tend.new.self)) c.from_residual-in_err-kept.ensures.0 (λ _. stops_after c.in_ok-sid.sid c.args.plan.now c.drive-outcome.result before (g.D.Desk.record_of c.drive-outcome.new.desk) (g.D.Desk.record_of c.tend.new.self) c.drive-outcome.new.notes ended c.tend.ensures.recorded)
+    let ended : HasEnded c.in_ok-sid.sid c.args.plan.now c.drive-outcome.result before (g.D.Desk.record_of c.drive-outcome.new.desk) c.drive-outcome.new.notes =
+    runs_to_end c.in_ok-sid.sid c.args.plan.now c.in_ok-copy.copy c.writes.result c.in-Ok.session before (g.D.Desk.record_of c.begin.new.self)
+    (g.D.Desk.record_of c.drive-outcome.new.desk) c.new-notes.result c.drive-outcome.new.notes c.drive-outcome.result c.in-Ok.ensures.plan c.in_ok-copy.ensures
+    c.in-Ok.ensures.sid c.in-Ok.ensures.follows c.in_ok-sid.ensures.recorded c.writes.ensures c.new-notes.ensures c.drive-outcome.ensures in
+    MatchResult-from_err c.from_residual-in_err-kept.result (λ _. Unit {0}) (λ _. AddsStop c.args.plan.now before (g.D.Desk.record_of c.tend.new.self))
+    c.from_residual-in_err-kept.ensures.0 (λ _. stops_after c.in_ok-sid.sid c.args.plan.now c.drive-outcome.result before
+    (g.D.Desk.record_of c.drive-outcome.new.desk) (g.D.Desk.record_of c.tend.new.self) c.drive-outcome.new.notes ended c.tend.ensures.recorded)
 
 pub returns-clause-row : goal.returns-clause-row
 returns-clause-row g c =
     let before = g.D.Desk.record_of c.args.desk.now in
-    let ended : HasEnded c.in_ok-sid.sid c.args.plan.now c.drive-outcome.result before (g.D.Desk.record_of c.drive-outcome.new.desk) c.drive-outcome.new.notes = runs_to_end c.in_ok-sid.sid c.args.plan.now c.in_ok-copy.copy c.writes.result c.in-Ok.session before (g.D.Desk.record_of c.begin.new.self) (g.D.Desk.record_of c.drive-outcome.new.desk) c.new-notes.result c.drive-outcome.new.notes c.drive-outcome.result c.in-Ok.ensures.plan c.in_ok-copy.ensures c.in-Ok.ensures.sid c.in-Ok.ensures.follows c.in_ok-sid.ensures.recorded c.writes.ensures c.new-notes.ensures c.drive-outcome.ensures in
+    let ended : HasEnded c.in_ok-sid.sid c.args.plan.now c.drive-outcome.result before (g.D.Desk.record_of c.drive-outcome.new.desk) c.drive-outcome.new.notes =
+    runs_to_end c.in_ok-sid.sid c.args.plan.now c.in_ok-copy.copy c.writes.result c.in-Ok.session before (g.D.Desk.record_of c.begin.new.self)
+    (g.D.Desk.record_of c.drive-outcome.new.desk) c.new-notes.result c.drive-outcome.new.notes c.drive-outcome.result c.in-Ok.ensures.plan c.in_ok-copy.ensures
+    c.in-Ok.ensures.sid c.in-Ok.ensures.follows c.in_ok-sid.ensures.recorded c.writes.ensures c.new-notes.ensures c.drive-outcome.ensures in
     let had : c.drive-outcome.result ≢ short_of_memory = search rules in
-    row_from c.in_ok-sid.sid c.args.plan.now c.drive-outcome.result c.in_ok-kept.field-0.items before (g.D.Desk.record_of c.drive-outcome.new.desk) (g.D.Desk.record_of c.tend.new.self) c.drive-outcome.new.notes c.new-2.result ended had c.in_ok-kept.ensures c.tend.ensures.recorded c.new-2.ensures
+    row_from c.in_ok-sid.sid c.args.plan.now c.drive-outcome.result c.in_ok-kept.field-0.items before (g.D.Desk.record_of c.drive-outcome.new.desk)
+    (g.D.Desk.record_of c.tend.new.self) c.drive-outcome.new.notes c.new-2.result ended had c.in_ok-kept.ensures c.tend.ensures.recorded c.new-2.ensures

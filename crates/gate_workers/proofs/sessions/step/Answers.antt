@@ -10,14 +10,16 @@ use Rattle.gate_workers.proofs.sessions.step.Goals as goal
 pub told-requires : goal.told-requires
 told-requires g c =
     let f = c.requires.going in
-    (c.wants-wanted.ensures.awaits f.0 f.1 c.call-reply.result f.2).1 (subst (λ (who : Sid). Belongs who c.wants-wanted.result c.call-reply.result) c.sid-sid.ensures c.call-reply.ensures.belongs)
+    (c.wants-wanted.ensures.awaits f.0 f.1 c.call-reply.result f.2).1
+    (subst (λ (who : Sid). Belongs who c.wants-wanted.result c.call-reply.result) c.sid-sid.ensures c.call-reply.ensures.belongs)
 
 pub returns-clause-goes_on : goal.returns-clause-goes_on
 returns-clause-goes_on g c =
     λ who plan before u.
     let noted : Mark = record { asked = c.of-asked.result; told = c.of.result } in
     let same : noted ≡ mark_of c.wants-wanted.result c.call-reply.result = cc in
-    goes_on who plan c.args.session.now c.wants-wanted.new.self c.told.new.self before (g.D.Desk.record_of c.args.desk.now) (g.D.Desk.record_of c.call-reply.new.self) c.args.notes.now c.note.new.self c.wants-wanted.result c.call-reply.result c.told.result
+    goes_on who plan c.args.session.now c.wants-wanted.new.self c.told.new.self before (g.D.Desk.record_of c.args.desk.now)
+    (g.D.Desk.record_of c.call-reply.new.self) c.args.notes.now c.note.new.self c.wants-wanted.result c.call-reply.result c.told.result
     (record {
       plan_then = c.wants-wanted.ensures.plan;
       sid_then = c.wants-wanted.ensures.sid;

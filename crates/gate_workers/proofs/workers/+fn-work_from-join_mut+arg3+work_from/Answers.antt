@@ -14,12 +14,16 @@ returns g t c =
     let back' = c.back-1.given.0 in
     let some = c.join_mut-first.result.0 in
     let others = c.join_mut-first.result.1 in
-    let s : IfOk some (λ rows. AllWork (map (λ (list : Vec Plan Global). list.items) first) (map g.D.Desk.record_of front) (map g.D.Desk.record_of front') rows.items) = search rules in
-    let o : IfOk others (λ rows. AllWork (map (λ (list : Vec Plan Global). list.items) rest) (map g.D.Desk.record_of back) (map g.D.Desk.record_of back') rows.items) = search rules in
+    let s : IfOk some (λ rows. AllWork (map (λ (list : Vec Plan Global). list.items) first)
+    (map g.D.Desk.record_of front) (map g.D.Desk.record_of front') rows.items) = search rules in
+    let o : IfOk others (λ rows. AllWork (map (λ (list : Vec Plan Global). list.items) rest)
+    (map g.D.Desk.record_of back) (map g.D.Desk.record_of back') rows.items) = search rules in
     let j : IfOk c.joined.result (λ all. AreJoined all.items some others) = search rules in
     let s' : AllWorked (map (λ (list : Vec Plan Global). list.items) first) (map g.D.Desk.record_of front) (map g.D.Desk.record_of front') = search rules in
     let o' : AllWorked (map (λ (list : Vec Plan Global). list.items) rest) (map g.D.Desk.record_of back) (map g.D.Desk.record_of back') = search rules in
     record {
-      work = both_worked g.D.Desk.record_of c.args.left.now first rest c.args.desks.now front back (front' ++ back') front' back' some others c.joined.result c.split_at.ensures.by_index.0 c.split_at_mut-front.ensures.value refl j s o;
-      worked = both_ended g.D.Desk.record_of c.args.left.now first rest c.args.desks.now front back (front' ++ back') front' back' c.split_at.ensures.by_index.0 c.split_at_mut-front.ensures.value refl s' o';
+      work = both_worked g.D.Desk.record_of c.args.left.now first rest c.args.desks.now front back
+          (front' ++ back') front' back' some others c.joined.result c.split_at.ensures.by_index.0 c.split_at_mut-front.ensures.value refl j s o;
+      worked = both_ended g.D.Desk.record_of c.args.left.now first rest c.args.desks.now front back
+          (front' ++ back') front' back' c.split_at.ensures.by_index.0 c.split_at_mut-front.ensures.value refl s' o';
     }

@@ -15,5 +15,8 @@ returns-in-Some-find-clause-memory c =
     c.in-Some.ensures.found c.lease_verbs.ensures c.in-Some-find.ensures.found c.with_verb.ensures.memory
 
 pub returns-in-None-clause-told : goal.returns-in-None-clause-told
-returns-in-None-clause-told c =
-    (unknown_line (words_in c.args.line.now) (words_in c.in-Some.args.now) c.in-Some.word.now c.lease_verbs.result c.in-Some.ensures.found c.lease_verbs.ensures c.in-None.ensures.none, refl)
+returns-in-None-clause-told c = (
+  unknown_line (words_in c.args.line.now) (words_in c.in-Some.args.now)
+      c.in-Some.word.now c.lease_verbs.result c.in-Some.ensures.found c.lease_verbs.ensures c.in-None.ensures.none,
+  refl,
+)

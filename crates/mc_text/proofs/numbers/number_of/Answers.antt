@@ -7,13 +7,15 @@ use Rattle.mc_text.proofs.numbers.number_of.Goals as goal
 pub returns-in_err-checked_mul-clause-none : goal.returns-in_err-checked_mul-clause-none
 returns-in_err-checked_mul-clause-none c =
     let more = number_more c.args.word.now c.loop-byte.byte-index c.loop-byte-test.true in
-    rw c.from_residual.ensures (λ number h. too_great c.args.word.now (c.loop-byte.byte-index + 1) (2 ^ 64) number (omega (arith, more, c.loop-byte.invariant.value, c.in_err-checked_mul.ensures)) h)
+    rw c.from_residual.ensures (λ number h. too_great c.args.word.now
+    (c.loop-byte.byte-index + 1) (2 ^ 64) number (omega (arith, more, c.loop-byte.invariant.value, c.in_err-checked_mul.ensures)) h)
 
 pub returns-in_err-number-clause-none : goal.returns-in_err-number-clause-none
 returns-in_err-number-clause-none c =
     let more = number_more c.args.word.now c.loop-byte.byte-index c.loop-byte-test.true in
     let low : 48 ≤ get_or c.args.word.now c.loop-byte.byte-index 0 = grind (arith, nat_tests) in
-    rw c.from_residual-in_err-number.ensures (λ number h. too_great c.args.word.now (c.loop-byte.byte-index + 1) (2 ^ 64) number (omega (arith, more, low, c.loop-byte.invariant.value, c.in_ok-checked_mul.ensures, c.in_err-number.ensures)) h)
+    rw c.from_residual-in_err-number.ensures (λ number h. too_great c.args.word.now (c.loop-byte.byte-index + 1)
+    (2 ^ 64) number (omega (arith, more, low, c.loop-byte.invariant.value, c.in_ok-checked_mul.ensures, c.in_err-number.ensures)) h)
 
 pub loop-byte-preserved : goal.loop-byte-preserved
 loop-byte-preserved c =

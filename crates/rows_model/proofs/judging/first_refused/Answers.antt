@@ -13,11 +13,15 @@ returns-then-not-applies_after-clause-first c =
     let mid = c.loop-index.invariant.0 in
     let e = c.loop-index.invariant.1 in
     let refused : c.applies_after.result ≡ false = search rules in
-    first_fails c.args.changes.now c.loop-index.index c.index-changes-index.result c.args.rows.now mid c.loop-index-test.true e (ap (λ (change : Change). applies change mid) (sym c.index-changes-index.is) ∙ (sym (c.applies_after.ensures mid e) ∙ refused))
+    first_fails c.args.changes.now c.loop-index.index c.index-changes-index.result c.args.rows.now mid c.loop-index-test.true e
+    (ap (λ (change : Change). applies change mid) (sym c.index-changes-index.is) ∙ (sym (c.applies_after.ensures mid e) ∙ refused))
 
 pub loop-index-preserved : goal.loop-index-preserved
 loop-index-preserved c =
     let mid = c.loop-index.invariant.0 in
     let e = c.loop-index.invariant.1 in
-    let takes : c.applies_after.result ≡ true = search rules in
-    (_, one_more_applies c.args.changes.now c.loop-index.index c.index-changes-index.result c.args.rows.now mid c.loop-index-test.true e (ap (λ (change : Change). applies change mid) (sym c.index-changes-index.is) ∙ (sym (c.applies_after.ensures mid e) ∙ takes)))
+    let takes : c.applies_after.result ≡ true = search rules in (
+      _,
+      one_more_applies c.args.changes.now c.loop-index.index c.index-changes-index.result c.args.rows.now mid c.loop-index-test.true e
+          (ap (λ (change : Change). applies change mid) (sym c.index-changes-index.is) ∙ (sym (c.applies_after.ensures mid e) ∙ takes)),
+    )

@@ -17,7 +17,11 @@ make_all-requires t c =
         members_ascend_after change c.args.members.now c.make.new.members c.make.ensures.members c.requires.members_ascend,
         (
           ascend_after (IsMade change) (λ x y h. h.id) c.args.near.now c.make.new.near c.make.ensures.near c.requires.ascend,
-          (two, zip_all (IsMade change) (HasRoomFor c.args.changes.now (length c.args.changes.now)) (HasRoomFor rest (length rest)) (rest_of_room change rest c.args.changes.now parts) c.args.near.now c.make.new.near c.make.ensures.near c.requires.room),
+          (
+            two,
+            zip_all (IsMade change) (HasRoomFor c.args.changes.now (length c.args.changes.now)) (HasRoomFor rest (length rest))
+                (rest_of_room change rest c.args.changes.now parts) c.args.near.now c.make.new.near c.make.ensures.near c.requires.room,
+          ),
         ),
       ),
     )
@@ -27,7 +31,8 @@ returns-in-Some-clause-near t c =
     let parts : c.args.changes.now ≡ c.in-Some.change.now ∷ c.in-Some.rest.now = search rules in
     let change = c.in-Some.change.now in
     let rest = c.in-Some.rest.now in
-    zip_chain (IsMade change) (IsMadeAll rest) (IsMadeAll c.args.changes.now) (made_all_on change rest c.args.changes.now parts) c.args.near.now c.make.new.near c.make_all.new.near c.make.ensures.near c.make_all.ensures.near
+    zip_chain (IsMade change) (IsMadeAll rest) (IsMadeAll c.args.changes.now)
+    (made_all_on change rest c.args.changes.now parts) c.args.near.now c.make.new.near c.make_all.new.near c.make.ensures.near c.make_all.ensures.near
 
 pub returns-in_default-clause-near : goal.returns-in_default-clause-near
 returns-in_default-clause-near t c =

@@ -18,4 +18,5 @@ pub returns-clause-room : goal.returns-clause-room
 returns-clause-room t c =
     let parts : c.args.changes.now ≡ c.in-Some.change.now ∷ c.in-Some.rest.now = search rules in
     on_ok c.make_room.result (λ (room : All (HasRoomFor c.in-Some.rest.now c.args.more) c.make_room.new.near).
-    room_for_all c.in-Some.change.now c.in-Some.rest.now c.args.changes.now c.args.more c.make_room_of.new.near c.make_room.new.near parts c.make_room.ensures.grown c.in_ok-make_room_of.ensures.room room) c.make_room.ensures.room
+    room_for_all c.in-Some.change.now c.in-Some.rest.now c.args.changes.now
+    c.args.more c.make_room_of.new.near c.make_room.new.near parts c.make_room.ensures.grown c.in_ok-make_room_of.ensures.room room) c.make_room.ensures.room

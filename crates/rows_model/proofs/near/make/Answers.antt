@@ -20,4 +20,5 @@ returns-in-Invite-clause-near c =
       | in-Invite-3 w ↦ λ id. rw (w.a-is, w.b-is) (named_both _ _ _ w.in-Invite.is id)
       | in-Invite-4 w ↦ λ id. rw (w.a-is, w.b-is) (named_both _ _ _ w.in-Invite.is id)
     ] in
-    zip_map (IsMadeAtBoth a b c.args.change.now) (IsMade c.args.change.now) (made_of_both a b c.args.change.now named) c.args.near.now c.make_at_both.new.near c.make_at_both.ensures
+    zip_map (IsMadeAtBoth a b c.args.change.now) (IsMade c.args.change.now)
+    (made_of_both a b c.args.change.now named) c.args.near.now c.make_at_both.new.near c.make_at_both.ensures

@@ -8,8 +8,10 @@ make_at-requires-2-clause-ascend c =
 
 pub make_at-requires-2-clause-room : goal.make_at-requires-2-clause-room
 make_at-requires-2-clause-room c = λ e.
-    zip_all (IsMadeAt c.args.a c.args.change.now) (HasRoomAtBoth c.args.a c.args.b 1) (HasRoomAt c.args.b 1) (second_room c.args.a c.args.b c.args.change.now c.requires.two) c.args.near.now c.make_at.new.near c.make_at.ensures (c.requires.room e)
+    zip_all (IsMadeAt c.args.a c.args.change.now) (HasRoomAtBoth c.args.a c.args.b 1) (HasRoomAt c.args.b 1)
+    (second_room c.args.a c.args.b c.args.change.now c.requires.two) c.args.near.now c.make_at.new.near c.make_at.ensures (c.requires.room e)
 
 pub returns : goal.returns
 returns c =
-    zip_chain (IsMadeAt c.args.a c.args.change.now) (IsMadeAt c.args.b c.args.change.now) (IsMadeAtBoth c.args.a c.args.b c.args.change.now) (made_both c.args.a c.args.b c.args.change.now c.requires.two) c.args.near.now c.make_at.new.near c.make_at-2.new.near c.make_at.ensures c.make_at-2.ensures
+    zip_chain (IsMadeAt c.args.a c.args.change.now) (IsMadeAt c.args.b c.args.change.now) (IsMadeAtBoth c.args.a c.args.b c.args.change.now)
+    (made_both c.args.a c.args.b c.args.change.now c.requires.two) c.args.near.now c.make_at.new.near c.make_at-2.new.near c.make_at.ensures c.make_at-2.ensures

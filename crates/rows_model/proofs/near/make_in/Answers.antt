@@ -9,4 +9,5 @@ returns-in-Invite-clause-items c =
 
 pub returns-in-Accept-clause-items : goal.returns-in-Accept-clause-items
 returns-in-Accept-clause-items c =
-    rw c.in-Accept.is (c.put-in-Accept.ensures.items ∙ (ap (λ (new : Link). with_link new c.take.new.links.items) c.friendship.ensures ∙ ap (λ (links : List Link). with_link (friendship c.in-Accept.a c.in-Accept.b) links) c.take.ensures.items))
+    rw c.in-Accept.is (c.put-in-Accept.ensures.items ∙ (ap (λ (new : Link). with_link new c.take.new.links.items) c.friendship.ensures
+    ∙ ap (λ (links : List Link). with_link (friendship c.in-Accept.a c.in-Accept.b) links) c.take.ensures.items))

@@ -17,7 +17,9 @@ returns-in-Some-clause-room c =
     let at = c.in-Some.ensures.at in
     let n = c.reserve.new.self.ok.0 in
     on_ok c.reserve.result (λ (room : vec_len c.reserve.new.self + c.args.more ≤ vec_capacity c.reserve.new.self).
-    zip_right (HasRoomAt c.args.id c.args.more) c.args.near.now _ (zip_at (λ one other. HasRoomAt c.args.id c.args.more other) c.args.near.now c.args.id c.in-Some.place d _ c.requires.ascend at.within (at.passes d) (λ same. omega (arith, n, room)) (λ y other same. absurd (other same)))) c.reserve.ensures.ok
+    zip_right (HasRoomAt c.args.id c.args.more) c.args.near.now _
+    (zip_at (λ one other. HasRoomAt c.args.id c.args.more other) c.args.near.now c.args.id c.in-Some.place d _ c.requires.ascend at.within
+    (at.passes d) (λ same. omega (arith, n, room)) (λ y other same. absurd (other same)))) c.reserve.ensures.ok
 
 pub returns-in-None-clause-grown : goal.returns-in-None-clause-grown
 returns-in-None-clause-grown c =

@@ -12,4 +12,5 @@ returns-clause-grown c = grown_on c.args.near.now c.reserve.new.near c.reserve-2
 pub returns-clause-room : goal.returns-clause-room
 returns-clause-room c =
     on_ok c.reserve-2.result (λ (room : All (HasRoomAt c.args.b c.args.more) c.reserve-2.new.near).
-    room_at_both c.args.a c.args.b c.args.more c.reserve.new.near c.reserve-2.new.near c.reserve-2.ensures.grown c.in_ok-reserve.ensures.room room) c.reserve-2.ensures.room
+    room_at_both c.args.a c.args.b c.args.more c.reserve.new.near c.reserve-2.new.near c.reserve-2.ensures.grown c.in_ok-reserve.ensures.room room)
+    c.reserve-2.ensures.room

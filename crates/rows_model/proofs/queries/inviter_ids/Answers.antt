@@ -5,5 +5,6 @@ use Rattle.rows_model.proofs.queries.inviter_ids.Goals as goal
 
 pub returns : goal.returns
 returns c =
-    let links = ap (filter (invites c.args.id)) c.links_of.ensures ∙ kept_in_list (invites c.args.id) c.args.id c.args.rows.now.links (inviter_is_end c.args.id) in
+    let links = ap (filter (invites c.args.id)) c.links_of.ensures
+    ∙ kept_in_list (invites c.args.id) c.args.id c.args.rows.now.links (inviter_is_end c.args.id) in
     rw (← links) c.inviters_among.ensures

@@ -11,5 +11,6 @@ returns-then-is_empty c =
 pub returns : goal.returns
 returns c =
     let some : 1 ≤ length c.args.text.now = grind (arith, nat_tests) in
-    let words : map (λ word. word.now) c.as_slice.result.now ≡ words_of 44 c.args.text.now = ap (map (λ word. word.now)) c.as_slice.ensures.value ∙ c.in_ok-words.ensures in
+    let words : map (λ word. word.now) c.as_slice.result.now ≡ words_of 44 c.args.text.now =
+    ap (map (λ word. word.now)) c.as_slice.ensures.value ∙ c.in_ok-words.ensures in
     rw (ids_in_some c.args.text.now some, sym words) c.ids_of.ensures

@@ -9,10 +9,12 @@ returns-in_default c =
 
 pub returns-then-from-least : goal.returns-then-from-least
 returns-then-from-least c =
-    sym (ids_too_low c.args.words.now c.loop-word.word-index _ c.loop-word.least c.in-Some.id c.loop-word.ids.items c.loop-word-test.true c.in-Some.ensures (omega arith))
+    sym (ids_too_low c.args.words.now c.loop-word.word-index _ c.loop-word.least
+    c.in-Some.id c.loop-word.ids.items c.loop-word-test.true c.in-Some.ensures (omega arith))
     ∙ c.loop-word.invariant
 
 pub loop-word-preserved : goal.loop-word-preserved
 loop-word-preserved c =
-    let more = ids_more c.args.words.now c.loop-word.word-index _ c.loop-word.least c.in-Some.id c.loop-word.ids.items c.loop-word-test.true c.in-Some.ensures (omega arith) in
+    let more = ids_more c.args.words.now c.loop-word.word-index _
+    c.loop-word.least c.in-Some.id c.loop-word.ids.items c.loop-word-test.true c.in-Some.ensures (omega arith) in
     rw (c.in_ok-push.ensures.items, c.from-least.ensures) (sym more ∙ c.loop-word.invariant)

@@ -8,7 +8,8 @@ loop-step-preserved c =
     let told = c.in_ok-note_hit.ensures in (
       told.opening,
       keeps-on c.args.answers.now c.loop-step.answers c.note_hit.new.answers c.loop-step.invariant.1 told.keeps,
-      knows-more c.loop-step.answers c.note_hit.new.answers c.args.history.now c.loop-step.step-index c.step-item.result (omega arith) c.step-item.is c.loop-step.invariant.2 told.keeps told.knows,
+      knows-more c.loop-step.answers c.note_hit.new.answers c.args.history.now c.loop-step.step-index c.step-item.result
+          (omega arith) c.step-item.is c.loop-step.invariant.2 told.keeps told.knows,
     )
 
 pub returns-clause-knows : goal.returns-clause-knows

@@ -11,5 +11,7 @@ returns-in_ok-push c =
     let key = c.args.key.now in
     let old = c.in-Some.versions.now.items in
     let value : c.in_ok-value.value ≡ renewed key txn rows old = c.in_ok-value.ensures ∙ ap (renewed key txn rows) c.as_slice.ensures.value in
-    noted-through key c.args.answers.now (c.get_mut.follows.lender c.push.new.self) c.in-Some.versions.now c.push.new.self c.args.from (λ (other : QKey). renewed other txn rows)
-    (sym c.in-Some.ensures.value) (c.in_ok-push.ensures.items ∙ ap (λ (v : List ℕ). old ++ version c.args.from v ∷ []) value) (c.get_mut.follows.holds c.push.new.self)
+    noted-through key c.args.answers.now (c.get_mut.follows.lender c.push.new.self) c.in-Some.versions.now c.push.new.self c.args.from
+    (λ (other : QKey). renewed other txn rows)
+    (sym c.in-Some.ensures.value) (c.in_ok-push.ensures.items
+    ∙ ap (λ (v : List ℕ). old ++ version c.args.from v ∷ []) value) (c.get_mut.follows.holds c.push.new.self)

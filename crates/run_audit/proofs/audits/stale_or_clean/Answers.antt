@@ -11,13 +11,15 @@ use Rattle.run_audit.proofs.audits.stale_or_clean.Goals as goal
 pub first_stale-requires : goal.first_stale-requires
 first_stale-requires c =
     rw c.history.ensures.steps
-    (history-all (λ (history : List Step). All (Knows c.args.notes.now.answers) history) c.args.shards.now c.loop-no.no c.index-shards-no.result (omega arith) c.index-shards-no.is c.requires.knows)
+    (history-all (λ (history : List Step). All (Knows c.args.notes.now.answers) history) c.args.shards.now c.loop-no.no c.index-shards-no.result
+    (omega arith) c.index-shards-no.is c.requires.knows)
 
 pub returns-in-Some : goal.returns-in-Some
 returns-in-Some c = λ opening log are.
     let history = c.history.result.now in
     let found : IsFirstStaleIn opening log history c.in-Some.place =
-    MatchOption-at_some (IsFreshPast opening log (reverse history)) (IsFirstStaleIn opening log history) c.in-Some.place c.in-Some.is (c.in_ok-place.ensures opening log are) in
+    MatchOption-at_some (IsFreshPast opening log (reverse history))
+    (IsFirstStaleIn opening log history) c.in-Some.place c.in-Some.is (c.in_ok-place.ensures opening log are) in
     stale-in opening log c.args.shards.now c.loop-no.no c.in-Some.place c.index-shards-no.result (omega arith) c.index-shards-no.is
     (rw c.history.ensures.steps at found) (c.loop-no.invariant opening log are)
 
@@ -25,7 +27,8 @@ pub loop-no-preserved : goal.loop-no-preserved
 loop-no-preserved c = λ opening log are.
     let history = c.history.result.now in
     let fresh : IsFreshPast opening log (reverse history) =
-    MatchOption-at_none (IsFreshPast opening log (reverse history)) (IsFirstStaleIn opening log history) c.in_default.is (c.in_ok-place.ensures opening log are) in
+    MatchOption-at_none (IsFreshPast opening log (reverse history))
+    (IsFirstStaleIn opening log history) c.in_default.is (c.in_ok-place.ensures opening log are) in
     histories-more opening log c.args.shards.now c.loop-no.no c.index-shards-no.result (omega arith) c.index-shards-no.is
     (rw c.history.ensures.steps at fresh) (c.loop-no.invariant opening log are)
 

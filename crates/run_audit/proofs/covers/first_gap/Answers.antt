@@ -20,5 +20,6 @@ loop-place-preserved c =
     let commit = c.index-log-place.result in
     let keys : c.as_slice.result.now ≡ footprint commit.txn = c.as_slice.ensures.value ∙ c.in_ok-keys.ensures in
     let none : find (λ (key : QKey). not (holds grants commit.sid key)) (footprint commit.txn) ≡ None =
-    ap (find (λ (key : QKey). not (holds grants commit.sid key))) (sym keys) ∙ sym c.first_without.ensures ∙ none-found c.first_without.result c.in_default.not-Some in
+    ap (find (λ (key : QKey). not (holds grants commit.sid key))) (sym keys)
+    ∙ sym c.first_without.ensures ∙ none-found c.first_without.result c.in_default.not-Some in
     covered-more (holds grants) c.args.log.now c.loop-place.place commit (omega arith) c.index-log-place.is c.loop-place.invariant none

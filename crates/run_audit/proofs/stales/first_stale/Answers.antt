@@ -23,8 +23,10 @@ loop-place-preserved c = λ opening log are.
     let one = c.index-history-place.result in
     let history = c.args.history.now in
     let past = reverse (take i history) in
-    let more : reverse (take (i + 1) history) ≡ one ∷ past = reverse-more history i one (omega arith) ∙ ap (λ (x : Step). x ∷ past) (sym c.index-history-place.is) in (
-      fresh-more opening log history i one (omega arith) c.index-history-place.is ((c.is_fresh.ensures opening log past are before.1).0 c.if-not-is_fresh.false) before.0,
+    let more : reverse (take (i + 1) history) ≡ one ∷ past =
+    reverse-more history i one (omega arith) ∙ ap (λ (x : Step). x ∷ past) (sym c.index-history-place.is) in (
+      fresh-more opening log history i one (omega arith) c.index-history-place.is
+          ((c.is_fresh.ensures opening log past are before.1).0 c.if-not-is_fresh.false) before.0,
       rw more (floors-more log past one c.args.notes.now.numbers c.loop-place.floors c.raise_floor.new.floors are.numbers before.1 c.in_ok-raise_floor.ensures),
     )
 

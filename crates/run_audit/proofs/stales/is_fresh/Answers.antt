@@ -26,7 +26,8 @@ returns-else-is_current c = λ opening log past are floors.
       λ yes. clash yes c.if-is_current.false,
       λ fresh. (
           let both = hit-within opening log past notes c.args.floors.now key c.in-Hit.value stamp are floors fresh in
-          let passes : c.is_current.result ≡ true = c.is_current.ensures ∙ rw (within stamp notes.count both.0, within (floor_of key c.args.floors.now) stamp both.1) refl in
+          let passes : c.is_current.result ≡ true = c.is_current.ensures
+          ∙ rw (within stamp notes.count both.0, within (floor_of key c.args.floors.now) stamp both.1) refl in
           clash passes c.if-is_current.false
           ),
     )

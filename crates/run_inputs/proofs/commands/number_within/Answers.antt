@@ -10,7 +10,8 @@ returns-in_err-number-clause-none c =
 
 pub returns-then-number-from-clause-none : goal.returns-then-number-from-clause-none
 returns-then-number-from-clause-none c = λ number h.
-    let same : number ≡ c.in_ok-number.number = one_number c.args.word.now c.args.least c.args.most c.in_ok-number.number number (omega arith) (sym c.in_ok-number.ensures) h in
+    let same : number ≡ c.in_ok-number.number =
+    one_number c.args.word.now c.args.least c.args.most c.in_ok-number.number number (omega arith) (sym c.in_ok-number.ensures) h in
     let from : c.args.least ≤ number = h.from in
     let to : number ≤ c.args.most = h.to in
     elim c.then-number-from.branch [

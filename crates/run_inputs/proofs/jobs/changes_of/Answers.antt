@@ -19,7 +19,8 @@ returns-in_default-behind_plus-clause-none c =
 
 pub loop-preserved : goal.loop-preserved
 loop-preserved c = record {
-  taken = rw c.in_ok-push.ensures.items (taken_on (words_in c.args.words.now) c.loop.changes.items (words_in c.loop.rest.now) _ (words_in c.in-Some-behind_plus.more.now) c.in-Some.change
+  taken = rw c.in_ok-push.ensures.items
+      (taken_on (words_in c.args.words.now) c.loop.changes.items (words_in c.loop.rest.now) _ (words_in c.in-Some-behind_plus.more.now) c.in-Some.change
       c.loop.invariant.taken (rw c.in-Some-behind.is at c.in-Some.ensures.found) c.in-Some-behind_plus.ensures.found);
   count = omega (arith, c.in_ok-push.ensures.len);
 }

@@ -17,9 +17,11 @@ index_mut-requires c =
 
 pub loop-session-preserved : goal.loop-session-preserved
 loop-session-preserved c = record {
-  dealt = dealt_push _ c.args.spec.now c.loop-session.session c.loop-session.workers.items c.index_mut.result.now c.push.new.self c.in_ok-plan.plan c.requires c.loop-session.invariant.dealt
+  dealt = dealt_push _ c.args.spec.now c.loop-session.session c.loop-session.workers.items
+      c.index_mut.result.now c.push.new.self c.in_ok-plan.plan c.requires c.loop-session.invariant.dealt
       c.index_mut.ensures.value c.in_ok-push.ensures.items
-      (plan_is c.args.spec.now c.loop-session.session c.loop-session.generator c.next-draws.result c.in_ok-plan.plan c.loop-session.invariant.drawn c.next-draws.ensures.draws c.in_ok-plan.ensures);
+      (plan_is c.args.spec.now c.loop-session.session c.loop-session.generator
+      c.next-draws.result c.in_ok-plan.plan c.loop-session.invariant.drawn c.next-draws.ensures.draws c.in_ok-plan.ensures);
   drawn = four_more c.loop-session.session _ c.loop-session.generator c.next-draws.new.generator c.loop-session.invariant.drawn c.next-draws.ensures.left;
 }
 

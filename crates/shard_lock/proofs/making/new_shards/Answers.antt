@@ -27,5 +27,6 @@ loop-no-preserved c =
       all Named c.loop-no.invariant.2 named,
       all Counted c.loop-no.invariant.3 (ap (λ (s : ShardView). s.terms.count) c.in_ok-new.ensures),
       all New c.loop-no.invariant.4 (ap (λ (s : ShardView). s.history) c.in_ok-new.ensures),
-      placed_next shards new c.loop-no.invariant.5 (let is = ap (λ (s : ShardView). s.terms.no) c.in_ok-new.ensures in omega (arith, is, c.loop-no.invariant.0)),
+      placed_next shards new c.loop-no.invariant.5 (let is = ap (λ (s : ShardView). s.terms.no) c.in_ok-new.ensures in
+          omega (arith, is, c.loop-no.invariant.0)),
     )

@@ -10,15 +10,18 @@ take_turn-requires-clause-begun g c = (can_take c.loop-taken.core c.args.turn (c
 
 pub returns-in_err-take_turn-clause-some : goal.returns-in_err-take_turn-clause-some
 returns-in_err-take_turn-clause-some g c = λ origin calls taken h.
-    on_err _ (stops_turn c.take_turn.new.core c.args.turn c.args.count c.loop-taken._taken origin calls taken (g.W.Sink.taken c.take_turn.new.sink) c.take_turn.new.tally (omega arith)
+    on_err _ (stops_turn c.take_turn.new.core c.args.turn c.args.count c.loop-taken._taken origin calls taken
+    (g.W.Sink.taken c.take_turn.new.sink) c.take_turn.new.tally (omega arith)
     (c.in_err-take_turn.ensures.some origin _ taken (c.loop-taken.invariant.so_far origin calls taken h)))
 
 pub loop-taken-preserved : goal.loop-taken-preserved
 loop-taken-preserved g c =
     record {
-      can = can_turn c.loop-taken.core c.take_turn.new.core c.args.turn (c.args.count - c.loop-taken._taken) (c.args.count - (c.loop-taken._taken + 1)) _ _ _ _ (omega arith) c.loop-taken.invariant.can c.in_ok-take_turn.ensures.all;
+      can = can_turn c.loop-taken.core c.take_turn.new.core c.args.turn (c.args.count - c.loop-taken._taken)
+          (c.args.count - (c.loop-taken._taken + 1)) _ _ _ _ (omega arith) c.loop-taken.invariant.can c.in_ok-take_turn.ensures.all;
       so_far = λ origin calls taken h.
-          stands_turn c.loop-taken.core c.take_turn.new.core c.args.turn c.loop-taken._taken origin calls taken _ _ _ _ (c.loop-taken.invariant.so_far origin calls taken h) c.in_ok-take_turn.ensures.all;
+          stands_turn c.loop-taken.core c.take_turn.new.core c.args.turn c.loop-taken._taken origin calls taken _ _ _ _
+          (c.loop-taken.invariant.so_far origin calls taken h) c.in_ok-take_turn.ensures.all;
       same = c.in_ok-take_turn.ensures.counts ∙ c.loop-taken.invariant.same;
     }
 

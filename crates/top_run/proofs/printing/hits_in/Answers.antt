@@ -7,5 +7,6 @@ use Rattle.top_run.proofs.printing.hits_in.Goals as goal
 
 pub returns : goal.returns
 returns c =
-    count_from_yields_List c.filter.result _ c.count.ensures.ran (YieldsList-from_filter _ is_hit (YieldsList-from_slice c.args.history.now cc) c.filter.ensures.closure (λ x b q k. search (rules, tests)))
+    count_from_yields_List c.filter.result _ c.count.ensures.ran
+    (YieldsList-from_filter _ is_hit (YieldsList-from_slice c.args.history.now cc) c.filter.ensures.closure (λ x b q k. search (rules, tests)))
     ∙ length-filter is_hit c.args.history.now

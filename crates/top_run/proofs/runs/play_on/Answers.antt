@@ -6,14 +6,23 @@ use Rattle.top_run.proofs.runs.play_on.Goals as goal
 
 pub ended_run-requires-clause-room : goal.ended_run-requires-clause-room
 ended_run-requires-clause-room g c =
-    room_at_end c.play_whole-ended.result c.play_whole-ended.new.core (origin_of c.args.script.shape c.args.core) c.args.script.acts _ _ c.play_whole-ended.new.tally _
+    room_at_end c.play_whole-ended.result c.play_whole-ended.new.core
+    (origin_of c.args.script.shape c.args.core) c.args.script.acts _ _ c.play_whole-ended.new.tally _
     c.play_whole-ended.ensures.all c.play_whole-ended.ensures.some c.requires.room
 
 pub returns-clause-ended : goal.returns-clause-ended
 returns-clause-ended g c = λ left_old left_new reads rows held read opened.
     rw (c.ended_run.ensures.status, c.ended_run.ensures.opening, c.ended_run.ensures.log, c.ended_run.ensures.histories, c.ended_run.ensures.written)
     (ended_is held c.args.core c.play_whole-ended.new.core c.args.script.shape c.args.script.acts _ _
-    (record { is_new = c.requires.new; sound = c.ended_run.ensures.sound; read = read; opened = opened; start = refl; rows = c.ended_run.ensures.rows; count = c.ended_run.ensures.faults })
+    (record {
+      is_new = c.requires.new;
+      sound = c.ended_run.ensures.sound;
+      read = read;
+      opened = opened;
+      start = refl;
+      rows = c.ended_run.ensures.rows;
+      count = c.ended_run.ensures.faults;
+    })
     c.play_whole-ended.result c.play_whole-ended.new.tally c.play_whole-ended.ensures.all c.play_whole-ended.ensures.some)
 
 pub returns-clause-other : goal.returns-clause-other
@@ -32,4 +41,5 @@ returns-clause-writes g c =
 pub returns-clause-keeper_never_falls : goal.returns-clause-keeper_never_falls
 returns-clause-keeper_never_falls g c =
     rw c.ended_run.ensures.faults
-    (faults_at_end c.play_whole-ended.result c.play_whole-ended.new.core (origin_of c.args.script.shape c.args.core) c.args.script.acts _ _ c.play_whole-ended.new.tally c.play_whole-ended.ensures.all c.play_whole-ended.ensures.some)
+    (faults_at_end c.play_whole-ended.result c.play_whole-ended.new.core (origin_of c.args.script.shape c.args.core)
+    c.args.script.acts _ _ c.play_whole-ended.new.tally c.play_whole-ended.ensures.all c.play_whole-ended.ensures.some)

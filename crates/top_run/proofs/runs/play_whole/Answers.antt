@@ -9,7 +9,8 @@ use Rattle.top_run.proofs.runs.play_whole.Goals as goal
 
 pub play-requires : goal.play-requires
 play-requires g c =
-    rw c.into_acts.ensures (can_start c.args.core.now c.args.script.shape c.args.script.acts (g.W.Sink.taken c.args.sink.now) c.args.tally.now c.requires.playable c.requires.new c.requires.nothing)
+    rw c.into_acts.ensures (can_start c.args.core.now c.args.script.shape c.args.script.acts
+    (g.W.Sink.taken c.args.sink.now) c.args.tally.now c.requires.playable c.requires.new c.requires.nothing)
 
 pub returns-in_err-play-clause-some : goal.returns-in_err-play-clause-some
 returns-in_err-play-clause-some g c =
@@ -17,7 +18,8 @@ returns-in_err-play-clause-some g c =
     let taken' = g.W.Sink.taken c.play.new.sink in
     let origin = origin_of c.args.script.shape c.args.core.now in
     let new = stands_new c.args.core.now c.args.script.shape taken c.args.tally.now c.requires.new c.requires.nothing in
-    let stops = subst (λ (acts : List Act). Stops c.play.new.core origin ([] ++ calls_of acts) taken taken' c.play.new.tally) c.into_acts.ensures (c.in_err-play.ensures.some origin [] taken new) in
+    let stops = subst (λ (acts : List Act). Stops c.play.new.core origin ([] ++ calls_of acts) taken taken' c.play.new.tally) c.into_acts.ensures
+    (c.in_err-play.ensures.some origin [] taken new) in
     on_err {P = IsStopped c.play.new.core origin c.args.script.acts taken taken' c.play.new.tally} c.from_residual.result
     (stopped_at_act c.play.new.core origin c.args.script.acts taken taken' c.play.new.tally stops)
 
@@ -26,7 +28,8 @@ last_line-requires g c =
     let taken = g.W.Sink.taken c.args.sink.now in
     let origin = origin_of c.args.script.shape c.args.core.now in
     let new = stands_new c.args.core.now c.args.script.shape taken c.args.tally.now c.requires.new c.requires.nothing in
-    few_shards c.play.new.core origin ([] ++ calls_of c.into_acts.result.items) c.args.script.acts taken (g.W.Sink.taken c.play.new.sink) c.play.new.tally (c.in_ok-play.ensures.all origin [] taken new) c.requires.playable
+    few_shards c.play.new.core origin ([] ++ calls_of c.into_acts.result.items) c.args.script.acts taken
+    (g.W.Sink.taken c.play.new.sink) c.play.new.tally (c.in_ok-play.ensures.all origin [] taken new) c.requires.playable
 
 pub returns-in_err-line-clause-some : goal.returns-in_err-line-clause-some
 returns-in_err-line-clause-some g c =
@@ -34,7 +37,8 @@ returns-in_err-line-clause-some g c =
     let taken' = g.W.Sink.taken c.play.new.sink in
     let origin = origin_of c.args.script.shape c.args.core.now in
     let new = stands_new c.args.core.now c.args.script.shape taken c.args.tally.now c.requires.new c.requires.nothing in
-    let stands = subst (λ (acts : List Act). Stands c.play.new.core origin ([] ++ calls_of acts) taken taken' c.play.new.tally) c.into_acts.ensures (c.in_ok-play.ensures.all origin [] taken new) in
+    let stands = subst (λ (acts : List Act). Stands c.play.new.core origin ([] ++ calls_of acts) taken taken' c.play.new.tally) c.into_acts.ensures
+    (c.in_ok-play.ensures.all origin [] taken new) in
     on_err {P = IsStopped c.play.new.core origin c.args.script.acts taken taken' c.play.new.tally} c.from_residual-in_err-line.result
     (stopped_before_end c.play.new.core origin c.args.script.acts taken taken' c.play.new.tally stands)
 
@@ -45,10 +49,13 @@ returns-in_err-print-clause-some g c =
     let taken'' = g.W.Sink.taken c.print.new.sink in
     let origin = origin_of c.args.script.shape c.args.core.now in
     let new = stands_new c.args.core.now c.args.script.shape taken c.args.tally.now c.requires.new c.requires.nothing in
-    let stands = subst (λ (acts : List Act). Stands c.play.new.core origin ([] ++ calls_of acts) taken taken' c.play.new.tally) c.into_acts.ensures (c.in_ok-play.ensures.all origin [] taken new) in
+    let stands = subst (λ (acts : List Act). Stands c.play.new.core origin ([] ++ calls_of acts) taken taken' c.play.new.tally) c.into_acts.ensures
+    (c.in_ok-play.ensures.all origin [] taken new) in
     let cut = c.in_err-print.ensures.some taken _ stands.prints in
-    on_err {P = IsStopped c.play.new.core origin c.args.script.acts taken taken'' (record { written = c.print.new.written; faulted = c.play.new.tally.faulted })} c.from_residual-in_err-print.result
-    (stopped_at_end c.play.new.core origin c.args.script.acts taken taken' taken'' c.play.new.tally (record { written = c.print.new.written; faulted = c.play.new.tally.faulted }) cut.0 cut.1 stands
+    on_err {P = IsStopped c.play.new.core origin c.args.script.acts taken taken''
+    (record { written = c.print.new.written; faulted = c.play.new.tally.faulted })} c.from_residual-in_err-print.result
+    (stopped_at_end c.play.new.core origin c.args.script.acts taken taken' taken'' c.play.new.tally
+    (record { written = c.print.new.written; faulted = c.play.new.tally.faulted }) cut.0 cut.1 stands
     (cut.2 ∙ c.as_slice.ensures.value ∙ c.in_ok-line.ensures) cut.3)
 
 pub returns-clause-all : goal.returns-clause-all
@@ -57,6 +64,8 @@ returns-clause-all g c =
     let taken' = g.W.Sink.taken c.play.new.sink in
     let origin = origin_of c.args.script.shape c.args.core.now in
     let new = stands_new c.args.core.now c.args.script.shape taken c.args.tally.now c.requires.new c.requires.nothing in
-    let stands = subst (λ (acts : List Act). Stands c.play.new.core origin ([] ++ calls_of acts) taken taken' c.play.new.tally) c.into_acts.ensures (c.in_ok-play.ensures.all origin [] taken new) in
-    finished c.play.new.core origin c.args.script.acts taken taken' (g.W.Sink.taken c.print.new.sink) c.play.new.tally (record { written = c.print.new.written; faulted = c.play.new.tally.faulted }) c.as_slice.result.now stands
+    let stands = subst (λ (acts : List Act). Stands c.play.new.core origin ([] ++ calls_of acts) taken taken' c.play.new.tally) c.into_acts.ensures
+    (c.in_ok-play.ensures.all origin [] taken new) in
+    finished c.play.new.core origin c.args.script.acts taken taken' (g.W.Sink.taken c.print.new.sink) c.play.new.tally
+    (record { written = c.print.new.written; faulted = c.play.new.tally.faulted }) c.as_slice.result.now stands
     (c.as_slice.ensures.value ∙ c.in_ok-line.ensures) (c.in_ok-print.ensures.all taken _ stands.prints) refl

@@ -10,7 +10,8 @@ returns c =
     let plans = c.in_ok-make_plans.field-0 in
     record {
       plans = c.in_ok-make_plans.ensures.are_plans;
-      workers = sym (length-map plans.items (λ list. list.items)) ∙ (ap (λ (l : List (List Plan)). length l) c.in_ok-make_plans.ensures.load ∙ lists_of c.args.spec.now);
+      workers = sym (length-map plans.items (λ list. list.items))
+          ∙ (ap (λ (l : List (List Plan)). length l) c.in_ok-make_plans.ensures.load ∙ lists_of c.args.spec.now);
       shards = c.in_ok-new_shards.ensures.all;
       as_many = c.in_ok-new_shards.ensures.as_many;
       legal = new_are_legal c.in_ok-new_shards.field-0.items c.in_ok-new_shards.ensures.new;

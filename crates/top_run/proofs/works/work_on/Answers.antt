@@ -32,14 +32,23 @@ returns-clause-ended g c = λ unread reads rows held opens.
     short (c.run_plans-store.ensures.store.cap_is ∙ c.requires.named.cap_is) c.ended_work.ensures.told c.ended_work.ensures.few
     c.requires.named.terms_are c.run_plans-store.ensures.all c.run_plans-store.ensures.legal
     (c.run_plans-store.ensures.as_many ∙ c.requires.ready.as_many) opened in
-    rw (c.ended_work.ensures.status, c.ended_work.ensures.opening, c.ended_work.ensures.log, c.ended_work.ensures.histories, c.ended_work.ensures.written, c.ended_work.ensures.rows, c.ended_work.ensures.faults)
+    rw (
+      c.ended_work.ensures.status,
+      c.ended_work.ensures.opening,
+      c.ended_work.ensures.log,
+      c.ended_work.ensures.histories,
+      c.ended_work.ensures.written,
+      c.ended_work.ensures.rows,
+      c.ended_work.ensures.faults,
+    )
     (work_ended spec held before after (left_of store shards) c.tell-told.new.written store.ledger.opening store.ledger.failed kept c.tell-told.result
     (c.tell-told.ensures.told spec store.ledger.opening store.ledger.log (histories_in shards) made)
     (c.tell-told.ensures.halted spec store.ledger.opening store.ledger.log (histories_in shards) made))
 
 pub returns-clause-command : goal.returns-clause-command
 returns-clause-command g c = λ is.
-    no_usage (nat_lt 0 c.run_plans-store.result.store.ledger.failed) (first_spent (histories_in c.run_plans-store.result.shards.items)) c.tell-told.result (sym c.ended_work.ensures.status ∙ is)
+    no_usage (nat_lt 0 c.run_plans-store.result.store.ledger.failed)
+    (first_spent (histories_in c.run_plans-store.result.shards.items)) c.tell-told.result (sym c.ended_work.ensures.status ∙ is)
 
 pub returns-clause-no_read_fault : goal.returns-clause-no_read_fault
 returns-clause-no_read_fault g c =
@@ -49,7 +58,8 @@ returns-clause-no_read_fault g c =
 pub returns-clause-writes : goal.returns-clause-writes
 returns-clause-writes g c =
     let is = ap is_write_fault c.ended_work.ensures.status
-    ∙ at_write_end (nat_lt 0 c.run_plans-store.result.store.ledger.failed) (first_spent (histories_in c.run_plans-store.result.shards.items)) c.tell-told.result in
+    ∙ at_write_end (nat_lt 0 c.run_plans-store.result.store.ledger.failed)
+    (first_spent (histories_in c.run_plans-store.result.shards.items)) c.tell-told.result in
     subst (λ (b : Bool). RoseWhere b (g.W.Sink.faults c.args.sink.now) (g.W.Sink.faults c.tell-told.new.sink)) (sym is) c.tell-told.ensures.counts
 
 pub returns-clause-keeper_never_falls : goal.returns-clause-keeper_never_falls

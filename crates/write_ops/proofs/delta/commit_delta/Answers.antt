@@ -12,4 +12,5 @@ returns-clause-leaves c out =
     let past = past_of c.args.shard.now in
     let stamp = c.args.stamp in
     leaves-entry c.args.shard.now c.release.new.self c.args.grant (hows.Shift stamp) (shifted_entry stamp c.args.grant past) c.release.result (λ quar. refl)
-    (λ quar stands. ap (option_and_then (λ quar. entry_shifted quar.shift stamp (entry c.args.grant.key past))) (sym stands)) (c.release.ensures.out out) (c.release.ensures.shows out)
+    (λ quar stands. ap (option_and_then (λ quar. entry_shifted quar.shift stamp (entry c.args.grant.key past))) (sym stands))
+    (c.release.ensures.out out) (c.release.ensures.shows out)

@@ -15,7 +15,13 @@ returns-in-Ok-clause-begins g c origin moves before =
     let core : CoreView =
     record { store = inside.store; shards = inside.shards.items; sessions = inside.sessions.items; sweeper = inside.sweeper; clock = inside.clock } in
     let new : CoreView =
-    record { store = c.begin.new.self; shards = inside.shards.items; sessions = c.push_reserved.new.self.items; sweeper = inside.sweeper; clock = inside.clock } in
+    record {
+      store = c.begin.new.self;
+      shards = inside.shards.items;
+      sessions = c.push_reserved.new.self.items;
+      sweeper = inside.sweeper;
+      clock = inside.clock;
+    } in
     let at : IsAt core origin moves = subst (λ (v : CoreView). IsAt v origin moves) (sym c.self.view_is) before in
     let session = c.in_ok-session.session in
     let count : c.len.result ≡ length core.sessions = c.len.ensures ∙ inside.sessions.ok.0 in
@@ -25,6 +31,8 @@ returns-in-Ok-clause-begins g c origin moves before =
     let plans : length core.sessions ≡ length _ = sym (length-map core.sessions plan_of) ∙ ap (λ (l : List Plan). length l) at.sessions.plans in
     let ledger = c.in-Ok.ensures.ledger in (
       ap (λ (n : ℕ). n + 1) (count ∙ plans),
-      core_begun core new origin moves c.args.plan session at c.requires c.in_ok-session.ensures.plan number c.in_ok-session.ensures.ready c.in_ok-session.ensures.follows
-          sessions refl refl refl (ledger ∙ ap (λ b. with_session b core.store.ledger) c.writes-writes.ensures) c.in-Ok.ensures.keeper.0 c.in-Ok.ensures.keeper.1,
+      core_begun core new origin moves c.args.plan session at c.requires
+          c.in_ok-session.ensures.plan number c.in_ok-session.ensures.ready c.in_ok-session.ensures.follows
+          sessions refl refl refl (ledger ∙ ap (λ b. with_session b core.store.ledger) c.writes-writes.ensures)
+          c.in-Ok.ensures.keeper.0 c.in-Ok.ensures.keeper.1,
     )

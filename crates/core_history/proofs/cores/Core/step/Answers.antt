@@ -10,7 +10,8 @@ use Rattle.core_history.proofs.cores.Core.step.Goals as goal
 -- what a turn that was taken leaves, and what it leaves for want of memory
 abbrev Taken : Origin → List Move → CoreView → Result Told Memory → Turn → Type 0
 Taken origin moves new result turn =
-    IfOk result (λ told. (said : Said) × IsAt new origin (Take turn said ∷ moves) × IsToldOf (turn_event origin.shape (world_of origin.shape moves) turn said) told)
+    IfOk result (λ told. (said : Said) × IsAt new origin (Take turn said ∷ moves)
+    × IsToldOf (turn_event origin.shape (world_of origin.shape moves) turn said) told)
 
 abbrev Left : Origin → List Move → CoreView → Result Told Memory → Turn → Type 0
 Left origin moves new result turn =

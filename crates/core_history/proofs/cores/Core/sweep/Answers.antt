@@ -42,7 +42,8 @@ returns-clause-takes g c origin moves before =
     record { store = after.store; shards = after.shards.items; sessions = inside.sessions.items; sweeper = after.sweeper; clock = inside.clock } in
     let at : IsAt core origin moves = subst (λ (v : CoreView). IsAt v origin moves) (sym c.self.view_is) before in
     let world = world_of origin.shape moves in
-    ok_of c.sweep_turn.result _ _ (sweep_taken core new origin moves c.sweep_turn.result at refl refl (c.sweep_turn.ensures.takes origin world (at.kept.shards, (at.kept.store, at.phases)) at.clock at.sweeper))
+    ok_of c.sweep_turn.result _ _ (sweep_taken core new origin moves c.sweep_turn.result at refl refl
+    (c.sweep_turn.ensures.takes origin world (at.kept.shards, (at.kept.store, at.phases)) at.clock at.sweeper))
 
 pub returns-clause-err : goal.returns-clause-err
 returns-clause-err g c origin moves before =
@@ -54,4 +55,5 @@ returns-clause-err g c origin moves before =
     record { store = after.store; shards = after.shards.items; sessions = inside.sessions.items; sweeper = after.sweeper; clock = inside.clock } in
     let at : IsAt core origin moves = subst (λ (v : CoreView). IsAt v origin moves) (sym c.self.view_is) before in
     let world = world_of origin.shape moves in
-    err_of c.sweep_turn.result _ _ (sweep_taken core new origin moves c.sweep_turn.result at refl refl (c.sweep_turn.ensures.takes origin world (at.kept.shards, (at.kept.store, at.phases)) at.clock at.sweeper))
+    err_of c.sweep_turn.result _ _ (sweep_taken core new origin moves c.sweep_turn.result at refl refl
+    (c.sweep_turn.ensures.takes origin world (at.kept.shards, (at.kept.store, at.phases)) at.clock at.sweeper))

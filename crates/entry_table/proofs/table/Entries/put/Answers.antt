@@ -5,14 +5,17 @@ use Rattle.entry_table.proofs.PushLemmas.{IsPut-push}
 use Rattle.entry_table.proofs.table.Entries.put.Goals as goal
 use Rattle.entry_table.proofs.table.Entries.put.Goals.{in-Ok, in-Err}
 
-pub invariant_of-self : goal.invariant_of-self
-invariant_of-self c =
+pub returns-clause-sound : goal.returns-clause-sound
+returns-clause-sound c =
     let held : Held = record { value = c.args.value; stamp = c.args.stamp } in
     let put = IsPut-push c.args.key held c.self.inside.cache c.self.invariant in
     elim c.match-push.branch [
       | in-Ok w ↦ rw w.in-Ok.ensures.entries put.sound
       | in-Err w ↦ rw w.in-Err.ensures.err c.self.invariant
     ]
+
+pub invariant_of-self : goal.invariant_of-self
+invariant_of-self c = returns-clause-sound c
 
 pub returns-clause-list : goal.returns-clause-list
 returns-clause-list c =
@@ -37,13 +40,4 @@ returns-clause-there c =
     elim c.match-push.branch [
       | in-Ok w ↦ rw w.result-is (λ _. refl)
       | in-Err w ↦ rw (w.result-is, ← c.self.view_is, lookup-value c.args.key c.self.inside.cache.entries, is_some-map) w.in-Err.ensures.succeeds
-    ]
-
-pub returns-clause-sound : goal.returns-clause-sound
-returns-clause-sound c =
-    let held : Held = record { value = c.args.value; stamp = c.args.stamp } in
-    let put = IsPut-push c.args.key held c.self.inside.cache c.self.invariant in
-    elim c.match-push.branch [
-      | in-Ok w ↦ rw w.in-Ok.ensures.entries put.sound
-      | in-Err w ↦ rw w.in-Err.ensures.err c.self.invariant
     ]

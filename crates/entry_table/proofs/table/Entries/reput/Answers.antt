@@ -6,7 +6,8 @@ use Rattle.entry_table.proofs.table.Entries.reput.Goals as goal
 
 pub returns-in_err-held-clause-list : goal.returns-in_err-held-clause-list
 returns-in_err-held-clause-list c =
-    let absent = lookup-value c.args.key.now c.self.inside.cache.entries ∙ ap (option_map (λ (h : Held). (h.value, h.stamp))) (sym c.in_err-held.ensures.value) in
+    let absent = lookup-value c.args.key.now c.self.inside.cache.entries
+    ∙ ap (option_map (λ (h : Held). (h.value, h.stamp))) (sym c.in_err-held.ensures.value) in
     rw (← c.self.view_is) (sym (replaced-absent c.args.key.now c.args.value c.args.stamp _ absent))
 
 pub returns-in_err-held-clause-had : goal.returns-in_err-held-clause-had
@@ -16,7 +17,8 @@ returns-in_err-held-clause-had c =
 pub invariant_of-self-2 : goal.invariant_of-self-2
 invariant_of-self-2 c =
     let held : Held = record { value = c.args.value; stamp = c.args.stamp } in
-    rw (c.replace-had.ensures.after, ← replaced-shown_all c.args.key.now held _ c.self.invariant.distinct) (IsSound-replaced c.args.key.now c.args.value c.args.stamp _ _ c.self.invariant)
+    rw (c.replace-had.ensures.after, ← replaced-shown_all c.args.key.now held _ c.self.invariant.distinct)
+    (IsSound-replaced c.args.key.now c.args.value c.args.stamp _ _ c.self.invariant)
 
 pub returns-clause-list : goal.returns-clause-list
 returns-clause-list c =
@@ -30,4 +32,5 @@ returns-clause-had c =
 pub returns-clause-sound : goal.returns-clause-sound
 returns-clause-sound c =
     let held : Held = record { value = c.args.value; stamp = c.args.stamp } in
-    rw (c.replace-had.ensures.after, ← replaced-shown_all c.args.key.now held _ c.self.invariant.distinct) (IsSound-replaced c.args.key.now c.args.value c.args.stamp _ _ c.self.invariant)
+    rw (c.replace-had.ensures.after, ← replaced-shown_all c.args.key.now held _ c.self.invariant.distinct)
+    (IsSound-replaced c.args.key.now c.args.value c.args.stamp _ _ c.self.invariant)

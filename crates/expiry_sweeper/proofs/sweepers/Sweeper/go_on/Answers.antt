@@ -10,6 +10,7 @@ returns-clause-follows c told follows =
     let next : c.if-next-self.self ≡ next_of old =
     elim c.if-next-self.branch [
       | then-next-self w ↦ w.self-is ∙ cond_below (old.shard + 1) old.shards (old.shard + 1) 0 w.if-next-self.true
-      | else-next-self w ↦ let last : old.shards ≤ old.shard + 1 = omega (arith, w.if-next-self.false) in cond_above (old.shard + 1) old.shards (old.shard + 1) 0 c.if-next-self.self last w.self-is
+      | else-next-self w ↦ let last : old.shards ≤ old.shard + 1 =
+          omega (arith, w.if-next-self.false) in cond_above (old.shard + 1) old.shards (old.shard + 1) 0 c.if-next-self.self last w.self-is
     ] in
     follows_none_found old _ told c.requires refl next refl follows

@@ -16,8 +16,18 @@ hit-requires-clause-found c =
 
 pub again-requires-clause-answers : goal.again-requires-clause-answers
 again-requires-clause-answers c =
-    record { request = Get c.args.key c.args.who c.args.floor c.args.now; at_home = c.in_ok-check_home.ensures.home; owed = tt; answer = sym c.in-Waits.ensures }
+    record {
+      request = Get c.args.key c.args.who c.args.floor c.args.now;
+      at_home = c.in_ok-check_home.ensures.home;
+      owed = tt;
+      answer = sym c.in-Waits.ensures;
+    }
 
 pub lease-requires-clause-answers : goal.lease-requires-clause-answers
 lease-requires-clause-answers c =
-    record { request = Get c.args.key c.args.who c.args.floor c.args.now; at_home = c.in_ok-check_home.ensures.home; owed = tt; answer = sym c.in-Free.ensures.1 }
+    record {
+      request = Get c.args.key c.args.who c.args.floor c.args.now;
+      at_home = c.in_ok-check_home.ensures.home;
+      owed = tt;
+      answer = sym c.in-Free.ensures.1;
+    }

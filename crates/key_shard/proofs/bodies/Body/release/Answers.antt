@@ -9,7 +9,8 @@ pub end-requires-clause-answers : goal.end-requires-clause-answers
 end-requires-clause-answers c =
     let out : is_out (shown c.args.self.now) c.args.grant ≡ true = sym c.is_out.ensures ∙ c.if-not-is_out.false in
     let granted = out-granted c.args.self.now c.args.grant c.requires.kept out in
-    let stands = stands-told c.requires.kept.ties c.args.grant.key c.args.grant.token c.key.result c.token.result (Some c.in-Some.quar) c.key.ensures c.token.ensures c.in-Some.ensures in
+    let stands = stands-told c.requires.kept.ties c.args.grant.key c.args.grant.token c.key.result c.token.result
+    (Some c.in-Some.quar) c.key.ensures c.token.ensures c.in-Some.ensures in
     record {
       request = Release c.args.grant c.args.how;
       at_home = granted.1;
@@ -21,7 +22,8 @@ pub gone-requires-clause-answers : goal.gone-requires-clause-answers
 gone-requires-clause-answers c =
     let out : is_out (shown c.args.self.now) c.args.grant ≡ true = sym c.is_out.ensures ∙ c.if-not-is_out.false in
     let granted = out-granted c.args.self.now c.args.grant c.requires.kept out in
-    let stands = stands-told c.requires.kept.ties c.args.grant.key c.args.grant.token c.key.result c.token.result None c.key.ensures c.token.ensures c.in-None.ensures in
+    let stands =
+    stands-told c.requires.kept.ties c.args.grant.key c.args.grant.token c.key.result c.token.result None c.key.ensures c.token.ensures c.in-None.ensures in
     record {
       request = Release c.args.grant c.args.how;
       at_home = granted.1;

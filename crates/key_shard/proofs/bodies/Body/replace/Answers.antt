@@ -10,7 +10,8 @@ put-requires-clause-answers c =
     let old = c.args.self.now in
     let out : is_out (shown old) c.args.grant ≡ true = sym c.is_out.ensures ∙ c.if-not-is_out.false in
     let granted = out-granted old c.args.grant c.requires.kept out in
-    let stands = stands-told c.requires.kept.ties c.args.grant.key c.args.grant.token c.key.result c.token.result (Some c.in-Some.quar) c.key.ensures c.token.ensures c.in-Some.ensures in
+    let stands = stands-told c.requires.kept.ties c.args.grant.key c.args.grant.token c.key.result c.token.result
+    (Some c.in-Some.quar) c.key.ensures c.token.ensures c.in-Some.ensures in
     record {
       request = Replace c.args.grant c.args.value c.args.stamp;
       at_home = granted.1;
@@ -23,7 +24,8 @@ gone-requires-clause-answers c =
     let old = c.args.self.now in
     let out : is_out (shown old) c.args.grant ≡ true = sym c.is_out.ensures ∙ c.if-not-is_out.false in
     let granted = out-granted old c.args.grant c.requires.kept out in
-    let stands = stands-told c.requires.kept.ties c.args.grant.key c.args.grant.token c.key.result c.token.result None c.key.ensures c.token.ensures c.in-None.ensures in
+    let stands =
+    stands-told c.requires.kept.ties c.args.grant.key c.args.grant.token c.key.result c.token.result None c.key.ensures c.token.ensures c.in-None.ensures in
     record {
       request = Replace c.args.grant c.args.value c.args.stamp;
       at_home = granted.1;

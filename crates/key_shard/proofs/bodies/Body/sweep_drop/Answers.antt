@@ -17,14 +17,16 @@ pub overflow_sub-self : goal.overflow_sub-self
 overflow_sub-self c =
     let old = c.args.self.now in
     let stands = stands-told c.requires.kept.ties c.args.key c.args.token c.args.key c.args.token (Some c.in-Some.quar) refl refl c.in-Some.ensures.ended in
-    let fewer = places-dropped (terms_of old) (steps_of old) c.args.key c.in-Some.quar.sid c.args.token ended.Drop c.in-Some.quar stands old.out c.requires.kept.outs (c.requires.kept.held c.args.key c.args.token c.in-Some.quar stands) in
+    let fewer = places-dropped (terms_of old) (steps_of old) c.args.key c.in-Some.quar.sid
+    c.args.token ended.Drop c.in-Some.quar stands old.out c.requires.kept.outs (c.requires.kept.held c.args.key c.args.token c.in-Some.quar stands) in
     omega (arith, fewer, c.requires.kept.promises)
 
 pub push_reserved-requires : goal.push_reserved-requires
 push_reserved-requires c =
     let old = c.args.self.now in
     let stands = stands-told c.requires.kept.ties c.args.key c.args.token c.args.key c.args.token (Some c.in-Some.quar) refl refl c.in-Some.ensures.ended in
-    let fewer = places-dropped (terms_of old) (steps_of old) c.args.key c.in-Some.quar.sid c.args.token ended.Drop c.in-Some.quar stands old.out c.requires.kept.outs (c.requires.kept.held c.args.key c.args.token c.in-Some.quar stands) in
+    let fewer = places-dropped (terms_of old) (steps_of old) c.args.key c.in-Some.quar.sid
+    c.args.token ended.Drop c.in-Some.quar stands old.out c.requires.kept.outs (c.requires.kept.held c.args.key c.args.token c.in-Some.quar stands) in
     omega (arith, fewer, c.requires.kept.promises, c.requires.kept.reserved)
 
 pub returns-clause-kept : goal.returns-clause-kept
@@ -36,9 +38,13 @@ returns-clause-kept c =
     stands-told c.requires.kept.ties c.args.key c.args.token c.args.key c.args.token (Some quar) refl refl c.in-Some.ensures.ended in
     let ends = Ends-drop c.args.key old.entries c.drop_key.new.self c.drop_key.ensures.list c.drop_key.ensures.room c.drop_key.ensures.sound in
     let answers = sweep-answers (terms_of old) (steps_of old) c.args.key c.args.token quar c.requires.home stands in
-    let ties = Ties-ended (terms_of old) (steps_of old) old.entries.list old.leases c.end_q.new.self old.next c.args.key quar.sid c.args.token ended.Drop c.drop_key.new.self refl ends c.in-Some.ensures.after answers c.requires.kept.ties in
+    let ties = Ties-ended (terms_of old) (steps_of old) old.entries.list old.leases
+    c.end_q.new.self old.next c.args.key quar.sid c.args.token ended.Drop c.drop_key.new.self refl ends c.in-Some.ensures.after answers c.requires.kept.ties in
     let none = ended-adds_none (steps_of old) c.args.key quar.sid c.args.token ended.Drop in
     let outs = IsOut-later (terms_of old) (steps_of old) step (stood-still (terms_of old) (steps_of old) step none) old.out c.requires.kept.outs in
     let held = held-later (steps_of old) step none old.out c.requires.kept.held in
-    let fewer = places-dropped (terms_of old) (steps_of old) c.args.key quar.sid c.args.token ended.Drop quar stands old.out c.requires.kept.outs (c.requires.kept.held c.args.key c.args.token quar stands) in
-    IsKept-after old _ step c.push_reserved.ensures.items (terms-kept old c.drop_key.new.self.room c.drop_key.ensures.room) ties c.requires.kept.one_of outs held (omega (arith, fewer, c.requires.kept.promises)) (omega (arith, fewer, c.requires.kept.promises, c.requires.kept.reserved, c.push_reserved.ensures.len, c.push_reserved.ensures.capacity))
+    let fewer = places-dropped (terms_of old) (steps_of old) c.args.key quar.sid c.args.token ended.Drop quar stands old.out c.requires.kept.outs
+    (c.requires.kept.held c.args.key c.args.token quar stands) in
+    IsKept-after old _ step c.push_reserved.ensures.items (terms-kept old c.drop_key.new.self.room c.drop_key.ensures.room) ties c.requires.kept.one_of outs
+    held (omega (arith, fewer, c.requires.kept.promises))
+    (omega (arith, fewer, c.requires.kept.promises, c.requires.kept.reserved, c.push_reserved.ensures.len, c.push_reserved.ensures.capacity))

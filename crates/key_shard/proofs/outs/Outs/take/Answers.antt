@@ -14,5 +14,6 @@ pub returns : goal.returns
 returns c =
     let same : Out → Bool = λ out. same_permit c.args.grant.now (permit_of c.args.no out) in
     let some = rw (← c.self.view_is) at c.requires in
-    let taken = taken-at same c.token.result (λ out is. token-named c.args.no c.args.grant.now out is ∙ sym c.token.ensures) c.self.inside.by_token.entries c.self.invariant.in_order c.self.invariant.at_token some in
+    let taken = taken-at same c.token.result (λ out is. token-named c.args.no c.args.grant.now out is
+    ∙ sym c.token.ensures) c.self.inside.by_token.entries c.self.invariant.in_order c.self.invariant.at_token some in
     rw (← c.self.view_is) (ap values_of c.remove.ensures.entries ∙ taken)

@@ -11,9 +11,15 @@ use Rattle.key_shard.proofs.shards.Shard.quarantine.Goals as goal
 pub returns-clause-refusal : goal.returns-clause-refusal
 returns-clause-refusal c =
     let body = c.self.inside.body in
-    rw (← c.self.view_is) (subst (λ (s : ℤ). Refuses (refusal (shown body) c.args.key (quarantine_step (terms_of body) (steps_of body) c.args.key c.args.sid c.args.mode s c.args.now)) c.quarantine.result) (to_z-of_z w32 c.args.shift c.ranges.shift) c.quarantine.ensures.refusal)
+    rw (← c.self.view_is)
+    (subst
+    (λ (s : ℤ). Refuses (refusal (shown body) c.args.key (quarantine_step (terms_of body) (steps_of body) c.args.key c.args.sid c.args.mode s c.args.now))
+    c.quarantine.result) (to_z-of_z w32 c.args.shift c.ranges.shift) c.quarantine.ensures.refusal)
 
 pub returns-clause-shows : goal.returns-clause-shows
 returns-clause-shows c =
     let body = c.self.inside.body in
-    rw (← c.self.view_is) (subst (λ (s : ℤ). IfOk c.quarantine.result (ShowsQuarantine (terms_of body) (steps_of body) (quarantine_step (terms_of body) (steps_of body) c.args.key c.args.sid c.args.mode s c.args.now))) (to_z-of_z w32 c.args.shift c.ranges.shift) c.quarantine.ensures.shows)
+    rw (← c.self.view_is)
+    (subst (λ (s : ℤ). IfOk c.quarantine.result
+    (ShowsQuarantine (terms_of body) (steps_of body) (quarantine_step (terms_of body) (steps_of body) c.args.key c.args.sid c.args.mode s c.args.now)))
+    (to_z-of_z w32 c.args.shift c.ranges.shift) c.quarantine.ensures.shows)

@@ -16,4 +16,5 @@ returns-in_err-id-clause-none c =
 
 pub returns-clause-found : goal.returns-clause-found
 returns-clause-found c =
-    key_joined c.args.text.now c.in_ok-colon.colon c.in_ok-kind.kind c.in_ok-id.id (sym c.in_ok-colon.ensures) c.in_ok-kind.ensures.found c.in_ok-id.ensures.found
+    key_joined c.args.text.now c.in_ok-colon.colon c.in_ok-kind.kind c.in_ok-id.id
+    (sym c.in_ok-colon.ensures) c.in_ok-kind.ensures.found c.in_ok-id.ensures.found

@@ -15,4 +15,5 @@ pub returns : goal.returns
 returns c =
     let members : c.in_ok-from_slice.field-0.items ≡ c.self.inside.members.items = search rules in
     let zip = rw c.as_slice-2.ensures.value at c.in_ok-copied.ensures in
-    ap (λ (ms : List Member). tables_of ms (whole c.in_ok-copied.field-0.items)) members ∙ (ap (λ (ls : List Link). tables_of c.self.inside.members.items ls) (copy_whole _ _ zip) ∙ c.self.view_is)
+    ap (λ (ms : List Member). tables_of ms (whole c.in_ok-copied.field-0.items)) members
+    ∙ (ap (λ (ls : List Link). tables_of c.self.inside.members.items ls) (copy_whole _ _ zip) ∙ c.self.view_is)

@@ -6,4 +6,5 @@ use Rattle.rows_model.proofs.rows.Rows.friend_count.Goals as goal
 pub returns : goal.returns
 returns c =
     let n : c.count.result ≡ count_by (befriends c.args.id) c.links_of.result.now = search rules in
-    n ∙ (ap (count_by (befriends c.args.id)) c.links_of.ensures ∙ counted_in_list (befriends c.args.id) c.args.id c.args.self.now.links (friend_is_end c.args.id))
+    n ∙ (ap (count_by (befriends c.args.id)) c.links_of.ensures
+    ∙ counted_in_list (befriends c.args.id) c.args.id c.args.self.now.links (friend_is_end c.args.id))

@@ -14,4 +14,5 @@ returns-in-None c =
 pub returns-in-Some : goal.returns-in-Some
 returns-in-Some c =
     let at = rw c.as_slice.ensures.value at c.in-Some.ensures.at in
-    rw (← c.self.view_is) (c.as_slice-in-Some.ensures.value ∙ (ap (λ (one : Near). one.links.items) c.index.ensures ∙ list_at c.args.id c.in-Some.place _ _ _ c.index.result.now c.self.invariant at))
+    rw (← c.self.view_is) (c.as_slice-in-Some.ensures.value
+    ∙ (ap (λ (one : Near). one.links.items) c.index.ensures ∙ list_at c.args.id c.in-Some.place _ _ _ c.index.result.now c.self.invariant at))

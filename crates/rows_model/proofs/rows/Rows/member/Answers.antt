@@ -13,7 +13,8 @@ returns-in-Ok c =
     let tables : Tables = record { members = c.self.inside.members.items; links = whole c.self.inside.near.items } in
     let bound = rw c.deref.ensures.value at facts.bound in
     let found = rw c.deref.ensures.value at by_key in
-    rw (← c.self.view_is) (ap (λ (m : Member). Some m) c.index.ensures ∙ sym (member_searched tables c.args.id (Ok c.in-Ok.place) c.self.invariant.fit bound found c.index.result.now))
+    rw (← c.self.view_is) (ap (λ (m : Member). Some m) c.index.ensures
+    ∙ sym (member_searched tables c.args.id (Ok c.in-Ok.place) c.self.invariant.fit bound found c.index.result.now))
 
 pub returns-in-Err : goal.returns-in-Err
 returns-in-Err c =

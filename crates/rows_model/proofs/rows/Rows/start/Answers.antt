@@ -15,12 +15,16 @@ loop-id-preserved c =
 pub invariant_of-result : goal.invariant_of-result
 invariant_of-result c =
     let last : c.loop-id.id - 1 ≡ c.args.members = omega arith in
-    let members : c.loop-id.rows.items ≡ map start_member (range_with_len 1 c.args.members) = c.loop-id.invariant ∙ ap (λ (n : ℕ). map start_member (range_with_len 1 n)) last in
+    let members : c.loop-id.rows.items ≡ map start_member (range_with_len 1 c.args.members) =
+    c.loop-id.invariant ∙ ap (λ (n : ℕ). map start_member (range_with_len 1 n)) last in
     let ids = rw c.as_slice.ensures.value at c.in_ok-no_links.ensures.ids in
     start_kept c.loop-id.rows.items c.in_ok-no_links.field-0.items (rw members (Fit-start c.args.members c.requires.few)) ids c.in_ok-no_links.ensures.none
 
 pub returns : goal.returns
 returns c =
     let last : c.loop-id.id - 1 ≡ c.args.members = omega arith in
-    let members : c.loop-id.rows.items ≡ map start_member (range_with_len 1 c.args.members) = c.loop-id.invariant ∙ ap (λ (n : ℕ). map start_member (range_with_len 1 n)) last in
-    ap (λ (ms : List Member). tables_of ms (whole c.in_ok-no_links.field-0.items)) members ∙ (ap (λ (ls : List Link). tables_of (map start_member (range_with_len 1 c.args.members)) ls) (start_whole c.in_ok-no_links.field-0.items c.in_ok-no_links.ensures.none) ∙ sym (start_tables_is c.args.members))
+    let members : c.loop-id.rows.items ≡ map start_member (range_with_len 1 c.args.members) =
+    c.loop-id.invariant ∙ ap (λ (n : ℕ). map start_member (range_with_len 1 n)) last in
+    ap (λ (ms : List Member). tables_of ms (whole c.in_ok-no_links.field-0.items)) members
+    ∙ (ap (λ (ls : List Link). tables_of (map start_member (range_with_len 1 c.args.members)) ls)
+    (start_whole c.in_ok-no_links.field-0.items c.in_ok-no_links.ensures.none) ∙ sym (start_tables_is c.args.members))

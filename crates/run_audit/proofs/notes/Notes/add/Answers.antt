@@ -42,7 +42,8 @@ returns-clause-notes c = λ opening log are led.
     (λ notes. record {
       answers = answers-more opening log c.args.commit.now c.args.rows.now c.args.self.now.answers c.note_keys.new.answers led' are.answers
           (λ key. notes key
-          ∙ (λ i. cond (has_key key (keys' i)) (pushed (number i) (renewed key txn c.args.rows.now) (noted key c.args.self.now.answers)) (noted key c.args.self.now.answers)));
+          ∙ (λ i. cond (has_key key (keys' i)) (pushed (number i) (renewed key txn c.args.rows.now) (noted key c.args.self.now.answers))
+          (noted key c.args.self.now.answers)));
       numbers = numbers-more log c.args.commit.now c.args.self.now.numbers c.note_number.new.numbers are.numbers
           (λ hold. c.in_ok-note_number.ensures hold
           ∙ (λ i. cond ((c.args.commit.now.sid.number == hold.sid.number) && has_key hold.key (keys i)) (number i) (number_of hold c.args.self.now.numbers)));

@@ -10,10 +10,13 @@ loop-rest-init c =
 
 pub loop-rest-preserved : goal.loop-rest-preserved
 loop-rest-preserved c =
-    rw (c.in-Ok-push_acts.ensures, c.after-progress.ensures) (read_more c.args.text.now c.loop-rest.acts.items c.loop-rest.progress c.loop-rest.number c.loop-rest.rest.now c.first_line.result.0.now c.first_line.result.1.now c.in-Ok.said
+    rw (c.in-Ok-push_acts.ensures, c.after-progress.ensures)
+    (read_more c.args.text.now c.loop-rest.acts.items c.loop-rest.progress
+    c.loop-rest.number c.loop-rest.rest.now c.first_line.result.0.now c.first_line.result.1.now c.in-Ok.said
     c.loop-rest.invariant c.first_line.ensures.lines c.first_line.ensures.shorter c.in-Ok.ensures.said)
 
 pub returns-clause-playable : goal.returns-clause-playable
 returns-clause-playable c =
     playable c.args.text.now c.loop-rest.progress.shape c.loop-rest.acts.items
-    (script_at c.args.text.now c.loop-rest.acts.items c.loop-rest.progress c.loop-rest.number c.loop-rest.rest.now c.loop-rest.invariant (grind (arith, nat_tests)) (c.if-not-has_ended.ensures.0 refl))
+    (script_at c.args.text.now c.loop-rest.acts.items c.loop-rest.progress c.loop-rest.number c.loop-rest.rest.now c.loop-rest.invariant
+    (grind (arith, nat_tests)) (c.if-not-has_ended.ensures.0 refl))

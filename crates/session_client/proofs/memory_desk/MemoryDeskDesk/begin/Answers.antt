@@ -6,7 +6,8 @@ use Rattle.session_client.proofs.memory_desk.MemoryDeskDesk.begin.Goals as goal
 pub returns-clause-new : goal.returns-clause-new
 returns-clause-new c =
     let P : ℕ → Type 0 = λ n. IfOk c.begin.result (λ sid. IsNew sid (Some (sids_to n))) in
-    subst P c.self.view_is (begin_is_new c.args.writes c.self.inside.store.ledger c.begin.new.self.ledger c.begin.result c.begin.ensures.ledger c.begin.ensures.number)
+    subst P c.self.view_is
+    (begin_is_new c.args.writes c.self.inside.store.ledger c.begin.new.self.ledger c.begin.result c.begin.ensures.ledger c.begin.ensures.number)
 
 pub returns-clause-begun : goal.returns-clause-begun
 returns-clause-begun c =

@@ -4,8 +4,12 @@ use Rattle.sql_keeper.proofs.StoreLemmas.{told-at, few-same}
 use Rattle.sql_keeper.proofs.store.Store.ask.Goals as goal
 
 pub invariant_of-self : goal.invariant_of-self
-invariant_of-self g c =
-    (c.ask.ensures.started, c.self.invariant.1, λ told is_told. c.self.invariant.2 told (c.ask.ensures.tells told is_told).0, few-same _ _ _ _ c.self.invariant.3 c.in-Ok.ensures.counts)
+invariant_of-self g c = (
+  c.ask.ensures.started,
+  c.self.invariant.1,
+  λ told is_told. c.self.invariant.2 told (c.ask.ensures.tells told is_told).0,
+  few-same _ _ _ _ c.self.invariant.3 c.in-Ok.ensures.counts,
+)
 
 pub returns-in-Ok-clause-tells : goal.returns-in-Ok-clause-tells
 returns-in-Ok-clause-tells g c =

@@ -14,15 +14,18 @@ pub invariant_of-self-2 : goal.invariant_of-self-2
 invariant_of-self-2 g c =
     let inside = c.self.inside in
     let ledger : Ledger = record { opening = inside.opening; log = inside.log.items; sessions = inside.sessions; cap = inside.cap; failed = inside.failed } in
-    let first = admitted (is_open c.args.sid inside.sessions) c.args.sid c.args.grants.now c.args.txn (length inside.log.items) inside.cap c.in_default.ensures.ok in
-    let same : record { opening = inside.opening; log = c.push_reserved.new.self.items; sessions = c.close.new.self; cap = inside.cap; failed = inside.failed } ≡ with_commit c.args.sid c.args.txn ledger =
+    let first =
+    admitted (is_open c.args.sid inside.sessions) c.args.sid c.args.grants.now c.args.txn (length inside.log.items) inside.cap c.in_default.ensures.ok in
+    let same : record { opening = inside.opening; log = c.push_reserved.new.self.items; sessions = c.close.new.self; cap = inside.cap; failed = inside.failed }
+    ≡ with_commit c.args.sid c.args.txn ledger =
     rw (c.push_reserved.ensures.items, c.admit.ensures.items, c.close.ensures) refl in (
       c.commit.ensures.started,
       subst IsLedger (sym same) (ledger-committed ledger c.args.sid c.args.txn c.self.invariant.1 first.0 first.1),
       λ told is_told.
           let before = c.in_default-commit.ensures.tells told is_told in
           let log_is = c.self.invariant.2 before.0 before.1 in
-          rows-committed inside.opening inside.log.items c.args.sid c.args.txn told (subst (λ (rows : Tables). apply_all c.args.txn rows ≡ Ok told) log_is before.2)
+          rows-committed inside.opening inside.log.items c.args.sid c.args.txn told
+          (subst (λ (rows : Tables). apply_all c.args.txn rows ≡ Ok told) log_is before.2)
           ∙ sym (ap (λ l. rows_after inside.opening l.log) same),
       few-same _ _ _ _ c.self.invariant.3 c.in_default-commit.ensures.counts,
     )

@@ -1,0 +1,5 @@
+use Rattle.std.proofs.Common.{ap}
+use Rattle.iq_outside.proofs.memory_doors.ListDoorDoor.bind.Goals as goal
+
+pub returns-clause-stays_fresh : goal.returns-clause-stays_fresh
+returns-clause-stays_fresh c h = rw (ap (λ door. door.waiting) c.count_call.ensures.rest) h

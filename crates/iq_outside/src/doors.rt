@@ -1,0 +1,61 @@
+ghost use Rattle.std.specs.Prelude.{◌≡◌, ℕ, ◌≤◌, ◌||◌, Bool, List, Option, is_none, IfSome, IfOk, OnOk, OnErr};
+ghost use Rattle.iq_outside.specs.Outside.{Rose, IsFresh, HandedBack, lines_with};
+
+use crate::failures::Failed;
+use crate::lines::Line;
+
+/// Where connections come in.
+///
+/// Contracts see five things of a door. `faults` is how often it failed: the count rises at each
+/// call that fails, until the end of its type, and at no other. `lines` is how many lines it gave, up
+/// to 2^64 - 1, and `ended` whether an `accept` has answered None. A door of which `fresh` holds
+/// gives only lines that have given and taken nothing, where they tell that; no call ends this.
+/// `closed` is the list of the lines handed back, in order, or `None` where it isn't told.
+pub trait Door: Send {
+    type Line: Line + Send;
+
+    ghost faults: { Self → ℕ };
+
+    ghost lines: { Self → ℕ };
+
+    ghost ended: { Self → Bool };
+
+    ghost fresh: { Self → Type 0 };
+
+    ghost closed: { Self → Option (List Self.Line) };
+
+    /// Opens the door at this address. It may wait.
+    fn bind(&mut self, addr: &[u8]) -> Result<(), Failed>
+        ensures failed_rose { OnErr result (Rose (faults self.old) (faults self.new)) }
+        ensures no_fault { OnOk result (faults self.new ≡ faults self.old) }
+        ensures never_falls { faults self.old ≤ faults self.new }
+        ensures no_line { lines self.new ≡ lines self.old }
+        ensures no_end { ended self.new ≡ ended self.old }
+        ensures stays_fresh { fresh self.old → fresh self.new }
+        ensures keeps_closed { closed self.new ≡ closed self.old };
+
+    /// Waits for the next connection, and answers None where no more come.
+    fn accept(&mut self) -> Result<Option<Self::Line>, Failed>
+        ensures failed_rose { OnErr result (Rose (faults self.old) (faults self.new)) }
+        ensures no_fault { OnOk result (faults self.new ≡ faults self.old) }
+        ensures never_falls { faults self.old ≤ faults self.new }
+        ensures counts { IfOk result
+            (λ answer. lines self.new ≡ lines_with answer (lines self.old)) }
+        ensures ends { IfOk result
+            (λ answer. ended self.new ≡ (is_none answer || ended self.old)) }
+        ensures no_line { OnErr result (lines self.new ≡ lines self.old) }
+        ensures no_end { OnErr result (ended self.new ≡ ended self.old) }
+        ensures unused { fresh self.old → IfOk result (λ answer. IfSome answer
+            (λ line. IsFresh (Self.Line.given line) (Self.Line.taken line))) }
+        ensures stays_fresh { fresh self.old → fresh self.new }
+        ensures keeps_closed { closed self.new ≡ closed self.old };
+
+    /// Takes back a line that was served. It can't fail, isn't counted, and takes no memory. Where
+    /// the door tells the lines handed back, this one is the last of them.
+    fn close(&mut self, line: Self::Line)
+        ensures no_fault { faults self.new ≡ faults self.old }
+        ensures no_line { lines self.new ≡ lines self.old }
+        ensures no_end { ended self.new ≡ ended self.old }
+        ensures stays_fresh { fresh self.old → fresh self.new }
+        ensures handed_back { HandedBack (closed self.old) (closed self.new) line };
+}

@@ -1,0 +1,245 @@
+ghost use Rattle.std.specs.Prelude.{◌≡◌, ◌<◌, ◌≤◌, None, is_none, false, length, refl, IfOk, OnOk, OnErr, IfSome};
+ghost use Rattle.iq_outside.specs.Outside.{Rose, count_up, lines_with};
+
+use crate::doors::Door;
+use crate::failures::Failed;
+use crate::lines::Line;
+use crate::sinks::Sink;
+use crate::sources::Source;
+use std::io::{Read, Write};
+use std::marker::Model;
+use std::net::{Net, Shutdown, TcpListener, TcpStream};
+use std::str;
+
+/// A line over a TCP stream. Each error of the stream counts as a fault, an interrupted read or
+/// write too, and so does a write that takes no byte. It tells nothing of the bytes. Contracts see
+/// the two counts. A read or a write may wait for the peer.
+#[derive(Drop)]
+pub struct TcpLine {
+    stream: TcpStream,
+    read_faults: u64,
+    write_faults: u64,
+}
+
+impl Model for TcpLine {
+    ghost use Rattle.iq_outside.specs.Adapters.{TcpLineView};
+
+    ghost Value = { TcpLineView };
+
+    ghost view = { λ line. record { read_faults = line.read_faults; write_faults = line.write_faults } };
+}
+
+impl TcpLine {
+    // A line over this stream, which sends small pieces at once where the system can.
+    fn new(stream: TcpStream) -> TcpLine
+        ensures { result ≡ record { read_faults = 0; write_faults = 0 } }
+    {
+        let _ = stream.set_nodelay(true);
+        TcpLine {
+            stream,
+            read_faults: 0,
+            write_faults: 0,
+        }
+    }
+
+    /// How often a read failed.
+    pub fn read_faults(&self) -> u64
+        ensures { result ≡ self.now.read_faults }
+    {
+        self.read_faults
+    }
+
+    /// How often a write failed.
+    pub fn write_faults(&self) -> u64
+        ensures { result ≡ self.now.write_faults }
+    {
+        self.write_faults
+    }
+}
+
+impl Source for TcpLine {
+    ghost left = { λ _. None };
+
+    ghost faults = { λ line. line.read_faults };
+
+    ghost write_side = { λ line. record { taken = None; faults = line.write_faults } };
+
+    /// Gives what the stream gives. `Failed` comes where the stream answers an error.
+    fn read(&mut self, room: &mut [u8]) -> Result<usize, Failed>
+        requires { 0 < length room.old }
+        ensures within { IfOk result (λ n. n ≤ length room.new) }
+        ensures failed_rose { OnErr result (Rose self.old.read_faults self.new.read_faults) }
+        ensures never_falls { self.old.read_faults ≤ self.new.read_faults }
+        ensures no_fault { OnOk result (self.new.read_faults ≡ self.old.read_faults) }
+        ensures keeps_writing { self.new.write_faults ≡ self.old.write_faults }
+
+        ensures err { OnErr result (self.new.read_faults ≡ count_up self.old.read_faults) }
+    {
+        match self.stream.read(room) {
+            Ok(count) => Ok(count),
+            Err(_) => {
+                self.read_faults = self.read_faults.saturating_add(1);
+                Err(Failed)
+            }
+        }
+    }
+}
+
+impl Sink for TcpLine {
+    ghost taken = { λ _. None };
+
+    ghost faults = { λ line. line.write_faults };
+
+    ghost read_side = { λ line. record { left = None; given = None; faults = line.read_faults } };
+
+    /// The stream takes what it takes. `Failed` comes where the stream answers an error or takes no
+    /// byte.
+    fn write(&mut self, piece: &[u8]) -> Result<usize, Failed>
+        requires { 0 < length piece.now }
+        ensures progress { IfOk result (λ n. 1 ≤ n) }
+        ensures within { IfOk result (λ n. n ≤ length piece.now) }
+        ensures failed_rose { OnErr result (Rose self.old.write_faults self.new.write_faults) }
+        ensures never_falls { self.old.write_faults ≤ self.new.write_faults }
+        ensures no_fault { OnOk result (self.new.write_faults ≡ self.old.write_faults) }
+        ensures keeps_reading { self.new.read_faults ≡ self.old.read_faults }
+
+        ensures err { OnErr result (self.new.write_faults ≡ count_up self.old.write_faults) }
+    {
+        match self.stream.write(piece) {
+            Ok(count) if count > 0 => Ok(count),
+            _ => {
+                self.write_faults = self.write_faults.saturating_add(1);
+                Err(Failed)
+            }
+        }
+    }
+}
+
+impl Line for TcpLine {
+    ghost reading = { λ _. refl };
+
+    ghost writing = { λ _. refl };
+
+    ghost tells_given = { λ _ told. told };
+
+    /// Shuts the stream down both ways, where it isn't yet.
+    fn finish(&mut self)
+        ensures { self.new ≡ self.old }
+    {
+        let _ = self.stream.shutdown(Shutdown::Both);
+    }
+}
+
+/// A door over TCP. Each error of the system counts as a fault, as does an address that isn't
+/// UTF-8, and an `accept` before the door is bound. It never tells that no more connections come, and
+/// it tells nothing of the lines that were handed back. Contracts see the count of faults and how many
+/// lines it gave.
+#[derive(Drop)]
+pub struct TcpDoor<'a, R: Net<Listener = TcpListener, Stream = TcpStream> + Sync> {
+    rt: &'a R,
+    listener: Option<TcpListener>,
+    faults: u64,
+    given: u64,
+}
+
+impl<'a, R: Net<Listener = TcpListener, Stream = TcpStream> + Sync> Model for TcpDoor<'a, R> {
+    ghost use Rattle.iq_outside.specs.Adapters.{TcpDoorView};
+
+    ghost Value = { TcpDoorView };
+
+    ghost view = { λ door. record { faults = door.faults; given = door.given } };
+}
+
+impl<'a, R: Net<Listener = TcpListener, Stream = TcpStream> + Sync> TcpDoor<'a, R> {
+    /// A door over this runtime's network, not bound yet.
+    pub fn new(rt: &'a R) -> TcpDoor<'a, R>
+        ensures { result ≡ record { faults = 0; given = 0 } }
+    {
+        TcpDoor {
+            rt,
+            listener: None,
+            faults: 0,
+            given: 0,
+        }
+    }
+
+    /// How often it failed.
+    pub fn faults(&self) -> u64
+        ensures { result ≡ self.now.faults }
+    {
+        self.faults
+    }
+
+    /// The port that it is bound to, and None where it isn't bound or the system can't tell.
+    pub fn port(&self) -> Option<u16> {
+        match self.listener.as_ref()?.local_addr() {
+            Ok(addr) => Some(addr.port()),
+            Err(_) => None,
+        }
+    }
+}
+
+impl<'a, R: Net<Listener = TcpListener, Stream = TcpStream> + Sync> Door for TcpDoor<'a, R> {
+    type Line = TcpLine;
+
+    ghost faults = { λ door. door.faults };
+
+    ghost lines = { λ door. door.given };
+
+    ghost ended = { λ _. false };
+
+    ghost fresh = { λ _. ⊥ };
+
+    ghost closed = { λ _. None };
+
+    /// Listens at this address, a host and a port with a colon between. A door that was bound before
+    /// no longer listens there, once it listens here.
+    fn bind(&mut self, addr: &[u8]) -> Result<(), Failed>
+        ensures failed_rose { OnErr result (Rose self.old.faults self.new.faults) }
+        ensures never_falls { self.old.faults ≤ self.new.faults }
+        ensures no_line { self.new.given ≡ self.old.given }
+        ensures no_fault { OnOk result (self.new.faults ≡ self.old.faults) }
+
+        ensures err { OnErr result (self.new.faults ≡ count_up self.old.faults) }
+    {
+        if let Ok(addr) = str::from_utf8(addr) {
+            if let Ok(listener) = TcpListener::bind(self.rt, addr) {
+                self.listener = Some(listener);
+                return Ok(());
+            }
+        }
+        self.faults = self.faults.saturating_add(1);
+        Err(Failed)
+    }
+
+    /// Waits for the next connection. It never answers None.
+    fn accept(&mut self) -> Result<Option<TcpLine>, Failed>
+        ensures failed_rose { OnErr result (Rose self.old.faults self.new.faults) }
+        ensures never_falls { self.old.faults ≤ self.new.faults }
+        ensures no_fault { OnOk result (self.new.faults ≡ self.old.faults) }
+
+        ensures counts { IfOk result
+            (λ answer. self.new.given ≡ lines_with answer self.old.given) }
+        ensures never_ends { IfOk result (λ answer. is_none answer ≡ false) }
+        ensures no_line { OnErr result (self.new.given ≡ self.old.given) }
+        ensures gives { IfOk result (λ answer. IfSome answer
+            (λ line. line ≡ record { read_faults = 0; write_faults = 0 })) }
+        ensures err { OnErr result (self.new.faults ≡ count_up self.old.faults) }
+    {
+        if let Some(listener) = &self.listener {
+            if let Ok((stream, _)) = listener.accept() {
+                self.given = self.given.saturating_add(1);
+                return Ok(Some(TcpLine::new(stream)));
+            }
+        }
+        self.faults = self.faults.saturating_add(1);
+        Err(Failed)
+    }
+
+    /// Drops the line, which closes its stream.
+    fn close(&mut self, line: TcpLine)
+        ensures { self.new ≡ self.old }
+    {
+        drop(line);
+    }
+}
