@@ -85,20 +85,14 @@ fn released<D: Desk>(rt: &impl Abort, desk: &mut D, who: Sid, request: Wanted) -
     }
 }
 
-/// What is done with a hub.
-enum Scene {
-    Sweep,
-    Share,
-}
-
-// A hub of what is handed in, and the scene on it.
-fn play<H: HubName + Send + Sync, R: Threads + Wait + Abort + Sync>(
+// A quarantine whose deadline came is ended at the store by the desk's own sweeper and dropped, so that
+// the next reader has the lease, and the release of its grant finds it gone.
+fn sweep_on<H: HubName, R: Wait + Abort>(
     rt: &R,
     alloc: Global,
     store: Store<MapKeeper>,
     shards: Vec<Shard>,
     ledger: Blank,
-    scene: Scene,
 ) -> Result<(), Fail>
     requires store { IsNamedStore H.opening H.cap H.told H.start store }
     requires start { H.start ≡ Some store.faults }
@@ -108,6 +102,7 @@ fn play<H: HubName + Send + Sync, R: Threads + Wait + Abort + Sync>(
     requires ledger { (ledger.name ≡ H.name) × (ledger.parts ≡ H.parts) }
     requires one_each { ledger.parts ≡ length shards.items }
 {
+    let clock = ListClock::new(vec![in alloc; 0, 10]?);
     let hub: Hub<MapKeeper, H> = match Hub::new(
         alloc,
         store.named::<StartOf<H>>(),
@@ -117,20 +112,6 @@ fn play<H: HubName + Send + Sync, R: Threads + Wait + Abort + Sync>(
         Ok(hub) => hub,
         Err(_) => panic!(rt; "memory"),
     };
-    match scene {
-        Scene::Sweep => sweep_on(rt, alloc, hub),
-        Scene::Share => write_and_read(rt, alloc, hub),
-    }
-}
-
-// A quarantine whose deadline came is ended at the store by the desk's own sweeper and dropped, so that
-// the next reader has the lease, and the release of its grant finds it gone.
-fn sweep_on<H: HubName, R: Wait + Abort>(
-    rt: &R,
-    alloc: Global,
-    hub: Hub<MapKeeper, H>,
-) -> Result<(), Fail> {
-    let clock = ListClock::new(vec![in alloc; 0, 10]?);
     let mut desk = hub.desk(rt, 0, &clock, &OpenGate);
     let writer = begun(rt, &mut desk, true);
     let grant = granted(rt, &mut desk, writer, profile(2));
@@ -151,14 +132,7 @@ fn sweep_on<H: HubName, R: Wait + Abort>(
 fn a_desk_tends_what_is_due(rt: HostRuntime) -> Result<(), Fail> {
     let alloc = rt.alloc();
     let shards = new_shards(alloc, 1, 4, 10)?;
-    play::<Brand, _>(
-        &rt,
-        alloc,
-        store(&rt, alloc),
-        shards,
-        Blank::new(1),
-        Scene::Sweep,
-    )
+    sweep_on::<Brand, _>(&rt, alloc, store(&rt, alloc), shards, Blank::new(1))
 }
 
 // One thread writes a member's name while another reads another's profile; then the store has the
@@ -166,9 +140,28 @@ fn a_desk_tends_what_is_due(rt: HostRuntime) -> Result<(), Fail> {
 fn write_and_read<H: HubName + Send + Sync, R: Threads + Wait + Abort + Sync>(
     rt: &R,
     alloc: Global,
-    hub: Hub<MapKeeper, H>,
-) -> Result<(), Fail> {
+    store: Store<MapKeeper>,
+    shards: Vec<Shard>,
+    ledger: Blank,
+) -> Result<(), Fail>
+    requires store { IsNamedStore H.opening H.cap H.told H.start store }
+    requires start { H.start ≡ Some store.faults }
+    requires new { store.ledger.failed ≡ 0 }
+    requires shards { AreAll H.terms shards.items }
+    requires few { length shards.items ≤ 64 }
+    requires ledger { (ledger.name ≡ H.name) × (ledger.parts ≡ H.parts) }
+    requires one_each { ledger.parts ≡ length shards.items }
+{
     let clock = ListClock::new(vec![in alloc; 0]?);
+    let hub: Hub<MapKeeper, H> = match Hub::new(
+        alloc,
+        store.named::<StartOf<H>>(),
+        shards,
+        ledger,
+    ) {
+        Ok(hub) => hub,
+        Err(_) => panic!(rt; "memory"),
+    };
     assert_eq!(rt;
         (
             hub.shards(),
@@ -263,12 +256,5 @@ fn read<D: Desk>(rt: &impl Abort, desk: &mut D) -> Result<(), Memory> {
 fn two_threads_share_a_hub(rt: HostRuntime) -> Result<(), Fail> {
     let alloc = rt.alloc();
     let shards = new_shards(alloc, 2, 4, 100)?;
-    play::<Brand, _>(
-        &rt,
-        alloc,
-        store(&rt, alloc),
-        shards,
-        Blank::new(2),
-        Scene::Share,
-    )
+    write_and_read::<Brand, _>(&rt, alloc, store(&rt, alloc), shards, Blank::new(2))
 }

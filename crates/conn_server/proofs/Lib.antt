@@ -1,5 +1,0 @@
-pub mod GrantLemmas
-pub mod RefusalLemmas
-pub mod TellingLemmas
-pub mod AnswerLemmas
-pub mod ClosingLemmas

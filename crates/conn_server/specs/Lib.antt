@@ -1,8 +1,0 @@
-pub mod Views
-pub mod Clients
-pub mod Refusals
-pub mod Requests
-pub mod Answers
-pub mod Tellings
-pub mod Closing
-pub mod Service
