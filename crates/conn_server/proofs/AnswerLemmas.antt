@@ -1,0 +1,139 @@
+-- How a command is answered that isn't refused.
+use Rattle.std.proofs.Common.{ℕ, ◌≡◌, List, [], ◌∷◌, Option, Some, None, Bool, true, false, refl, sym, ap, subst, ◌∙◌}
+use Rattle.rows_model.specs.declared.keys.QKey.{QKey}
+use Rattle.rows_model.specs.declared.keys.Sid.{Sid}
+use Rattle.std.specs.Prelude.{ℤ}
+use Rattle.key_shard.specs.Permit.{Permit}
+use Rattle.key_shard.specs.declared.replies.QAnswer.TheVariants as quarantine
+use Rattle.key_shard.specs.declared.replies.Rel.TheVariants as rel
+use Rattle.session_client.specs.Belongs.{Belongs}
+use Rattle.session_client.specs.Desks.{Call, Asked, with_member}
+use Rattle.session_client.specs.Grants.{GrantsView}
+use Rattle.session_client.specs.declared.replies.Reply.{Reply}
+use Rattle.session_client.specs.declared.replies.Reply.TheVariants as desk
+use Rattle.session_client.specs.declared.replies.Wanted.{Wanted}
+use Rattle.session_client.specs.declared.replies.Wanted.TheVariants as wanted
+use Rattle.mc_text.specs.declared.commands.Command.{Command}
+use Rattle.mc_text.specs.declared.commands.Command.TheVariants as commands
+use Rattle.mc_text.specs.declared.replies.LineReply.{LineReply}
+use Rattle.mc_text.specs.declared.replies.LineReply.TheVariants as reply
+use Rattle.conn_server.specs.declared.clients.Client.{Client}
+use Rattle.conn_server.specs.Clients.{asker, grants_but}
+use Rattle.conn_server.specs.Refusals.{refused}
+use Rattle.conn_server.specs.Requests.{request, told_of, client_after, with_grants, grants_heard}
+use Rattle.conn_server.specs.Tellings.{quarantine_as, release_as}
+use Rattle.conn_server.specs.Answers.{Makes, Requests, Does, AnswersBy, Asks}
+
+-- a command that isn't refused and makes one request is answered so
+pub asks_by : (before after : Option (List Call)) (old new : Client) (wanted : Wanted) (said : Command) (told : LineReply)
+    → refused old said ≡ None → request old said ≡ Some wanted → Makes before after old wanted said told new
+    → ((calls : List Call) → Requests old said calls told new → Does old said calls told new)
+    → Asks before after old said told new
+asks_by before after old new wanted said told passes is makes does =
+    let calls = Asked (asker old.present) wanted makes.heard ∷ [] in
+    let made : Requests old said calls told new = record {
+      wanted = wanted;
+      heard = makes.heard;
+      wanted_is = is;
+      belongs = makes.belongs;
+      calls_are = refl;
+      told_is = makes.told_is;
+      new_is = makes.new_is;
+    } in
+    record {
+      calls = calls;
+      record_is = makes.record_is;
+      answers = subst (λ (error : Option LineReply). AnswersBy error old said calls told new) (sym passes) (does calls made);
+    }
+
+-- a reply to a quarantine
+abbrev pub AnswersQuarantine : Reply → Type 0
+AnswersQuarantine (desk.Quar told) = Unit {0}
+AnswersQuarantine (desk.Fault fault) = Unit {0}
+AnswersQuarantine other = ⊥
+
+pub invalidates : (who : Sid) (key : QKey) (heard : Reply) → Belongs who (wanted.QaReg key) heard → AnswersQuarantine heard
+invalidates who key (desk.Quar told) b = tt
+invalidates who key (desk.Fault fault) b = tt
+invalidates who key other b = b
+
+pub refreshes : (who : Sid) (key : QKey) (heard : Reply) → Belongs who (wanted.QaRead key) heard → AnswersQuarantine heard
+refreshes who key (desk.Quar told) b = tt
+refreshes who key (desk.Fault fault) b = tt
+refreshes who key other b = b
+
+pub shifts : (who : Sid) (key : QKey) (by : ℤ) (heard : Reply) → Belongs who (wanted.Delta key by) heard → AnswersQuarantine heard
+shifts who key by (desk.Quar told) b = tt
+shifts who key by (desk.Fault fault) b = tt
+shifts who key by other b = b
+
+pub told_invalidate : (key : QKey) (sid : Sid) (heard : Reply)
+    → AnswersQuarantine heard → quarantine_as false heard ≡ told_of (commands.QaReg (Some key) sid) heard
+told_invalidate key sid (desk.Quar (quarantine.Granted grant old)) b = refl
+told_invalidate key sid (desk.Quar quarantine.Held) b = refl
+told_invalidate key sid (desk.Quar (quarantine.Refused holder mode)) b = refl
+told_invalidate key sid (desk.Fault fault) b = refl
+told_invalidate key sid other b = absurd b
+
+pub told_shift : (key : QKey) (sid : Sid) (by : ℤ) (heard : Reply)
+    → AnswersQuarantine heard → quarantine_as false heard ≡ told_of (commands.IqDelta (Some key) sid by) heard
+told_shift key sid by (desk.Quar (quarantine.Granted grant old)) b = refl
+told_shift key sid by (desk.Quar quarantine.Held) b = refl
+told_shift key sid by (desk.Quar (quarantine.Refused holder mode)) b = refl
+told_shift key sid by (desk.Fault fault) b = refl
+told_shift key sid by other b = absurd b
+
+pub told_refresh : (key : QKey) (sid : Sid) (heard : Reply) → AnswersQuarantine heard
+    → quarantine_as true heard ≡ told_of (commands.QaRead (Some key) sid) heard
+told_refresh key sid (desk.Quar (quarantine.Granted grant (Some old))) b = refl
+told_refresh key sid (desk.Quar (quarantine.Granted grant None)) b = refl
+told_refresh key sid (desk.Quar quarantine.Held) b = refl
+told_refresh key sid (desk.Quar (quarantine.Refused holder mode)) b = refl
+told_refresh key sid (desk.Fault fault) b = refl
+told_refresh key sid other b = absurd b
+
+-- the client after a reply to a quarantine
+pub after_quarantine : (client : Client) (said : Command) (heard : Reply) (grants : GrantsView) → AnswersQuarantine heard
+    → grants.items ≡ grants_heard client.grants.items heard → grants.room ≡ client.grants.room
+    → record { present = client.present; grants = grants } ≡ client_after client said heard
+after_quarantine client said (desk.Quar told) grants b items room = cc
+after_quarantine client said (desk.Fault fault) grants b items room = cc
+after_quarantine client said other grants b items room = absurd b
+
+-- a quarantine was asked of a desk, and the client is told so
+pub made_quarantine : (before after : Option (List Call)) (old : Client)
+    (grants : GrantsView) (wanted : Wanted) (said : Command) (reads : Bool) (heard : Reply) (told : LineReply)
+    → Belongs (asker old.present) wanted heard → after ≡ with_member (Asked (asker old.present) wanted heard) before
+    → AnswersQuarantine heard → quarantine_as reads heard ≡ told_of said heard → told ≡ quarantine_as reads heard
+    → grants.items ≡ grants_heard old.grants.items heard → grants.room ≡ old.grants.room
+    → Makes before after old wanted said told (record { present = old.present; grants = grants })
+made_quarantine before after old grants wanted said reads heard told belongs is answers same told_is items room =
+    record {
+      heard = heard;
+      belongs = belongs;
+      record_is = is;
+      told_is = told_is ∙ same;
+      new_is = after_quarantine old said heard grants answers items room;
+    }
+
+-- a value was dropped
+pub made_drop : (before after : Option (List Call)) (old new : Client) (key : QKey) (sid : Sid) (grant : Permit) (heard : Reply) (told : LineReply)
+    → Belongs (asker old.present) (wanted.Dar grant) heard → after ≡ with_member (Asked (asker old.present) (wanted.Dar grant) heard) before
+    → told ≡ release_as reply.Deleted heard → new ≡ with_grants old (grants_but key old.grants.items)
+    → Makes before after old (wanted.Dar grant) (commands.Dar (Some key) sid) told new
+made_drop before after old new key sid grant (desk.Rel (rel.Released evicted)) told b is told_is new_is =
+    record { heard = _; belongs = b; record_is = is; told_is = told_is; new_is = new_is }
+made_drop before after old new key sid grant (desk.Rel rel.Gone) told b is told_is new_is =
+    record { heard = _; belongs = b; record_is = is; told_is = told_is; new_is = new_is }
+made_drop before after old new key sid grant other told b is told_is new_is = absurd b
+
+-- a count was added to
+pub made_shift : (before after : Option (List Call)) (old new : Client) (key : QKey) (sid : Sid) (grant : Permit) (stamp : ℕ) (heard : Reply) (told : LineReply)
+    → Belongs (asker old.present) (wanted.Apply grant stamp) heard → after ≡ with_member (Asked (asker old.present) (wanted.Apply grant stamp) heard) before
+    → told ≡ release_as reply.Stored heard → new ≡ with_grants old (grants_but key old.grants.items)
+    → Makes before after old (wanted.Apply grant stamp) (commands.IqCommit (Some key) sid) told new
+made_shift before after old new key sid grant stamp (desk.Rel (rel.Released evicted)) told b is told_is new_is =
+    record { heard = _; belongs = b; record_is = is; told_is = told_is; new_is = new_is }
+made_shift before after old new key sid grant stamp (desk.Rel rel.Gone) told b is told_is new_is =
+    record { heard = _; belongs = b; record_is = is; told_is = told_is; new_is = new_is }
+made_shift before after old new key sid grant stamp other told b is told_is new_is = absurd b

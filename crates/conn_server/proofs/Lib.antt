@@ -1,0 +1,5 @@
+pub mod GrantLemmas
+pub mod RefusalLemmas
+pub mod TellingLemmas
+pub mod AnswerLemmas
+pub mod ClosingLemmas

@@ -1,0 +1,62 @@
+-- What isn't the case of a command that isn't refused.
+use Rattle.std.proofs.Common.{ℕ, ◌≡◌, ◌==◌, ◌&&◌, Bool, true, false, not, List, [], ◌∷◌, Option, Some, None, is_some, refl}
+use Rattle.std.specs.Prelude.{IsSome}
+use Rattle.rows_model.specs.declared.keys.QKey.{QKey}
+use Rattle.mc_text.specs.declared.commands.Command.{Command}
+use Rattle.mc_text.specs.declared.replies.LineReply.{LineReply}
+use Rattle.conn_server.specs.declared.clients.Client.{Client}
+use Rattle.conn_server.specs.Clients.{is_reading, has_committed, is_busy, is_full}
+use Rattle.conn_server.specs.Refusals.{key_word, named_sid, is_unknown, begins, quarantines, releases, writes, is_no_key, flags_of}
+use Rattle.conn_server.specs.Refusals.{exptime_of, is_of_another, shifts_no_count, grant_for, is_other_mode, first_due, refused}
+
+-- no cause to refuse the command holds
+pub record Passes (client : Client) (said : Command) : Type 0 where
+  pub known : is_unknown said ≡ false
+  pub key : is_no_key (key_word said) ≡ false
+  pub own : is_of_another client.present (named_sid said) ≡ false
+  pub writer : (writes said && is_reading client.present) ≡ false
+  pub room : (quarantines said && is_full client) ≡ false
+  pub count : shifts_no_count said ≡ false
+  pub grant : (releases said && not (is_some (grant_for client.grants.items (key_word said)))) ≡ false
+  pub mode : is_other_mode said (grant_for client.grants.items (key_word said)) ≡ false
+
+-- the first isn't due, and none of the others
+record NoneDue (due : Bool) (others : Option LineReply) : Type 0 where
+  first : due ≡ false
+  rest : others ≡ None
+
+none_due : (due : Bool) (told : LineReply) (others : Option LineReply) → (if due then Some told else others) ≡ None → NoneDue due others
+none_due true told others e = cc
+none_due false told others e = record { first = refl; rest = e }
+
+pub passes : (client : Client) (said : Command) → refused client said ≡ None → Passes client said
+unfolding refused
+passes client said e =
+    let a1 = none_due _ _ _ e in
+    let a2 = none_due _ _ _ a1.rest in
+    let a3 = none_due _ _ _ a2.rest in
+    let a4 = none_due _ _ _ a3.rest in
+    let a5 = none_due _ _ _ a4.rest in
+    let a6 = none_due _ _ _ a5.rest in
+    let a7 = none_due _ _ _ a6.rest in
+    let a8 = none_due _ _ _ a7.rest in
+    let a9 = none_due _ _ _ a8.rest in
+    let a10 = none_due _ _ _ a9.rest in
+    let a11 = none_due _ _ _ a10.rest in
+    let a12 = none_due _ _ _ a11.rest in
+    let a13 = none_due _ _ _ a12.rest in
+    record {
+      known = a1.first;
+      key = a3.first;
+      own = a6.first;
+      writer = a7.first;
+      room = a9.first;
+      count = a10.first;
+      grant = a12.first;
+      mode = a13.first;
+    }
+
+-- the word for a key is a key
+pub has_key : (key : Option QKey) → is_no_key (Some key) ≡ false → IsSome key
+has_key (Some key) e = tt
+has_key None e = cc

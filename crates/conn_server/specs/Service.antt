@@ -1,0 +1,102 @@
+-- What a connection was given, what it took, what it asked of the desk, and how it ended.
+use Rattle.std.specs.Prelude.{ℕ, ◌-◌, ◌^◌, ◌≡◌, ◌<◌, ◌≤◌, ◌×◌, ◌⊎◌, ⊤, ⊥, min, List, [], ◌∷◌, ◌++◌, length, drop, Option, Some, None}
+use Rattle.iq_outside.specs.Outside.{Takes, Gains}
+use Rattle.mc_text.specs.Replies.{text_of}
+use Rattle.mc_text.specs.Streams.{Item, command, long_line, bad_block, big_block, Stands, IsOpen, AreFirst}
+use Rattle.mc_text.specs.declared.commands.Command.TheVariants.{Quit}
+use Rattle.mc_text.specs.declared.faults.FrameFault.{FrameFault}
+use Rattle.mc_text.specs.declared.faults.FrameFault.TheVariants as frame
+use Rattle.mc_text.specs.declared.replies.LineReply.{LineReply}
+use Rattle.mc_text.specs.declared.replies.LineReply.TheVariants as reply
+use Rattle.session_client.specs.Desks.{Call}
+use Rattle.conn_server.specs.declared.clients.Client.{Client}
+use Rattle.conn_server.specs.declared.ends.LineEnd.{LineEnd}
+use Rattle.conn_server.specs.declared.ends.LineEnd.TheVariants as ends
+use Rattle.conn_server.specs.Clients.{newcomer}
+use Rattle.conn_server.specs.Answers.{AllAnswer, with_calls}
+use Rattle.conn_server.specs.Closing.{Leaves}
+
+-- how many commands one connection is answered at most
+abbrev pub budget : ℕ
+budget = 1000000
+
+-- the texts of replies, one behind the other
+abbrev pub texts : List LineReply → List ℕ
+texts [] = []
+texts (told ∷ others) = text_of told ++ texts others
+
+-- a fault that lasts stands next in the stream, and its client is told this
+abbrev pub Lasts : List ℕ → FrameFault → LineReply → Type 0
+Lasts rest (frame.LongLine place) told = Stands rest long_line 0 × (told ≡ reply.LongLine)
+Lasts rest (frame.BadBlock place) told = Stands rest bad_block 0 × (told ≡ reply.BadBlock)
+Lasts rest (frame.BigBlock place) told = Stands rest big_block 0 × (told ≡ reply.BigBlock)
+Lasts rest other told = ⊥
+
+-- where in the stream a fault stands
+abbrev pub place_of : FrameFault → ℕ
+place_of (frame.BadLine place) = place
+place_of (frame.LongLine place) = place
+place_of (frame.BadBlock place) = place
+place_of (frame.BigBlock place) = place
+place_of frame.Memory = 0
+
+-- the line took all the replies
+abbrev pub TookAll : List ℕ → List LineReply → Type 0
+TookAll taken told = taken ≡ texts told
+
+-- it took a beginning of them
+abbrev pub TookSome : List ℕ → List LineReply → Type 0
+TookSome taken told = (rest : List ℕ) × (texts told ≡ taken ++ rest)
+
+-- a fault that lasts stands next, and the line took a beginning of the replies and of what is told of the fault
+pub record TookToFault (rest taken : List ℕ) (told : List LineReply) : Type 0 where
+  pub fault : FrameFault
+  pub last : LineReply
+  pub lasts : Lasts rest fault last
+  pub some : TookSome taken (told ++ last ∷ [])
+
+-- so many commands were answered, and another may be
+abbrev pub IsWithin : List Item → Type 0
+IsWithin items = length items < budget
+
+-- how a connection ended whose items took so many bytes of the stream, with this behind them
+abbrev pub EndsSo : LineEnd → List Item → ℕ → List ℕ → List ℕ → List LineReply → Type 0
+EndsSo ends.Quit items size rest taken told =
+    IsWithin items × ((more : ℕ) × Stands rest (command Quit) more) × TookAll taken told
+EndsSo (ends.Closed left) items size rest taken told =
+    IsWithin items × IsOpen rest × (left ≡ length rest) × TookAll taken told
+EndsSo (ends.Shut fault) items size rest taken told =
+    IsWithin items × (place_of fault ≡ min size (2 ^ 64 - 1))
+    × ((last : LineReply) × Lasts rest fault last × TookAll taken (told ++ last ∷ []))
+EndsSo ends.Budget items size rest taken told = (length items ≡ budget) × TookAll taken told
+EndsSo ends.ReadFault items size rest taken told = IsWithin items × IsOpen rest × TookAll taken told
+EndsSo ends.WriteFault items size rest taken told =
+    (length items ≤ budget) × (TookSome taken told ⊎ TookToFault rest taken told)
+EndsSo ends.Memory items size rest taken told =
+    (length items ≤ budget) × (TookSome taken told ⊎ TookToFault rest taken told)
+
+-- a connection was served: the first commands and bad lines of what it was given were
+-- answered in order, its client's session was then given up, and it took the replies
+pub record Served (given taken : List ℕ) (calls : List Call) (end : LineEnd) : Type 0 where
+  pub items : List Item
+  pub size : ℕ
+  pub told : List LineReply
+  pub asked : List Call
+  pub client : Client
+  pub closing : List Call
+  pub count : ℕ
+  pub first : AreFirst given items size
+  pub answers : AllAnswer newcomer items asked told client
+  pub leaves : Leaves client.present client.grants.items closing count
+  pub calls_are : calls ≡ asked ++ closing
+  pub ends : EndsSo end items size (drop size given) taken told
+
+-- a line was served at a desk: what it had left and took, and what the desk records, each where it is told, before and after
+pub record IsServed (left_old left_new taken_old taken_new : Option (List ℕ)) (record_old record_new : Option (List Call)) (end : LineEnd) : Type 0 where
+  pub given : List ℕ
+  pub taken : List ℕ
+  pub calls : List Call
+  pub gives : Takes left_old left_new given
+  pub takes : Gains taken_old taken_new taken
+  pub asks : record_new ≡ with_calls calls record_old
+  pub served : Served given taken calls end
