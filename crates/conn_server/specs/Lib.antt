@@ -6,3 +6,4 @@ pub mod Answers
 pub mod Tellings
 pub mod Closing
 pub mod Service
+pub mod Course

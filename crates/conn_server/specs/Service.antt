@@ -1,6 +1,6 @@
 -- What a connection was given, what it took, what it asked of the desk, and how it ended.
 use Rattle.std.specs.Prelude.{ℕ, ◌-◌, ◌^◌, ◌≡◌, ◌<◌, ◌≤◌, ◌×◌, ◌⊎◌, ⊤, ⊥, min, List, [], ◌∷◌, ◌++◌, length, drop, Option, Some, None}
-use Rattle.iq_outside.specs.Outside.{Takes, Gains}
+use Rattle.iq_outside.specs.Outside.{Takes, Gains, AtEnd}
 use Rattle.mc_text.specs.Replies.{text_of}
 use Rattle.mc_text.specs.Streams.{Item, command, long_line, bad_block, big_block, Stands, IsOpen, AreFirst}
 use Rattle.mc_text.specs.declared.commands.Command.TheVariants.{Quit}
@@ -91,6 +91,11 @@ pub record Served (given taken : List ℕ) (calls : List Call) (end : LineEnd) :
   pub calls_are : calls ≡ asked ++ closing
   pub ends : EndsSo end items size (drop size given) taken told
 
+-- where the input ended the line has no byte left, where it tells its bytes
+abbrev pub NoneLeft : LineEnd → Option (List ℕ) → Type 0
+NoneLeft (ends.Closed left) left_new = AtEnd left_new
+NoneLeft other left_new = ⊤
+
 -- a line was served at a desk: what it had left and took, and what the desk records, each where it is told, before and after
 pub record IsServed (left_old left_new taken_old taken_new : Option (List ℕ)) (record_old record_new : Option (List Call)) (end : LineEnd) : Type 0 where
   pub given : List ℕ
@@ -100,3 +105,4 @@ pub record IsServed (left_old left_new taken_old taken_new : Option (List ℕ)) 
   pub takes : Gains taken_old taken_new taken
   pub asks : record_new ≡ with_calls calls record_old
   pub served : Served given taken calls end
+  pub none_left : NoneLeft end left_new

@@ -3,12 +3,14 @@
 #![tactic(auto)]
 
 pub use ends::LineEnd;
+pub use serving::serve_line;
 
 mod answers;
 pub mod clients;
 mod closing;
 pub mod ends;
 mod refusals;
+pub mod serving;
 mod tellings;
 #[cfg(test)]
 mod test_desk;

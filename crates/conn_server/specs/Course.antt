@@ -1,0 +1,110 @@
+-- What was done so far on a connection that is served.
+use Rattle.std.specs.Prelude.{ℕ, ◌+◌, ◌^◌, ◌≡◌, ◌<◌, ◌≤◌, ◌×◌, ◌⊎◌, ⊤, ⊥, min, Bool, true, List, [], ◌∷◌, ◌++◌, length, take, drop, Option, Result, Ok, Err}
+use Rattle.iq_outside.specs.Outside.{Takes, Gains, Rose, ReadSide, WriteSide}
+use Rattle.mc_text.specs.Framing.{begun}
+use Rattle.mc_text.specs.Replies.{text_of}
+use Rattle.mc_text.specs.Streams.{Item, AreFirst}
+use Rattle.mc_text.specs.declared.faults.FrameFault.{FrameFault}
+use Rattle.mc_text.specs.declared.faults.FrameFault.TheVariants as frame
+use Rattle.mc_text.specs.declared.replies.LineReply.{LineReply}
+use Rattle.mc_text.specs.declared.replies.LineReply.TheVariants as reply
+use Rattle.session_client.specs.Desks.{Call}
+use Rattle.conn_server.specs.declared.clients.Client.{Client}
+use Rattle.conn_server.specs.declared.ends.LineEnd.{LineEnd}
+use Rattle.conn_server.specs.declared.ends.LineEnd.TheVariants as ends
+use Rattle.conn_server.specs.declared.serving.Serving.{Serving}
+use Rattle.conn_server.specs.Clients.{newcomer}
+use Rattle.conn_server.specs.Answers.{AllAnswer, with_calls}
+use Rattle.conn_server.specs.Service.{budget, texts, IsWithin, EndsSo, NoneLeft}
+
+-- as many reads as the bytes of all commands that one connection is answered: a command has 1,050,628 bytes at most
+abbrev pub most_reads : ℕ
+most_reads = 1050628000000
+
+-- nothing was read, answered or written
+pub record IsUnserved (serving : Serving) : Type 0 where
+  pub framer : serving.framer ≡ begun
+  pub out : serving.out.items ≡ []
+  pub client : serving.client ≡ newcomer
+  pub count : serving.count ≡ 0
+
+-- what a line and a desk told when a connection began
+pub record Start : Type 0 where
+  pub reads : ReadSide
+  pub writes : WriteSide
+  pub calls : Option (List Call)
+
+-- the items that stand first in what the line gave were answered, beginning with a newcomer; and what the line took since then
+pub record Done (start : Start) (reads : ReadSide) (writes : WriteSide) (calls : Option (List Call)) (client : Client) : Type 0 where
+  pub given : List ℕ
+  pub items : List Item
+  pub size : ℕ
+  pub told : List LineReply
+  pub asked : List Call
+  pub sent : List ℕ
+  pub gives : Takes start.reads.left reads.left given
+  pub takes : Gains start.writes.taken writes.taken sent
+  pub asks : calls ≡ with_calls asked start.calls
+  pub first : AreFirst given items size
+  pub answers : AllAnswer newcomer items asked told client
+  pub read_faults : start.reads.faults ≤ reads.faults
+  pub write_faults : start.writes.faults ≤ writes.faults
+
+-- a connection goes on: its framer has what is left of the bytes that so many reads gave, and what was told and not yet taken stands to be written
+pub record Course (start : Start) (rounds : ℕ) (reads : ReadSide) (writes : WriteSide) (calls : Option (List Call)) (serving : Serving) : Type 0 where
+  pub done : Done start reads writes calls serving.client
+  pub within : IsWithin done.items
+  pub count : serving.count ≡ length done.items
+  pub due : texts done.told ≡ done.sent ++ serving.out.items
+  pub rest : serving.framer.rest ≡ drop done.size done.given
+  pub place : serving.framer.place ≡ min done.size (2 ^ 64 - 1)
+  pub fed : rounds ≤ length done.given
+  pub few : rounds ≤ most_reads
+
+-- at a fault of a read or a write that count of the line rose
+abbrev pub RoseAt : LineEnd → Start → ReadSide → WriteSide → Type 0
+RoseAt ends.ReadFault start reads writes = Rose start.reads.faults reads.faults
+RoseAt ends.WriteFault start reads writes = Rose start.writes.faults writes.faults
+RoseAt other start reads writes = ⊤
+
+-- a connection ends so, once what stands to be written is written
+pub record Ending (end : LineEnd) (start : Start) (reads : ReadSide) (writes : WriteSide) (calls : Option (List Call)) (serving : Serving) : Type 0 where
+  pub done : Done start reads writes calls serving.client
+  pub ends : EndsSo end done.items done.size (drop done.size done.given) (done.sent ++ serving.out.items) done.told
+  pub rose : RoseAt end start reads writes
+  pub none_left : NoneLeft end reads.left
+
+-- a reply was counted and stands behind what is to be written, unless memory ran out for it; more is answered while the budget lasts
+abbrev pub Tells : Result Bool LineEnd → LineReply → Serving → Serving → Type 0
+Tells (Ok more) reply old new =
+    (more ≡ true) × (new.count < budget) × (new.out.items ≡ old.out.items ++ text_of reply)
+Tells (Err ends.Budget) reply old new = (new.count ≡ budget) × (new.out.items ≡ old.out.items ++ text_of reply)
+Tells (Err ends.Memory) reply old new = new.out.items ≡ old.out.items
+Tells (Err other) reply old new = ⊥
+
+-- the bytes were taken, or a beginning of them where a write failed
+abbrev pub Flushes : {X : Type 0} → Result X LineEnd → WriteSide → WriteSide → List ℕ → Type 0
+Flushes (Ok done) old new bytes = Gains old.taken new.taken bytes × (new.faults ≡ old.faults)
+Flushes (Err ends.WriteFault) old new bytes =
+    ((written : ℕ) × Gains old.taken new.taken (take written bytes)) × Rose old.faults new.faults × (old.faults ≤ new.faults)
+Flushes (Err other) old new bytes = ⊥
+
+-- what is told of a fault of the input
+abbrev pub reply_of : FrameFault → LineReply
+reply_of (frame.BadLine place) = reply.BadLine
+reply_of (frame.LongLine place) = reply.LongLine
+reply_of (frame.BadBlock place) = reply.BadBlock
+reply_of (frame.BigBlock place) = reply.BigBlock
+reply_of frame.Memory = reply.Memory
+
+-- what is told of a fault stands behind what is to be written, unless memory ran out for it
+abbrev pub Shuts : LineEnd → FrameFault → List ℕ → List ℕ → Type 0
+Shuts (ends.Shut found) fault old new = (found ≡ fault) × (new ≡ old ++ text_of (reply_of fault))
+Shuts ends.Memory fault old new = new ≡ old
+Shuts other fault old new = ⊥
+
+-- the bytes were taken and the end is the one that was due, or a beginning of them was taken and it is the fault of a write
+abbrev pub Finishes : LineEnd → LineEnd → WriteSide → WriteSide → List ℕ → Type 0
+Finishes due end old new bytes =
+    (Gains old.taken new.taken bytes × (new.faults ≡ old.faults) × (end ≡ due))
+    ⊎ (((written : ℕ) × Gains old.taken new.taken (take written bytes)) × Rose old.faults new.faults × (old.faults ≤ new.faults) × (end ≡ ends.WriteFault))

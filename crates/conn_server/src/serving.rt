@@ -1,0 +1,295 @@
+ghost use Rattle.std.specs.Prelude.{◌≡◌, ◌+◌, ◌<◌, ◌≤◌, ℕ, Bool, true, [], List, Option, length, IfOk, IfErr, OnOk};
+ghost use Rattle.iq_outside.specs.Outside.{Rose, ReadSide, WriteSide};
+ghost use Rattle.mc_text.specs.Streams.{IsOpen};
+ghost use Rattle.session_client.specs.Desks.{Call};
+ghost use Rattle.conn_server.specs.Answers.{GivenUp};
+ghost use Rattle.conn_server.specs.Course.{Start, Course, Ending, IsUnserved, Finishes, Flushes, Tells, Shuts, reply_of};
+ghost use Rattle.conn_server.specs.Service.{IsServed};
+ghost use Rattle.conn_server.specs.declared.ends.LineEnd.TheVariants as ends;
+
+use crate::clients::Client;
+use crate::ends::LineEnd;
+use iq_outside::{Failed, Line, write_all};
+use mc_text::{Command, FrameFault, Framer, LineReply, write_reply};
+use rows_model::Memory;
+use session_client::Desk;
+use std::alloc::Global;
+
+/// How many commands one connection is answered at most.
+const BUDGET: u32 = 1_000_000;
+
+/// The most bytes that one read is asked for.
+const PIECE: usize = 65536;
+
+/// Replies are written once they have so many bytes; those that are due are written before each read.
+const FULL: usize = 65536;
+
+/// More reads than one connection has: each gives a byte, and a command has at most 1,050,628, with its
+/// line, its block and the ends of both.
+const MORE_READS: u64 = 1_050_628_000_001;
+
+/// A connection that is served.
+struct Serving {
+    framer: Framer,
+    /// The replies that weren't written yet.
+    out: Vec<u8>,
+    client: Client,
+    /// How many commands were answered.
+    count: u32,
+}
+
+/// Serves one connection to its end. Its bytes are read as commands, each is answered by the desk or
+/// by an error, the desk takes a step of its sweep, and the replies are written in their order. What
+/// is due is written before each read, so no reply waits for further input.
+///
+/// At every end the client's session is given up: one that writes and hasn't committed is ended at the
+/// store, and then its grants are released, which takes no memory. The line isn't closed by that.
+///
+/// A read or a write that fails ends the connection, and so does a lack of memory, of which it is
+/// told nothing. A lasting fault of the input is told the client.
+pub fn serve_line<L: Line, D: Desk>(alloc: Global, line: &mut L, desk: &mut D) -> LineEnd
+    ensures served { IsServed (L.left line.old) (L.left line.new) (L.taken line.old)
+        (L.taken line.new) (D.record_of desk.old) (D.record_of desk.new) result }
+    ensures read_fault { result ≡ ends.ReadFault →
+        Rose (L.Source.faults line.old) (L.Source.faults line.new) }
+    ensures write_fault { result ≡ ends.WriteFault →
+        Rose (L.Sink.faults line.old) (L.Sink.faults line.new) }
+    ensures reads_never_fall { L.Source.faults line.old ≤ L.Source.faults line.new }
+    ensures writes_never_fall { L.Sink.faults line.old ≤ L.Sink.faults line.new }
+{
+    match Serving::new(alloc) {
+        Ok(mut serving) => {
+            let end = serving.serve(line, desk);
+            serving.finish(line, desk, end)
+        }
+        Err(Memory) => LineEnd::Memory,
+    }
+}
+
+impl Serving {
+    /// A connection on which nothing was done yet.
+    fn new(alloc: Global) -> Result<Serving, Memory>
+        ensures { IfOk result (λ serving. IsUnserved serving) }
+    {
+        Ok(Serving {
+            framer: Framer::new(alloc),
+            out: Vec::new(alloc),
+            client: Client::new(alloc)?,
+            count: 0,
+        })
+    }
+
+    /// Reads and answers until the connection ends, and tells how. Some replies may still stand to be
+    /// written.
+    fn serve<L: Line, D: Desk>(&mut self, line: &mut L, desk: &mut D) -> LineEnd
+        requires { IsUnserved self.old }
+        ensures { Ending result (record {
+          reads = L.read_side line.old;
+          writes = L.write_side line.old;
+          calls = D.record_of desk.old;
+        }) (L.read_side line.new) (L.write_side line.new) (D.record_of desk.new) self.new }
+    {
+        let mut room = [0u8; PIECE];
+        for _round in 0..MORE_READS {
+            if let Err(end) = self.go_on(line, desk, &mut room) {
+                return end;
+            }
+        }
+        unreachable!()
+    }
+
+    /// Answers what stands to be answered, writes what is due, and reads once.
+    fn go_on<L: Line, D: Desk>(
+        &mut self,
+        line: &mut L,
+        desk: &mut D,
+        room: &mut [u8],
+    ) -> Result<(), LineEnd>
+        requires within { self.old.count < 1000000 }
+        requires room { 0 < length room.old }
+        ensures within { OnOk result (self.new.count < 1000000) }
+        ensures goes_on { OnOk result ((start : Start) (rounds : ℕ) →
+            Course start rounds (L.read_side line.old) (L.write_side line.old)
+            (D.record_of desk.old) self.old →
+            Course start (rounds + 1) (L.read_side line.new) (L.write_side line.new)
+            (D.record_of desk.new) self.new) }
+        ensures ends { IfErr result (λ end. (start : Start) (rounds : ℕ) →
+            Course start rounds (L.read_side line.old) (L.write_side line.old)
+            (D.record_of desk.old) self.old →
+            Ending end start (L.read_side line.new) (L.write_side line.new)
+            (D.record_of desk.new) self.new) }
+    {
+        self.answer_all(line, desk)?;
+        self.flush(line)?;
+        self.read_more(line, room)
+    }
+
+    /// Answers the whole commands that were read, as far as the budget lasts.
+    fn answer_all<L: Line, D: Desk>(&mut self, line: &mut L, desk: &mut D) -> Result<(), LineEnd>
+        requires { self.old.count < 1000000 }
+        ensures within { OnOk result (self.new.count < 1000000) }
+        ensures open { OnOk result (IsOpen self.new.framer.rest) }
+        ensures goes_on { OnOk result ((start : Start) (rounds : ℕ) →
+            Course start rounds (L.read_side line.old) (L.write_side line.old)
+            (D.record_of desk.old) self.old →
+            Course start rounds (L.read_side line.new) (L.write_side line.new)
+            (D.record_of desk.new) self.new) }
+        ensures ends { IfErr result (λ end. (start : Start) (rounds : ℕ) →
+            Course start rounds (L.read_side line.old) (L.write_side line.old)
+            (D.record_of desk.old) self.old →
+            Ending end start (L.read_side line.new) (L.write_side line.new)
+            (D.record_of desk.new) self.new) }
+    {
+        loop {
+            if !self.answer_next(desk)? {
+                return Ok(());
+            }
+            if self.out.len() >= FULL {
+                self.flush(line)?;
+            }
+        }
+    }
+
+    /// Answers the command that stands next, and tells whether a whole one did.
+    fn answer_next<D: Desk>(&mut self, desk: &mut D) -> Result<bool, LineEnd>
+        requires { self.old.count < 1000000 }
+        ensures within { OnOk result (self.new.count < 1000000) }
+        ensures counts { result ≡ Ok true → self.new.count ≡ self.old.count + 1 }
+        ensures open { result ≡ Ok false → IsOpen self.new.framer.rest }
+        ensures goes_on { OnOk result ((start : Start) (rounds : ℕ) (reads : ReadSide)
+            (writes : WriteSide) →
+            Course start rounds reads writes (D.record_of desk.old) self.old →
+            Course start rounds reads writes (D.record_of desk.new) self.new) }
+        ensures ends { IfErr result (λ end. (start : Start) (rounds : ℕ) (reads : ReadSide)
+            (writes : WriteSide) →
+            Course start rounds reads writes (D.record_of desk.old) self.old →
+            Ending end start reads writes (D.record_of desk.new) self.new) }
+    {
+        let next = self.framer.next_command();
+        match next {
+            Ok(Some(Command::Quit)) => Err(LineEnd::Quit),
+            Ok(Some(said)) => {
+                let reply = self.client.answer(desk, said);
+                self.tell(desk, reply)
+            }
+            Ok(None) => Ok(false),
+            Err(FrameFault::BadLine { place: _ }) => self.tell(desk, LineReply::BadLine),
+            Err(FrameFault::Memory) => Err(LineEnd::Memory),
+            Err(fault) => Err(self.shut(fault)),
+        }
+    }
+
+    /// Counts a command that was answered, lets the desk take a step of its sweep, and puts the reply
+    /// behind those that stand to be written.
+    fn tell<D: Desk>(&mut self, desk: &mut D, reply: LineReply) -> Result<bool, LineEnd>
+        requires { self.old.count < 1000000 }
+        ensures tells { Tells result reply self.old self.new }
+        ensures framer { self.new.framer ≡ self.old.framer }
+        ensures client { self.new.client ≡ self.old.client }
+        ensures counts { self.new.count ≡ self.old.count + 1 }
+        ensures asks_nothing { D.record_of desk.new ≡ D.record_of desk.old }
+    {
+        desk.tend();
+        self.count += 1;
+        if write_reply(&mut self.out, &reply).is_err() {
+            return Err(LineEnd::Memory);
+        }
+        if self.count == BUDGET {
+            return Err(LineEnd::Budget);
+        }
+        Ok(true)
+    }
+
+    /// Puts what is told of a fault that lasts behind the replies, and tells the end.
+    fn shut(&mut self, fault: FrameFault) -> LineEnd
+        ensures shuts { Shuts result fault self.old.out.items self.new.out.items }
+        ensures framer { self.new.framer ≡ self.old.framer }
+        ensures client { self.new.client ≡ self.old.client }
+    {
+        if write_reply(&mut self.out, &reply_of(fault)).is_err() {
+            return LineEnd::Memory;
+        }
+        LineEnd::Shut { fault }
+    }
+
+    /// Writes the replies that stand to be written. After a write that failed, none stand there either.
+    fn flush<L: Line>(&mut self, line: &mut L) -> Result<(), LineEnd>
+        ensures flushes { Flushes result (L.write_side line.old) (L.write_side line.new)
+            self.old.out.items }
+        ensures keeps_reading { L.read_side line.new ≡ L.read_side line.old }
+        ensures none { self.new.out.items ≡ [] }
+        ensures framer { self.new.framer ≡ self.old.framer }
+        ensures client { self.new.client ≡ self.old.client }
+        ensures count { self.new.count ≡ self.old.count }
+    {
+        let written = write_all(line, &self.out);
+        self.out.clear();
+        match written {
+            Ok(()) => Ok(()),
+            Err(_) => Err(LineEnd::WriteFault),
+        }
+    }
+
+    /// Reads once. Nothing whole stands in what was read before, and nothing to be written.
+    fn read_more<L: Line>(&mut self, line: &mut L, room: &mut [u8]) -> Result<(), LineEnd>
+        requires room { 0 < length room.old }
+        requires open { IsOpen self.old.framer.rest }
+        requires written { self.old.out.items ≡ [] }
+        ensures count { OnOk result (self.new.count ≡ self.old.count) }
+        ensures goes_on { OnOk result ((start : Start) (rounds : ℕ) (calls : Option (List Call)) →
+            Course start rounds (L.read_side line.old) (L.write_side line.old) calls self.old →
+            Course start (rounds + 1) (L.read_side line.new) (L.write_side line.new) calls
+            self.new) }
+        ensures ends { IfErr result (λ end. (start : Start) (rounds : ℕ)
+            (calls : Option (List Call)) →
+            Course start rounds (L.read_side line.old) (L.write_side line.old) calls self.old →
+            Ending end start (L.read_side line.new) (L.write_side line.new) calls self.new) }
+    {
+        match line.read(room) {
+            Ok(0) => Err(LineEnd::Closed {
+                left: self.framer.left(),
+            }),
+            Ok(given) => match self.framer.feed(&room[..given]) {
+                Ok(()) => Ok(()),
+                Err(Memory) => Err(LineEnd::Memory),
+            },
+            Err(Failed) => Err(LineEnd::ReadFault),
+        }
+    }
+
+    /// Writes what stands to be written, gives the client's session up, and tells the end: a fault of
+    /// that write where it failed.
+    fn finish<L: Line, D: Desk>(self, line: &mut L, desk: &mut D, end: LineEnd) -> LineEnd
+        ensures keeps_reading { L.read_side line.new ≡ L.read_side line.old }
+        ensures finishes { Finishes end result (L.write_side line.old) (L.write_side line.new)
+            self.out.items }
+        ensures given_up { GivenUp (D.record_of desk.old) (D.record_of desk.new) self.client }
+    {
+        let mut serving = self;
+        let written = serving.flush(line);
+        let Serving {
+            framer: _,
+            out: _,
+            client,
+            count: _,
+        } = serving;
+        client.leave(desk);
+        match written {
+            Ok(()) => end,
+            Err(fault) => fault,
+        }
+    }
+}
+
+/// What is told of a fault of the input.
+fn reply_of(fault: FrameFault) -> LineReply
+    ensures { result ≡ reply_of fault }
+{
+    match fault {
+        FrameFault::BadLine { place: _ } => LineReply::BadLine,
+        FrameFault::LongLine { place: _ } => LineReply::LongLine,
+        FrameFault::BadBlock { place: _ } => LineReply::BadBlock,
+        FrameFault::BigBlock { place: _ } => LineReply::BigBlock,
+        FrameFault::Memory => LineReply::Memory,
+    }
+}
