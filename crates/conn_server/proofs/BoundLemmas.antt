@@ -1,6 +1,6 @@
 -- How many bytes items take, and how many stand at most where nothing whole does.
-use Rattle.std.proofs.Common.{ℕ, ◌+◌, ◌*◌, ◌≡◌, ◌<◌, ◌≤◌, ◌⊎◌, inl, inr, ⊥, List, [], ◌∷◌, length, take, drop, Option, Some, None, arith, refl, sym, subst}
-use Rattle.std.specs.Prelude.{◌×◌, slice_index}
+use Rattle.std.proofs.Common.{ℕ, ◌+◌, ◌*◌, ◌≡◌, ◌<◌, ◌≤◌, ◌⊎◌, inl, inr, List, [], ◌∷◌, length, take, drop, Option, Some, None, arith, refl, sym, subst}
+use Rattle.std.specs.Prelude.{zero, suc, ◌×◌, slice_index}
 use Rattle.std.proofs.lemmas.Bool.{cases_eq, cases_lt}
 use Rattle.mc_text.specs.declared.commands.Command.{Command}
 use Rattle.mc_text.specs.declared.commands.Command.TheVariants.{IqSet, Sar, Unknown}

@@ -5,9 +5,7 @@ use Rattle.mc_text.specs.Framing.{begun}
 use Rattle.mc_text.specs.Replies.{text_of}
 use Rattle.mc_text.specs.Streams.{Item, AreFirst}
 use Rattle.mc_text.specs.declared.faults.FrameFault.{FrameFault}
-use Rattle.mc_text.specs.declared.faults.FrameFault.TheVariants as frame
 use Rattle.mc_text.specs.declared.replies.LineReply.{LineReply}
-use Rattle.mc_text.specs.declared.replies.LineReply.TheVariants as reply
 use Rattle.session_client.specs.Desks.{Call}
 use Rattle.conn_server.specs.declared.clients.Client.{Client}
 use Rattle.conn_server.specs.declared.ends.LineEnd.{LineEnd}
@@ -89,19 +87,11 @@ Flushes (Err ends.WriteFault) old new bytes =
     ((written : ℕ) × Gains old.taken new.taken (take written bytes)) × Rose old.faults new.faults × (old.faults ≤ new.faults)
 Flushes (Err other) old new bytes = ⊥
 
--- what is told of a fault of the input
-abbrev pub reply_of : FrameFault → LineReply
-reply_of (frame.BadLine place) = reply.BadLine
-reply_of (frame.LongLine place) = reply.LongLine
-reply_of (frame.BadBlock place) = reply.BadBlock
-reply_of (frame.BigBlock place) = reply.BigBlock
-reply_of frame.Memory = reply.Memory
-
 -- what is told of a fault stands behind what is to be written, unless memory ran out for it
-abbrev pub Shuts : LineEnd → FrameFault → List ℕ → List ℕ → Type 0
-Shuts (ends.Shut found) fault old new = (found ≡ fault) × (new ≡ old ++ text_of (reply_of fault))
-Shuts ends.Memory fault old new = new ≡ old
-Shuts other fault old new = ⊥
+abbrev pub Shuts : LineEnd → FrameFault → LineReply → List ℕ → List ℕ → Type 0
+Shuts (ends.Shut found) fault last old new = (found ≡ fault) × (new ≡ old ++ text_of last)
+Shuts ends.Memory fault last old new = new ≡ old
+Shuts other fault last old new = ⊥
 
 -- the bytes were taken and the end is the one that was due, or a beginning of them was taken and it is the fault of a write
 abbrev pub Finishes : LineEnd → LineEnd → WriteSide → WriteSide → List ℕ → Type 0

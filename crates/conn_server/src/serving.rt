@@ -3,7 +3,7 @@ ghost use Rattle.iq_outside.specs.Outside.{Rose, ReadSide, WriteSide};
 ghost use Rattle.mc_text.specs.Streams.{IsOpen};
 ghost use Rattle.session_client.specs.Desks.{Call};
 ghost use Rattle.conn_server.specs.Answers.{GivenUp};
-ghost use Rattle.conn_server.specs.Course.{Start, Course, Ending, IsUnserved, Finishes, Flushes, Tells, Shuts, reply_of};
+ghost use Rattle.conn_server.specs.Course.{Start, Course, Ending, IsUnserved, Finishes, Flushes, Tells, Shuts};
 ghost use Rattle.conn_server.specs.Service.{IsServed};
 ghost use Rattle.conn_server.specs.declared.ends.LineEnd.TheVariants as ends;
 
@@ -175,7 +175,15 @@ impl Serving {
             Ok(None) => Ok(false),
             Err(FrameFault::BadLine { place: _ }) => self.tell(desk, LineReply::BadLine),
             Err(FrameFault::Memory) => Err(LineEnd::Memory),
-            Err(fault) => Err(self.shut(fault)),
+            Err(FrameFault::LongLine { place }) => {
+                Err(self.shut(FrameFault::LongLine { place }, LineReply::LongLine))
+            }
+            Err(FrameFault::BadBlock { place }) => {
+                Err(self.shut(FrameFault::BadBlock { place }, LineReply::BadBlock))
+            }
+            Err(FrameFault::BigBlock { place }) => {
+                Err(self.shut(FrameFault::BigBlock { place }, LineReply::BigBlock))
+            }
         }
     }
 
@@ -201,12 +209,12 @@ impl Serving {
     }
 
     /// Puts what is told of a fault that lasts behind the replies, and tells the end.
-    fn shut(&mut self, fault: FrameFault) -> LineEnd
-        ensures shuts { Shuts result fault self.old.out.items self.new.out.items }
+    fn shut(&mut self, fault: FrameFault, last: LineReply) -> LineEnd
+        ensures shuts { Shuts result fault last self.old.out.items self.new.out.items }
         ensures framer { self.new.framer ≡ self.old.framer }
         ensures client { self.new.client ≡ self.old.client }
     {
-        if write_reply(&mut self.out, &reply_of(fault)).is_err() {
+        if write_reply(&mut self.out, &last).is_err() {
             return LineEnd::Memory;
         }
         LineEnd::Shut { fault }
@@ -278,18 +286,5 @@ impl Serving {
             Ok(()) => end,
             Err(fault) => fault,
         }
-    }
-}
-
-/// What is told of a fault of the input.
-fn reply_of(fault: FrameFault) -> LineReply
-    ensures { result ≡ reply_of fault }
-{
-    match fault {
-        FrameFault::BadLine { place: _ } => LineReply::BadLine,
-        FrameFault::LongLine { place: _ } => LineReply::LongLine,
-        FrameFault::BadBlock { place: _ } => LineReply::BadBlock,
-        FrameFault::BigBlock { place: _ } => LineReply::BigBlock,
-        FrameFault::Memory => LineReply::Memory,
     }
 }

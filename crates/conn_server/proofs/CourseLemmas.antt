@@ -1,0 +1,658 @@
+-- What was done so far on a connection, one item further.
+use Rattle.std.proofs.Common.{ℕ, ◌+◌, ◌*◌, ◌^◌, ◌≡◌, ◌<◌, ◌≤◌, ◌⊎◌, inl, inr, List, [], ◌∷◌, ◌++◌, length, take, drop, Option, Some, None, arith, refl, sym, ap, subst, ◌∙◌, append_assoc, append-nil, add-zero}
+use Rattle.std.specs.Prelude.{◌×◌, ⊤, ⊥, min, Bool, true, Result, Ok, Err, OnOk, IfErr}
+use Rattle.std.proofs.lemmas.Bool.{cases_lt}
+use Rattle.std.proofs.lemmas.List.{drop-drop, drop-append-le, length-append, length-drop, take-append-drop}
+use Rattle.iq_outside.specs.Outside.{Takes, Gains, Rose, AtEnd, ReadSide, WriteSide}
+use Rattle.iq_outside.proofs.OutsideLemmas.{Takes-append, Takes-none, Gains-append, Gains-none, Rose-later, Rose-earlier}
+use Rattle.mc_text.specs.Framing.{Frames, begun, past, fed}
+use Rattle.mc_text.specs.Replies.{text_of}
+use Rattle.mc_text.specs.Streams.{Item, command, bad_line, long_line, bad_block, big_block, Stands, IsOpen, AreFirst}
+use Rattle.mc_text.specs.declared.commands.Command.TheVariants.{Quit}
+use Rattle.mc_text.specs.declared.faults.FrameFault.{FrameFault}
+use Rattle.mc_text.specs.declared.faults.FrameFault.TheVariants as frame
+use Rattle.mc_text.specs.declared.replies.LineReply.{LineReply}
+use Rattle.mc_text.specs.declared.replies.LineReply.TheVariants as reply
+use Rattle.mc_text.proofs.StreamLemmas.{streams_tell}
+use Rattle.session_client.specs.Desks.{Call}
+use Rattle.conn_server.specs.declared.clients.Client.{Client}
+use Rattle.conn_server.specs.declared.ends.LineEnd.{LineEnd}
+use Rattle.conn_server.specs.declared.ends.LineEnd.TheVariants as ends
+use Rattle.conn_server.specs.declared.serving.Serving.{Serving}
+use Rattle.conn_server.specs.Clients.{newcomer}
+use Rattle.conn_server.specs.Answers.{ItemAnswers, AllAnswer, GivenUp, with_calls}
+use Rattle.conn_server.specs.Service.{budget, texts, IsWithin, Lasts, place_of, TookAll, TookSome, TookToFault, EndsSo, Served, NoneLeft, IsServed}
+use Rattle.conn_server.specs.Course.{most_reads, IsUnserved, Start, Done, Course, RoseAt, Ending, Tells, Flushes, Shuts, Finishes}
+use Rattle.conn_server.proofs.ClosingLemmas.{with_calls-append}
+use Rattle.conn_server.proofs.BoundLemmas.{first_bound, open_bound}
+
+-- items stay first where more bytes come behind
+first_more : (given more : List ℕ) (items : List Item) (size : ℕ) → AreFirst given items size → AreFirst (given ++ more) items size
+first_more given more items size h =
+    let whole : AreFirst (given ++ more) (items ++ []) (size + 0) = streams_tell.pieces given more items [] size 0 h refl in
+    let all : AreFirst (given ++ more) items (size + 0) = subst (λ (xs : List Item). AreFirst (given ++ more) xs (size + 0)) (append-nil items) whole in
+    subst (λ (n : ℕ). AreFirst (given ++ more) items n) (add-zero size) all
+
+-- one item more
+first_one : (stream : List ℕ) (items : List Item) (item : Item) (size taken : ℕ)
+    → AreFirst stream items size → Stands (drop size stream) item taken → AreFirst stream (items ++ item ∷ []) (size + taken)
+first_one stream [] item size taken h s =
+    let here : Stands stream item taken = rw h at s in
+    (taken, 0, here, refl, omega (arith, h))
+first_one stream (i ∷ items) item size taken h s =
+    let (one, others, stands, rest, sum) = h in
+    let behind : drop size stream ≡ drop others (drop one stream) = ap (λ (n : ℕ). drop n stream) sum ∙ sym (drop-drop others one stream) in
+    let more = first_one (drop one stream) items item others taken rest (subst (λ (bytes : List ℕ). Stands bytes item taken) behind s) in
+    (one, others + taken, stands, more, omega (arith, sum))
+
+all_one : (old : Client) (items : List Item) (asked : List Call) (told : List LineReply) (client : Client)
+    (item : Item) (calls : List Call) (reply : LineReply) (new : Client)
+    → AllAnswer old items asked told client → ItemAnswers client item calls reply new
+    → AllAnswer old (items ++ item ∷ []) (asked ++ calls) (told ++ reply ∷ []) new
+all_one old [] asked told client item calls reply new h a =
+    let here : ItemAnswers old item calls reply new = rw h.2 at a in (
+      calls,
+      [],
+      reply,
+      [],
+      new,
+      here,
+      (refl, refl, refl),
+      ap (λ (xs : List Call). xs ++ calls) h.0 ∙ sym (append-nil calls),
+      ap (λ (xs : List LineReply). xs ++ reply ∷ []) h.1,
+    )
+all_one old (i ∷ items) asked told client item calls reply new h a =
+    let (first, others, r, replies, next, here, rest, calls_are, told_are) = h in
+    let more = all_one next items others replies client item calls reply new rest a in (
+      first,
+      others ++ calls,
+      r,
+      replies ++ reply ∷ [],
+      next,
+      here,
+      more,
+      ap (λ (xs : List Call). xs ++ calls) calls_are ∙ append_assoc first others calls,
+      ap (λ (xs : List LineReply). xs ++ reply ∷ []) told_are,
+    )
+
+texts_one : (told : List LineReply) (reply : LineReply) → texts (told ++ reply ∷ []) ≡ texts told ++ text_of reply
+texts_one [] reply = append-nil (text_of reply)
+texts_one (t ∷ told) reply =
+    ap (λ (xs : List ℕ). text_of t ++ xs) (texts_one told reply) ∙ sym (append_assoc (text_of t) (texts told) (text_of reply))
+
+-- what is told once more stands behind what was to be written
+due_one : (told : List LineReply) (sent old new : List ℕ) (reply : LineReply)
+    → texts told ≡ sent ++ old → new ≡ old ++ text_of reply → texts (told ++ reply ∷ []) ≡ sent ++ new
+due_one told sent old new reply due is =
+    texts_one told reply
+    ∙ (ap (λ (xs : List ℕ). xs ++ text_of reply) due ∙ (append_assoc sent old (text_of reply) ∙ ap (λ (xs : List ℕ). sent ++ xs) (sym is)))
+
+-- a place that stops at the end of its type
+place_more : (size taken place end : ℕ) → place ≡ min size end → min (place + taken) end ≡ min (size + taken) end
+place_more size taken place end is = by (cases_lt size end)
+  where
+    by : (size < end) ⊎ (end ≤ size) → min (place + taken) end ≡ min (size + taken) end
+    by (inl l) = let same : place ≡ size = omega (arith, is) in ap (λ (n : ℕ). min (n + taken) end) same
+    by (inr l) = let same : place ≡ end = omega (arith, is) in omega arith
+
+done_one : (start : Start) (reads : ReadSide) (writes : WriteSide) (before after : Option (List Call)) (client new : Client)
+    (done : Done start reads writes before client) (item : Item) (taken : ℕ) (calls : List Call) (reply : LineReply)
+    → Stands (drop done.size done.given) item taken → after ≡ with_calls calls before → ItemAnswers client item calls reply new
+    → Done start reads writes after new
+done_one start reads writes before after client new done item taken calls reply stands asks answers = record {
+  given = done.given;
+  items = done.items ++ item ∷ [];
+  size = done.size + taken;
+  told = done.told ++ reply ∷ [];
+  asked = done.asked ++ calls;
+  sent = done.sent;
+  gives = done.gives;
+  takes = done.takes;
+  asks = asks ∙ (ap (with_calls calls) done.asks ∙ sym (with_calls-append done.asked calls start.calls));
+  first = first_one done.given done.items item done.size taken done.first stands;
+  answers = all_one newcomer done.items done.asked done.told client item calls reply new done.answers answers;
+  read_faults = done.read_faults;
+  write_faults = done.write_faults;
+}
+
+-- an item that stood first was taken and answered
+pub record Answered (before after : Option (List Call)) (old new : Serving) (reply : LineReply) : Type 0 where
+  pub item : Item
+  pub taken : ℕ
+  pub calls : List Call
+  pub stands : Stands old.framer.rest item taken
+  pub framer : new.framer ≡ past old.framer taken
+  pub asks : after ≡ with_calls calls before
+  pub answers : ItemAnswers old.client item calls reply new.client
+  pub count : new.count ≡ old.count + 1
+
+course_one : (start : Start) (rounds : ℕ) (reads : ReadSide) (writes : WriteSide) (before after : Option (List Call)) (old new : Serving) (reply : LineReply)
+    → Answered before after old new reply → new.count < budget → new.out.items ≡ old.out.items ++ text_of reply
+    → Course start rounds reads writes before old → Course start rounds reads writes after new
+course_one start rounds reads writes before after old new reply a few out c =
+    let stands = subst (λ (bytes : List ℕ). Stands bytes a.item a.taken) c.rest a.stands in
+    record {
+      done = done_one start reads writes before after old.client new.client c.done a.item a.taken a.calls reply stands a.asks a.answers;
+      within = omega (arith, length-append c.done.items (a.item ∷ []), a.count, c.count);
+      count = omega (arith, length-append c.done.items (a.item ∷ []), a.count, c.count);
+      due = due_one c.done.told c.done.sent old.out.items new.out.items reply c.due out;
+      rest = ap (λ (f : Frames). f.rest) a.framer ∙ (ap (λ (bytes : List ℕ). drop a.taken bytes) c.rest ∙ drop-drop a.taken c.done.size c.done.given);
+      place = ap (λ (f : Frames). f.place) a.framer ∙ place_more c.done.size a.taken old.framer.place (2 ^ 64 - 1) c.place;
+      fed = c.fed;
+      few = c.few;
+    }
+
+-- behind its last item a connection ends
+ending_one : (end : LineEnd) (start : Start) (rounds : ℕ) (reads : ReadSide) (writes : WriteSide) (before after : Option (List Call)) (old new : Serving) (reply : LineReply)
+    → Answered before after old new reply → Tells (Err end) reply old new
+    → Course start rounds reads writes before old → Ending end start reads writes after new
+ending_one ends.Budget start rounds reads writes before after old new reply a told c =
+    let stands = subst (λ (bytes : List ℕ). Stands bytes a.item a.taken) c.rest a.stands in
+    record {
+      done = done_one start reads writes before after old.client new.client c.done a.item a.taken a.calls reply stands a.asks a.answers;
+      ends = (
+        omega (arith, length-append c.done.items (a.item ∷ []), a.count, c.count, told.0),
+        sym (due_one c.done.told c.done.sent old.out.items new.out.items reply c.due told.1),
+      );
+      rose = tt;
+      none_left = tt;
+    }
+ending_one ends.Memory start rounds reads writes before after old new reply a told c =
+    let stands = subst (λ (bytes : List ℕ). Stands bytes a.item a.taken) c.rest a.stands in
+    let within = c.within in
+    let all : texts c.done.told ≡ c.done.sent ++ new.out.items = c.due ∙ ap (λ (xs : List ℕ). c.done.sent ++ xs) (sym told) in
+    record {
+      done = done_one start reads writes before after old.client new.client c.done a.item a.taken a.calls reply stands a.asks a.answers;
+      ends = (
+        omega (arith, length-append c.done.items (a.item ∷ [])),
+        inl (text_of reply, texts_one c.done.told reply ∙ ap (λ (xs : List ℕ). xs ++ text_of reply) all),
+      );
+      rose = tt;
+      none_left = tt;
+    }
+ending_one other start rounds reads writes before after old new reply a told c = absurd told
+
+pub answered_goes_on : (result : Result Bool LineEnd) (before after : Option (List Call)) (old new : Serving) (reply : LineReply)
+    → Tells result reply old new → Answered before after old new reply
+    → OnOk result ((start : Start) (rounds : ℕ) (reads : ReadSide) (writes : WriteSide)
+    → Course start rounds reads writes before old → Course start rounds reads writes after new)
+answered_goes_on (Ok more) before after old new reply told a =
+    λ start rounds reads writes c. course_one start rounds reads writes before after old new reply a told.1 told.2 c
+answered_goes_on (Err end) before after old new reply told a = tt
+
+pub answered_ends : (result : Result Bool LineEnd) (before after : Option (List Call)) (old new : Serving) (reply : LineReply)
+    → Tells result reply old new → Answered before after old new reply
+    → IfErr result (λ end. (start : Start) (rounds : ℕ) (reads : ReadSide) (writes : WriteSide)
+    → Course start rounds reads writes before old → Ending end start reads writes after new)
+answered_ends (Ok more) before after old new reply told a = tt
+answered_ends (Err end) before after old new reply told a =
+    λ start rounds reads writes c. ending_one end start rounds reads writes before after old new reply a told c
+
+-- the serving with another client
+abbrev with_client : Serving → Client → Serving
+with_client serving client = record { framer = serving.framer; out = serving.out; client = client; count = serving.count }
+
+-- what a connection goes on with where its client and what it was fed are as before
+course_same : (start : Start) (rounds : ℕ) (reads : ReadSide) (writes new_writes : WriteSide) (calls : Option (List Call)) (old new : Serving)
+    (done : Done start reads new_writes calls old.client)
+    → new.framer ≡ old.framer → new.client ≡ old.client → new.count ≡ old.count
+    → (course : Course start rounds reads writes calls old)
+    → done.given ≡ course.done.given → done.items ≡ course.done.items → done.size ≡ course.done.size
+    → texts done.told ≡ done.sent ++ new.out.items
+    → Course start rounds reads new_writes calls new
+course_same start rounds reads writes new_writes calls old new done framer client count c given items size due =
+    subst (λ (x : Client). Course start rounds reads new_writes calls (with_client new x)) (sym client) (record {
+      done = done;
+      within = subst (λ (xs : List Item). IsWithin xs) (sym items) c.within;
+      count = count ∙ (c.count ∙ ap (λ (xs : List Item). length xs) (sym items));
+      due = due;
+      rest = ap (λ (f : Frames). f.rest) framer
+        ∙ (c.rest ∙ (ap (λ (n : ℕ). drop n c.done.given) (sym size) ∙ ap (λ (xs : List ℕ). drop done.size xs) (sym given)));
+      place = ap (λ (f : Frames). f.place) framer ∙ (c.place ∙ ap (λ (n : ℕ). min n (2 ^ 64 - 1)) (sym size));
+      fed = subst (λ (xs : List ℕ). rounds ≤ length xs) (sym given) c.fed;
+      few = c.few;
+    })
+
+-- nothing whole stands next
+pub course_open : (start : Start) (rounds : ℕ) (reads : ReadSide) (writes : WriteSide) (calls : Option (List Call)) (old new : Serving)
+    → new.framer ≡ old.framer → new.out.items ≡ old.out.items → new.client ≡ old.client → new.count ≡ old.count
+    → Course start rounds reads writes calls old → Course start rounds reads writes calls new
+course_open start rounds reads writes calls old new framer out client count c =
+    course_same start rounds reads writes writes calls old new c.done framer client count c refl refl refl
+    (c.due ∙ ap (λ (xs : List ℕ). c.done.sent ++ xs) (sym out))
+
+-- what stands to be written was taken
+done_sent : (start : Start) (reads : ReadSide) (old new : WriteSide) (calls : Option (List Call)) (client : Client) (bytes : List ℕ)
+    → Gains old.taken new.taken bytes → old.faults ≤ new.faults
+    → Done start reads old calls client → Done start reads new calls client
+done_sent start reads old new calls client bytes gains up done = record {
+  given = done.given;
+  items = done.items;
+  size = done.size;
+  told = done.told;
+  asked = done.asked;
+  sent = done.sent ++ bytes;
+  gives = done.gives;
+  takes = Gains-append start.writes.taken old.taken new.taken done.sent bytes done.takes gains;
+  asks = done.asks;
+  first = done.first;
+  answers = done.answers;
+  read_faults = done.read_faults;
+  write_faults = let before = done.write_faults in omega arith;
+}
+
+course_flushed : (start : Start) (rounds : ℕ) (reads : ReadSide) (writes new_writes : WriteSide) (calls : Option (List Call)) (old new : Serving)
+    → Gains writes.taken new_writes.taken old.out.items → new_writes.faults ≡ writes.faults
+    → new.out.items ≡ [] → new.framer ≡ old.framer → new.client ≡ old.client → new.count ≡ old.count
+    → Course start rounds reads writes calls old → Course start rounds reads new_writes calls new
+course_flushed start rounds reads writes new_writes calls old new gains same none framer client count c =
+    course_same start rounds reads writes new_writes calls old new
+    (done_sent start reads writes new_writes calls old.client old.out.items gains (omega (arith, same)) c.done)
+    framer client count c refl refl refl
+    (c.due ∙ (sym (append-nil (c.done.sent ++ old.out.items)) ∙ ap (λ (xs : List ℕ). (c.done.sent ++ old.out.items) ++ xs) (sym none)))
+
+-- a beginning of what stands to be written was taken
+some_of : (told : List LineReply) (sent out : List ℕ) (written : ℕ) → texts told ≡ sent ++ out → TookSome ((sent ++ take written out) ++ []) told
+some_of told sent out written due = (
+  drop written out,
+  due ∙ (ap (λ (xs : List ℕ). sent ++ xs) (sym (take-append-drop written out))
+  ∙ (sym (append_assoc sent (take written out) (drop written out))
+  ∙ ap (λ (xs : List ℕ). xs ++ drop written out) (sym (append-nil (sent ++ take written out))))),
+)
+
+ending_write : (start : Start) (rounds : ℕ) (reads : ReadSide) (writes new_writes : WriteSide) (calls : Option (List Call)) (old new : Serving) (written : ℕ)
+    → Gains writes.taken new_writes.taken (take written old.out.items) → Rose writes.faults new_writes.faults → writes.faults ≤ new_writes.faults
+    → new.out.items ≡ [] → new.client ≡ old.client
+    → Course start rounds reads writes calls old → Ending ends.WriteFault start reads new_writes calls new
+ending_write start rounds reads writes new_writes calls old new written gains rose up none client c =
+    let within = c.within in
+    subst (λ (x : Client). Ending ends.WriteFault start reads new_writes calls (with_client new x)) (sym client) (record {
+      done = done_sent start reads writes new_writes calls old.client (take written old.out.items) gains up c.done;
+      ends = (
+        omega arith,
+        inl (subst (λ (xs : List ℕ). TookSome ((c.done.sent ++ take written old.out.items) ++ xs) c.done.told) (sym none)
+          (some_of c.done.told c.done.sent old.out.items written c.due)),
+      );
+      rose = Rose-later start.writes.faults writes.faults new_writes.faults c.done.write_faults rose;
+      none_left = tt;
+    })
+
+pub flushed_goes_on : {X : Type 0} (result : Result X LineEnd) (reads new_reads : ReadSide) (writes new_writes : WriteSide) (old new : Serving)
+    → Flushes result writes new_writes old.out.items → new_reads ≡ reads → new.out.items ≡ []
+    → new.framer ≡ old.framer → new.client ≡ old.client → new.count ≡ old.count
+    → OnOk result ((start : Start) (rounds : ℕ) (calls : Option (List Call))
+    → Course start rounds reads writes calls old → Course start rounds new_reads new_writes calls new)
+flushed_goes_on (Ok x) reads new_reads writes new_writes old new f apart none framer client count =
+    λ start rounds calls c. subst (λ (r : ReadSide). Course start rounds r new_writes calls new) (sym apart)
+    (course_flushed start rounds reads writes new_writes calls old new f.0 f.1 none framer client count c)
+flushed_goes_on (Err end) reads new_reads writes new_writes old new f apart none framer client count = tt
+
+flush_ends : (end : LineEnd) (reads : ReadSide) (writes new_writes : WriteSide) (old new : Serving) (start : Start) (rounds : ℕ) (calls : Option (List Call))
+    → Flushes {X = Bool} (Err end) writes new_writes old.out.items → new.out.items ≡ [] → new.client ≡ old.client
+    → Course start rounds reads writes calls old → Ending end start reads new_writes calls new
+flush_ends ends.WriteFault reads writes new_writes old new start rounds calls f none client c =
+    ending_write start rounds reads writes new_writes calls old new f.0.0 f.0.1 f.1 f.2 none client c
+flush_ends other reads writes new_writes old new start rounds calls f none client c = absurd f
+
+pub flushed_ends : {X : Type 0} (result : Result X LineEnd) (reads new_reads : ReadSide) (writes new_writes : WriteSide) (old new : Serving)
+    → Flushes result writes new_writes old.out.items → new_reads ≡ reads → new.out.items ≡ [] → new.client ≡ old.client
+    → IfErr result (λ end. (start : Start) (rounds : ℕ) (calls : Option (List Call))
+    → Course start rounds reads writes calls old → Ending end start new_reads new_writes calls new)
+flushed_ends (Ok x) reads new_reads writes new_writes old new f apart none client = tt
+flushed_ends (Err end) reads new_reads writes new_writes old new f apart none client =
+    λ start rounds calls c. subst (λ (r : ReadSide). Ending end start r new_writes calls new) (sym apart)
+    (flush_ends end reads writes new_writes old new start rounds calls f none client c)
+
+-- a connection ends without a further reply
+ending_here : (end : LineEnd) (start : Start) (rounds : ℕ) (reads : ReadSide) (writes : WriteSide) (calls : Option (List Call)) (old new : Serving)
+    → new.out.items ≡ old.out.items → new.client ≡ old.client → (c : Course start rounds reads writes calls old)
+    → EndsSo end c.done.items c.done.size (drop c.done.size c.done.given) (c.done.sent ++ old.out.items) c.done.told
+    → RoseAt end start reads writes → NoneLeft end reads.left
+    → Ending end start reads writes calls new
+ending_here end start rounds reads writes calls old new out client c e rose none =
+    subst (λ (x : Client). Ending end start reads writes calls (with_client new x)) (sym client) (record {
+      done = c.done;
+      ends = subst (λ (xs : List ℕ). EndsSo end c.done.items c.done.size (drop c.done.size c.done.given) (c.done.sent ++ xs) c.done.told) (sym out) e;
+      rose = rose;
+      none_left = none;
+    })
+
+pub ending_quit : (start : Start) (rounds : ℕ) (reads : ReadSide) (writes : WriteSide) (calls : Option (List Call)) (old new : Serving) (taken : ℕ)
+    → Stands old.framer.rest (command Quit) taken → new.out.items ≡ old.out.items → new.client ≡ old.client
+    → Course start rounds reads writes calls old → Ending ends.Quit start reads writes calls new
+ending_quit start rounds reads writes calls old new taken stands out client c =
+    ending_here ends.Quit start rounds reads writes calls old new out client c
+    (c.within, (taken, subst (λ (bytes : List ℕ). Stands bytes (command Quit) taken) c.rest stands), sym c.due) tt tt
+
+-- a beginning of the replies stands to be written
+all_due : (told : List LineReply) (taken : List ℕ) → texts told ≡ taken → TookSome taken told
+all_due told taken due = ([], due ∙ sym (append-nil taken))
+
+pub ending_memory : (start : Start) (rounds : ℕ) (reads : ReadSide) (writes : WriteSide) (calls : Option (List Call)) (old new : Serving)
+    → new.out.items ≡ old.out.items → new.client ≡ old.client
+    → Course start rounds reads writes calls old → Ending ends.Memory start reads writes calls new
+ending_memory start rounds reads writes calls old new out client c =
+    let within = c.within in
+    ending_here ends.Memory start rounds reads writes calls old new out client c
+    (omega arith, inl (all_due c.done.told (c.done.sent ++ old.out.items) c.due)) tt tt
+
+ending_shut : (fault : FrameFault) (last : LineReply) (start : Start) (rounds : ℕ) (reads : ReadSide) (writes : WriteSide) (calls : Option (List Call)) (old new : Serving)
+    → Lasts old.framer.rest fault last → place_of fault ≡ old.framer.place → new.out.items ≡ old.out.items ++ text_of last → new.client ≡ old.client
+    → Course start rounds reads writes calls old → Ending (ends.Shut fault) start reads writes calls new
+ending_shut fault last start rounds reads writes calls old new lasts place out client c =
+    subst (λ (x : Client). Ending (ends.Shut fault) start reads writes calls (with_client new x)) (sym client) (record {
+      done = c.done;
+      ends = (
+        c.within,
+        place ∙ c.place,
+        (last, subst (λ (bytes : List ℕ). Lasts bytes fault last) c.rest lasts,
+          sym (due_one c.done.told c.done.sent old.out.items new.out.items last c.due out)),
+      );
+      rose = tt;
+      none_left = tt;
+    })
+
+pub shut_ends : (end : LineEnd) (fault : FrameFault) (last : LineReply) (start : Start) (rounds : ℕ) (reads : ReadSide) (writes : WriteSide) (calls : Option (List Call)) (old new : Serving)
+    → Lasts old.framer.rest fault last → place_of fault ≡ old.framer.place → Shuts end fault last old.out.items new.out.items → new.client ≡ old.client
+    → Course start rounds reads writes calls old → Ending end start reads writes calls new
+shut_ends (ends.Shut found) fault last start rounds reads writes calls old new lasts place s client c =
+    subst (λ (f : FrameFault). Ending (ends.Shut f) start reads writes calls new) (sym s.0)
+    (ending_shut fault last start rounds reads writes calls old new lasts place s.1 client c)
+shut_ends ends.Memory fault last start rounds reads writes calls old new lasts place s client c =
+    ending_memory start rounds reads writes calls old new s client c
+shut_ends other fault last start rounds reads writes calls old new lasts place s client c = absurd s
+
+-- what a line tells of its reading, in its parts
+reads_left : (reads : ReadSide) (left given : Option (List ℕ)) (faults : ℕ) → reads ≡ record { left = left; given = given; faults = faults } → reads.left ≡ left
+reads_left reads left given faults is = ap (λ (r : ReadSide). r.left) is
+
+-- more bytes were given
+done_fed : (start : Start) (old new : ReadSide) (writes : WriteSide) (calls : Option (List Call)) (client : Client) (bytes : List ℕ)
+    → Takes old.left new.left bytes → old.faults ≤ new.faults
+    → Done start old writes calls client → Done start new writes calls client
+done_fed start old new writes calls client bytes gives up done = record {
+  given = done.given ++ bytes;
+  items = done.items;
+  size = done.size;
+  told = done.told;
+  asked = done.asked;
+  sent = done.sent;
+  gives = Takes-append start.reads.left old.left new.left done.given bytes done.gives gives;
+  takes = done.takes;
+  asks = done.asks;
+  first = first_more done.given bytes done.items done.size done.first;
+  answers = done.answers;
+  read_faults = let before = done.read_faults in omega arith;
+  write_faults = done.write_faults;
+}
+
+-- what a read gave, by what it tells
+pub record Reads (old new : ReadSide) (bytes : List ℕ) : Type 0 where
+  pub gives : Takes old.left new.left bytes
+  pub up : old.faults ≤ new.faults
+
+-- the front of a stream takes no more bytes than there are
+size_fits : (stream : List ℕ) (items : List Item) (size : ℕ) → AreFirst stream items size → size ≤ length stream
+size_fits stream [] size h = omega (arith, h)
+size_fits stream (item ∷ items) size h =
+    let (one, others, stands, rest, sum) = h in
+    let here = streams_tell.fits stream item one stands in
+    let there = size_fits (drop one stream) items others rest in
+    omega (arith, length-drop one stream)
+
+-- as many rounds as bytes are fewer than those of all commands
+rounds_few : (given : List ℕ) (items : List Item) (size rounds : ℕ)
+    → AreFirst given items size → IsWithin items → IsOpen (drop size given) → rounds ≤ length given → rounds + 1 ≤ most_reads
+rounds_few given items size rounds first within open fed =
+    let sizes = first_bound given items size first in
+    let rest = open_bound (drop size given) open in
+    omega (arith, length-drop size given)
+
+pub course_fed : (start : Start) (rounds : ℕ) (reads new_reads : ReadSide) (writes : WriteSide) (calls : Option (List Call)) (old new : Serving) (bytes : List ℕ)
+    → Reads reads new_reads bytes → 1 ≤ length bytes → IsOpen old.framer.rest
+    → new.framer ≡ fed old.framer bytes → new.out.items ≡ old.out.items → new.client ≡ old.client → new.count ≡ old.count
+    → Course start rounds reads writes calls old → Course start (rounds + 1) new_reads writes calls new
+course_fed start rounds reads new_reads writes calls old new bytes r some open framer out client count c =
+    let here : IsOpen (drop c.done.size c.done.given) = subst (λ (xs : List ℕ). IsOpen xs) c.rest open in
+    let fit = size_fits c.done.given c.done.items c.done.size c.done.first in
+    let fed_before = c.fed in
+    subst (λ (x : Client). Course start (rounds + 1) new_reads writes calls (with_client new x)) (sym client) (record {
+      done = done_fed start reads new_reads writes calls old.client bytes r.gives r.up c.done;
+      within = c.within;
+      count = count ∙ c.count;
+      due = c.due ∙ ap (λ (xs : List ℕ). c.done.sent ++ xs) (sym out);
+      rest = ap (λ (f : Frames). f.rest) framer
+        ∙ (ap (λ (xs : List ℕ). xs ++ bytes) c.rest ∙ sym (drop-append-le c.done.size c.done.given bytes fit));
+      place = ap (λ (f : Frames). f.place) framer ∙ c.place;
+      fed = omega (arith, length-append c.done.given bytes);
+      few = rounds_few c.done.given c.done.items c.done.size rounds c.done.first c.within here c.fed;
+    })
+
+-- what was read was lost for want of memory, and nothing stood to be written
+pub ending_unfed : (start : Start) (rounds : ℕ) (reads new_reads : ReadSide) (writes : WriteSide) (calls : Option (List Call)) (old new : Serving) (bytes : List ℕ)
+    → Reads reads new_reads bytes → new.out.items ≡ old.out.items → new.client ≡ old.client
+    → Course start rounds reads writes calls old → Ending ends.Memory start new_reads writes calls new
+ending_unfed start rounds reads new_reads writes calls old new bytes r out client c =
+    let within = c.within in
+    subst (λ (x : Client). Ending ends.Memory start new_reads writes calls (with_client new x)) (sym client) (record {
+      done = done_fed start reads new_reads writes calls old.client bytes r.gives r.up c.done;
+      ends = (
+        omega arith,
+        inl (all_due c.done.told (c.done.sent ++ new.out.items) (c.due ∙ ap (λ (xs : List ℕ). c.done.sent ++ xs) (sym out))),
+      );
+      rose = tt;
+      none_left = tt;
+    })
+
+-- a read that changed nothing that was given
+done_stays : (start : Start) (old new : ReadSide) (writes : WriteSide) (calls : Option (List Call)) (client : Client)
+    → new.left ≡ old.left → old.faults ≤ new.faults → Done start old writes calls client → Done start new writes calls client
+done_stays start old new writes calls client same up done = record {
+  given = done.given;
+  items = done.items;
+  size = done.size;
+  told = done.told;
+  asked = done.asked;
+  sent = done.sent;
+  gives = subst (λ (left : Option (List ℕ)). Takes start.reads.left left done.given) (sym same) done.gives;
+  takes = done.takes;
+  asks = done.asks;
+  first = done.first;
+  answers = done.answers;
+  read_faults = let before = done.read_faults in omega arith;
+  write_faults = done.write_faults;
+}
+
+pub ending_closed : (left : ℕ) (start : Start) (rounds : ℕ) (reads new_reads : ReadSide) (writes : WriteSide) (calls : Option (List Call)) (old new : Serving)
+    → new_reads.left ≡ reads.left → reads.faults ≤ new_reads.faults → AtEnd new_reads.left → IsOpen old.framer.rest → left ≡ length old.framer.rest
+    → old.out.items ≡ [] → new.out.items ≡ old.out.items → new.client ≡ old.client
+    → Course start rounds reads writes calls old → Ending (ends.Closed left) start new_reads writes calls new
+ending_closed left start rounds reads new_reads writes calls old new same up at_end open left_is none out client c =
+    subst (λ (x : Client). Ending (ends.Closed left) start new_reads writes calls (with_client new x)) (sym client) (record {
+      done = done_stays start reads new_reads writes calls old.client same up c.done;
+      ends = (
+        c.within,
+        subst (λ (xs : List ℕ). IsOpen xs) c.rest open,
+        left_is ∙ ap (λ (xs : List ℕ). length xs) c.rest,
+        sym (c.due ∙ ap (λ (xs : List ℕ). c.done.sent ++ xs) (sym out)),
+      );
+      rose = tt;
+      none_left = at_end;
+    })
+
+pub ending_read : (start : Start) (rounds : ℕ) (reads new_reads : ReadSide) (writes : WriteSide) (calls : Option (List Call)) (old new : Serving)
+    → new_reads.left ≡ reads.left → reads.faults ≤ new_reads.faults → Rose reads.faults new_reads.faults → IsOpen old.framer.rest
+    → new.out.items ≡ old.out.items → new.client ≡ old.client
+    → Course start rounds reads writes calls old → Ending ends.ReadFault start new_reads writes calls new
+ending_read start rounds reads new_reads writes calls old new same up rose open out client c =
+    subst (λ (x : Client). Ending ends.ReadFault start new_reads writes calls (with_client new x)) (sym client) (record {
+      done = done_stays start reads new_reads writes calls old.client same up c.done;
+      ends = (
+        c.within,
+        subst (λ (xs : List ℕ). IsOpen xs) c.rest open,
+        sym (c.due ∙ ap (λ (xs : List ℕ). c.done.sent ++ xs) (sym out)),
+      );
+      rose = Rose-later start.reads.faults reads.faults new_reads.faults c.done.read_faults rose;
+      none_left = tt;
+    })
+
+-- the beginning of a connection
+pub course_begins : (reads : ReadSide) (writes : WriteSide) (calls : Option (List Call)) (serving : Serving)
+    → IsUnserved serving → Course (record { reads = reads; writes = writes; calls = calls }) 0 reads writes calls serving
+course_begins reads writes calls serving fresh =
+    let start : Start = record { reads = reads; writes = writes; calls = calls } in
+    subst (λ (x : Client). Course start 0 reads writes calls (with_client serving x)) (sym fresh.client) (record {
+      done = record {
+        given = [];
+        items = [];
+        size = 0;
+        told = [];
+        asked = [];
+        sent = [];
+        gives = Takes-none reads.left;
+        takes = Gains-none writes.taken;
+        asks = refl;
+        first = refl;
+        answers = (refl, refl, refl);
+        read_faults = omega arith;
+        write_faults = omega arith;
+      };
+      within = omega arith;
+      count = fresh.count;
+      due = sym fresh.out;
+      rest = ap (λ (f : Frames). f.rest) fresh.framer;
+      place = ap (λ (f : Frames). f.place) fresh.framer;
+      fed = omega arith;
+      few = omega arith;
+    })
+
+-- more rounds than that there aren't
+pub rounds_end : (start : Start) (reads : ReadSide) (writes : WriteSide) (calls : Option (List Call)) (serving : Serving)
+    → Course start (most_reads + 1) reads writes calls serving → ⊥
+rounds_end start reads writes calls serving c = let few = c.few in absurd (omega arith)
+
+-- at every end the line took a beginning of what is due
+ends_some : (end : LineEnd) (items : List Item) (size : ℕ) (rest taken : List ℕ) (told : List LineReply)
+    → EndsSo end items size rest taken told → (length items ≤ budget) × (TookSome taken told ⊎ TookToFault rest taken told)
+ends_some ends.Quit items size rest taken told e = let within = e.0 in (omega arith, inl (all_due told taken (sym e.2)))
+ends_some (ends.Closed left) items size rest taken told e = let within = e.0 in (omega arith, inl (all_due told taken (sym e.3)))
+ends_some (ends.Shut fault) items size rest taken told e =
+    let within = e.0 in
+    let last = e.2 in
+    (omega arith, inr (record { fault = fault; last = last.0; lasts = last.1; some = all_due (told ++ last.0 ∷ []) taken (sym last.2) }))
+ends_some ends.Budget items size rest taken told e = (omega (arith, e.0), inl (all_due told taken (sym e.1)))
+ends_some ends.ReadFault items size rest taken told e = let within = e.0 in (omega arith, inl (all_due told taken (sym e.2)))
+ends_some ends.WriteFault items size rest taken told e = e
+ends_some ends.Memory items size rest taken told e = e
+
+-- a beginning of that
+some_less : (told : List LineReply) (sent out : List ℕ) (written : ℕ) → TookSome (sent ++ out) told → TookSome (sent ++ take written out) told
+some_less told sent out written t = (
+  drop written out ++ t.0,
+  t.1 ∙ (ap (λ (xs : List ℕ). (sent ++ xs) ++ t.0) (sym (take-append-drop written out))
+  ∙ (ap (λ (xs : List ℕ). xs ++ t.0) (sym (append_assoc sent (take written out) (drop written out)))
+  ∙ append_assoc (sent ++ take written out) (drop written out) t.0)),
+)
+
+ends_less : (items : List Item) (size : ℕ) (rest sent out : List ℕ) (told : List LineReply) (written : ℕ)
+    → (length items ≤ budget) × (TookSome (sent ++ out) told ⊎ TookToFault rest (sent ++ out) told)
+    → EndsSo ends.WriteFault items size rest (sent ++ take written out) told
+ends_less items size rest sent out told written e = (e.0, by e.1)
+  where
+    by : TookSome (sent ++ out) told ⊎ TookToFault rest (sent ++ out) told
+        → TookSome (sent ++ take written out) told ⊎ TookToFault rest (sent ++ take written out) told
+    by (inl t) = inl (some_less told sent out written t)
+    by (inr t) = inr (record { fault = t.fault; last = t.last; lasts = t.lasts; some = some_less (told ++ t.last ∷ []) sent out written t.some })
+
+-- what stands of a connection at its end, by what its line and its desk tell
+pub record Finished (start : Start) (reads : ReadSide) (writes : WriteSide) (calls : Option (List Call)) (end : LineEnd) : Type 0 where
+  pub served : IsServed start.reads.left reads.left start.writes.taken writes.taken start.calls calls end
+  pub rose : RoseAt end start reads writes
+  pub read_faults : start.reads.faults ≤ reads.faults
+  pub write_faults : start.writes.faults ≤ writes.faults
+
+finished_by : (end : LineEnd) (start : Start) (reads : ReadSide) (writes new_writes : WriteSide) (calls new_calls : Option (List Call)) (serving : Serving) (bytes : List ℕ)
+    → (done : Done start reads writes calls serving.client)
+    → Gains writes.taken new_writes.taken bytes → writes.faults ≤ new_writes.faults
+    → EndsSo end done.items done.size (drop done.size done.given) (done.sent ++ bytes) done.told
+    → RoseAt end start reads new_writes → NoneLeft end reads.left
+    → GivenUp calls new_calls serving.client
+    → Finished start reads new_writes new_calls end
+finished_by end start reads writes new_writes calls new_calls serving bytes done gains up e rose none up_given = record {
+  served = record {
+    given = done.given;
+    taken = done.sent ++ bytes;
+    calls = done.asked ++ up_given.calls;
+    gives = done.gives;
+    takes = Gains-append start.writes.taken writes.taken new_writes.taken done.sent bytes done.takes gains;
+    asks = up_given.record_is
+      ∙ (ap (λ (calls : Option (List Call)). with_calls up_given.calls calls) done.asks ∙ sym (with_calls-append done.asked up_given.calls start.calls));
+    served = record {
+      items = done.items;
+      size = done.size;
+      told = done.told;
+      asked = done.asked;
+      client = serving.client;
+      closing = up_given.calls;
+      count = up_given.count;
+      first = done.first;
+      answers = done.answers;
+      leaves = up_given.leaves;
+      calls_are = refl;
+      ends = e;
+    };
+    none_left = none;
+  };
+  rose = rose;
+  read_faults = done.read_faults;
+  write_faults = let before = done.write_faults in omega arith;
+}
+
+-- a fault rises over what was counted before
+rose_on : (end : LineEnd) (start : Start) (reads : ReadSide) (old new : WriteSide) → new.faults ≡ old.faults → RoseAt end start reads old → RoseAt end start reads new
+rose_on ends.ReadFault start reads old new same r = r
+rose_on ends.WriteFault start reads old new same r = subst (λ (n : ℕ). Rose start.writes.faults n) (sym same) r
+rose_on other start reads old new same r = tt
+
+pub finished : (due end : LineEnd) (start : Start) (reads new_reads : ReadSide) (writes new_writes : WriteSide) (calls new_calls : Option (List Call)) (serving : Serving)
+    → Ending due start reads writes calls serving → Finishes due end writes new_writes serving.out.items → new_reads ≡ reads
+    → GivenUp calls new_calls serving.client → Finished start new_reads new_writes new_calls end
+finished due end start reads new_reads writes new_writes calls new_calls serving e (inl f) apart up =
+    subst (λ (r : ReadSide). Finished start r new_writes new_calls end) (sym apart)
+    (subst (λ (x : LineEnd). Finished start reads new_writes new_calls x) (sym f.2)
+    (finished_by due start reads writes new_writes calls new_calls serving serving.out.items e.done f.0 (omega (arith, f.1)) e.ends
+      (rose_on due start reads writes new_writes f.1 e.rose) e.none_left up))
+finished due end start reads new_reads writes new_writes calls new_calls serving e (inr f) apart up =
+    let bytes = take f.0.0 serving.out.items in
+    let less = ends_less e.done.items e.done.size (drop e.done.size e.done.given) e.done.sent serving.out.items e.done.told f.0.0
+      (ends_some due e.done.items e.done.size (drop e.done.size e.done.given) (e.done.sent ++ serving.out.items) e.done.told e.ends) in
+    subst (λ (r : ReadSide). Finished start r new_writes new_calls end) (sym apart)
+    (subst (λ (x : LineEnd). Finished start reads new_writes new_calls x) (sym f.3)
+    (finished_by ends.WriteFault start reads writes new_writes calls new_calls serving bytes e.done f.0.1 f.2 less
+      (Rose-later start.writes.faults writes.faults new_writes.faults e.done.write_faults f.1) tt up))
+
+-- a connection for which memory ran out at once
+pub never_served : (left taken : Option (List ℕ)) (calls : Option (List Call)) → IsServed left left taken taken calls calls ends.Memory
+never_served left taken calls = record {
+  given = [];
+  taken = [];
+  calls = [];
+  gives = Takes-none left;
+  takes = Gains-none taken;
+  asks = refl;
+  served = record {
+    items = [];
+    size = 0;
+    told = [];
+    asked = [];
+    client = newcomer;
+    closing = [];
+    count = 0;
+    first = refl;
+    answers = (refl, refl, refl);
+    leaves = (refl, refl);
+    calls_are = refl;
+    ends = (omega arith, inl ([], refl));
+  };
+  none_left = tt;
+}
