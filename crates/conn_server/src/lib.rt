@@ -9,6 +9,8 @@ mod answers;
 pub mod clients;
 mod closing;
 pub mod ends;
+#[cfg(test)]
+mod line_tests;
 mod refusals;
 pub mod serving;
 mod tellings;

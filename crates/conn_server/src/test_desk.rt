@@ -32,7 +32,7 @@ pub struct TestDesk {
 }
 
 impl TestDesk {
-    fn new(alloc: Global) -> Result<TestDesk, Fail> {
+    pub fn new(alloc: Global) -> Result<TestDesk, Fail> {
         Ok(TestDesk {
             text: Value::of(alloc, b"5")?,
             shard: Shard::new(alloc, 0, 1, 80, 100, 1)?,

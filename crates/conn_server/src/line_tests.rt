@@ -1,0 +1,182 @@
+ghost use Rattle.std.specs.Prelude.{◌≤◌};
+
+use crate::test_desk::TestDesk;
+use crate::{LineEnd, serve_line};
+use iq_outside::{MemLine, MemSink, MemSource};
+use mc_text::FrameFault;
+use std::alloc::Global;
+use std::process::Abort;
+use std::test::Fail;
+
+const TALK: &[u8] = b"begin read\r\niqget npending:2 1 0\r\niqset npending:2 0 0 1 1 7\r\n5\r\n\
+    iqget npending:2 1 x\r\nwhat is this\r\nbegin write\r\nqaread npending:2 2\r\nsql 2 invite 1 2\r\n\
+    sar npending:2 0 0 1 2\r\n6\r\nquit\r\nbegin read\r\n";
+
+const REPLIES: &str = "SESSION 1\r\nLEASE 1\r\nSTORED\r\nCLIENT_ERROR bad line\r\nERROR\r\n\
+    SESSION 2\r\nGRANTED 2\r\nVALUE npending:2 0 1 7\r\n5\r\nEND\r\nCOMMITTED 1\r\nSTORED\r\n";
+
+/// A line of which this is said, and that gives and takes at most so many bytes at a time.
+fn line_of(alloc: Global, said: &[u8], pieces: (usize, usize)) -> Result<MemLine, Fail>
+    requires read { 1 ≤ pieces.0 }
+    requires write { 1 ≤ pieces.1 }
+{
+    failing_line(alloc, said, pieces, &[], &[])
+}
+
+/// Such a line, of which these reads and these writes fail, counted from 1.
+fn failing_line(
+    alloc: Global,
+    said: &[u8],
+    pieces: (usize, usize),
+    reads: &[u64],
+    writes: &[u64],
+) -> Result<MemLine, Fail>
+    requires read { 1 ≤ pieces.0 }
+    requires write { 1 ≤ pieces.1 }
+{
+    let said = Vec::from_slice(alloc, said)?;
+    let source = MemSource::new(said, pieces.0, Vec::from_slice(alloc, reads)?);
+    let sink = MemSink::new(alloc, 65536, pieces.1, Vec::from_slice(alloc, writes)?)?;
+    Ok(MemLine::new(source, sink))
+}
+
+/// Serves a line at a desk, and compares how it ends and what it takes.
+fn serves(
+    rt: &impl Abort,
+    alloc: Global,
+    line: MemLine,
+    desk: &mut TestDesk,
+    want: (&str, LineEnd),
+) {
+    let mut line = line;
+    let end = serve_line(alloc, &mut line, desk);
+    let taken = String::from_utf8_lossy(alloc, line.taken()).expect(rt, "memory");
+    assert_eq!(rt; taken, want.0);
+    assert_eq!(rt; end, want.1);
+}
+
+#[test]
+fn pieces_tell_nothing(rt: HostRuntime) -> Result<(), Fail> {
+    for piece in 1..=TALK.len() {
+        let mut desk = TestDesk::new(rt.alloc())?;
+        let line = line_of(rt.alloc(), TALK, (piece, piece))?;
+        serves(&rt, rt.alloc(), line, &mut desk, (REPLIES, LineEnd::Quit));
+    }
+    Ok(())
+}
+
+#[test]
+fn inputs_end_as_they_should(rt: HostRuntime) -> Result<(), Fail> {
+    let table: &[(&[u8], &str, LineEnd)] = &[
+        (b"", "", LineEnd::Closed { left: 0 }),
+        (b"\n\n", "", LineEnd::Closed { left: 2 }),
+        (b"\0\0\0", "", LineEnd::Closed { left: 3 }),
+        (
+            b"\0\r\n\r\n",
+            "ERROR\r\nERROR\r\n",
+            LineEnd::Closed { left: 0 },
+        ),
+        (b"begin read\r", "", LineEnd::Closed { left: 11 }),
+        (
+            b"begin read\r\niqset profile:2 0 0 6 1 0\r\nm2",
+            "SESSION 1\r\n",
+            LineEnd::Closed { left: 29 },
+        ),
+        (
+            b"iqset profile:2 0 0 2 1 0\r\nm2x",
+            "",
+            LineEnd::Closed { left: 30 },
+        ),
+        (
+            b"begin read\r\niqset profile:2 0 0 2 1 0\r\nm2xxquit\r\n",
+            "SESSION 1\r\nCLIENT_ERROR bad block\r\n",
+            LineEnd::Shut {
+                fault: FrameFault::BadBlock { place: 12 },
+            },
+        ),
+        (
+            b"what\r\niqset profile:2 0 0 1048577 1 0\r\nquit\r\n",
+            "ERROR\r\nCLIENT_ERROR big block\r\n",
+            LineEnd::Shut {
+                fault: FrameFault::BigBlock { place: 6 },
+            },
+        ),
+        (
+            b"iqset profile:2 0 0 12 1 0\r\nbegin read\r\n\r\nquit\r\nbegin read\r\n",
+            "NOT_STORED\r\n",
+            LineEnd::Quit,
+        ),
+        (
+            b"begin\r\nquit\r\nwhat\r\n",
+            "CLIENT_ERROR bad line\r\n",
+            LineEnd::Quit,
+        ),
+    ];
+    for (said, replies, end) in table {
+        let mut desk = TestDesk::new(rt.alloc())?;
+        let line = line_of(rt.alloc(), said, (4096, 4096))?;
+        serves(&rt, rt.alloc(), line, &mut desk, (replies, *end));
+    }
+    Ok(())
+}
+
+#[test]
+fn long_input_is_answered(rt: HostRuntime) -> Result<(), Fail> {
+    let mut desk = TestDesk::new(rt.alloc())?;
+    let mut said = Vec::new(rt.alloc());
+    for _ in 0..2048 {
+        said.push(b'a')?;
+    }
+    said.extend_from_slice(b"\r\n")?;
+    for _ in 0..2049 {
+        said.push(b'a')?;
+    }
+    said.extend_from_slice(b"\r\nquit\r\n")?;
+    let line = line_of(rt.alloc(), &said, (4096, 4096))?;
+    let fault = FrameFault::LongLine { place: 2050 };
+    let want = (
+        "ERROR\r\nCLIENT_ERROR long line\r\n",
+        LineEnd::Shut { fault },
+    );
+    serves(&rt, rt.alloc(), line, &mut desk, want);
+
+    said.clear();
+    let mut replies = String::new(rt.alloc());
+    for number in 1..=1000 {
+        said.extend_from_slice(b"begin read\r\n")?;
+        write!(replies, "SESSION {number}\r\n")?;
+    }
+    let line = line_of(rt.alloc(), &said, (65536, 65536))?;
+    let want = (replies.as_str(), LineEnd::Closed { left: 0 });
+    serves(&rt, rt.alloc(), line, &mut desk, want);
+    Ok(())
+}
+
+#[test]
+fn faults_end_it(rt: HostRuntime) -> Result<(), Fail> {
+    let alloc = rt.alloc();
+    let mut desk = TestDesk::new(alloc)?;
+    let said = b"begin write\r\nqareg profile:2 1\r\nqareg friends:2 1\r\n";
+    let line = failing_line(alloc, said, (32, 4096), &[2], &[])?;
+    let want = ("SESSION 1\r\nGRANTED 1\r\n", LineEnd::ReadFault);
+    serves(&rt, alloc, line, &mut desk, want);
+
+    let line = failing_line(
+        alloc,
+        b"begin read\r\niqget profile:2 2 0\r\n",
+        (4096, 4),
+        &[],
+        &[4],
+    )?;
+    serves(
+        &rt,
+        alloc,
+        line,
+        &mut desk,
+        ("SESSION 2\r\nL", LineEnd::WriteFault),
+    );
+
+    let line = failing_line(alloc, b"begin read\r\nquit\r\n", (4096, 4), &[], &[1])?;
+    serves(&rt, alloc, line, &mut desk, ("", LineEnd::WriteFault));
+    Ok(())
+}
