@@ -1,6 +1,6 @@
 -- How many bytes items take, and how many stand at most where nothing whole does.
 use Rattle.std.proofs.Common.{ℕ, ◌+◌, ◌*◌, ◌≡◌, ◌<◌, ◌≤◌, ◌⊎◌, inl, inr, List, [], ◌∷◌, length, take, drop, Option, Some, None, arith, refl, sym, subst}
-use Rattle.std.specs.Prelude.{zero, suc, ◌×◌, slice_index}
+use Rattle.std.specs.Prelude.{zero, suc, slice_index}
 use Rattle.std.proofs.lemmas.Bool.{cases_eq, cases_lt}
 use Rattle.mc_text.specs.declared.commands.Command.{Command}
 use Rattle.mc_text.specs.declared.commands.Command.TheVariants.{IqSet, Sar, Unknown}
@@ -105,27 +105,27 @@ unknown_by (word ∷ words) none = λ row is. none (row, is)
 -- a stream that has as many bytes as a command may have, and whose first line is here
 shut_command : (stream : List ℕ) (long : ℕ) (said : Command) (found : Option ℕ) → 1050628 ≤ length stream → IsLine stream long
     → AreWords said (words_in (take long stream)) → announced said ≡ found → IsOpen stream → ⊥
-shut_command stream long said None many line says e open =
-    open (command said) (long + 2) (record {
+shut_command stream long said None many line says e is_open =
+    is_open (command said) (long + 2) (record {
       long = long;
       line = line;
       says = says;
       block = subst (λ (f : Option ℕ). IsBlock stream (long + 2) f (block_of said)) (sym e) (no_block said e);
       taken_is = subst (λ (f : Option ℕ). long + 2 ≡ long + 2 + block_size f) (sym e) (omega arith);
     })
-shut_command stream long said (Some bytes) many line says e open = by (cases_lt 1048576 bytes) (ends_or_not stream (long + 2 + bytes))
+shut_command stream long said (Some bytes) many line says e is_open = by (cases_lt 1048576 bytes) (ends_or_not stream (long + 2 + bytes))
   where
     announces = record { line = line; command = said; says = says; bytes_are = e }
     by : ((1048576 < bytes) ⊎ (bytes ≤ 1048576)) → EndsAt stream (long + 2 + bytes) ⊎ (EndsAt stream (long + 2 + bytes) → ⊥) → ⊥
-    by (inl big) here = open big_block 0 (record { long = long; bytes = bytes; line = announces; big = big }, refl)
+    by (inl big) here = is_open big_block 0 (record { long = long; bytes = bytes; line = announces; big = big }, refl)
     by (inr small) (inr wrong) =
         let short = line.short in
-        open bad_block 0 (record { long = long; bytes = bytes; line = announces; small = small; there = omega arith; wrong = wrong }, refl)
+        is_open bad_block 0 (record { long = long; bytes = bytes; line = announces; small = small; there = omega arith; wrong = wrong }, refl)
     by (inr small) (inl ends) =
         let block : List ℕ = take bytes (drop (long + 2) stream) in
         let same = with_set said bytes (words_in (take long stream)) block says e in
         let tells : announced same.other ≡ Some bytes = cc in
-        open (command same.other) (long + 2 + (bytes + 2)) (record {
+        is_open (command same.other) (long + 2 + (bytes + 2)) (record {
           long = long;
           line = line;
           says = same.says;
@@ -134,19 +134,19 @@ shut_command stream long said (Some bytes) many line says e open = by (cases_lt 
         })
 
 shut_line : (stream : List ℕ) (long : ℕ) → 1050628 ≤ length stream → IsLine stream long → IsOpen stream → ⊥
-shut_line stream long many line open =
+shut_line stream long many line is_open =
     let none : (said : Command) → AreWords said (words_in (take long stream)) → ⊥ =
-    λ said says. shut_command stream long said (announced said) many line says refl open in
+    λ said says. shut_command stream long said (announced said) many line says refl is_open in
     none Unknown (unknown_by (words_in (take long stream))
-      (λ verb. open bad_line (long + 2) (record { long = long; line = line; says = record { verb = verb; none = none }; taken_is = refl })))
+      (λ verb. is_open bad_line (long + 2) (record { long = long; line = line; says = record { verb = verb; none = none }; taken_is = refl })))
 
 -- where nothing whole stands, fewer bytes stand than a command may have
 pub open_bound : (stream : List ℕ) → IsOpen stream → length stream < 1050628
-open_bound stream open = by (cases_lt (length stream) 1050628)
+open_bound stream is_open = by (cases_lt (length stream) 1050628)
   where
     many : 1050628 ≤ length stream → FirstEnd stream 2049 ⊎ NoEnd stream 2049 → ⊥
-    many l (inl f) = let within = f.within in shut_line stream f.long l (record { ends = f.ends; first = f.first; short = omega arith }) open
-    many l (inr none) = open long_line 0 (record { enough = omega arith; endless = λ place le e. none place (omega arith) e }, refl)
+    many l (inl f) = let within = f.within in shut_line stream f.long l (record { ends = f.ends; first = f.first; short = omega arith }) is_open
+    many l (inr none) = is_open long_line 0 (record { enough = omega arith; endless = λ place le e. none place (omega arith) e }, refl)
     by : (length stream < 1050628) ⊎ (1050628 ≤ length stream) → length stream < 1050628
     by (inl few) = few
     by (inr l) = absurd (many l (first_end stream 2049))

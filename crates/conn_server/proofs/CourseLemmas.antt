@@ -1,6 +1,6 @@
 -- What was done so far on a connection, one item further.
 use Rattle.std.proofs.Common.{ℕ, ◌+◌, ◌*◌, ◌^◌, ◌≡◌, ◌<◌, ◌≤◌, ◌⊎◌, inl, inr, List, [], ◌∷◌, ◌++◌, length, take, drop, Option, Some, None, arith, refl, sym, ap, subst, ◌∙◌, append_assoc, append-nil, add-zero}
-use Rattle.std.specs.Prelude.{◌×◌, ⊤, ⊥, min, Bool, true, Result, Ok, Err, OnOk, IfErr}
+use Rattle.std.specs.Prelude.{min, Bool, true, Result, Ok, Err, OnOk, IfErr}
 use Rattle.std.proofs.lemmas.Bool.{cases_lt}
 use Rattle.std.proofs.lemmas.List.{drop-drop, drop-append-le, length-append, length-drop, take-append-drop}
 use Rattle.iq_outside.specs.Outside.{Takes, Gains, Rose, AtEnd, ReadSide, WriteSide}
@@ -10,9 +10,7 @@ use Rattle.mc_text.specs.Replies.{text_of}
 use Rattle.mc_text.specs.Streams.{Item, command, bad_line, long_line, bad_block, big_block, Stands, IsOpen, AreFirst}
 use Rattle.mc_text.specs.declared.commands.Command.TheVariants.{Quit}
 use Rattle.mc_text.specs.declared.faults.FrameFault.{FrameFault}
-use Rattle.mc_text.specs.declared.faults.FrameFault.TheVariants as frame
 use Rattle.mc_text.specs.declared.replies.LineReply.{LineReply}
-use Rattle.mc_text.specs.declared.replies.LineReply.TheVariants as reply
 use Rattle.mc_text.proofs.StreamLemmas.{streams_tell}
 use Rattle.session_client.specs.Desks.{Call}
 use Rattle.conn_server.specs.declared.clients.Client.{Client}
@@ -403,17 +401,17 @@ size_fits stream (item ∷ items) size h =
 -- as many rounds as bytes are fewer than those of all commands
 rounds_few : (given : List ℕ) (items : List Item) (size rounds : ℕ)
     → AreFirst given items size → IsWithin items → IsOpen (drop size given) → rounds ≤ length given → rounds + 1 ≤ most_reads
-rounds_few given items size rounds first within open fed =
+rounds_few given items size rounds first within is_open fed =
     let sizes = first_bound given items size first in
-    let rest = open_bound (drop size given) open in
+    let rest = open_bound (drop size given) is_open in
     omega (arith, length-drop size given)
 
 pub course_fed : (start : Start) (rounds : ℕ) (reads new_reads : ReadSide) (writes : WriteSide) (calls : Option (List Call)) (old new : Serving) (bytes : List ℕ)
     → Reads reads new_reads bytes → 1 ≤ length bytes → IsOpen old.framer.rest
     → new.framer ≡ fed old.framer bytes → new.out.items ≡ old.out.items → new.client ≡ old.client → new.count ≡ old.count
     → Course start rounds reads writes calls old → Course start (rounds + 1) new_reads writes calls new
-course_fed start rounds reads new_reads writes calls old new bytes r some open framer out client count c =
-    let here : IsOpen (drop c.done.size c.done.given) = subst (λ (xs : List ℕ). IsOpen xs) c.rest open in
+course_fed start rounds reads new_reads writes calls old new bytes r some is_open framer out client count c =
+    let here : IsOpen (drop c.done.size c.done.given) = subst (λ (xs : List ℕ). IsOpen xs) c.rest is_open in
     let fit = size_fits c.done.given c.done.items c.done.size c.done.first in
     let fed_before = c.fed in
     subst (λ (x : Client). Course start (rounds + 1) new_reads writes calls (with_client new x)) (sym client) (record {
@@ -467,12 +465,12 @@ pub ending_closed : (left : ℕ) (start : Start) (rounds : ℕ) (reads new_reads
     → new_reads.left ≡ reads.left → reads.faults ≤ new_reads.faults → AtEnd new_reads.left → IsOpen old.framer.rest → left ≡ length old.framer.rest
     → old.out.items ≡ [] → new.out.items ≡ old.out.items → new.client ≡ old.client
     → Course start rounds reads writes calls old → Ending (ends.Closed left) start new_reads writes calls new
-ending_closed left start rounds reads new_reads writes calls old new same up at_end open left_is none out client c =
+ending_closed left start rounds reads new_reads writes calls old new same up at_end is_open left_is none out client c =
     subst (λ (x : Client). Ending (ends.Closed left) start new_reads writes calls (with_client new x)) (sym client) (record {
       done = done_stays start reads new_reads writes calls old.client same up c.done;
       ends = (
         c.within,
-        subst (λ (xs : List ℕ). IsOpen xs) c.rest open,
+        subst (λ (xs : List ℕ). IsOpen xs) c.rest is_open,
         left_is ∙ ap (λ (xs : List ℕ). length xs) c.rest,
         sym (c.due ∙ ap (λ (xs : List ℕ). c.done.sent ++ xs) (sym out)),
       );
@@ -484,12 +482,12 @@ pub ending_read : (start : Start) (rounds : ℕ) (reads new_reads : ReadSide) (w
     → new_reads.left ≡ reads.left → reads.faults ≤ new_reads.faults → Rose reads.faults new_reads.faults → IsOpen old.framer.rest
     → new.out.items ≡ old.out.items → new.client ≡ old.client
     → Course start rounds reads writes calls old → Ending ends.ReadFault start new_reads writes calls new
-ending_read start rounds reads new_reads writes calls old new same up rose open out client c =
+ending_read start rounds reads new_reads writes calls old new same up rose is_open out client c =
     subst (λ (x : Client). Ending ends.ReadFault start new_reads writes calls (with_client new x)) (sym client) (record {
       done = done_stays start reads new_reads writes calls old.client same up c.done;
       ends = (
         c.within,
-        subst (λ (xs : List ℕ). IsOpen xs) c.rest open,
+        subst (λ (xs : List ℕ). IsOpen xs) c.rest is_open,
         sym (c.due ∙ ap (λ (xs : List ℕ). c.done.sent ++ xs) (sym out)),
       );
       rose = Rose-later start.reads.faults reads.faults new_reads.faults c.done.read_faults rose;
@@ -656,3 +654,13 @@ never_served left taken calls = record {
   };
   none_left = tt;
 }
+
+-- wherever a connection was on its course, it still is
+pub record StillOn (old_reads new_reads : ReadSide) (old_writes new_writes : WriteSide) (old_calls new_calls : Option (List Call)) (old new : Serving) : Type 0 where
+  pub within : new.count < 1000000
+  pub goes : (start : Start) (rounds : ℕ) → Course start rounds old_reads old_writes old_calls old → Course start rounds new_reads new_writes new_calls new
+
+-- a connection is on its course, after so many rounds
+pub record OnCourse (start : Start) (rounds : ℕ) (reads : ReadSide) (writes : WriteSide) (calls : Option (List Call)) (serving : Serving) : Type 0 where
+  pub within : serving.count < 1000000
+  pub course : Course start rounds reads writes calls serving

@@ -90,7 +90,7 @@ impl Serving {
         }) (L.read_side line.new) (L.write_side line.new) (D.record_of desk.new) self.new }
     {
         let mut room = [0u8; PIECE];
-        for _round in 0..MORE_READS {
+        for _ in 0..MORE_READS {
             if let Err(end) = self.go_on(line, desk, &mut room) {
                 return end;
             }
@@ -128,7 +128,7 @@ impl Serving {
     fn answer_all<L: Line, D: Desk>(&mut self, line: &mut L, desk: &mut D) -> Result<(), LineEnd>
         requires { self.old.count < 1000000 }
         ensures within { OnOk result (self.new.count < 1000000) }
-        ensures open { OnOk result (IsOpen self.new.framer.rest) }
+        ensures stops { OnOk result (IsOpen self.new.framer.rest) }
         ensures goes_on { OnOk result ((start : Start) (rounds : ℕ) →
             Course start rounds (L.read_side line.old) (L.write_side line.old)
             (D.record_of desk.old) self.old →
@@ -155,7 +155,7 @@ impl Serving {
         requires { self.old.count < 1000000 }
         ensures within { OnOk result (self.new.count < 1000000) }
         ensures counts { result ≡ Ok true → self.new.count ≡ self.old.count + 1 }
-        ensures open { result ≡ Ok false → IsOpen self.new.framer.rest }
+        ensures stops { result ≡ Ok false → IsOpen self.new.framer.rest }
         ensures goes_on { OnOk result ((start : Start) (rounds : ℕ) (reads : ReadSide)
             (writes : WriteSide) →
             Course start rounds reads writes (D.record_of desk.old) self.old →
@@ -241,7 +241,7 @@ impl Serving {
     /// Reads once. Nothing whole stands in what was read before, and nothing to be written.
     fn read_more<L: Line>(&mut self, line: &mut L, room: &mut [u8]) -> Result<(), LineEnd>
         requires room { 0 < length room.old }
-        requires open { IsOpen self.old.framer.rest }
+        requires stops { IsOpen self.old.framer.rest }
         requires written { self.old.out.items ≡ [] }
         ensures count { OnOk result (self.new.count ≡ self.old.count) }
         ensures goes_on { OnOk result ((start : Start) (rounds : ℕ) (calls : Option (List Call)) →
