@@ -1,12 +1,12 @@
 -- How many bytes items take, and how many stand at most where nothing whole does.
-use Rattle.std.proofs.Common.{ℕ, ◌+◌, ◌*◌, ◌≡◌, ◌<◌, ◌≤◌, ◌⊎◌, inl, inr, List, [], ◌∷◌, length, take, drop, Option, Some, None, arith, refl, sym, subst}
+use Rattle.std.proofs.Common.{ℕ, ◌+◌, ◌*◌, ◌≡◌, ◌<◌, ◌≤◌, ◌⊎◌, inl, inr, List, [], ◌∷◌, length, take, drop, Option, Some, None, arith, refl, sym, subst, ◌∙◌}
 use Rattle.std.specs.Prelude.{zero, suc, slice_index}
 use Rattle.std.proofs.lemmas.Bool.{cases_eq, cases_lt}
 use Rattle.mc_text.specs.declared.commands.Command.{Command}
 use Rattle.mc_text.specs.declared.commands.Command.TheVariants.{IqSet, Sar, Unknown}
 use Rattle.mc_text.specs.Words.{words_in}
 use Rattle.mc_text.specs.Commands.{AreWords, AreUnknown, announced, block_of}
-use Rattle.mc_text.specs.Streams.{EndsAt, IsLine, IsBlock, block_size, HaveVerb, Item, command, bad_line, long_line, bad_block, big_block, Stands, IsOpen, AreFirst}
+use Rattle.mc_text.specs.Streams.{EndsAt, IsLine, IsBlock, block_size, Announces, HaveVerb, Item, command, bad_line, long_line, bad_block, big_block, Stands, IsOpen, AreFirst}
 
 -- a block that may be has no more bytes than this
 block_bound : (stream : List ℕ) (behind : ℕ) (found : Option ℕ) (block : List ℕ) → IsBlock stream behind found block → block_size found ≤ 1048578
@@ -56,7 +56,7 @@ record FirstEnd (stream : List ℕ) (below : ℕ) : Type 0 where
 abbrev NoEnd : List ℕ → ℕ → Type 0
 NoEnd stream below = (place : ℕ) → place < below → EndsAt stream place → ⊥
 
-one_more : (stream : List ℕ) (below : ℕ) → NoEnd stream below → (EndsAt stream below → ⊥) → NoEnd stream (below + 1)
+one_more : (stream : List ℕ) (below : ℕ) → NoEnd stream below → (EndsAt stream below → ⊥) → NoEnd stream (suc below)
 one_more stream below none here place l e = by (cases_lt place below)
   where
     by : (place < below) ⊎ (below ≤ place) → ⊥
@@ -115,6 +115,7 @@ shut_command stream long said None many line says e is_open =
     })
 shut_command stream long said (Some bytes) many line says e is_open = by (cases_lt 1048576 bytes) (ends_or_not stream (long + 2 + bytes))
   where
+    announces : Announces stream long bytes
     announces = record { line = line; command = said; says = says; bytes_are = e }
     by : ((1048576 < bytes) ⊎ (bytes ≤ 1048576)) → EndsAt stream (long + 2 + bytes) ⊎ (EndsAt stream (long + 2 + bytes) → ⊥) → ⊥
     by (inl big) here = is_open big_block 0 (record { long = long; bytes = bytes; line = announces; big = big }, refl)
@@ -124,7 +125,7 @@ shut_command stream long said (Some bytes) many line says e is_open = by (cases_
     by (inr small) (inl ends) =
         let block : List ℕ = take bytes (drop (long + 2) stream) in
         let same = with_set said bytes (words_in (take long stream)) block says e in
-        let tells : announced same.other ≡ Some bytes = cc in
+        let tells : announced same.other ≡ Some bytes = same.same ∙ e in
         is_open (command same.other) (long + 2 + (bytes + 2)) (record {
           long = long;
           line = line;

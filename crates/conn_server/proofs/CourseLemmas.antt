@@ -1,16 +1,19 @@
 -- What was done so far on a connection, one item further.
-use Rattle.std.proofs.Common.{ℕ, ◌+◌, ◌*◌, ◌^◌, ◌≡◌, ◌<◌, ◌≤◌, ◌⊎◌, inl, inr, List, [], ◌∷◌, ◌++◌, length, take, drop, Option, Some, None, arith, refl, sym, ap, subst, ◌∙◌, append_assoc, append-nil, add-zero}
-use Rattle.std.specs.Prelude.{min, Bool, true, Result, Ok, Err, OnOk, IfErr}
+use Rattle.std.proofs.Common.{ℕ, ◌+◌, ◌-◌, ◌*◌, ◌^◌, ◌≡◌, ◌<◌, ◌≤◌, ◌⊎◌, inl, inr, List, [], ◌∷◌, ◌++◌, length, take, drop, Option, Some, None, arith, refl, sym, ap, subst, ◌∙◌, append_assoc, append-nil, add-zero}
+use Rattle.std.specs.Prelude.{min, Bool, true, false, Result, Ok, Err, OnOk, IfErr}
 use Rattle.std.proofs.lemmas.Bool.{cases_lt}
 use Rattle.std.proofs.lemmas.List.{drop-drop, drop-append-le, length-append, length-drop, take-append-drop}
-use Rattle.iq_outside.specs.Outside.{Takes, Gains, Rose, AtEnd, ReadSide, WriteSide}
-use Rattle.iq_outside.proofs.OutsideLemmas.{Takes-append, Takes-none, Gains-append, Gains-none, Rose-later, Rose-earlier}
-use Rattle.mc_text.specs.Framing.{Frames, begun, past, fed}
+use Rattle.iq_outside.specs.Outside.{Takes, Gains, Rose, AtEnd, ZeroAtEnd, ReadSide, WriteSide}
+use Rattle.iq_outside.proofs.OutsideLemmas.{Takes-append, Takes-none, Gains-append, Gains-none, AtEnd-zero, Rose-later}
+use Rattle.mc_text.specs.Framing.{Frames, begun, past, fed, Answers, Faults, Takes as FrameTakes}
 use Rattle.mc_text.specs.Replies.{text_of}
 use Rattle.mc_text.specs.Streams.{Item, command, bad_line, long_line, bad_block, big_block, Stands, IsOpen, AreFirst}
+use Rattle.mc_text.specs.declared.commands.Command.{Command}
 use Rattle.mc_text.specs.declared.commands.Command.TheVariants.{Quit}
 use Rattle.mc_text.specs.declared.faults.FrameFault.{FrameFault}
+use Rattle.mc_text.specs.declared.faults.FrameFault.TheVariants as frame
 use Rattle.mc_text.specs.declared.replies.LineReply.{LineReply}
+use Rattle.mc_text.specs.declared.replies.LineReply.TheVariants as reply
 use Rattle.mc_text.proofs.StreamLemmas.{streams_tell}
 use Rattle.session_client.specs.Desks.{Call}
 use Rattle.conn_server.specs.declared.clients.Client.{Client}
@@ -93,7 +96,7 @@ place_more size taken place end is = by (cases_lt size end)
     by (inl l) = let same : place ≡ size = omega (arith, is) in ap (λ (n : ℕ). min (n + taken) end) same
     by (inr l) = let same : place ≡ end = omega (arith, is) in omega arith
 
-done_one : (start : Start) (reads : ReadSide) (writes : WriteSide) (before after : Option (List Call)) (client new : Client)
+abbrev done_one : (start : Start) (reads : ReadSide) (writes : WriteSide) (before after : Option (List Call)) (client new : Client)
     (done : Done start reads writes before client) (item : Item) (taken : ℕ) (calls : List Call) (reply : LineReply)
     → Stands (drop done.size done.given) item taken → after ≡ with_calls calls before → ItemAnswers client item calls reply new
     → Done start reads writes after new
@@ -170,21 +173,66 @@ ending_one ends.Memory start rounds reads writes before after old new reply a to
     }
 ending_one other start rounds reads writes before after old new reply a told c = absurd told
 
-pub answered_goes_on : (result : Result Bool LineEnd) (before after : Option (List Call)) (old new : Serving) (reply : LineReply)
-    → Tells result reply old new → Answered before after old new reply
+-- where replies stand is all that matters of what was before
+tells_from : (result : Result Bool LineEnd) (reply : LineReply) (mid old new : Serving)
+    → mid.out.items ≡ old.out.items → Tells result reply mid new → Tells result reply old new
+tells_from (Ok more) reply mid old new same t = (t.0, t.1, t.2 ∙ ap (λ (xs : List ℕ). xs ++ text_of reply) same)
+tells_from (Err ends.Budget) reply mid old new same t = (t.0, t.1 ∙ ap (λ (xs : List ℕ). xs ++ text_of reply) same)
+tells_from (Err ends.Memory) reply mid old new same t = t ∙ same
+tells_from (Err other) reply mid old new same t = absurd t
+
+pub tells_within : (result : Result Bool LineEnd) (reply : LineReply) (old new : Serving) → Tells result reply old new → OnOk result (new.count < 1000000)
+tells_within (Ok more) reply old new t = t.1
+tells_within (Err end) reply old new t = tt
+
+pub tells_more : (result : Result Bool LineEnd) (reply : LineReply) (old new : Serving) → Tells result reply old new → result ≡ Ok false → ⊥
+tells_more (Ok more) reply old new t e = let is = t.0 in absurd cc
+tells_more (Err end) reply old new t e = absurd cc
+
+pub answered_goes_on : (result : Result Bool LineEnd) (before after : Option (List Call)) (old mid new : Serving) (reply : LineReply)
+    → mid.out.items ≡ old.out.items → Tells result reply mid new → Answered before after old new reply
     → OnOk result ((start : Start) (rounds : ℕ) (reads : ReadSide) (writes : WriteSide)
     → Course start rounds reads writes before old → Course start rounds reads writes after new)
-answered_goes_on (Ok more) before after old new reply told a =
+answered_goes_on (Ok more) before after old mid new reply same t a =
+    let told = tells_from (Ok more) reply mid old new same t in
     λ start rounds reads writes c. course_one start rounds reads writes before after old new reply a told.1 told.2 c
-answered_goes_on (Err end) before after old new reply told a = tt
+answered_goes_on (Err end) before after old mid new reply same t a = tt
 
-pub answered_ends : (result : Result Bool LineEnd) (before after : Option (List Call)) (old new : Serving) (reply : LineReply)
-    → Tells result reply old new → Answered before after old new reply
+pub answered_ends : (result : Result Bool LineEnd) (before after : Option (List Call)) (old mid new : Serving) (reply : LineReply)
+    → mid.out.items ≡ old.out.items → Tells result reply mid new → Answered before after old new reply
     → IfErr result (λ end. (start : Start) (rounds : ℕ) (reads : ReadSide) (writes : WriteSide)
     → Course start rounds reads writes before old → Ending end start reads writes after new)
-answered_ends (Ok more) before after old new reply told a = tt
-answered_ends (Err end) before after old new reply told a =
-    λ start rounds reads writes c. ending_one end start rounds reads writes before after old new reply a told c
+answered_ends (Ok more) before after old mid new reply same t a = tt
+answered_ends (Err end) before after old mid new reply same t a =
+    λ start rounds reads writes c.
+    ending_one end start rounds reads writes before after old new reply a (tells_from (Err end) reply mid old new same t) c
+
+-- what the framer answered
+pub next_said : (old new : Frames) (r : Result (Option Command) FrameFault) (said : Command)
+    → Answers old r new → r ≡ Ok (Some said) → FrameTakes old (command said) new
+next_said old new r said a is = subst (λ (x : Result (Option Command) FrameFault). Answers old x new) is a
+
+pub next_none : (old new : Frames) (r : Result (Option Command) FrameFault) → Answers old r new → r ≡ Ok None → new ≡ old
+next_none old new r a is = (subst (λ (x : Result (Option Command) FrameFault). Answers old x new) is a).1
+
+pub next_fault : (old new : Frames) (r : Result (Option Command) FrameFault) (fault : FrameFault)
+    → Answers old r new → r ≡ Err fault → Faults old fault new
+next_fault old new r fault a is = subst (λ (x : Result (Option Command) FrameFault). Answers old x new) is a
+
+-- a bad line is answered
+pub bad_line_answered : (before after : Option (List Call)) (old new : Serving) (place : ℕ) (frames : Frames)
+    → Faults old.framer (frame.BadLine place) frames → new.framer ≡ frames → after ≡ before → new.client ≡ old.client → new.count ≡ old.count + 1
+    → Answered before after old new reply.BadLine
+bad_line_answered before after old new place frames f framer asks client count = record {
+  item = bad_line;
+  taken = f.1.taken;
+  calls = [];
+  stands = f.1.stands;
+  framer = framer ∙ f.1.goes_on;
+  asks = asks;
+  answers = (refl, refl, client);
+  count = count;
+}
 
 -- the serving with another client
 abbrev with_client : Serving → Client → Serving
@@ -220,7 +268,7 @@ course_open start rounds reads writes calls old new framer out client count c =
     (c.due ∙ ap (λ (xs : List ℕ). c.done.sent ++ xs) (sym out))
 
 -- what stands to be written was taken
-done_sent : (start : Start) (reads : ReadSide) (old new : WriteSide) (calls : Option (List Call)) (client : Client) (bytes : List ℕ)
+abbrev done_sent : (start : Start) (reads : ReadSide) (old new : WriteSide) (calls : Option (List Call)) (client : Client) (bytes : List ℕ)
     → Gains old.taken new.taken bytes → old.faults ≤ new.faults
     → Done start reads old calls client → Done start reads new calls client
 done_sent start reads old new calls client bytes gains up done = record {
@@ -365,7 +413,7 @@ reads_left : (reads : ReadSide) (left given : Option (List ℕ)) (faults : ℕ) 
 reads_left reads left given faults is = ap (λ (r : ReadSide). r.left) is
 
 -- more bytes were given
-done_fed : (start : Start) (old new : ReadSide) (writes : WriteSide) (calls : Option (List Call)) (client : Client) (bytes : List ℕ)
+abbrev done_fed : (start : Start) (old new : ReadSide) (writes : WriteSide) (calls : Option (List Call)) (client : Client) (bytes : List ℕ)
     → Takes old.left new.left bytes → old.faults ≤ new.faults
     → Done start old writes calls client → Done start new writes calls client
 done_fed start old new writes calls client bytes gives up done = record {
@@ -443,7 +491,7 @@ ending_unfed start rounds reads new_reads writes calls old new bytes r out clien
     })
 
 -- a read that changed nothing that was given
-done_stays : (start : Start) (old new : ReadSide) (writes : WriteSide) (calls : Option (List Call)) (client : Client)
+abbrev done_stays : (start : Start) (old new : ReadSide) (writes : WriteSide) (calls : Option (List Call)) (client : Client)
     → new.left ≡ old.left → old.faults ≤ new.faults → Done start old writes calls client → Done start new writes calls client
 done_stays start old new writes calls client same up done = record {
   given = done.given;
@@ -525,9 +573,9 @@ course_begins reads writes calls serving fresh =
     })
 
 -- more rounds than that there aren't
-pub rounds_end : (start : Start) (reads : ReadSide) (writes : WriteSide) (calls : Option (List Call)) (serving : Serving)
-    → Course start (most_reads + 1) reads writes calls serving → ⊥
-rounds_end start reads writes calls serving c = let few = c.few in absurd (omega arith)
+pub rounds_end : (start : Start) (rounds : ℕ) (reads : ReadSide) (writes : WriteSide) (calls : Option (List Call)) (serving : Serving)
+    → Course start rounds reads writes calls serving → most_reads < rounds → ⊥
+rounds_end start rounds reads writes calls serving c many = let few = c.few in absurd (omega arith)
 
 -- at every end the line took a beginning of what is due
 ends_some : (end : LineEnd) (items : List Item) (size : ℕ) (rest taken : List ℕ) (told : List LineReply)
@@ -664,3 +712,109 @@ pub record StillOn (old_reads new_reads : ReadSide) (old_writes new_writes : Wri
 pub record OnCourse (start : Start) (rounds : ℕ) (reads : ReadSide) (writes : WriteSide) (calls : Option (List Call)) (serving : Serving) : Type 0 where
   pub within : serving.count < 1000000
   pub course : Course start rounds reads writes calls serving
+
+-- what a line tells of its reading, in parts
+pub record IsSide (reads : ReadSide) (left : Option (List ℕ)) (faults : ℕ) : Type 0 where
+  pub left_is : reads.left ≡ left
+  pub faults_is : reads.faults ≡ faults
+
+pub is_side : (reads : ReadSide) (left given : Option (List ℕ)) (faults : ℕ)
+    → reads ≡ record { left = left; given = given; faults = faults } → IsSide reads left faults
+is_side reads left given faults is = record { left_is = ap (λ (r : ReadSide). r.left) is; faults_is = ap (λ (r : ReadSide). r.faults) is }
+
+pub reads_by : (old new : ReadSide) (a b : Option (List ℕ)) (e f : ℕ) (bytes : List ℕ)
+    → IsSide old a e → IsSide new b f → Takes a b bytes → f ≡ e → Reads old new bytes
+reads_by old new a b e f bytes o n gives same = record {
+  gives = subst (λ (x : Option (List ℕ)). Takes x new.left bytes) (sym o.left_is) (subst (λ (x : Option (List ℕ)). Takes a x bytes) (sym n.left_is) gives);
+  up = omega (arith, o.faults_is, n.faults_is, same);
+}
+
+-- a read of no bytes
+takes_nothing : (a b : Option (List ℕ)) → Takes a b [] → b ≡ a
+takes_nothing a None e = sym e
+takes_nothing a (Some rest) e = sym e
+
+pub left_same : (old new : ReadSide) (a b : Option (List ℕ)) (e f : ℕ) → IsSide old a e → IsSide new b f → b ≡ a → new.left ≡ old.left
+left_same old new a b e f o n same = n.left_is ∙ (same ∙ sym o.left_is)
+
+-- the input ended
+pub closed_by : (left : ℕ) (old_reads new_reads : ReadSide) (old_writes new_writes : WriteSide) (a b : Option (List ℕ)) (e f n : ℕ) (room : List ℕ) (old new : Serving)
+    → IsSide old_reads a e → IsSide new_reads b f → Takes a b (take n room) → ZeroAtEnd a n → n ≡ 0 → f ≡ e → new_writes ≡ old_writes
+    → IsOpen old.framer.rest → left ≡ length old.framer.rest → old.out.items ≡ [] → new.out.items ≡ old.out.items → new.client ≡ old.client
+    → (start : Start) (rounds : ℕ) (calls : Option (List Call))
+    → Course start rounds old_reads old_writes calls old → Ending (ends.Closed left) start new_reads new_writes calls new
+closed_by left old_reads new_reads old_writes new_writes a b e f n room old new o p gives zero is same apart stops left_is none out client start rounds calls c =
+    let nothing : Takes a b [] = rw is at gives in
+    let at_end : AtEnd new_reads.left =
+    subst (λ (x : Option (List ℕ)). AtEnd x) (sym p.left_is) (AtEnd-zero a b n room is zero gives) in
+    subst (λ (w : WriteSide). Ending (ends.Closed left) start new_reads w calls new) (sym apart)
+    (ending_closed left start rounds old_reads new_reads old_writes calls old new
+      (left_same old_reads new_reads a b e f o p (takes_nothing a b nothing))
+      (omega (arith, o.faults_is, p.faults_is, same)) at_end stops left_is none out client c)
+
+-- a read failed
+pub read_failed : (old_reads new_reads : ReadSide) (old_writes new_writes : WriteSide) (a b : Option (List ℕ)) (e f : ℕ) (old new : Serving)
+    → IsSide old_reads a e → IsSide new_reads b f → b ≡ a → Rose e f → e ≤ f → new_writes ≡ old_writes
+    → IsOpen old.framer.rest → new.out.items ≡ old.out.items → new.client ≡ old.client
+    → (start : Start) (rounds : ℕ) (calls : Option (List Call))
+    → Course start rounds old_reads old_writes calls old → Ending ends.ReadFault start new_reads new_writes calls new
+read_failed old_reads new_reads old_writes new_writes a b e f old new o p same rose up apart stops out client start rounds calls c =
+    let risen : Rose old_reads.faults new_reads.faults =
+    subst (λ (x : ℕ). Rose x new_reads.faults) (sym o.faults_is) (subst (λ (x : ℕ). Rose e x) (sym p.faults_is) rose) in
+    subst (λ (w : WriteSide). Ending ends.ReadFault start new_reads w calls new) (sym apart)
+    (ending_read start rounds old_reads new_reads old_writes calls old new
+      (left_same old_reads new_reads a b e f o p same) (omega (arith, o.faults_is, p.faults_is)) risen stops out client c)
+
+-- bytes were read, and fed
+pub fed_by : (old_reads new_reads : ReadSide) (old_writes new_writes : WriteSide) (a b : Option (List ℕ)) (e f : ℕ) (bytes : List ℕ) (old new : Serving)
+    → IsSide old_reads a e → IsSide new_reads b f → Takes a b bytes → f ≡ e → new_writes ≡ old_writes
+    → 1 ≤ length bytes → IsOpen old.framer.rest → new.framer ≡ fed old.framer bytes → new.out.items ≡ old.out.items → new.client ≡ old.client → new.count ≡ old.count
+    → (start : Start) (rounds : ℕ) (calls : Option (List Call))
+    → Course start rounds old_reads old_writes calls old → Course start (rounds + 1) new_reads new_writes calls new
+fed_by old_reads new_reads old_writes new_writes a b e f bytes old new o p gives same apart some stops framer out client count start rounds calls c =
+    subst (λ (w : WriteSide). Course start (rounds + 1) new_reads w calls new) (sym apart)
+    (course_fed start rounds old_reads new_reads old_writes calls old new bytes
+      (reads_by old_reads new_reads a b e f bytes o p gives same) some stops framer out client count c)
+
+-- bytes were read, and lost for want of memory
+pub unfed_by : (old_reads new_reads : ReadSide) (old_writes new_writes : WriteSide) (a b : Option (List ℕ)) (e f : ℕ) (bytes : List ℕ) (old new : Serving)
+    → IsSide old_reads a e → IsSide new_reads b f → Takes a b bytes → f ≡ e → new_writes ≡ old_writes
+    → new.out.items ≡ old.out.items → new.client ≡ old.client
+    → (start : Start) (rounds : ℕ) (calls : Option (List Call))
+    → Course start rounds old_reads old_writes calls old → Ending ends.Memory start new_reads new_writes calls new
+unfed_by old_reads new_reads old_writes new_writes a b e f bytes old new o p gives same apart out client start rounds calls c =
+    subst (λ (w : WriteSide). Ending ends.Memory start new_reads w calls new) (sym apart)
+    (ending_unfed start rounds old_reads new_reads old_writes calls old new bytes
+      (reads_by old_reads new_reads a b e f bytes o p gives same) out client c)
+
+-- at the end of a line, by what it tells
+pub record Ended (left_old left_new taken_old taken_new : Option (List ℕ)) (calls_old calls_new : Option (List Call)) (reads_old reads_new writes_old writes_new : ℕ) (end : LineEnd) : Type 0 where
+  pub served : IsServed left_old left_new taken_old taken_new calls_old calls_new end
+  pub read_fault : end ≡ ends.ReadFault → Rose reads_old reads_new
+  pub write_fault : end ≡ ends.WriteFault → Rose writes_old writes_new
+  pub reads_up : reads_old ≤ reads_new
+  pub writes_up : writes_old ≤ writes_new
+
+pub ended : (end : LineEnd) (start : Start) (reads : ReadSide) (writes : WriteSide) (calls : Option (List Call))
+    → Finished start reads writes calls end
+    → Ended start.reads.left reads.left start.writes.taken writes.taken start.calls calls start.reads.faults reads.faults start.writes.faults writes.faults end
+ended end start reads writes calls f = record {
+  served = f.served;
+  read_fault = λ is. subst (λ (x : LineEnd). RoseAt x start reads writes) is f.rose;
+  write_fault = λ is. subst (λ (x : LineEnd). RoseAt x start reads writes) is f.rose;
+  reads_up = f.read_faults;
+  writes_up = f.write_faults;
+}
+
+-- what is said of a line's sides is said of what it tells
+pub served_as : (reads reads_new : ReadSide) (writes writes_new : WriteSide) (left left_new given given_new taken taken_new : Option (List ℕ)) (a b d e : ℕ)
+    (calls calls_new : Option (List Call)) (end : LineEnd)
+    → reads ≡ record { left = left; given = given; faults = a } → reads_new ≡ record { left = left_new; given = given_new; faults = b }
+    → writes ≡ record { taken = taken; faults = d } → writes_new ≡ record { taken = taken_new; faults = e }
+    → IsServed reads.left reads_new.left writes.taken writes_new.taken calls calls_new end
+    → IsServed left left_new taken taken_new calls calls_new end
+served_as reads reads_new writes writes_new left left_new given given_new taken taken_new a b d e calls calls_new end r s w v h =
+    subst (λ (x : ReadSide). IsServed x.left left_new taken taken_new calls calls_new end) r
+    (subst (λ (x : ReadSide). IsServed reads.left x.left taken taken_new calls calls_new end) s
+    (subst (λ (x : WriteSide). IsServed reads.left reads_new.left x.taken taken_new calls calls_new end) w
+    (subst (λ (x : WriteSide). IsServed reads.left reads_new.left writes.taken x.taken calls calls_new end) v h)))

@@ -1,4 +1,4 @@
-ghost use Rattle.std.specs.Prelude.{◌≡◌, ◌+◌, ◌<◌, ◌≤◌, ℕ, Bool, true, [], List, Option, length, IfOk, IfErr, OnOk};
+ghost use Rattle.std.specs.Prelude.{◌≡◌, ◌+◌, ◌<◌, ◌≤◌, ℕ, true, false, [], List, Option, length, IfOk, IfErr, OnOk};
 ghost use Rattle.iq_outside.specs.Outside.{Rose, ReadSide, WriteSide};
 ghost use Rattle.mc_text.specs.Streams.{IsOpen};
 ghost use Rattle.session_client.specs.Desks.{Call};
@@ -91,8 +91,9 @@ impl Serving {
     {
         let mut room = [0u8; PIECE];
         for _ in 0..MORE_READS {
-            if let Err(end) = self.go_on(line, desk, &mut room) {
-                return end;
+            match self.go_on(line, desk, &mut room) {
+                Ok(()) => {}
+                Err(end) => return end,
             }
         }
         unreachable!()

@@ -1,0 +1,98 @@
+use Rattle.std.proofs.Common.{◌≡◌, ◌∙◌, refl, sym, subst, Some, None}
+use Rattle.std.specs.Prelude.{Ok, Err}
+use Rattle.mc_text.specs.Streams.{command}
+use Rattle.mc_text.specs.declared.commands.Command.TheVariants.{Quit}
+use Rattle.mc_text.specs.declared.faults.FrameFault.TheVariants as frame
+use Rattle.mc_text.specs.declared.replies.LineReply.TheVariants as reply
+use Rattle.conn_server.specs.declared.clients.Client.{Client}
+use Rattle.conn_server.specs.Answers.{ItemAnswers}
+use Rattle.conn_server.proofs.CourseLemmas.{Answered, answered_goes_on, answered_ends, tells_within, tells_more, next_said, next_none, next_fault}
+use Rattle.conn_server.proofs.CourseLemmas.{bad_line_answered, course_open, ending_quit, ending_memory, shut_ends}
+use Rattle.conn_server.proofs.serving.Serving.answer_next.Goals as goal
+
+pub returns-in-Ok-Some-Quit-clause-ends : goal.returns-in-Ok-Some-Quit-clause-ends
+returns-in-Ok-Some-Quit-clause-ends g c =
+    let is : c.next_command-next.result ≡ Ok (Some Quit) = cc in
+    let t = next_said c.args.self.now.framer c.next_command-next.new.self c.next_command-next.result Quit c.next_command-next.ensures is in
+    λ start rounds reads writes course.
+    ending_quit start rounds reads writes (g.D.Desk.record_of c.args.desk.now) c.args.self.now _ t.taken t.stands refl refl course
+
+pub returns-in-Ok-Some : goal.returns-in-Ok-Some
+returns-in-Ok-Some g c =
+    let is : c.next_command-next.result ≡ Ok (Some c.in-Ok-Some.said) = cc in
+    let t = next_said c.args.self.now.framer c.next_command-next.new.self c.next_command-next.result c.in-Ok-Some.said c.next_command-next.ensures is in
+    let a : Answered (g.D.Desk.record_of c.args.desk.now) (g.D.Desk.record_of c.tell.new.desk) c.args.self.now c.tell.new.self c.answer-reply.result =
+    record {
+      item = command c.in-Ok-Some.said;
+      taken = t.taken;
+      calls = c.answer-reply.ensures.calls;
+      stands = t.stands;
+      framer = c.tell.ensures.framer ∙ t.goes_on;
+      asks = c.tell.ensures.asks_nothing ∙ c.answer-reply.ensures.record_is;
+      answers = subst (λ (x : Client). ItemAnswers c.args.self.now.client (command c.in-Ok-Some.said) c.answer-reply.ensures.calls c.answer-reply.result x)
+        (sym c.tell.ensures.client) c.answer-reply.ensures.answers;
+      count = c.tell.ensures.counts;
+    } in
+    record {
+      within = tells_within c.tell.result c.answer-reply.result _ c.tell.new.self c.tell.ensures.tells;
+      counts = λ e. c.tell.ensures.counts;
+      stops = λ e. absurd (tells_more c.tell.result c.answer-reply.result _ c.tell.new.self c.tell.ensures.tells e);
+      goes_on = answered_goes_on c.tell.result _ _ c.args.self.now _ c.tell.new.self c.answer-reply.result refl c.tell.ensures.tells a;
+      ends = answered_ends c.tell.result _ _ c.args.self.now _ c.tell.new.self c.answer-reply.result refl c.tell.ensures.tells a;
+    }
+
+pub returns-in-Ok-None-clause-goes_on : goal.returns-in-Ok-None-clause-goes_on
+returns-in-Ok-None-clause-goes_on g c =
+    let is : c.next_command-next.result ≡ Ok None = cc in
+    let same = next_none c.args.self.now.framer c.next_command-next.new.self c.next_command-next.result c.next_command-next.ensures is in
+    λ start rounds reads writes course.
+    course_open start rounds reads writes (g.D.Desk.record_of c.args.desk.now) c.args.self.now _ same refl refl refl course
+
+pub returns-in-Err-BadLine-clause-goes_on : goal.returns-in-Err-BadLine-clause-goes_on
+returns-in-Err-BadLine-clause-goes_on g c =
+    let is : c.next_command-next.result ≡ Err (frame.BadLine c.in-Err-BadLine.field-0-0) = cc in
+    let f = next_fault c.args.self.now.framer c.next_command-next.new.self c.next_command-next.result _ c.next_command-next.ensures is in
+    let t = c.tell-in-Err-BadLine.ensures in
+    let a = bad_line_answered (g.D.Desk.record_of c.args.desk.now) (g.D.Desk.record_of c.tell-in-Err-BadLine.new.desk) c.args.self.now
+      c.tell-in-Err-BadLine.new.self c.in-Err-BadLine.field-0-0 c.next_command-next.new.self f t.framer t.asks_nothing t.client t.counts in
+    answered_goes_on c.tell-in-Err-BadLine.result _ _ c.args.self.now _ c.tell-in-Err-BadLine.new.self reply.BadLine refl t.tells a
+
+pub returns-in-Err-BadLine-clause-ends : goal.returns-in-Err-BadLine-clause-ends
+returns-in-Err-BadLine-clause-ends g c =
+    let is : c.next_command-next.result ≡ Err (frame.BadLine c.in-Err-BadLine.field-0-0) = cc in
+    let f = next_fault c.args.self.now.framer c.next_command-next.new.self c.next_command-next.result _ c.next_command-next.ensures is in
+    let t = c.tell-in-Err-BadLine.ensures in
+    let a = bad_line_answered (g.D.Desk.record_of c.args.desk.now) (g.D.Desk.record_of c.tell-in-Err-BadLine.new.desk) c.args.self.now
+      c.tell-in-Err-BadLine.new.self c.in-Err-BadLine.field-0-0 c.next_command-next.new.self f t.framer t.asks_nothing t.client t.counts in
+    answered_ends c.tell-in-Err-BadLine.result _ _ c.args.self.now _ c.tell-in-Err-BadLine.new.self reply.BadLine refl t.tells a
+
+pub returns-in-Err-Memory-clause-ends : goal.returns-in-Err-Memory-clause-ends
+returns-in-Err-Memory-clause-ends g c =
+    λ start rounds reads writes course.
+    ending_memory start rounds reads writes (g.D.Desk.record_of c.args.desk.now) c.args.self.now _ refl refl course
+
+pub returns-in-Err-LongLine-clause-ends : goal.returns-in-Err-LongLine-clause-ends
+returns-in-Err-LongLine-clause-ends g c =
+    let is : c.next_command-next.result ≡ Err (frame.LongLine c.in-Err-LongLine.place) = cc in
+    let f = next_fault c.args.self.now.framer c.next_command-next.new.self c.next_command-next.result (frame.LongLine c.in-Err-LongLine.place) c.next_command-next.ensures is in
+    λ start rounds reads writes course.
+    shut_ends c.shut.result (frame.LongLine c.in-Err-LongLine.place) reply.LongLine start rounds reads writes (g.D.Desk.record_of c.args.desk.now)
+    c.args.self.now c.shut.new.self ((f.1.stands.0, refl), refl) f.0 c.shut.ensures.shuts c.shut.ensures.client course
+
+pub returns-in-Err-BadBlock-clause-ends : goal.returns-in-Err-BadBlock-clause-ends
+returns-in-Err-BadBlock-clause-ends g c =
+    let is : c.next_command-next.result ≡ Err (frame.BadBlock c.in-Err-BadBlock.place) = cc in
+    let f = next_fault c.args.self.now.framer c.next_command-next.new.self c.next_command-next.result (frame.BadBlock c.in-Err-BadBlock.place) c.next_command-next.ensures is in
+    let s = c.shut-in-Err-BadBlock in
+    λ start rounds reads writes course.
+    shut_ends s.result (frame.BadBlock c.in-Err-BadBlock.place) reply.BadBlock start rounds reads writes (g.D.Desk.record_of c.args.desk.now)
+    c.args.self.now s.new.self ((f.1.stands.0, refl), refl) f.0 s.ensures.shuts s.ensures.client course
+
+pub returns-in-Err-BigBlock-clause-ends : goal.returns-in-Err-BigBlock-clause-ends
+returns-in-Err-BigBlock-clause-ends g c =
+    let is : c.next_command-next.result ≡ Err (frame.BigBlock c.in-Err-BigBlock.place) = cc in
+    let f = next_fault c.args.self.now.framer c.next_command-next.new.self c.next_command-next.result (frame.BigBlock c.in-Err-BigBlock.place) c.next_command-next.ensures is in
+    let s = c.shut-in-Err-BigBlock in
+    λ start rounds reads writes course.
+    shut_ends s.result (frame.BigBlock c.in-Err-BigBlock.place) reply.BigBlock start rounds reads writes (g.D.Desk.record_of c.args.desk.now)
+    c.args.self.now s.new.self ((f.1.stands.0, refl), refl) f.0 s.ensures.shuts s.ensures.client course
