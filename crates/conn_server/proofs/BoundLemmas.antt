@@ -6,7 +6,8 @@ use Rattle.mc_text.specs.declared.commands.Command.{Command}
 use Rattle.mc_text.specs.declared.commands.Command.TheVariants.{IqSet, Sar, Unknown}
 use Rattle.mc_text.specs.Words.{words_in}
 use Rattle.mc_text.specs.Commands.{AreWords, AreUnknown, announced, block_of}
-use Rattle.mc_text.specs.Streams.{EndsAt, IsLine, IsBlock, block_size, Announces, HaveVerb, Item, command, bad_line, long_line, bad_block, big_block, Stands, IsOpen, AreFirst}
+use Rattle.mc_text.specs.Streams.{EndsAt, IsLine, IsBlock, block_size, Announces, HaveVerb, Item, command, bad_line, long_line, bad_block, big_block}
+use Rattle.mc_text.specs.Streams.{Stands, IsOpen, AreFirst}
 
 -- a block that may be has no more bytes than this
 block_bound : (stream : List ℕ) (behind : ℕ) (found : Option ℕ) (block : List ℕ) → IsBlock stream behind found block → block_size found ≤ 1048578
@@ -85,7 +86,8 @@ record WithBlock (said : Command) (words : List (List ℕ)) (block : List ℕ) :
   same : announced other ≡ announced said
   is : block_of other ≡ block
 
-with_set : (said : Command) (bytes : ℕ) (words : List (List ℕ)) (block : List ℕ) → AreWords said words → announced said ≡ Some bytes → WithBlock said words block
+with_set : (said : Command) (bytes : ℕ) (words : List (List ℕ)) (block : List ℕ) → AreWords said words → announced said ≡ Some bytes
+    → WithBlock said words block
 with_set said bytes [] block says e = absurd (none said says e)
   where
     none : (c : Command) → AreWords c [] → announced c ≡ Some bytes → ⊥

@@ -1,5 +1,6 @@
 -- What was done so far on a connection, one item further.
-use Rattle.std.proofs.Common.{ℕ, ◌+◌, ◌-◌, ◌*◌, ◌^◌, ◌≡◌, ◌<◌, ◌≤◌, ◌⊎◌, inl, inr, List, [], ◌∷◌, ◌++◌, length, take, drop, Option, Some, None, arith, refl, sym, ap, subst, ◌∙◌, append_assoc, append-nil, add-zero}
+use Rattle.std.proofs.Common.{ℕ, ◌+◌, ◌-◌, ◌*◌, ◌^◌, ◌≡◌, ◌<◌, ◌≤◌, ◌⊎◌, inl, inr, List, [], ◌∷◌, ◌++◌, length, take, drop, Option, Some, None, arith}
+use Rattle.std.proofs.Common.{refl, sym, ap, subst, ◌∙◌, append_assoc, append-nil, add-zero}
 use Rattle.std.specs.Prelude.{min, Bool, true, false, Result, Ok, Err, OnOk, IfErr}
 use Rattle.std.proofs.lemmas.Bool.{cases_lt}
 use Rattle.std.proofs.lemmas.List.{drop-drop, drop-append-le, length-append, length-drop, take-append-drop}
@@ -144,7 +145,8 @@ course_one start rounds reads writes before after old new reply a few out c =
     }
 
 -- behind its last item a connection ends
-ending_one : (end : LineEnd) (start : Start) (rounds : ℕ) (reads : ReadSide) (writes : WriteSide) (before after : Option (List Call)) (old new : Serving) (reply : LineReply)
+ending_one : (end : LineEnd) (start : Start) (rounds : ℕ) (reads : ReadSide) (writes : WriteSide) (before after : Option (List Call))
+    (old new : Serving) (reply : LineReply)
     → Answered before after old new reply → Tells (Err end) reply old new
     → Course start rounds reads writes before old → Ending end start reads writes after new
 ending_one ends.Budget start rounds reads writes before after old new reply a told c =
@@ -215,9 +217,10 @@ next_said old new r said a is = subst (λ (x : Result (Option Command) FrameFaul
 pub next_none : (old new : Frames) (r : Result (Option Command) FrameFault) → Answers old r new → r ≡ Ok None → new ≡ old
 next_none old new r a is = (subst (λ (x : Result (Option Command) FrameFault). Answers old x new) is a).1
 
-pub next_fault : (old new : Frames) (r : Result (Option Command) FrameFault) (fault : FrameFault)
-    → Answers old r new → r ≡ Err fault → Faults old fault new
-next_fault old new r fault a is = subst (λ (x : Result (Option Command) FrameFault). Answers old x new) is a
+pub next_fault : (old new : Frames) (r : Result (Option Command) FrameFault) (found fault : FrameFault)
+    → Answers old r new → r ≡ Err found → found ≡ fault → Faults old fault new
+next_fault old new r found fault a is same =
+    subst (λ (x : FrameFault). Faults old x new) same (subst (λ (x : Result (Option Command) FrameFault). Answers old x new) is a)
 
 -- a bad line is answered
 pub bad_line_answered : (before after : Option (List Call)) (old new : Serving) (place : ℕ) (frames : Frames)
@@ -382,7 +385,8 @@ ending_memory start rounds reads writes calls old new out client c =
     ending_here ends.Memory start rounds reads writes calls old new out client c
     (omega arith, inl (all_due c.done.told (c.done.sent ++ old.out.items) c.due)) tt tt
 
-ending_shut : (fault : FrameFault) (last : LineReply) (start : Start) (rounds : ℕ) (reads : ReadSide) (writes : WriteSide) (calls : Option (List Call)) (old new : Serving)
+ending_shut : (fault : FrameFault) (last : LineReply) (start : Start) (rounds : ℕ) (reads : ReadSide) (writes : WriteSide)
+    (calls : Option (List Call)) (old new : Serving)
     → Lasts old.framer.rest fault last → place_of fault ≡ old.framer.place → new.out.items ≡ old.out.items ++ text_of last → new.client ≡ old.client
     → Course start rounds reads writes calls old → Ending (ends.Shut fault) start reads writes calls new
 ending_shut fault last start rounds reads writes calls old new lasts place out client c =
@@ -398,7 +402,8 @@ ending_shut fault last start rounds reads writes calls old new lasts place out c
       none_left = tt;
     })
 
-pub shut_ends : (end : LineEnd) (fault : FrameFault) (last : LineReply) (start : Start) (rounds : ℕ) (reads : ReadSide) (writes : WriteSide) (calls : Option (List Call)) (old new : Serving)
+pub shut_ends : (end : LineEnd) (fault : FrameFault) (last : LineReply) (start : Start) (rounds : ℕ) (reads : ReadSide) (writes : WriteSide)
+    (calls : Option (List Call)) (old new : Serving)
     → Lasts old.framer.rest fault last → place_of fault ≡ old.framer.place → Shuts end fault last old.out.items new.out.items → new.client ≡ old.client
     → Course start rounds reads writes calls old → Ending end start reads writes calls new
 shut_ends (ends.Shut found) fault last start rounds reads writes calls old new lasts place s client c =
@@ -454,7 +459,8 @@ rounds_few given items size rounds first within is_open fed =
     let rest = open_bound (drop size given) is_open in
     omega (arith, length-drop size given)
 
-pub course_fed : (start : Start) (rounds : ℕ) (reads new_reads : ReadSide) (writes : WriteSide) (calls : Option (List Call)) (old new : Serving) (bytes : List ℕ)
+pub course_fed : (start : Start) (rounds : ℕ) (reads new_reads : ReadSide) (writes : WriteSide) (calls : Option (List Call)) (old new : Serving)
+    (bytes : List ℕ)
     → Reads reads new_reads bytes → 1 ≤ length bytes → IsOpen old.framer.rest
     → new.framer ≡ fed old.framer bytes → new.out.items ≡ old.out.items → new.client ≡ old.client → new.count ≡ old.count
     → Course start rounds reads writes calls old → Course start (rounds + 1) new_reads writes calls new
@@ -475,7 +481,8 @@ course_fed start rounds reads new_reads writes calls old new bytes r some is_ope
     })
 
 -- what was read was lost for want of memory, and nothing stood to be written
-pub ending_unfed : (start : Start) (rounds : ℕ) (reads new_reads : ReadSide) (writes : WriteSide) (calls : Option (List Call)) (old new : Serving) (bytes : List ℕ)
+pub ending_unfed : (start : Start) (rounds : ℕ) (reads new_reads : ReadSide) (writes : WriteSide) (calls : Option (List Call)) (old new : Serving)
+    (bytes : List ℕ)
     → Reads reads new_reads bytes → new.out.items ≡ old.out.items → new.client ≡ old.client
     → Course start rounds reads writes calls old → Ending ends.Memory start new_reads writes calls new
 ending_unfed start rounds reads new_reads writes calls old new bytes r out client c =
@@ -617,7 +624,8 @@ pub record Finished (start : Start) (reads : ReadSide) (writes : WriteSide) (cal
   pub read_faults : start.reads.faults ≤ reads.faults
   pub write_faults : start.writes.faults ≤ writes.faults
 
-finished_by : (end : LineEnd) (start : Start) (reads : ReadSide) (writes new_writes : WriteSide) (calls new_calls : Option (List Call)) (serving : Serving) (bytes : List ℕ)
+finished_by : (end : LineEnd) (start : Start) (reads : ReadSide) (writes new_writes : WriteSide) (calls new_calls : Option (List Call))
+    (serving : Serving) (bytes : List ℕ)
     → (done : Done start reads writes calls serving.client)
     → Gains writes.taken new_writes.taken bytes → writes.faults ≤ new_writes.faults
     → EndsSo end done.items done.size (drop done.size done.given) (done.sent ++ bytes) done.told
@@ -655,12 +663,14 @@ finished_by end start reads writes new_writes calls new_calls serving bytes done
 }
 
 -- a fault rises over what was counted before
-rose_on : (end : LineEnd) (start : Start) (reads : ReadSide) (old new : WriteSide) → new.faults ≡ old.faults → RoseAt end start reads old → RoseAt end start reads new
+rose_on : (end : LineEnd) (start : Start) (reads : ReadSide) (old new : WriteSide) → new.faults ≡ old.faults → RoseAt end start reads old
+    → RoseAt end start reads new
 rose_on ends.ReadFault start reads old new same r = r
 rose_on ends.WriteFault start reads old new same r = subst (λ (n : ℕ). Rose start.writes.faults n) (sym same) r
 rose_on other start reads old new same r = tt
 
-pub finished : (due end : LineEnd) (start : Start) (reads new_reads : ReadSide) (writes new_writes : WriteSide) (calls new_calls : Option (List Call)) (serving : Serving)
+pub finished : (due end : LineEnd) (start : Start) (reads new_reads : ReadSide) (writes new_writes : WriteSide)
+    (calls new_calls : Option (List Call)) (serving : Serving)
     → Ending due start reads writes calls serving → Finishes due end writes new_writes serving.out.items → new_reads ≡ reads
     → GivenUp calls new_calls serving.client → Finished start new_reads new_writes new_calls end
 finished due end start reads new_reads writes new_writes calls new_calls serving e (inl f) apart up =
@@ -704,7 +714,8 @@ never_served left taken calls = record {
 }
 
 -- wherever a connection was on its course, it still is
-pub record StillOn (old_reads new_reads : ReadSide) (old_writes new_writes : WriteSide) (old_calls new_calls : Option (List Call)) (old new : Serving) : Type 0 where
+pub record StillOn (old_reads new_reads : ReadSide) (old_writes new_writes : WriteSide) (old_calls new_calls : Option (List Call))
+    (old new : Serving) : Type 0 where
   pub within : new.count < 1000000
   pub goes : (start : Start) (rounds : ℕ) → Course start rounds old_reads old_writes old_calls old → Course start rounds new_reads new_writes new_calls new
 
@@ -738,12 +749,14 @@ pub left_same : (old new : ReadSide) (a b : Option (List ℕ)) (e f : ℕ) → I
 left_same old new a b e f o n same = n.left_is ∙ (same ∙ sym o.left_is)
 
 -- the input ended
-pub closed_by : (left : ℕ) (old_reads new_reads : ReadSide) (old_writes new_writes : WriteSide) (a b : Option (List ℕ)) (e f n : ℕ) (room : List ℕ) (old new : Serving)
+pub closed_by : (left : ℕ) (old_reads new_reads : ReadSide) (old_writes new_writes : WriteSide) (a b : Option (List ℕ)) (e f n : ℕ) (room : List ℕ)
+    (old new : Serving)
     → IsSide old_reads a e → IsSide new_reads b f → Takes a b (take n room) → ZeroAtEnd a n → n ≡ 0 → f ≡ e → new_writes ≡ old_writes
     → IsOpen old.framer.rest → left ≡ length old.framer.rest → old.out.items ≡ [] → new.out.items ≡ old.out.items → new.client ≡ old.client
     → (start : Start) (rounds : ℕ) (calls : Option (List Call))
     → Course start rounds old_reads old_writes calls old → Ending (ends.Closed left) start new_reads new_writes calls new
-closed_by left old_reads new_reads old_writes new_writes a b e f n room old new o p gives zero is same apart stops left_is none out client start rounds calls c =
+closed_by left old_reads new_reads old_writes new_writes a b e f n room old new o p gives zero is same apart stops left_is none out client start
+    rounds calls c =
     let nothing : Takes a b [] = rw is at gives in
     let at_end : AtEnd new_reads.left =
     subst (λ (x : Option (List ℕ)). AtEnd x) (sym p.left_is) (AtEnd-zero a b n room is zero gives) in
@@ -768,7 +781,8 @@ read_failed old_reads new_reads old_writes new_writes a b e f old new o p same r
 -- bytes were read, and fed
 pub fed_by : (old_reads new_reads : ReadSide) (old_writes new_writes : WriteSide) (a b : Option (List ℕ)) (e f : ℕ) (bytes : List ℕ) (old new : Serving)
     → IsSide old_reads a e → IsSide new_reads b f → Takes a b bytes → f ≡ e → new_writes ≡ old_writes
-    → 1 ≤ length bytes → IsOpen old.framer.rest → new.framer ≡ fed old.framer bytes → new.out.items ≡ old.out.items → new.client ≡ old.client → new.count ≡ old.count
+    → 1 ≤ length bytes → IsOpen old.framer.rest → new.framer ≡ fed old.framer bytes → new.out.items ≡ old.out.items → new.client ≡ old.client
+        → new.count ≡ old.count
     → (start : Start) (rounds : ℕ) (calls : Option (List Call))
     → Course start rounds old_reads old_writes calls old → Course start (rounds + 1) new_reads new_writes calls new
 fed_by old_reads new_reads old_writes new_writes a b e f bytes old new o p gives same apart some stops framer out client count start rounds calls c =
@@ -788,7 +802,8 @@ unfed_by old_reads new_reads old_writes new_writes a b e f bytes old new o p giv
       (reads_by old_reads new_reads a b e f bytes o p gives same) out client c)
 
 -- at the end of a line, by what it tells
-pub record Ended (left_old left_new taken_old taken_new : Option (List ℕ)) (calls_old calls_new : Option (List Call)) (reads_old reads_new writes_old writes_new : ℕ) (end : LineEnd) : Type 0 where
+pub record Ended (left_old left_new taken_old taken_new : Option (List ℕ)) (calls_old calls_new : Option (List Call))
+    (reads_old reads_new writes_old writes_new : ℕ) (end : LineEnd) : Type 0 where
   pub served : IsServed left_old left_new taken_old taken_new calls_old calls_new end
   pub read_fault : end ≡ ends.ReadFault → Rose reads_old reads_new
   pub write_fault : end ≡ ends.WriteFault → Rose writes_old writes_new

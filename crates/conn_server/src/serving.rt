@@ -21,7 +21,7 @@ const BUDGET: u32 = 1_000_000;
 /// The most bytes that one read is asked for.
 const PIECE: usize = 65536;
 
-/// Replies are written once they have so many bytes; those that are due are written before each read.
+/// Replies are written once they have so many bytes, and before each read.
 const FULL: usize = 65536;
 
 /// More reads than one connection has: each gives a byte, and a command has at most 1,050,628, with its

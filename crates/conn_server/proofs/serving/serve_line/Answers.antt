@@ -1,8 +1,21 @@
-use Rattle.conn_server.proofs.CourseLemmas.{never_served}
+use Rattle.conn_server.specs.Course.{Start}
+use Rattle.conn_server.proofs.CourseLemmas.{never_served, finished, served_as}
 use Rattle.conn_server.proofs.serving.serve_line.Goals as goal
 
 pub returns-in-Ok-clause-served : goal.returns-in-Ok-clause-served
-returns-in-Ok-clause-served g c = ?
+returns-in-Ok-clause-served g c =
+    let start : Start = record {
+      reads = g.L.Sink.read_side c.args.line.now;
+      writes = g.L.Source.write_side c.args.line.now;
+      calls = g.D.Desk.record_of c.args.desk.now;
+    } in
+    let f = finished c.serve-end.result c.finish.result start (g.L.Sink.read_side c.serve-end.new.line) (g.L.Sink.read_side c.finish.new.line)
+      (g.L.Source.write_side c.serve-end.new.line) (g.L.Source.write_side c.finish.new.line) (g.D.Desk.record_of c.serve-end.new.desk)
+      (g.D.Desk.record_of c.finish.new.desk) c.serve-end.new.self c.serve-end.ensures c.finish.ensures.finishes c.finish.ensures.keeps_reading
+      c.finish.ensures.given_up in
+    served_as (g.L.Sink.read_side c.args.line.now) (g.L.Sink.read_side c.finish.new.line) (g.L.Source.write_side c.args.line.now)
+    (g.L.Source.write_side c.finish.new.line) _ _ _ _ _ _ _ _ _ _ _ _ _ (g.met.L.Line.reading c.args.line.now)
+    (g.met.L.Line.reading c.finish.new.line) (g.met.L.Line.writing c.args.line.now) (g.met.L.Line.writing c.finish.new.line) f.served
 
 pub returns-in-Err-clause-served : goal.returns-in-Err-clause-served
 returns-in-Err-clause-served g c =

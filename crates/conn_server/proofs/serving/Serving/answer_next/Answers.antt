@@ -1,8 +1,7 @@
 use Rattle.std.proofs.Common.{◌≡◌, ◌∙◌, refl, sym, subst, Some, None}
-use Rattle.std.specs.Prelude.{Ok, Err}
+use Rattle.std.specs.Prelude.{Ok}
 use Rattle.mc_text.specs.Streams.{command}
 use Rattle.mc_text.specs.declared.commands.Command.TheVariants.{Quit}
-use Rattle.mc_text.specs.declared.faults.FrameFault.TheVariants as frame
 use Rattle.mc_text.specs.declared.replies.LineReply.TheVariants as reply
 use Rattle.conn_server.specs.declared.clients.Client.{Client}
 use Rattle.conn_server.specs.Answers.{ItemAnswers}
@@ -50,20 +49,20 @@ returns-in-Ok-None-clause-goes_on g c =
 
 pub returns-in-Err-BadLine-clause-goes_on : goal.returns-in-Err-BadLine-clause-goes_on
 returns-in-Err-BadLine-clause-goes_on g c =
-    let is : c.next_command-next.result ≡ Err (frame.BadLine c.in-Err-BadLine.field-0-0) = cc in
-    let f = next_fault c.args.self.now.framer c.next_command-next.new.self c.next_command-next.result _ c.next_command-next.ensures is in
+    let f = next_fault c.args.self.now.framer c.next_command-next.new.self c.next_command-next.result c.in-Err-BadLine.field-0 _ c.next_command-next.ensures
+      c.in-Err-BadLine.is c.in-Err-BadLine.field-0-is in
     let t = c.tell-in-Err-BadLine.ensures in
     let a = bad_line_answered (g.D.Desk.record_of c.args.desk.now) (g.D.Desk.record_of c.tell-in-Err-BadLine.new.desk) c.args.self.now
-      c.tell-in-Err-BadLine.new.self c.in-Err-BadLine.field-0-0 c.next_command-next.new.self f t.framer t.asks_nothing t.client t.counts in
+      c.tell-in-Err-BadLine.new.self _ c.next_command-next.new.self f t.framer t.asks_nothing t.client t.counts in
     answered_goes_on c.tell-in-Err-BadLine.result _ _ c.args.self.now _ c.tell-in-Err-BadLine.new.self reply.BadLine refl t.tells a
 
 pub returns-in-Err-BadLine-clause-ends : goal.returns-in-Err-BadLine-clause-ends
 returns-in-Err-BadLine-clause-ends g c =
-    let is : c.next_command-next.result ≡ Err (frame.BadLine c.in-Err-BadLine.field-0-0) = cc in
-    let f = next_fault c.args.self.now.framer c.next_command-next.new.self c.next_command-next.result _ c.next_command-next.ensures is in
+    let f = next_fault c.args.self.now.framer c.next_command-next.new.self c.next_command-next.result c.in-Err-BadLine.field-0 _ c.next_command-next.ensures
+      c.in-Err-BadLine.is c.in-Err-BadLine.field-0-is in
     let t = c.tell-in-Err-BadLine.ensures in
     let a = bad_line_answered (g.D.Desk.record_of c.args.desk.now) (g.D.Desk.record_of c.tell-in-Err-BadLine.new.desk) c.args.self.now
-      c.tell-in-Err-BadLine.new.self c.in-Err-BadLine.field-0-0 c.next_command-next.new.self f t.framer t.asks_nothing t.client t.counts in
+      c.tell-in-Err-BadLine.new.self _ c.next_command-next.new.self f t.framer t.asks_nothing t.client t.counts in
     answered_ends c.tell-in-Err-BadLine.result _ _ c.args.self.now _ c.tell-in-Err-BadLine.new.self reply.BadLine refl t.tells a
 
 pub returns-in-Err-Memory-clause-ends : goal.returns-in-Err-Memory-clause-ends
@@ -73,26 +72,24 @@ returns-in-Err-Memory-clause-ends g c =
 
 pub returns-in-Err-LongLine-clause-ends : goal.returns-in-Err-LongLine-clause-ends
 returns-in-Err-LongLine-clause-ends g c =
-    let is : c.next_command-next.result ≡ Err (frame.LongLine c.in-Err-LongLine.place) = cc in
-    let f = next_fault c.args.self.now.framer c.next_command-next.new.self c.next_command-next.result (frame.LongLine c.in-Err-LongLine.place) c.next_command-next.ensures is in
+    let f = next_fault c.args.self.now.framer c.next_command-next.new.self c.next_command-next.result c.in-Err-LongLine.field-0 _ c.next_command-next.ensures
+      c.in-Err-LongLine.is c.in-Err-LongLine.field-0-is in
     λ start rounds reads writes course.
-    shut_ends c.shut.result (frame.LongLine c.in-Err-LongLine.place) reply.LongLine start rounds reads writes (g.D.Desk.record_of c.args.desk.now)
+    shut_ends c.shut.result _ reply.LongLine start rounds reads writes (g.D.Desk.record_of c.args.desk.now)
     c.args.self.now c.shut.new.self ((f.1.stands.0, refl), refl) f.0 c.shut.ensures.shuts c.shut.ensures.client course
 
 pub returns-in-Err-BadBlock-clause-ends : goal.returns-in-Err-BadBlock-clause-ends
 returns-in-Err-BadBlock-clause-ends g c =
-    let is : c.next_command-next.result ≡ Err (frame.BadBlock c.in-Err-BadBlock.place) = cc in
-    let f = next_fault c.args.self.now.framer c.next_command-next.new.self c.next_command-next.result (frame.BadBlock c.in-Err-BadBlock.place) c.next_command-next.ensures is in
-    let s = c.shut-in-Err-BadBlock in
+    let f = next_fault c.args.self.now.framer c.next_command-next.new.self c.next_command-next.result c.in-Err-BadBlock.field-0 _ c.next_command-next.ensures
+      c.in-Err-BadBlock.is c.in-Err-BadBlock.field-0-is in
     λ start rounds reads writes course.
-    shut_ends s.result (frame.BadBlock c.in-Err-BadBlock.place) reply.BadBlock start rounds reads writes (g.D.Desk.record_of c.args.desk.now)
-    c.args.self.now s.new.self ((f.1.stands.0, refl), refl) f.0 s.ensures.shuts s.ensures.client course
+    shut_ends c.shut-in-Err-BadBlock.result _ reply.BadBlock start rounds reads writes (g.D.Desk.record_of c.args.desk.now)
+    c.args.self.now c.shut-in-Err-BadBlock.new.self ((f.1.stands.0, refl), refl) f.0 c.shut-in-Err-BadBlock.ensures.shuts c.shut-in-Err-BadBlock.ensures.client course
 
 pub returns-in-Err-BigBlock-clause-ends : goal.returns-in-Err-BigBlock-clause-ends
 returns-in-Err-BigBlock-clause-ends g c =
-    let is : c.next_command-next.result ≡ Err (frame.BigBlock c.in-Err-BigBlock.place) = cc in
-    let f = next_fault c.args.self.now.framer c.next_command-next.new.self c.next_command-next.result (frame.BigBlock c.in-Err-BigBlock.place) c.next_command-next.ensures is in
-    let s = c.shut-in-Err-BigBlock in
+    let f = next_fault c.args.self.now.framer c.next_command-next.new.self c.next_command-next.result c.in-Err-BigBlock.field-0 _ c.next_command-next.ensures
+      c.in-Err-BigBlock.is c.in-Err-BigBlock.field-0-is in
     λ start rounds reads writes course.
-    shut_ends s.result (frame.BigBlock c.in-Err-BigBlock.place) reply.BigBlock start rounds reads writes (g.D.Desk.record_of c.args.desk.now)
-    c.args.self.now s.new.self ((f.1.stands.0, refl), refl) f.0 s.ensures.shuts s.ensures.client course
+    shut_ends c.shut-in-Err-BigBlock.result _ reply.BigBlock start rounds reads writes (g.D.Desk.record_of c.args.desk.now)
+    c.args.self.now c.shut-in-Err-BigBlock.new.self ((f.1.stands.0, refl), refl) f.0 c.shut-in-Err-BigBlock.ensures.shuts c.shut-in-Err-BigBlock.ensures.client course
