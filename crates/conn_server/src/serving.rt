@@ -174,17 +174,13 @@ impl Serving {
                 self.tell(desk, reply)
             }
             Ok(None) => Ok(false),
-            Err(FrameFault::BadLine { place: _ }) => self.tell(desk, LineReply::BadLine),
-            Err(FrameFault::Memory) => Err(LineEnd::Memory),
-            Err(FrameFault::LongLine { place }) => {
-                Err(self.shut(FrameFault::LongLine { place }, LineReply::LongLine))
-            }
-            Err(FrameFault::BadBlock { place }) => {
-                Err(self.shut(FrameFault::BadBlock { place }, LineReply::BadBlock))
-            }
-            Err(FrameFault::BigBlock { place }) => {
-                Err(self.shut(FrameFault::BigBlock { place }, LineReply::BigBlock))
-            }
+            Err(fault) => match fault {
+                FrameFault::BadLine { place: _ } => self.tell(desk, LineReply::BadLine),
+                FrameFault::LongLine { place: _ } => Err(self.shut(fault, LineReply::LongLine)),
+                FrameFault::BadBlock { place: _ } => Err(self.shut(fault, LineReply::BadBlock)),
+                FrameFault::BigBlock { place: _ } => Err(self.shut(fault, LineReply::BigBlock)),
+                FrameFault::Memory => Err(LineEnd::Memory),
+            },
         }
     }
 

@@ -47,49 +47,49 @@ returns-in-Ok-None-clause-goes_on g c =
     λ start rounds reads writes course.
     course_open start rounds reads writes (g.D.Desk.record_of c.args.desk.now) c.args.self.now _ same refl refl refl course
 
-pub returns-in-Err-BadLine-clause-goes_on : goal.returns-in-Err-BadLine-clause-goes_on
-returns-in-Err-BadLine-clause-goes_on g c =
-    let f = next_fault c.args.self.now.framer c.next_command-next.new.self c.next_command-next.result c.in-Err-BadLine.field-0 _ c.next_command-next.ensures
-      c.in-Err-BadLine.is c.in-Err-BadLine.field-0-is in
-    let t = c.tell-in-Err-BadLine.ensures in
-    let a = bad_line_answered (g.D.Desk.record_of c.args.desk.now) (g.D.Desk.record_of c.tell-in-Err-BadLine.new.desk) c.args.self.now
-      c.tell-in-Err-BadLine.new.self _ c.next_command-next.new.self f t.framer t.asks_nothing t.client t.counts in
-    answered_goes_on c.tell-in-Err-BadLine.result _ _ c.args.self.now _ c.tell-in-Err-BadLine.new.self reply.BadLine refl t.tells a
+pub returns-in-BadLine-clause-goes_on : goal.returns-in-BadLine-clause-goes_on
+returns-in-BadLine-clause-goes_on g c =
+    let f = next_fault c.args.self.now.framer c.next_command-next.new.self c.next_command-next.result c.in-Err.fault _ c.next_command-next.ensures
+      c.in-Err.is c.in-BadLine.is in
+    let t = c.tell-in-BadLine.ensures in
+    let a = bad_line_answered (g.D.Desk.record_of c.args.desk.now) (g.D.Desk.record_of c.tell-in-BadLine.new.desk) c.args.self.now
+      c.tell-in-BadLine.new.self _ c.next_command-next.new.self f t.framer t.asks_nothing t.client t.counts in
+    answered_goes_on c.tell-in-BadLine.result _ _ c.args.self.now _ c.tell-in-BadLine.new.self reply.BadLine refl t.tells a
 
-pub returns-in-Err-BadLine-clause-ends : goal.returns-in-Err-BadLine-clause-ends
-returns-in-Err-BadLine-clause-ends g c =
-    let f = next_fault c.args.self.now.framer c.next_command-next.new.self c.next_command-next.result c.in-Err-BadLine.field-0 _ c.next_command-next.ensures
-      c.in-Err-BadLine.is c.in-Err-BadLine.field-0-is in
-    let t = c.tell-in-Err-BadLine.ensures in
-    let a = bad_line_answered (g.D.Desk.record_of c.args.desk.now) (g.D.Desk.record_of c.tell-in-Err-BadLine.new.desk) c.args.self.now
-      c.tell-in-Err-BadLine.new.self _ c.next_command-next.new.self f t.framer t.asks_nothing t.client t.counts in
-    answered_ends c.tell-in-Err-BadLine.result _ _ c.args.self.now _ c.tell-in-Err-BadLine.new.self reply.BadLine refl t.tells a
+pub returns-in-BadLine-clause-ends : goal.returns-in-BadLine-clause-ends
+returns-in-BadLine-clause-ends g c =
+    let f = next_fault c.args.self.now.framer c.next_command-next.new.self c.next_command-next.result c.in-Err.fault _ c.next_command-next.ensures
+      c.in-Err.is c.in-BadLine.is in
+    let t = c.tell-in-BadLine.ensures in
+    let a = bad_line_answered (g.D.Desk.record_of c.args.desk.now) (g.D.Desk.record_of c.tell-in-BadLine.new.desk) c.args.self.now
+      c.tell-in-BadLine.new.self _ c.next_command-next.new.self f t.framer t.asks_nothing t.client t.counts in
+    answered_ends c.tell-in-BadLine.result _ _ c.args.self.now _ c.tell-in-BadLine.new.self reply.BadLine refl t.tells a
 
-pub returns-in-Err-Memory-clause-ends : goal.returns-in-Err-Memory-clause-ends
-returns-in-Err-Memory-clause-ends g c =
+pub returns-in-Memory-clause-ends : goal.returns-in-Memory-clause-ends
+returns-in-Memory-clause-ends g c =
     λ start rounds reads writes course.
     ending_memory start rounds reads writes (g.D.Desk.record_of c.args.desk.now) c.args.self.now _ refl refl course
 
-pub returns-in-Err-LongLine-clause-ends : goal.returns-in-Err-LongLine-clause-ends
-returns-in-Err-LongLine-clause-ends g c =
-    let f = next_fault c.args.self.now.framer c.next_command-next.new.self c.next_command-next.result c.in-Err-LongLine.field-0 _ c.next_command-next.ensures
-      c.in-Err-LongLine.is c.in-Err-LongLine.field-0-is in
+pub returns-in-LongLine-clause-ends : goal.returns-in-LongLine-clause-ends
+returns-in-LongLine-clause-ends g c =
+    let f = next_fault c.args.self.now.framer c.next_command-next.new.self c.next_command-next.result c.in-Err.fault _ c.next_command-next.ensures
+      c.in-Err.is c.in-LongLine.is in
     λ start rounds reads writes course.
     shut_ends c.shut.result _ reply.LongLine start rounds reads writes (g.D.Desk.record_of c.args.desk.now)
     c.args.self.now c.shut.new.self ((f.1.stands.0, refl), refl) f.0 c.shut.ensures.shuts c.shut.ensures.client course
 
-pub returns-in-Err-BadBlock-clause-ends : goal.returns-in-Err-BadBlock-clause-ends
-returns-in-Err-BadBlock-clause-ends g c =
-    let f = next_fault c.args.self.now.framer c.next_command-next.new.self c.next_command-next.result c.in-Err-BadBlock.field-0 _ c.next_command-next.ensures
-      c.in-Err-BadBlock.is c.in-Err-BadBlock.field-0-is in
+pub returns-in-BadBlock-clause-ends : goal.returns-in-BadBlock-clause-ends
+returns-in-BadBlock-clause-ends g c =
+    let f = next_fault c.args.self.now.framer c.next_command-next.new.self c.next_command-next.result c.in-Err.fault _ c.next_command-next.ensures
+      c.in-Err.is c.in-BadBlock.is in
     λ start rounds reads writes course.
-    shut_ends c.shut-in-Err-BadBlock.result _ reply.BadBlock start rounds reads writes (g.D.Desk.record_of c.args.desk.now)
-    c.args.self.now c.shut-in-Err-BadBlock.new.self ((f.1.stands.0, refl), refl) f.0 c.shut-in-Err-BadBlock.ensures.shuts c.shut-in-Err-BadBlock.ensures.client course
+    shut_ends c.shut-in-BadBlock.result _ reply.BadBlock start rounds reads writes (g.D.Desk.record_of c.args.desk.now)
+    c.args.self.now c.shut-in-BadBlock.new.self ((f.1.stands.0, refl), refl) f.0 c.shut-in-BadBlock.ensures.shuts c.shut-in-BadBlock.ensures.client course
 
-pub returns-in-Err-BigBlock-clause-ends : goal.returns-in-Err-BigBlock-clause-ends
-returns-in-Err-BigBlock-clause-ends g c =
-    let f = next_fault c.args.self.now.framer c.next_command-next.new.self c.next_command-next.result c.in-Err-BigBlock.field-0 _ c.next_command-next.ensures
-      c.in-Err-BigBlock.is c.in-Err-BigBlock.field-0-is in
+pub returns-in-BigBlock-clause-ends : goal.returns-in-BigBlock-clause-ends
+returns-in-BigBlock-clause-ends g c =
+    let f = next_fault c.args.self.now.framer c.next_command-next.new.self c.next_command-next.result c.in-Err.fault _ c.next_command-next.ensures
+      c.in-Err.is c.in-BigBlock.is in
     λ start rounds reads writes course.
-    shut_ends c.shut-in-Err-BigBlock.result _ reply.BigBlock start rounds reads writes (g.D.Desk.record_of c.args.desk.now)
-    c.args.self.now c.shut-in-Err-BigBlock.new.self ((f.1.stands.0, refl), refl) f.0 c.shut-in-Err-BigBlock.ensures.shuts c.shut-in-Err-BigBlock.ensures.client course
+    shut_ends c.shut-in-BigBlock.result _ reply.BigBlock start rounds reads writes (g.D.Desk.record_of c.args.desk.now)
+    c.args.self.now c.shut-in-BigBlock.new.self ((f.1.stands.0, refl), refl) f.0 c.shut-in-BigBlock.ensures.shuts c.shut-in-BigBlock.ensures.client course

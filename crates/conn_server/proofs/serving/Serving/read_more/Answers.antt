@@ -1,4 +1,4 @@
-use Rattle.std.proofs.Common.{rules, take, refl}
+use Rattle.std.proofs.Common.{rules, take, refl, arith}
 use Rattle.conn_server.proofs.CourseLemmas.{is_side, closed_by, fed_by, unfed_by, read_failed}
 use Rattle.conn_server.proofs.serving.Serving.read_more.Goals as goal
 
@@ -7,7 +7,7 @@ returns-in-Ok-eq0-clause-ends g c =
     closed_by c.left.result (g.L.Sink.read_side c.args.line.now) (g.L.Sink.read_side c.read.new.self) (g.L.Source.write_side c.args.line.now)
     (g.L.Source.write_side c.read.new.self) (g.L.Source.left c.args.line.now) (g.L.Source.left c.read.new.self) (g.L.Source.faults c.args.line.now)
     (g.L.Source.faults c.read.new.self) c.in-Ok-eq0.field-0 c.read.new.room c.args.self.now _ (is_side _ _ _ _ (g.met.L.Line.reading c.args.line.now))
-    (is_side _ _ _ _ (g.met.L.Line.reading c.read.new.self)) c.in-Ok-eq0.ensures.gives c.in-Ok-eq0.ensures.ends c.in-Ok-eq0.field-0-is
+    (is_side _ _ _ _ (g.met.L.Line.reading c.read.new.self)) c.in-Ok-eq0.ensures.gives c.in-Ok-eq0.ensures.ends (omega (arith, c.in-Ok-eq0.field-0-test))
     c.in-Ok-eq0.ensures.no_fault c.in-Ok-eq0.ensures.keeps_writing c.requires.stops c.left.ensures c.requires.written refl refl
 
 pub returns-in-Ok-feed-clause-goes_on : goal.returns-in-Ok-feed-clause-goes_on
