@@ -1,5 +1,5 @@
 -- How a command is answered that isn't refused.
-use Rattle.std.proofs.Common.{ℕ, ◌≡◌, List, [], ◌∷◌, Option, Some, None, Bool, true, false, refl, sym, ap, subst, ◌∙◌}
+use Rattle.std.proofs.Common.{ℕ, ◌≡◌, ◌≢◌, List, [], ◌∷◌, Option, Some, None, Bool, true, false, refl, sym, ap, subst, ◌∙◌}
 use Rattle.rows_model.specs.declared.keys.QKey.{QKey}
 use Rattle.rows_model.specs.declared.keys.Sid.{Sid}
 use Rattle.std.specs.Prelude.{ℤ}
@@ -22,7 +22,7 @@ use Rattle.conn_server.specs.Clients.{asker, grants_but}
 use Rattle.conn_server.specs.Refusals.{refused}
 use Rattle.conn_server.specs.Requests.{request, told_of, client_after, with_grants, grants_heard}
 use Rattle.conn_server.specs.Tellings.{quarantine_as, release_as}
-use Rattle.conn_server.specs.Answers.{Makes, Requests, Does, AnswersBy, Asks}
+use Rattle.conn_server.specs.Answers.{Makes, Requests, Does, AnswersBy, Asks, with_calls}
 
 -- a command that isn't refused and makes one request is answered so
 pub asks_by : (before after : Option (List Call)) (old new : Client) (wanted : Wanted) (said : Command) (told : LineReply)
@@ -45,6 +45,26 @@ asks_by before after old new wanted said told passes is makes does =
       record_is = makes.record_is;
       answers = subst (λ (error : Option LineReply). AnswersBy error old said calls told new) (sym passes) (does calls made);
     }
+
+-- a command that isn't refused is this one, and is answered so
+pub asks_calls : (before after : Option (List Call)) (old new : Client) (said known : Command) (told : LineReply) (calls : List Call) → said ≡ known
+    → refused old said ≡ None → after ≡ with_calls calls before → Does old known calls told new → Asks before after old said told new
+asks_calls before after old new said known told calls is passes record_is does =
+    let does_so : Does old said calls told new = subst (λ (s : Command). Does old s calls told new) (sym is) does in
+    record {
+      calls = calls;
+      record_is = record_is;
+      answers = subst (λ (error : Option LineReply). AnswersBy error old said calls told new) (sym passes) does_so;
+    }
+
+-- a command that isn't refused is this one, which makes one request
+pub asks_known : (before after : Option (List Call)) (old new : Client) (wanted : Wanted) (said known : Command) (told : LineReply) → said ≡ known
+    → refused old said ≡ None → request old known ≡ Some wanted → Makes before after old wanted known told new
+    → ((calls : List Call) → Requests old known calls told new → Does old known calls told new)
+    → Asks before after old said told new
+asks_known before after old new wanted said known told same passes is makes does =
+    let passes_so : refused old known ≡ None = subst (λ (s : Command). refused old s ≡ None) same passes in
+    subst (λ (s : Command). Asks before after old s told new) (sym same) (asks_by before after old new wanted known told passes_so is makes does)
 
 -- a reply to a quarantine
 abbrev pub AnswersQuarantine : Reply → Type 0
@@ -137,3 +157,27 @@ made_shift before after old new key sid grant stamp (desk.Rel (rel.Released evic
 made_shift before after old new key sid grant stamp (desk.Rel rel.Gone) told b is told_is new_is =
     record { heard = _; belongs = b; record_is = is; told_is = told_is; new_is = new_is }
 made_shift before after old new key sid grant stamp other told b is told_is new_is = absurd b
+
+-- a value was put
+pub made_put : (before after : Option (List Call)) (old new : Client) (key : QKey) (flags exptime bytes : ℕ)
+    (sid : Sid) (grant : Permit) (block : List ℕ) (stamp : ℕ) (heard : Reply) (told : LineReply)
+    → Belongs (asker old.present) (wanted.Sar grant (Some block) stamp) heard
+    → after ≡ with_member (Asked (asker old.present) (wanted.Sar grant (Some block) stamp) heard) before
+    → ((back : Permit) → heard ≢ desk.SarBack back) → told ≡ release_as reply.Stored heard → new ≡ with_grants old (grants_but key old.grants.items)
+    → Makes before after old (wanted.Sar grant (Some block) stamp) (commands.Sar (Some key) flags exptime bytes sid block) told new
+made_put before after old new key flags exptime bytes sid grant block stamp (desk.Rel (rel.Released evicted)) told b is not_back told_is new_is =
+    record { heard = _; belongs = b; record_is = is; told_is = told_is; new_is = new_is }
+made_put before after old new key flags exptime bytes sid grant block stamp (desk.Rel rel.Gone) told b is not_back told_is new_is =
+    record { heard = _; belongs = b; record_is = is; told_is = told_is; new_is = new_is }
+made_put before after old new key flags exptime bytes sid grant block stamp (desk.SarBack back) told b is not_back told_is new_is =
+    absurd (not_back back refl)
+made_put before after old new key flags exptime bytes sid grant block stamp other told b is not_back told_is new_is = absurd b
+
+-- a value wasn't put for want of memory, and its grant is held as before
+pub back_from_put : (before after : Option (List Call)) (old new : Client) (key : QKey) (flags exptime bytes : ℕ)
+    (sid : Sid) (grant back : Permit) (block : List ℕ) (stamp : ℕ)
+    → back ≡ grant → after ≡ with_member (Asked (asker old.present) (wanted.Sar grant (Some block) stamp) (desk.SarBack back)) before
+    → new ≡ old
+    → Makes before after old (wanted.Sar grant (Some block) stamp) (commands.Sar (Some key) flags exptime bytes sid block) reply.Memory new
+back_from_put before after old new key flags exptime bytes sid grant back block stamp b is new_is =
+    record { heard = desk.SarBack back; belongs = b; record_is = is; told_is = refl; new_is = new_is }

@@ -1,13 +1,22 @@
 -- What isn't the case of a command that isn't refused.
-use Rattle.std.proofs.Common.{ℕ, ◌≡◌, ◌==◌, ◌&&◌, Bool, true, false, not, List, [], ◌∷◌, Option, Some, None, is_some, refl}
+use Rattle.std.proofs.Common.{ℕ, ◌≡◌, ◌==◌, ◌<◌, ◌&&◌, Bool, true, false, not, nat_le, List, [], ◌∷◌, length, Option, Some, None, is_some, refl, subst}
+use Rattle.std.proofs.lemmas.Bool.{leb-false}
 use Rattle.std.specs.Prelude.{IsSome}
 use Rattle.rows_model.specs.declared.keys.QKey.{QKey}
+use Rattle.case_tables.specs.Compatibility.{same_way}
+use Rattle.lease_table.specs.declared.records.Mode.{Mode}
+use Rattle.lease_table.specs.declared.records.Mode.TheVariants.{Invalidate, Refresh, Delta}
+use Rattle.lease_table.specs.Leases.{way_of}
+use Rattle.key_shard.specs.Permit.{Permit}
 use Rattle.mc_text.specs.declared.commands.Command.{Command}
 use Rattle.mc_text.specs.declared.replies.LineReply.{LineReply}
 use Rattle.conn_server.specs.declared.clients.Client.{Client}
-use Rattle.conn_server.specs.Clients.{is_reading, has_committed, is_busy, is_full}
+use Rattle.conn_server.specs.declared.clients.Present.{Present}
+use Rattle.conn_server.specs.Answers.{HasFirst, HasFirstIn}
+use Rattle.conn_server.specs.Clients.{is_reading, has_committed, is_busy, is_full, is_present, grant_on}
+use Rattle.conn_server.specs.Closing.{MayAbort}
 use Rattle.conn_server.specs.Refusals.{key_word, named_sid, is_unknown, begins, quarantines, releases, writes, is_no_key, flags_of}
-use Rattle.conn_server.specs.Refusals.{exptime_of, is_of_another, shifts_no_count, grant_for, is_other_mode, first_due, refused}
+use Rattle.conn_server.specs.Refusals.{exptime_of, is_of_another, shifts_no_count, grant_for, is_other_mode, in_mode, first_due, refused}
 
 -- no cause to refuse the command holds
 pub record Passes (client : Client) (said : Command) : Type 0 where
@@ -60,3 +69,50 @@ passes client said e =
 pub has_key : (key : Option QKey) → is_no_key (Some key) ≡ false → IsSome key
 has_key (Some key) e = tt
 has_key None e = cc
+
+-- another grant may be held
+pub has_room : (grants : List Permit) → nat_le 64 (length grants) ≡ false → length grants < 64
+has_room grants e = leb-false 64 (length grants) e
+
+-- the key is that of a count
+pub is_of_count : (shifts : Bool) → not shifts ≡ false → shifts ≡ true
+is_of_count true e = refl
+is_of_count false e = cc
+
+-- a grant that was found
+record Found (found : Option Permit) : Type 0 where
+  grant : Permit
+  is : found ≡ Some grant
+
+found_grant : (found : Option Permit) → not (is_some found) ≡ false → Found found
+found_grant (Some grant) e = record { grant = grant; is = refl }
+found_grant None e = cc
+
+-- a grant on the key is held
+pub has_first : (key : QKey) (grants : List Permit) → not (is_some (grant_on key grants)) ≡ false → HasFirst key grants
+has_first key grants e =
+    let found = found_grant (grant_on key grants) e in
+    record { grant = found.grant; is_first = found.is }
+
+-- modes of one way are the same
+same_mode : (wanted mode : Mode) → not (same_way (way_of wanted) (way_of mode)) ≡ false → mode ≡ wanted
+same_mode Invalidate Invalidate e = refl
+same_mode Refresh Refresh e = refl
+same_mode Delta Delta e = refl
+same_mode wanted mode e = cc
+
+-- and the first of them is in this mode
+pub has_first_in : (mode : Mode) (key : QKey) (grants : List Permit) → not (is_some (grant_on key grants)) ≡ false
+    → not (in_mode mode (grant_on key grants)) ≡ false → HasFirstIn mode key grants
+has_first_in mode key grants some e =
+    let found = found_grant (grant_on key grants) some in
+    record {
+      grant = found.grant;
+      is_first = found.is;
+      in_mode = same_mode mode found.grant.mode (subst (λ (f : Option Permit). not (in_mode mode f) ≡ false) found.is e);
+    }
+
+-- the session may be aborted
+pub may_abort : (present : Option Present) (sid : Sid) → not (is_present present sid) ≡ false → is_reading present ≡ false → MayAbort present
+may_abort (Some present) sid own writer = writer
+may_abort None sid own writer = cc

@@ -7,7 +7,9 @@ use Rattle.key_shard.specs.declared.replies.Got.{Got}
 use Rattle.key_shard.specs.declared.replies.SetAnswer.{SetAnswer}
 use Rattle.sql_keeper.specs.declared.faults.AfterFault.{AfterFault}
 use Rattle.sql_keeper.specs.declared.stores.Answer.{Answer}
+use Rattle.sql_keeper.specs.declared.faults.CommitFault.{CommitFault}
 use Rattle.session_client.specs.Belongs.{Belongs}
+use Rattle.session_client.specs.Grants.{GrantsView}
 use Rattle.session_client.specs.declared.replies.Fault.{Fault}
 use Rattle.session_client.specs.declared.replies.Reply.{Reply}
 use Rattle.session_client.specs.declared.replies.Reply.TheVariants as desk
@@ -24,3 +26,24 @@ pub answered : (who : Sid) (key : QKey) (heard : Reply) → Belongs who (wanted.
 answered who key (desk.Answer answer) b not_answer not_fault = not_answer answer refl
 answered who key (desk.Fault fault) b not_answer not_fault = not_fault fault refl
 answered who key other b not_answer not_fault = b
+
+pub staged : (who : Sid) (key : QKey) (txn : List Change) (heard : Reply) → Belongs who (wanted.Staged key txn) heard
+    → ((value : List ℕ) (changes : List Change) → heard ≢ desk.Staged value changes)
+    → ((fault : AfterFault) (changes : List Change) → heard ≢ desk.NotStaged fault changes) → ⊥
+staged who key txn (desk.Staged value changes) b not_staged not_fault = not_staged value changes refl
+staged who key txn (desk.NotStaged fault changes) b not_staged not_fault = not_fault fault changes refl
+staged who key txn other b not_staged not_fault = b
+
+pub was_set : (who : Sid) (key : QKey) (token stamp : ℕ) (block : List ℕ) (heard : Reply)
+    → Belongs who (wanted.Set key token block stamp) heard
+    → ((told : SetAnswer) → heard ≢ desk.Set told) → ((fault : Fault) → heard ≢ desk.Fault fault) → ⊥
+was_set who key token stamp block (desk.Set told) b not_set not_fault = not_set told refl
+was_set who key token stamp block (desk.Fault fault) b not_set not_fault = not_fault fault refl
+was_set who key token stamp block other b not_set not_fault = b
+
+pub committed : (who : Sid) (txn : List Change) (lent : GrantsView) (heard : Reply) → Belongs who (wanted.Commit txn lent) heard
+    → ((number : ℕ) (changes : List Change) (back : GrantsView) → heard ≢ desk.Committed number changes back)
+    → ((fault : CommitFault) (changes : List Change) (back : GrantsView) → heard ≢ desk.NotCommitted fault changes back) → ⊥
+committed who txn lent (desk.Committed number changes back) b not_made not_fault = not_made number changes back refl
+committed who txn lent (desk.NotCommitted fault changes back) b not_made not_fault = not_fault fault changes back refl
+committed who txn lent other b not_made not_fault = b

@@ -91,7 +91,7 @@ commit_told commit.KeepFault = reply.Store
 
 -- of a grant: its token; and to refresh, the value that the key has
 abbrev pub granted_told : Command → Permit → Option (List ℕ × ℕ) → LineReply
-granted_told (QaRead key sid) grant (Some (value , stamp)) = reply.GrantedStamped grant.token grant.key stamp value
+granted_told (QaRead key sid) grant (Some (value, stamp)) = reply.GrantedStamped grant.token grant.key stamp value
 granted_told (QaRead key sid) grant None = reply.GrantedNone grant.token
 granted_told other grant old = reply.Granted grant.token
 

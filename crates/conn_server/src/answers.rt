@@ -16,7 +16,8 @@ ghost use Rattle.conn_server.specs.Answers.{first_stage, Asks, Makes, Begins, Ab
 
 use crate::clients::{Client, Present, Stage};
 use crate::tellings::{
-    tell_answer, tell_lookup, tell_not_committed, tell_quarantine, tell_release, tell_set, tell_staged,
+    tell_answer, tell_lookup, tell_not_committed, tell_quarantine, tell_release, tell_set,
+    tell_staged,
 };
 use key_shard::Grant;
 use mc_text::{Command, LineReply, Role};
@@ -242,7 +243,14 @@ impl Client {
         let stamp = self.stamp();
         let (place, grant) = self.take_on(&key);
         let value = Some(block);
-        match desk.call(who, Wanted::Sar { grant, value, stamp }) {
+        match desk.call(
+            who,
+            Wanted::Sar {
+                grant,
+                value,
+                stamp,
+            },
+        ) {
             Reply::SarBack { grant } => {
                 self.grants.put_back(place, grant);
                 LineReply::Memory

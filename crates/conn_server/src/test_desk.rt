@@ -1,8 +1,9 @@
 // A desk of one shard and no store, and a client that talks with it in lines of text.
-ghost use Rattle.std.specs.Prelude.{◌≡◌, Some};
+ghost use Rattle.std.specs.Prelude.{◌≡◌, Some, None};
 ghost use Rattle.lease_table.specs.declared.records.Mode.TheVariants as Mode;
 ghost use Rattle.key_shard.specs.Answers.{FitsMode, FitsShift};
 ghost use Rattle.session_client.specs.Belongs.{Belongs};
+ghost use Rattle.session_client.specs.Desks.{IsProper};
 ghost use Rattle.session_client.specs.declared.replies.Reply.TheVariants as reply;
 ghost use Rattle.session_client.specs.declared.replies.Wanted.TheVariants as wanted;
 ghost use Rattle.key_shard.specs.declared.replies.Rel.{Rel};
@@ -149,6 +150,16 @@ impl TestDesk {
         }
     }
 
+    fn replace(&mut self, grant: Grant, value: Option<Value>, stamp: u64) -> Reply
+        requires { IsProper (wanted.Sar grant value stamp) }
+        ensures { (who : Sid) → Belongs who (wanted.Sar grant value stamp) result }
+    {
+        match value {
+            Some(value) => self.put(grant, value, stamp),
+            None => self.release(grant, How::Drop),
+        }
+    }
+
     fn release(&mut self, grant: Grant, how: How) -> Reply
         requires { FitsMode grant.mode how }
         ensures { (told : Rel) × (result ≡ reply.Rel told) }
@@ -189,14 +200,9 @@ impl Desk for TestDesk {
             Wanted::Dar { grant } => self.release(grant, How::Drop),
             Wanted::Sar {
                 grant,
-                value: Some(value),
+                value,
                 stamp,
-            } => self.put(grant, value, stamp),
-            Wanted::Sar {
-                grant,
-                value: None,
-                stamp: _,
-            } => self.release(grant, How::Drop),
+            } => self.replace(grant, value, stamp),
             Wanted::Apply { grant, stamp } => self.release(grant, How::Shift { stamp }),
             Wanted::Abort { grant } => self.release(grant, How::Keep),
             Wanted::Nothing => Reply::Nothing,

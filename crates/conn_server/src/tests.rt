@@ -51,7 +51,10 @@ fn a_writer_is_answered(rt: HostRuntime) -> Result<(), Fail> {
             ("qaread friends:2 1", "GRANTED 2\r\nEND"),
             ("iqdelta npending:2 1 1", "GRANTED 3"),
             ("iqdelta profile:3 1 1", "CLIENT_ERROR not count"),
-            ("stage npending:2 1 invite 1 2", "VALUE npending:2 0 1\r\n5\r\nEND"),
+            (
+                "stage npending:2 1 invite 1 2",
+                "VALUE npending:2 0 1\r\n5\r\nEND",
+            ),
             ("dar profile:2 1", "CLIENT_ERROR not committed"),
             ("sql 1 invite 1 2", "COMMITTED 1"),
             ("qareg profile:3 1", "CLIENT_ERROR committed"),
@@ -66,7 +69,10 @@ fn a_writer_is_answered(rt: HostRuntime) -> Result<(), Fail> {
             ("iqget friends:2 1 0", "VALUE friends:2 0 1 1\r\n3\r\nEND"),
             ("iqabort 1", "RELEASED 0"),
             ("begin write", "SESSION 2"),
-            ("qaread friends:2 2", "GRANTED 4\r\nVALUE friends:2 0 1 1\r\n3\r\nEND"),
+            (
+                "qaread friends:2 2",
+                "GRANTED 4\r\nVALUE friends:2 0 1 1\r\n3\r\nEND",
+            ),
         ],
     );
     talk.let_go();
@@ -83,7 +89,10 @@ fn errors_come_in_their_order(rt: HostRuntime) -> Result<(), Fail> {
             ("iqget npending:0 1 0", "CLIENT_ERROR not a query key"),
             ("iqget npending:2 1 0", "CLIENT_ERROR not yours"),
             ("iqabort 1", "CLIENT_ERROR not yours"),
-            ("iqset npending:0 1 1 1 1 7\r\n5", "CLIENT_ERROR not a query key"),
+            (
+                "iqset npending:0 1 1 1 1 7\r\n5",
+                "CLIENT_ERROR not a query key",
+            ),
             ("iqset npending:2 1 1 1 1 7\r\n5", "CLIENT_ERROR flags"),
             ("iqset npending:2 0 1 1 1 7\r\n5", "CLIENT_ERROR exptime"),
             ("iqset npending:2 0 0 1 1 7\r\n5", "NOT_STORED"),
@@ -123,7 +132,10 @@ fn an_aborted_session_goes_on(rt: HostRuntime) -> Result<(), Fail> {
             ("iqabort 1", "RELEASED 0"),
             ("iqget npending:2 1 0", FIVE),
             ("ask npending:2 1", FIVE),
-            ("stage npending:2 1 invite 1 2", "VALUE npending:2 0 1\r\n5\r\nEND"),
+            (
+                "stage npending:2 1 invite 1 2",
+                "VALUE npending:2 0 1\r\n5\r\nEND",
+            ),
             ("qareg npending:2 1", "GRANTED 3"),
             ("dar npending:2 1", "CLIENT_ERROR not committed"),
             ("begin write", "CLIENT_ERROR session busy"),
@@ -216,7 +228,13 @@ fn want_of_the_desk_is_told(rt: HostRuntime) -> Result<(), Fail> {
     talk.says(&rt, "sql 1 invite 1 2", "COMMITTED 1");
     talk.desk.ails = true;
     talk.says(&rt, "sar friends:1 0 0 1 1\r\n3", "SERVER_ERROR memory");
-    assert_eq!(rt; talk.client.place_on(&QKey { kind: Kind::Friends, id: 1 }), Some(0));
+    assert_eq!(rt;
+        talk.client.place_on(&QKey {
+            kind: Kind::Friends,
+            id: 1
+        }),
+        Some(0)
+    );
     talk.desk.ails = false;
     talk.says_all(
         &rt,
