@@ -113,6 +113,9 @@ impl TestDesk {
         ensures delta { mode ≡ Mode.Delta → Belongs who (wanted.Delta key by) result }
     {
         let fault = Fault::Spent;
+        if self.ails {
+            return Reply::Fault { fault };
+        }
         match self.shard.quarantine(key, who, mode, by, 0) {
             Ok(told) => Reply::Quar { told },
             Err(_) => Reply::Fault { fault },
@@ -256,6 +259,13 @@ impl Talk {
     pub fn says_all(&mut self, rt: &impl Abort, table: &[(&str, &str)]) {
         for (line, want) in table {
             self.says(rt, line, want);
+        }
+    }
+
+    /// Ends the quarantine of this token as a sweep does, whose client hasn't heard of it.
+    pub fn sweep(&mut self, key: QKey, token: u64) {
+        if self.desk.shard.is_home(&key) {
+            let _ = self.desk.shard.sweep_drop(key, token);
         }
     }
 
