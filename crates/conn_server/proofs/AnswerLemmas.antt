@@ -2,6 +2,7 @@
 use Rattle.std.proofs.Common.{ℕ, ◌≡◌, ◌≢◌, List, [], ◌∷◌, Option, Some, None, Bool, true, false, refl, sym, ap, subst, ◌∙◌}
 use Rattle.rows_model.specs.declared.keys.QKey.{QKey}
 use Rattle.rows_model.specs.declared.keys.Sid.{Sid}
+use Rattle.rows_model.specs.declared.changes.Change.{Change}
 use Rattle.std.specs.Prelude.{ℤ}
 use Rattle.key_shard.specs.Permit.{Permit}
 use Rattle.key_shard.specs.declared.replies.QAnswer.TheVariants as quarantine
@@ -65,6 +66,66 @@ pub asks_known : (before after : Option (List Call)) (old new : Client) (wanted 
 asks_known before after old new wanted said known told same passes is makes does =
     let passes_so : refused old known ≡ None = subst (λ (s : Command). refused old s ≡ None) same passes in
     subst (λ (s : Command). Asks before after old s told new) (sym same) (asks_by before after old new wanted known told passes_so is makes does)
+
+-- a request is made for the present session
+pub made : (before after : Option (List Call)) (old new : Client) (who : Sid) (wanted : Wanted) (said : Command) (heard : Reply) (told : LineReply)
+    → who ≡ asker old.present → Belongs who wanted heard → after ≡ with_member (Asked who wanted heard) before → told ≡ told_of said heard
+    → new ≡ client_after old said heard → Makes before after old wanted said told new
+made before after old new who wanted said heard told own belongs is told_is new_is =
+    record {
+      heard = heard;
+      belongs = subst (λ (s : Sid). Belongs s wanted heard) own belongs;
+      record_is = is ∙ ap (λ (s : Sid). with_member (Asked s wanted heard) before) own;
+      told_is = told_is;
+      new_is = new_is;
+    }
+
+-- a reply to a lookup, a question or a set: the client has what it had
+abbrev pub ChangesNothing : Reply → Type 0
+ChangesNothing (desk.Got told) = Unit {0}
+ChangesNothing (desk.Answer answer) = Unit {0}
+ChangesNothing (desk.Staged value changes) = Unit {0}
+ChangesNothing (desk.NotStaged fault changes) = Unit {0}
+ChangesNothing (desk.Set told) = Unit {0}
+ChangesNothing (desk.Fault fault) = Unit {0}
+ChangesNothing other = ⊥
+
+stays : (client : Client) (said : Command) (heard : Reply) → ChangesNothing heard → client ≡ client_after client said heard
+stays client said (desk.Got told) n = refl
+stays client said (desk.Answer answer) n = refl
+stays client said (desk.Staged value changes) n = refl
+stays client said (desk.NotStaged fault changes) n = refl
+stays client said (desk.Set told) n = refl
+stays client said (desk.Fault fault) n = refl
+stays client said other n = absurd n
+
+pub looks : (who : Sid) (key : QKey) (floor : ℕ) (heard : Reply) → Belongs who (wanted.Get key floor) heard → ChangesNothing heard
+looks who key floor (desk.Got told) b = tt
+looks who key floor (desk.Fault fault) b = tt
+looks who key floor other b = b
+
+pub questions : (who : Sid) (key : QKey) (heard : Reply) → Belongs who (wanted.Ask key) heard → ChangesNothing heard
+questions who key (desk.Answer answer) b = tt
+questions who key (desk.Fault fault) b = tt
+questions who key other b = b
+
+pub stages : (who : Sid) (key : QKey) (txn : List Change) (heard : Reply) → Belongs who (wanted.Staged key txn) heard → ChangesNothing heard
+stages who key txn (desk.Staged value changes) b = tt
+stages who key txn (desk.NotStaged fault changes) b = tt
+stages who key txn other b = b
+
+pub sets : (who : Sid) (key : QKey) (token stamp : ℕ) (block : List ℕ) (heard : Reply) → Belongs who (wanted.Set key token block stamp) heard
+    → ChangesNothing heard
+sets who key token stamp block (desk.Set told) b = tt
+sets who key token stamp block (desk.Fault fault) b = tt
+sets who key token stamp block other b = b
+
+-- a request that changes nothing of the client
+pub made_question : (before after : Option (List Call)) (client : Client) (who : Sid) (wanted : Wanted) (said : Command) (heard : Reply) (told : LineReply)
+    → who ≡ asker client.present → Belongs who wanted heard → after ≡ with_member (Asked who wanted heard) before → told ≡ told_of said heard
+    → ChangesNothing heard → Makes before after client wanted said told client
+made_question before after client who wanted said heard told own belongs is told_is nothing =
+    made before after client client who wanted said heard told own belongs is told_is (stays client said heard nothing)
 
 -- a reply to a quarantine
 abbrev pub AnswersQuarantine : Reply → Type 0

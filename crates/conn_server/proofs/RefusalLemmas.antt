@@ -1,8 +1,11 @@
 -- What isn't the case of a command that isn't refused.
-use Rattle.std.proofs.Common.{ℕ, ◌≡◌, ◌==◌, ◌<◌, ◌&&◌, Bool, true, false, not, nat_le, List, [], ◌∷◌, length, Option, Some, None, is_some, refl, subst}
+use Rattle.std.proofs.Common.{ℕ, ◌≡◌, ◌<◌, ◌&&◌, Bool, true, false, not, List, [], ◌∷◌, length, Option, Some, None, is_some, refl, sym, subst, ◌∙◌}
+use Rattle.std.specs.Prelude.{nat_le}
 use Rattle.std.proofs.lemmas.Bool.{leb-false}
 use Rattle.std.specs.Prelude.{IsSome}
 use Rattle.rows_model.specs.declared.keys.QKey.{QKey}
+use Rattle.rows_model.specs.declared.keys.Sid.{Sid}
+use Rattle.rows_model.specs.Delta.{is_count}
 use Rattle.case_tables.specs.Compatibility.{same_way}
 use Rattle.lease_table.specs.declared.records.Mode.{Mode}
 use Rattle.lease_table.specs.declared.records.Mode.TheVariants.{Invalidate, Refresh, Delta}
@@ -116,3 +119,53 @@ has_first_in mode key grants some e =
 pub may_abort : (present : Option Present) (sid : Sid) → not (is_present present sid) ≡ false → is_reading present ≡ false → MayAbort present
 may_abort (Some present) sid own writer = writer
 may_abort None sid own writer = cc
+
+-- what a command that isn't refused has, by what it is: its key is one
+pub keyed : (client : Client) (said : Command) (key : Option QKey) → key_word said ≡ Some key → refused client said ≡ None → IsSome key
+keyed client said key is e = has_key key (subst (λ (w : Option (Option QKey)). is_no_key w ≡ false) is (passes client said e).key)
+
+-- a quarantine may be granted
+pub roomy : (client : Client) (said : Command) → quarantines said ≡ true → refused client said ≡ None → length client.grants.items < 64
+roomy client said is e =
+    has_room client.grants.items (subst (λ (b : Bool). (b && is_full client) ≡ false) is (passes client said e).room)
+
+-- what is added to is a count
+pub counted : (client : Client) (said : Command) (key : QKey) → shifts_no_count said ≡ not (is_count key)
+    → refused client said ≡ None → is_count key ≡ true
+counted client said key is e = is_of_count (is_count key) (sym is ∙ (passes client said e).count)
+
+-- a grant is held, of which some was found
+found_so : (client : Client) (said : Command) (key : QKey) → releases said ≡ true → key_word said ≡ Some (Some key)
+    → refused client said ≡ None → not (is_some (grant_on key client.grants.items)) ≡ false
+found_so client said key is word e =
+    let grants = client.grants.items in
+    let due : (releases said && not (is_some (grant_on key grants))) ≡ false =
+    subst (λ (w : Option (Option QKey)). (releases said && not (is_some (grant_for grants w))) ≡ false) word (passes client said e).grant in
+    subst (λ (b : Bool). (b && not (is_some (grant_on key grants))) ≡ false) is due
+
+-- a grant on the key is held
+pub held : (client : Client) (said : Command) (key : QKey) → releases said ≡ true → key_word said ≡ Some (Some key)
+    → refused client said ≡ None → HasFirst key client.grants.items
+held client said key is word e = has_first key client.grants.items (found_so client said key is word e)
+
+-- and in the mode that is wanted
+pub held_in : (mode : Mode) (client : Client) (said : Command) (key : QKey) → releases said ≡ true → key_word said ≡ Some (Some key)
+    → ((found : Option Permit) → is_other_mode said found ≡ not (in_mode mode found))
+    → refused client said ≡ None → HasFirstIn mode key client.grants.items
+held_in mode client said key is word by_mode e =
+    let found = grant_on key client.grants.items in
+    let due : is_other_mode said found ≡ false =
+    subst (λ (w : Option (Option QKey)). is_other_mode said (grant_for client.grants.items w) ≡ false) word (passes client said e).mode in
+    has_first_in mode key client.grants.items (found_so client said key is word e) (sym (by_mode found) ∙ due)
+
+-- the present session may be aborted
+pub abortable : (client : Client) (said : Command) (sid : Sid) → named_sid said ≡ Some sid → writes said ≡ true
+    → refused client said ≡ None → MayAbort client.present
+abortable client said sid named is e =
+    let p = passes client said e in
+    may_abort client.present sid (subst (λ (s : Option Sid). is_of_another client.present s ≡ false) named p.own)
+    (subst (λ (b : Bool). (b && is_reading client.present) ≡ false) is p.writer)
+
+-- the command is of a verb
+pub of_verb : (client : Client) (said : Command) → is_unknown said ≡ true → refused client said ≡ None → ⊥
+of_verb client said is e = let known = (passes client said e).known in cc
