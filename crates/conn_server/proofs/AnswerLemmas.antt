@@ -182,63 +182,67 @@ after_quarantine client said (desk.Fault fault) grants b items room = cc
 after_quarantine client said other grants b items room = absurd b
 
 -- a quarantine was asked of a desk, and the client is told so
-pub made_quarantine : (before after : Option (List Call)) (old : Client)
+pub made_quarantine : (before after : Option (List Call)) (old : Client) (who : Sid)
     (grants : GrantsView) (wanted : Wanted) (said : Command) (reads : Bool) (heard : Reply) (told : LineReply)
-    → Belongs (asker old.present) wanted heard → after ≡ with_member (Asked (asker old.present) wanted heard) before
+    → who ≡ asker old.present → Belongs who wanted heard → after ≡ with_member (Asked who wanted heard) before
     → AnswersQuarantine heard → quarantine_as reads heard ≡ told_of said heard → told ≡ quarantine_as reads heard
     → grants.items ≡ grants_heard old.grants.items heard → grants.room ≡ old.grants.room
     → Makes before after old wanted said told (record { present = old.present; grants = grants })
-made_quarantine before after old grants wanted said reads heard told belongs is answers same told_is items room =
-    record {
-      heard = heard;
-      belongs = belongs;
-      record_is = is;
-      told_is = told_is ∙ same;
-      new_is = after_quarantine old said heard grants answers items room;
-    }
+made_quarantine before after old who grants wanted said reads heard told own belongs is answers same told_is items room =
+    made before after old (record { present = old.present; grants = grants }) who wanted said heard told own belongs is (told_is ∙ same)
+    (after_quarantine old said heard grants answers items room)
 
 -- a value was dropped
-pub made_drop : (before after : Option (List Call)) (old new : Client) (key : QKey) (sid : Sid) (grant : Permit) (heard : Reply) (told : LineReply)
-    → Belongs (asker old.present) (wanted.Dar grant) heard → after ≡ with_member (Asked (asker old.present) (wanted.Dar grant) heard) before
+pub made_drop : (before after : Option (List Call)) (old new : Client) (who : Sid) (key : QKey) (sid : Sid) (grant : Permit)
+    (heard : Reply) (told : LineReply)
+    → who ≡ asker old.present → Belongs who (wanted.Dar grant) heard → after ≡ with_member (Asked who (wanted.Dar grant) heard) before
     → told ≡ release_as reply.Deleted heard → new ≡ with_grants old (grants_but key old.grants.items)
     → Makes before after old (wanted.Dar grant) (commands.Dar (Some key) sid) told new
-made_drop before after old new key sid grant (desk.Rel (rel.Released evicted)) told b is told_is new_is =
-    record { heard = _; belongs = b; record_is = is; told_is = told_is; new_is = new_is }
-made_drop before after old new key sid grant (desk.Rel rel.Gone) told b is told_is new_is =
-    record { heard = _; belongs = b; record_is = is; told_is = told_is; new_is = new_is }
-made_drop before after old new key sid grant other told b is told_is new_is = absurd b
+made_drop before after old new who key sid grant (desk.Rel (rel.Released evicted)) told own b is told_is new_is =
+    made before after old new who (wanted.Dar grant) (commands.Dar (Some key) sid) (desk.Rel (rel.Released evicted)) told own b is told_is new_is
+made_drop before after old new who key sid grant (desk.Rel rel.Gone) told own b is told_is new_is =
+    made before after old new who (wanted.Dar grant) (commands.Dar (Some key) sid) (desk.Rel rel.Gone) told own b is told_is new_is
+made_drop before after old new who key sid grant other told own b is told_is new_is = absurd b
 
 -- a count was added to
-pub made_shift : (before after : Option (List Call)) (old new : Client) (key : QKey) (sid : Sid) (grant : Permit) (stamp : ℕ) (heard : Reply) (told : LineReply)
-    → Belongs (asker old.present) (wanted.Apply grant stamp) heard → after ≡ with_member (Asked (asker old.present) (wanted.Apply grant stamp) heard) before
+pub made_shift : (before after : Option (List Call)) (old new : Client) (who : Sid) (key : QKey) (sid : Sid) (grant : Permit) (stamp : ℕ)
+    (heard : Reply) (told : LineReply)
+    → who ≡ asker old.present → Belongs who (wanted.Apply grant stamp) heard
+    → after ≡ with_member (Asked who (wanted.Apply grant stamp) heard) before
     → told ≡ release_as reply.Stored heard → new ≡ with_grants old (grants_but key old.grants.items)
     → Makes before after old (wanted.Apply grant stamp) (commands.IqCommit (Some key) sid) told new
-made_shift before after old new key sid grant stamp (desk.Rel (rel.Released evicted)) told b is told_is new_is =
-    record { heard = _; belongs = b; record_is = is; told_is = told_is; new_is = new_is }
-made_shift before after old new key sid grant stamp (desk.Rel rel.Gone) told b is told_is new_is =
-    record { heard = _; belongs = b; record_is = is; told_is = told_is; new_is = new_is }
-made_shift before after old new key sid grant stamp other told b is told_is new_is = absurd b
+made_shift before after old new who key sid grant stamp (desk.Rel (rel.Released evicted)) told own b is told_is new_is =
+    made before after old new who (wanted.Apply grant stamp) (commands.IqCommit (Some key) sid)
+    (desk.Rel (rel.Released evicted)) told own b is told_is new_is
+made_shift before after old new who key sid grant stamp (desk.Rel rel.Gone) told own b is told_is new_is =
+    made before after old new who (wanted.Apply grant stamp) (commands.IqCommit (Some key) sid) (desk.Rel rel.Gone) told own b is told_is new_is
+made_shift before after old new who key sid grant stamp other told own b is told_is new_is = absurd b
 
 -- a value was put
-pub made_put : (before after : Option (List Call)) (old new : Client) (key : QKey) (flags exptime bytes : ℕ)
+pub made_put : (before after : Option (List Call)) (old new : Client) (who : Sid) (key : QKey) (flags exptime bytes : ℕ)
     (sid : Sid) (grant : Permit) (block : List ℕ) (stamp : ℕ) (heard : Reply) (told : LineReply)
-    → Belongs (asker old.present) (wanted.Sar grant (Some block) stamp) heard
-    → after ≡ with_member (Asked (asker old.present) (wanted.Sar grant (Some block) stamp) heard) before
-    → ((back : Permit) → heard ≢ desk.SarBack back) → told ≡ release_as reply.Stored heard → new ≡ with_grants old (grants_but key old.grants.items)
+    → who ≡ asker old.present → Belongs who (wanted.Sar grant (Some block) stamp) heard
+    → after ≡ with_member (Asked who (wanted.Sar grant (Some block) stamp) heard) before
+    → ((back : Permit) → heard ≢ desk.SarBack back) → told ≡ release_as reply.Stored heard
+    → new ≡ with_grants old (grants_but key old.grants.items)
     → Makes before after old (wanted.Sar grant (Some block) stamp) (commands.Sar (Some key) flags exptime bytes sid block) told new
-made_put before after old new key flags exptime bytes sid grant block stamp (desk.Rel (rel.Released evicted)) told b is not_back told_is new_is =
-    record { heard = _; belongs = b; record_is = is; told_is = told_is; new_is = new_is }
-made_put before after old new key flags exptime bytes sid grant block stamp (desk.Rel rel.Gone) told b is not_back told_is new_is =
-    record { heard = _; belongs = b; record_is = is; told_is = told_is; new_is = new_is }
-made_put before after old new key flags exptime bytes sid grant block stamp (desk.SarBack back) told b is not_back told_is new_is =
+made_put before after old new who key flags exptime bytes sid grant block stamp (desk.Rel (rel.Released evicted)) told own b is not_back told_is new_is =
+    made before after old new who (wanted.Sar grant (Some block) stamp) (commands.Sar (Some key) flags exptime bytes sid block)
+    (desk.Rel (rel.Released evicted)) told own b is told_is new_is
+made_put before after old new who key flags exptime bytes sid grant block stamp (desk.Rel rel.Gone) told own b is not_back told_is new_is =
+    made before after old new who (wanted.Sar grant (Some block) stamp) (commands.Sar (Some key) flags exptime bytes sid block)
+    (desk.Rel rel.Gone) told own b is told_is new_is
+made_put before after old new who key flags exptime bytes sid grant block stamp (desk.SarBack back) told own b is not_back told_is new_is =
     absurd (not_back back refl)
-made_put before after old new key flags exptime bytes sid grant block stamp other told b is not_back told_is new_is = absurd b
+made_put before after old new who key flags exptime bytes sid grant block stamp other told own b is not_back told_is new_is = absurd b
 
 -- a value wasn't put for want of memory, and its grant is held as before
-pub back_from_put : (before after : Option (List Call)) (old new : Client) (key : QKey) (flags exptime bytes : ℕ)
+pub back_from_put : (before after : Option (List Call)) (old new : Client) (who : Sid) (key : QKey) (flags exptime bytes : ℕ)
     (sid : Sid) (grant back : Permit) (block : List ℕ) (stamp : ℕ)
-    → back ≡ grant → after ≡ with_member (Asked (asker old.present) (wanted.Sar grant (Some block) stamp) (desk.SarBack back)) before
+    → who ≡ asker old.present → back ≡ grant
+    → after ≡ with_member (Asked who (wanted.Sar grant (Some block) stamp) (desk.SarBack back)) before
     → new ≡ old
     → Makes before after old (wanted.Sar grant (Some block) stamp) (commands.Sar (Some key) flags exptime bytes sid block) reply.Memory new
-back_from_put before after old new key flags exptime bytes sid grant back block stamp b is new_is =
-    record { heard = desk.SarBack back; belongs = b; record_is = is; told_is = refl; new_is = new_is }
+back_from_put before after old new who key flags exptime bytes sid grant back block stamp own b is new_is =
+    made before after old new who (wanted.Sar grant (Some block) stamp) (commands.Sar (Some key) flags exptime bytes sid block)
+    (desk.SarBack back) reply.Memory own b is refl new_is

@@ -1,0 +1,14 @@
+use Rattle.std.proofs.Common.{Some, false}
+use Rattle.mc_text.specs.declared.commands.Command.TheVariants as commands
+use Rattle.session_client.specs.declared.replies.Wanted.TheVariants as wanted
+use Rattle.conn_server.proofs.AnswerLemmas.{made_quarantine, shifts, told_shift}
+use Rattle.conn_server.proofs.clients.Client.shift.Goals as goal
+
+pub returns : goal.returns
+returns g c = λ sid.
+    let answers = shifts c.asker.result c.args.key c.args.by c.call-heard.result c.call-heard.ensures.belongs in
+    made_quarantine _ _ c.args.self.now c.asker.result c.tell_quarantine.new.grants (wanted.Delta c.args.key c.args.by)
+    (commands.IqDelta (Some c.args.key) sid c.args.by) false
+    c.call-heard.result _ c.asker.ensures c.call-heard.ensures.belongs c.call-heard.ensures.recorded answers
+    (told_shift c.args.key sid c.args.by c.call-heard.result answers)
+    c.tell_quarantine.ensures.told c.tell_quarantine.ensures.items c.tell_quarantine.ensures.room
