@@ -1,5 +1,5 @@
 -- How a command is answered that isn't refused.
-use Rattle.std.proofs.Common.{ℕ, ◌≡◌, ◌≢◌, List, [], ◌∷◌, Option, Some, None, Bool, true, false, refl, sym, ap, subst, ◌∙◌}
+use Rattle.std.proofs.Common.{ℕ, ◌≡◌, ◌≢◌, List, [], ◌∷◌, Option, Some, None, Bool, true, false, refl, sym, ap, subst, ◌∙◌, inl}
 use Rattle.rows_model.specs.declared.keys.QKey.{QKey}
 use Rattle.rows_model.specs.declared.keys.Sid.{Sid}
 use Rattle.rows_model.specs.declared.changes.Change.{Change}
@@ -8,7 +8,7 @@ use Rattle.key_shard.specs.Permit.{Permit}
 use Rattle.key_shard.specs.declared.replies.QAnswer.TheVariants as quarantine
 use Rattle.key_shard.specs.declared.replies.Rel.TheVariants as rel
 use Rattle.session_client.specs.Belongs.{Belongs}
-use Rattle.session_client.specs.Desks.{Call, Asked, with_member}
+use Rattle.session_client.specs.Desks.{Call, Asked, Began, with_member}
 use Rattle.session_client.specs.Grants.{GrantsView}
 use Rattle.session_client.specs.declared.replies.Reply.{Reply}
 use Rattle.session_client.specs.declared.replies.Reply.TheVariants as desk
@@ -18,12 +18,14 @@ use Rattle.mc_text.specs.declared.commands.Command.{Command}
 use Rattle.mc_text.specs.declared.commands.Command.TheVariants as commands
 use Rattle.mc_text.specs.declared.replies.LineReply.{LineReply}
 use Rattle.mc_text.specs.declared.replies.LineReply.TheVariants as reply
+use Rattle.mc_text.specs.declared.commands.Role.{Role}
 use Rattle.conn_server.specs.declared.clients.Client.{Client}
+use Rattle.conn_server.specs.declared.clients.Stage.{Stage}
 use Rattle.conn_server.specs.Clients.{asker, grants_but}
 use Rattle.conn_server.specs.Refusals.{refused}
-use Rattle.conn_server.specs.Requests.{request, told_of, client_after, with_grants, grants_heard}
+use Rattle.conn_server.specs.Requests.{request, told_of, client_after, with_grants, grants_after, grants_heard}
 use Rattle.conn_server.specs.Tellings.{quarantine_as, release_as}
-use Rattle.conn_server.specs.Answers.{Makes, Requests, Does, AnswersBy, Asks, with_calls}
+use Rattle.conn_server.specs.Answers.{is_writer, first_stage, Begins, Makes, Requests, Does, AnswersBy, Asks, with_calls}
 
 -- a command that isn't refused and makes one request is answered so
 pub asks_by : (before after : Option (List Call)) (old new : Client) (wanted : Wanted) (said : Command) (told : LineReply)
@@ -102,23 +104,23 @@ stays client said other n = absurd n
 pub looks : (who : Sid) (key : QKey) (floor : ℕ) (heard : Reply) → Belongs who (wanted.Get key floor) heard → ChangesNothing heard
 looks who key floor (desk.Got told) b = tt
 looks who key floor (desk.Fault fault) b = tt
-looks who key floor other b = b
+looks who key floor other b = absurd b
 
 pub questions : (who : Sid) (key : QKey) (heard : Reply) → Belongs who (wanted.Ask key) heard → ChangesNothing heard
 questions who key (desk.Answer answer) b = tt
 questions who key (desk.Fault fault) b = tt
-questions who key other b = b
+questions who key other b = absurd b
 
 pub stages : (who : Sid) (key : QKey) (txn : List Change) (heard : Reply) → Belongs who (wanted.Staged key txn) heard → ChangesNothing heard
 stages who key txn (desk.Staged value changes) b = tt
 stages who key txn (desk.NotStaged fault changes) b = tt
-stages who key txn other b = b
+stages who key txn other b = absurd b
 
 pub sets : (who : Sid) (key : QKey) (token stamp : ℕ) (block : List ℕ) (heard : Reply) → Belongs who (wanted.Set key token block stamp) heard
     → ChangesNothing heard
 sets who key token stamp block (desk.Set told) b = tt
 sets who key token stamp block (desk.Fault fault) b = tt
-sets who key token stamp block other b = b
+sets who key token stamp block other b = absurd b
 
 -- a request that changes nothing of the client
 pub made_question : (before after : Option (List Call)) (client : Client) (who : Sid) (wanted : Wanted) (said : Command) (heard : Reply) (told : LineReply)
@@ -173,12 +175,17 @@ told_refresh key sid (desk.Quar (quarantine.Refused holder mode)) b = refl
 told_refresh key sid (desk.Fault fault) b = refl
 told_refresh key sid other b = absurd b
 
+-- a client whose session stays, with other grants and as much room
+pub same_parts : (client : Client) (grants : GrantsView) (items : List Permit) → grants.items ≡ items → grants.room ≡ client.grants.room
+    → record { present = client.present; grants = grants } ≡ with_grants client items
+same_parts client grants items is room = λ i. record { present = client.present; grants = record { items = is i; room = room i } }
+
 -- the client after a reply to a quarantine
 pub after_quarantine : (client : Client) (said : Command) (heard : Reply) (grants : GrantsView) → AnswersQuarantine heard
     → grants.items ≡ grants_heard client.grants.items heard → grants.room ≡ client.grants.room
     → record { present = client.present; grants = grants } ≡ client_after client said heard
-after_quarantine client said (desk.Quar told) grants b items room = cc
-after_quarantine client said (desk.Fault fault) grants b items room = cc
+after_quarantine client said (desk.Quar told) grants b items room = same_parts client grants (grants_after client.grants.items told) items room
+after_quarantine client said (desk.Fault fault) grants b items room = same_parts client grants client.grants.items items room
 after_quarantine client said other grants b items room = absurd b
 
 -- a quarantine was asked of a desk, and the client is told so
@@ -246,3 +253,14 @@ pub back_from_put : (before after : Option (List Call)) (old new : Client) (who 
 back_from_put before after old new who key flags exptime bytes sid grant back block stamp own b is new_is =
     made before after old new who (wanted.Sar grant (Some block) stamp) (commands.Sar (Some key) flags exptime bytes sid block)
     (desk.SarBack back) reply.Memory own b is refl new_is
+
+-- a session was begun
+pub begun : (before after : Option (List Call)) (old : Client) (role : Role) (writes : Bool) (sid : Sid) (stage : Stage) (grants : GrantsView)
+    → writes ≡ is_writer role → after ≡ with_member (Began writes sid) before → stage ≡ first_stage role → grants ≡ old.grants
+    → (calls : List Call) × (after ≡ with_calls calls before)
+    × Begins old role calls (reply.Session sid) (record { present = Some (record { sid = sid; stage = stage }); grants = grants })
+begun before after old role writes sid stage grants writer is stands same = (
+  Began (is_writer role) sid ∷ [],
+  is ∙ ap (λ (w : Bool). with_member (Began w sid) before) writer,
+  inl (sid, refl, refl, λ i. record { present = Some (record { sid = sid; stage = stands i }); grants = same i }),
+)

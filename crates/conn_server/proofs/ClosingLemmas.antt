@@ -1,6 +1,6 @@
 -- Grants that are released one after another.
 use Rattle.std.proofs.Common.{ℕ, ◌≡◌, ◌+◌, ◌≤◌, Bool, true, false, List, [], ◌∷◌, ◌++◌, length, slice_get, Option, Some, append_assoc, append-nil}
-use Rattle.std.proofs.Common.{add_assoc, add-zero, zero-add, refl, sym, ap, subst, ◌∙◌, arith}
+use Rattle.std.proofs.Common.{add_assoc, add-zero, zero-add, refl, sym, ap, subst, ◌∙◌, ◌⊎◌, inl, inr, arith}
 use Rattle.std.specs.List.{remove}
 use Rattle.rows_model.specs.declared.keys.Sid.{Sid}
 use Rattle.key_shard.specs.Permit.{Permit}
@@ -71,6 +71,9 @@ first_out : (items left : List Permit) (grant : Permit) → slice_get items 0 �
 first_out [] left grant e out = cc
 first_out (first ∷ items) left grant e out = cc
 
+pub one_less : (items left : List Permit) (grant : Permit) → slice_get items 0 ≡ Some grant → left ≡ remove items 0 → length items ≡ length left + 1
+one_less items left grant e out = ap (λ (l : List Permit). length l) (first_out items left grant e out) ∙ omega arith
+
 -- the next grant is released
 pub releasing_next : (committed : Bool) (who : Sid) (all items left : List Permit) (grant : Permit) (before now new : Option (List Call))
     (count ended : ℕ) (wanted : Wanted) (heard : Reply)
@@ -106,6 +109,10 @@ IsWithdrawn other = ⊥
 abbrev pub StartsBy : Bool → Stage → Sid → Option (List Call) → Option (List Call) → Type 0
 StartsBy true stage who before mid = (number : ℕ) × (stage ≡ stages.Committed number) × (mid ≡ before)
 StartsBy false stage who before mid = (was : Bool) × IsWithdrawn stage × (mid ≡ with_member (Asked who wanted.End (desk.End was)) before)
+
+pub is_withdrawn : (stage : Stage) → (stage ≡ stages.Open) ⊎ (stage ≡ stages.Aborted) → IsWithdrawn stage
+is_withdrawn stage (inl e) = subst IsWithdrawn (sym e) tt
+is_withdrawn stage (inr e) = subst IsWithdrawn (sym e) tt
 
 withdrawn : (stage : Stage) (who : Sid) (grants : List Permit) (calls : List Call) (count : ℕ)
     → IsWithdrawn stage → Withdraws who grants calls count → GivesUp stage who grants calls count

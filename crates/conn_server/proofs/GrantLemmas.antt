@@ -65,3 +65,14 @@ some_place key grants grant e =
     let place = position_or_len (λ (other : Permit). same_key other.key key) grants in
     let within = lt-ltb place (length grants) (within_first key grants grant e) in
     subst (λ (b : Bool). IsSome (cond b (Some place) None)) (sym within) refl
+
+-- no place has one where none is held
+none_by : (found : Option Permit) (key : QKey) (grants : List Permit) → grant_on key grants ≡ found
+    → position (λ (other : Permit). same_key other.key key) grants ≡ None → found ≡ None
+none_by None key grants is none = refl
+none_by (Some grant) key grants is none =
+    let some = subst (λ (place : Option ℕ). IsSome place) none (some_place key grants grant is) in
+    cc
+
+pub none_held : (key : QKey) (grants : List Permit) → position (λ (other : Permit). same_key other.key key) grants ≡ None → grant_on key grants ≡ None
+none_held key grants none = none_by (grant_on key grants) key grants refl none

@@ -1,6 +1,6 @@
 -- What isn't the case of a command that isn't refused.
 use Rattle.std.proofs.Common.{ℕ, ◌≡◌, ◌<◌, ◌&&◌, Bool, true, false, not, List, [], ◌∷◌, length, Option, Some, None, is_some, refl, sym, subst, ◌∙◌}
-use Rattle.std.specs.Prelude.{nat_le}
+use Rattle.std.specs.Prelude.{nat_le, if◌then◌else◌}
 use Rattle.std.proofs.lemmas.Bool.{leb-false}
 use Rattle.std.specs.Prelude.{IsSome}
 use Rattle.rows_model.specs.declared.keys.QKey.{QKey}
@@ -70,7 +70,7 @@ passes client said e =
 
 -- the word for a key is a key
 pub has_key : (key : Option QKey) → is_no_key (Some key) ≡ false → IsSome key
-has_key (Some key) e = tt
+has_key (Some key) e = refl
 has_key None e = cc
 
 -- another grant may be held

@@ -1,5 +1,5 @@
 -- What a command that isn't refused asks of the desk, and what its client is told of the desk's reply.
-use Rattle.std.specs.Prelude.{ℕ, ◌++◌, ◌×◌, List, [], ◌∷◌, Option, Some, None}
+use Rattle.std.specs.Prelude.{ℕ, ◌++◌, List, [], ◌∷◌, Option, Some, None}
 use Rattle.std.specs.Option.{option_map, unwrap_or}
 use Rattle.rows_model.specs.declared.keys.QKey.{QKey}
 use Rattle.rows_model.specs.declared.keys.Sid.{Sid}

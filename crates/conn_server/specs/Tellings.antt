@@ -1,5 +1,5 @@
 -- What is told of a reply by those commands that are told alike.
-use Rattle.std.specs.Prelude.{ℕ, ◌×◌, Bool, true, false, List, Option, Some, None}
+use Rattle.std.specs.Prelude.{ℕ, Bool, true, false, List, Option, Some, None}
 use Rattle.key_shard.specs.Permit.{Permit}
 use Rattle.key_shard.specs.declared.replies.QAnswer.TheVariants as quarantine
 use Rattle.key_shard.specs.declared.replies.Rel.TheVariants as rel
