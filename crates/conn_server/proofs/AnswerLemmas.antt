@@ -4,6 +4,7 @@ use Rattle.rows_model.specs.declared.keys.QKey.{QKey}
 use Rattle.rows_model.specs.declared.keys.Sid.{Sid}
 use Rattle.rows_model.specs.declared.changes.Change.{Change}
 use Rattle.std.specs.Prelude.{ℤ}
+use Rattle.std.specs.List.{insert}
 use Rattle.key_shard.specs.Permit.{Permit}
 use Rattle.key_shard.specs.declared.replies.QAnswer.TheVariants as quarantine
 use Rattle.key_shard.specs.declared.replies.Rel.TheVariants as rel
@@ -253,6 +254,17 @@ pub back_from_put : (before after : Option (List Call)) (old new : Client) (who 
 back_from_put before after old new who key flags exptime bytes sid grant back block stamp own b is new_is =
     made before after old new who (wanted.Sar grant (Some block) stamp) (commands.Sar (Some key) flags exptime bytes sid block)
     (desk.SarBack back) reply.Memory own b is refl new_is
+
+-- a grant that is put back where it was taken out: the client is as before
+pub put_in_place : (old taken : Client) (grants : GrantsView) (items : List Permit) (place : ℕ) (grant back : Permit)
+    → taken ≡ with_grants old items → insert taken.grants.items place grant ≡ old.grants.items → back ≡ grant
+    → grants.items ≡ insert taken.grants.items place back → grants.room ≡ taken.grants.room
+    → record { present = taken.present; grants = grants } ≡ old
+put_in_place old taken grants items place grant back is whole same put room =
+    let present = ap (λ (client : Client). client.present) is in
+    let items_so = put ∙ ap (λ (one : Permit). insert taken.grants.items place one) same ∙ whole in
+    let room_so = room ∙ ap (λ (client : Client). client.grants.room) is in
+    λ i. record { present = present i; grants = record { items = items_so i; room = room_so i } }
 
 -- a session was begun
 pub begun : (before after : Option (List Call)) (old : Client) (role : Role) (writes : Bool) (sid : Sid) (stage : Stage) (grants : GrantsView)

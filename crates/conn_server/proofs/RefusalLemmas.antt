@@ -1,6 +1,7 @@
 -- What isn't the case of a command that isn't refused.
-use Rattle.std.proofs.Common.{ℕ, ◌≡◌, ◌<◌, ◌&&◌, Bool, true, false, not, List, [], ◌∷◌, length, Option, Some, None, is_some, refl, sym, subst, ◌∙◌}
-use Rattle.std.specs.Prelude.{nat_le, if◌then◌else◌}
+use Rattle.std.proofs.Common.{ℕ, ◌≡◌, ◌≢◌, ◌<◌, ◌&&◌, ◌⊎◌, inl, inr, Bool, true, false, true≢false, not, List, [], ◌∷◌, length, Option, Some, None}
+use Rattle.std.proofs.Common.{is_some, refl, sym, ap, subst, ◌∙◌}
+use Rattle.std.specs.Prelude.{nat_le}
 use Rattle.std.proofs.lemmas.Bool.{leb-false}
 use Rattle.std.specs.Prelude.{IsSome}
 use Rattle.rows_model.specs.declared.keys.QKey.{QKey}
@@ -12,6 +13,7 @@ use Rattle.lease_table.specs.declared.records.Mode.TheVariants.{Invalidate, Refr
 use Rattle.lease_table.specs.Leases.{way_of}
 use Rattle.key_shard.specs.Permit.{Permit}
 use Rattle.mc_text.specs.declared.commands.Command.{Command}
+use Rattle.mc_text.specs.declared.commands.Command.TheVariants as commands
 use Rattle.mc_text.specs.declared.replies.LineReply.{LineReply}
 use Rattle.conn_server.specs.declared.clients.Client.{Client}
 use Rattle.conn_server.specs.declared.clients.Present.{Present}
@@ -19,7 +21,7 @@ use Rattle.conn_server.specs.Answers.{HasFirst, HasFirstIn}
 use Rattle.conn_server.specs.Clients.{is_reading, has_committed, is_busy, is_full, is_present, grant_on}
 use Rattle.conn_server.specs.Closing.{MayAbort}
 use Rattle.conn_server.specs.Refusals.{key_word, named_sid, is_unknown, begins, quarantines, releases, writes, is_no_key, flags_of}
-use Rattle.conn_server.specs.Refusals.{exptime_of, is_of_another, shifts_no_count, grant_for, is_other_mode, in_mode, first_due, refused}
+use Rattle.conn_server.specs.Refusals.{exptime_of, is_of_another, shifts_no_count, grant_for, is_other_mode, in_mode, refusals, first_due, refused}
 
 -- no cause to refuse the command holds
 pub record Passes (client : Client) (said : Command) : Type 0 where
@@ -32,40 +34,29 @@ pub record Passes (client : Client) (said : Command) : Type 0 where
   pub grant : (releases said && not (is_some (grant_for client.grants.items (key_word said)))) ≡ false
   pub mode : is_other_mode said (grant_for client.grants.items (key_word said)) ≡ false
 
--- the first isn't due, and none of the others
-record NoneDue (due : Bool) (others : Option LineReply) : Type 0 where
-  first : due ≡ false
-  rest : others ≡ None
+-- none of the errors is due
+abbrev AreNotDue : List (Bool × LineReply) → Type 0
+AreNotDue [] = Unit {0}
+AreNotDue ((due , told) ∷ others) = (due ≡ false) × AreNotDue others
 
-none_due : (due : Bool) (told : LineReply) (others : Option LineReply) → (if due then Some told else others) ≡ None → NoneDue due others
-none_due true told others e = cc
-none_due false told others e = record { first = refl; rest = e }
+none_due : (errors : List (Bool × LineReply)) → first_due errors ≡ None → AreNotDue errors
+none_due [] e = tt
+none_due ((true , told) ∷ others) e = cc
+none_due ((false , told) ∷ others) e = (refl, none_due others e)
 
 pub passes : (client : Client) (said : Command) → refused client said ≡ None → Passes client said
 unfolding refused
 passes client said e =
-    let a1 = none_due _ _ _ e in
-    let a2 = none_due _ _ _ a1.rest in
-    let a3 = none_due _ _ _ a2.rest in
-    let a4 = none_due _ _ _ a3.rest in
-    let a5 = none_due _ _ _ a4.rest in
-    let a6 = none_due _ _ _ a5.rest in
-    let a7 = none_due _ _ _ a6.rest in
-    let a8 = none_due _ _ _ a7.rest in
-    let a9 = none_due _ _ _ a8.rest in
-    let a10 = none_due _ _ _ a9.rest in
-    let a11 = none_due _ _ _ a10.rest in
-    let a12 = none_due _ _ _ a11.rest in
-    let a13 = none_due _ _ _ a12.rest in
+    let (known, (busy, (key, (flags, (exptime, (own, (writer, (committed, (room, (count, (early, (grant, (mode, end))))))))))))) = none_due (refusals client said) e in
     record {
-      known = a1.first;
-      key = a3.first;
-      own = a6.first;
-      writer = a7.first;
-      room = a9.first;
-      count = a10.first;
-      grant = a12.first;
-      mode = a13.first;
+      known = known;
+      key = key;
+      own = own;
+      writer = writer;
+      room = room;
+      count = count;
+      grant = grant;
+      mode = mode;
     }
 
 -- the word for a key is a key
@@ -169,3 +160,9 @@ abortable client said sid named is e =
 -- the command is of a verb
 pub of_verb : (client : Client) (said : Command) → is_unknown said ≡ true → refused client said ≡ None → ⊥
 of_verb client said is e = let known = (passes client said e).known in cc
+
+-- what isn't refused has a verb, and isn't the end
+pub goes_on : (client : Client) (said : Command) → (said ≡ commands.Quit) ⊎ (said ≡ commands.Unknown) → said ≢ commands.Quit
+    → refused client said ≡ None → ⊥
+goes_on client said (inl is) not_quit e = not_quit is
+goes_on client said (inr is) not_quit e = absurd (true≢false (sym (ap is_unknown is) ∙ (passes client said e).known))

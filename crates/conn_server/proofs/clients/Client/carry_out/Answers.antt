@@ -1,4 +1,6 @@
-use Rattle.std.proofs.Common.{Option, Some, refl, ap, ◌∙◌}
+use Rattle.std.proofs.Common.{Option, Some, ℤ, w32, refl, ap, subst, rules, ◌∙◌}
+use mir.Val.{SFits}
+use Rattle.std.proofs.lemmas.Int.{to_z-of_z}
 use Rattle.std.specs.Option.{option_map}
 use Rattle.rows_model.specs.declared.keys.QKey.{QKey}
 use Rattle.key_shard.specs.Permit.{Permit}
@@ -6,9 +8,10 @@ use Rattle.mc_text.specs.declared.commands.Command.{Command}
 use Rattle.mc_text.specs.declared.commands.Command.TheVariants as commands
 use Rattle.session_client.specs.declared.replies.Wanted.TheVariants as wanted
 use Rattle.lease_table.specs.declared.records.Mode.TheVariants as modes
+use Rattle.conn_server.specs.Answers.{Makes}
 use Rattle.conn_server.specs.Requests.{stamp_of}
 use Rattle.conn_server.specs.Refusals.{key_word, named_sid, is_unknown, quarantines, releases, writes, shifts_no_count, is_other_mode}
-use Rattle.conn_server.proofs.RefusalLemmas.{abortable, counted, held, held_in, keyed, of_verb, roomy}
+use Rattle.conn_server.proofs.RefusalLemmas.{abortable, counted, goes_on, held, held_in, keyed, of_verb, roomy}
 use Rattle.conn_server.proofs.AnswerLemmas.{asks_calls, asks_known}
 use Rattle.conn_server.proofs.clients.Client.carry_out.Goals as goal
 
@@ -80,7 +83,15 @@ shift-requires-clause-count g c =
 pub returns-in-IqDelta : goal.returns-in-IqDelta
 returns-in-IqDelta g c =
     let is = (c.in-IqDelta.is ∙ ap (λ (key : Option QKey). commands.IqDelta key c.in-IqDelta.sid c.in-IqDelta.by) c.unwrap-in-IqDelta.ensures) in
-    asks_known _ _ _ _ (wanted.Delta c.unwrap-in-IqDelta.result c.in-IqDelta.by) c.args.said (commands.IqDelta (Some c.unwrap-in-IqDelta.result) c.in-IqDelta.sid c.in-IqDelta.by) _ is c.requires.passes refl (c.shift.ensures c.in-IqDelta.sid) (λ calls made. made)
+    let fits : SFits w32 c.in-IqDelta.by = search rules in
+    let makes = subst (λ (by : ℤ). Makes (g.D.Desk.record_of c.args.desk.now) (g.D.Desk.record_of c.shift.new.desk) c.args.self.now
+        (wanted.Delta c.unwrap-in-IqDelta.result by) (commands.IqDelta (Some c.unwrap-in-IqDelta.result) c.in-IqDelta.sid by) c.shift.result c.shift.new.self)
+        (to_z-of_z w32 c.in-IqDelta.by fits) (c.shift.ensures c.in-IqDelta.sid) in
+    asks_known _ _ _ _ (wanted.Delta c.unwrap-in-IqDelta.result c.in-IqDelta.by) c.args.said (commands.IqDelta (Some c.unwrap-in-IqDelta.result) c.in-IqDelta.sid c.in-IqDelta.by) _
+    is c.requires.passes refl makes (λ calls made. made)
+
+pub unreachable-requires : goal.unreachable-requires
+unreachable-requires g c = goes_on _ c.args.said c.in-Quit.is c.requires.goes_on c.requires.passes
 
 pub unwrap-requires-in-Dar : goal.unwrap-requires-in-Dar
 unwrap-requires-in-Dar g c = keyed _ c.args.said c.in-Dar.key (ap key_word c.in-Dar.is) c.requires.passes

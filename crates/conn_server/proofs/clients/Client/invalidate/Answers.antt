@@ -6,7 +6,10 @@ use Rattle.conn_server.proofs.clients.Client.invalidate.Goals as goal
 
 pub returns : goal.returns
 returns g c = λ sid.
-    let answers = invalidates c.asker.result c.args.key c.call-heard.result c.call-heard.ensures.belongs in
-    made_quarantine _ _ c.args.self.now c.asker.result c.tell_quarantine.new.grants (wanted.QaReg c.args.key) (commands.QaReg (Some c.args.key) sid) false
-    c.call-heard.result _ c.asker.ensures c.call-heard.ensures.belongs c.call-heard.ensures.recorded answers
-    (told_invalidate c.args.key sid c.call-heard.result answers) c.tell_quarantine.ensures.told c.tell_quarantine.ensures.items c.tell_quarantine.ensures.room
+    let who = rw (← c.self.view_is) at c.asker.ensures in
+    let belongs = c.call-heard.ensures.belongs in
+    let answers = invalidates c.asker.result c.args.key c.call-heard.result belongs in
+    rw (← c.self.view_is) (made_quarantine _ _ (record { present = c.self.inside.present; grants = c.self.inside.grants }) c.asker.result
+    c.tell_quarantine.new.grants (wanted.QaReg c.args.key) (commands.QaReg (Some c.args.key) sid) false
+    c.call-heard.result _ who belongs c.call-heard.ensures.recorded answers
+    (told_invalidate c.args.key sid c.call-heard.result answers) c.tell_quarantine.ensures.told c.tell_quarantine.ensures.items c.tell_quarantine.ensures.room)

@@ -6,7 +6,10 @@ use Rattle.conn_server.proofs.clients.Client.refresh.Goals as goal
 
 pub returns : goal.returns
 returns g c = λ sid.
-    let answers = refreshes c.asker.result c.args.key c.call-heard.result c.call-heard.ensures.belongs in
-    made_quarantine _ _ c.args.self.now c.asker.result c.tell_quarantine.new.grants (wanted.QaRead c.args.key) (commands.QaRead (Some c.args.key) sid) true
-    c.call-heard.result _ c.asker.ensures c.call-heard.ensures.belongs c.call-heard.ensures.recorded answers
-    (told_refresh c.args.key sid c.call-heard.result answers) c.tell_quarantine.ensures.told c.tell_quarantine.ensures.items c.tell_quarantine.ensures.room
+    let who = rw (← c.self.view_is) at c.asker.ensures in
+    let belongs = c.call-heard.ensures.belongs in
+    let answers = refreshes c.asker.result c.args.key c.call-heard.result belongs in
+    rw (← c.self.view_is) (made_quarantine _ _ (record { present = c.self.inside.present; grants = c.self.inside.grants }) c.asker.result
+    c.tell_quarantine.new.grants (wanted.QaRead c.args.key) (commands.QaRead (Some c.args.key) sid) true
+    c.call-heard.result _ who belongs c.call-heard.ensures.recorded answers
+    (told_refresh c.args.key sid c.call-heard.result answers) c.tell_quarantine.ensures.told c.tell_quarantine.ensures.items c.tell_quarantine.ensures.room)
