@@ -1,6 +1,7 @@
 -- Grants that are released one after another.
-use Rattle.std.proofs.Common.{ℕ, ◌≡◌, ◌+◌, Bool, true, false, List, [], ◌∷◌, ◌++◌, Option, append_assoc, append-nil, add_assoc, add-zero}
-use Rattle.std.proofs.Common.{zero-add, refl, sym, ap, subst, ◌∙◌}
+use Rattle.std.proofs.Common.{ℕ, ◌≡◌, ◌+◌, ◌≤◌, Bool, true, false, List, [], ◌∷◌, ◌++◌, length, slice_get, Option, Some, append_assoc, append-nil}
+use Rattle.std.proofs.Common.{add_assoc, add-zero, zero-add, refl, sym, ap, subst, ◌∙◌, ◌⊎◌, inl, inr, arith}
+use Rattle.std.specs.List.{remove}
 use Rattle.rows_model.specs.declared.keys.Sid.{Sid}
 use Rattle.key_shard.specs.Permit.{Permit}
 use Rattle.key_shard.specs.declared.replies.Rel.{Rel}
@@ -9,8 +10,11 @@ use Rattle.session_client.specs.Desks.{Call, Asked, with_member}
 use Rattle.session_client.specs.declared.replies.Reply.{Reply}
 use Rattle.session_client.specs.declared.replies.Reply.TheVariants as desk
 use Rattle.session_client.specs.declared.replies.Wanted.{Wanted}
+use Rattle.session_client.specs.declared.replies.Wanted.TheVariants as wanted
+use Rattle.conn_server.specs.declared.clients.Stage.{Stage}
+use Rattle.conn_server.specs.declared.clients.Stage.TheVariants as stages
 use Rattle.conn_server.specs.Answers.{with_calls}
-use Rattle.conn_server.specs.Closing.{Releases, ended_by, release_way}
+use Rattle.conn_server.specs.Closing.{Releases, Withdraws, GivesUp, ended_by, release_way}
 
 -- one call more at the end
 pub with_calls-append : (calls more : List Call) (told : Option (List Call)) → with_calls (calls ++ more) told ≡ with_calls more (with_calls calls told)
@@ -61,3 +65,78 @@ released_by true who grant (desk.Rel told) b = record { told = told; is = refl }
 released_by true who grant other b = absurd b
 released_by false who grant (desk.Rel told) b = record { told = told; is = refl }
 released_by false who grant other b = absurd b
+
+-- the grant that is taken out stood in front of those that are left
+first_out : (items left : List Permit) (grant : Permit) → slice_get items 0 ≡ Some grant → left ≡ remove items 0 → items ≡ grant ∷ left
+first_out [] left grant e out = cc
+first_out (first ∷ items) left grant e out = cc
+
+pub one_less : (items left : List Permit) (grant : Permit) → slice_get items 0 ≡ Some grant → left ≡ remove items 0 → length items ≡ length left + 1
+one_less items left grant e out = ap (λ (l : List Permit). length l) (first_out items left grant e out) ∙ omega arith
+
+-- the next grant is released
+pub releasing_next : (committed : Bool) (who : Sid) (all items left : List Permit) (grant : Permit) (before now new : Option (List Call))
+    (count ended : ℕ) (wanted : Wanted) (heard : Reply)
+    → Releasing who (release_way committed) all items before now count
+    → slice_get items 0 ≡ Some grant → left ≡ remove items 0 → wanted ≡ release_way committed grant
+    → Belongs who wanted heard → new ≡ with_member (Asked who wanted heard) now
+    → ((told : Rel) → heard ≡ desk.Rel told → ended ≡ ended_by told)
+    → Releasing who (release_way committed) all left before new (count + ended)
+releasing_next committed who all items left grant before now new count ended wanted heard so_far first out is belongs record_is counts =
+    let way = release_way committed in
+    let belongs_so : Belongs who (way grant) heard = subst (λ (w : Wanted). Belongs who w heard) is belongs in
+    let release = released_by committed who grant heard belongs_so in
+    let front : Releasing who way all (grant ∷ left) before now count =
+    subst (λ (l : List Permit). Releasing who way all l before now count) (first_out items left grant first out) so_far in
+    let answered : new ≡ with_member (Asked who (way grant) (desk.Rel release.told)) now =
+    record_is ∙ ap (λ (w : Wanted). with_member (Asked who w heard) now) is
+    ∙ ap (λ (h : Reply). with_member (Asked who (way grant) h) now) release.is in
+    subst (λ (n : ℕ). Releasing who way all left before new (count + n)) (sym (counts release.told release.is))
+    (releasing_one who way all left grant before now new count release.told front answered)
+
+-- no grant is left
+pub none_left : (items : List Permit) → length items ≤ 0 → items ≡ []
+none_left [] e = refl
+none_left (grant ∷ items) e = absurd (omega arith)
+
+-- a session that stands here is ended at the store before its grants are released
+abbrev pub IsWithdrawn : Stage → Type 0
+IsWithdrawn stages.Open = Unit {0}
+IsWithdrawn stages.Aborted = Unit {0}
+IsWithdrawn other = ⊥
+
+-- what is asked before the grants are released: nothing where the session has committed, else that it is ended
+abbrev pub StartsBy : Bool → Stage → Sid → Option (List Call) → Option (List Call) → Type 0
+StartsBy true stage who before mid = (number : ℕ) × (stage ≡ stages.Committed number) × (mid ≡ before)
+StartsBy false stage who before mid = (was : Bool) × IsWithdrawn stage × (mid ≡ with_member (Asked who wanted.End (desk.End was)) before)
+
+pub is_withdrawn : (stage : Stage) → (stage ≡ stages.Open) ⊎ (stage ≡ stages.Aborted) → IsWithdrawn stage
+is_withdrawn stage (inl e) = subst IsWithdrawn (sym e) tt
+is_withdrawn stage (inr e) = subst IsWithdrawn (sym e) tt
+
+withdrawn : (stage : Stage) (who : Sid) (grants : List Permit) (calls : List Call) (count : ℕ)
+    → IsWithdrawn stage → Withdraws who grants calls count → GivesUp stage who grants calls count
+withdrawn stages.Open who grants calls count is w = w
+withdrawn stages.Aborted who grants calls count is w = w
+withdrawn other who grants calls count is w = absurd is
+
+-- a session is given up when its grants are released after that
+pub gives_up : (committed : Bool) (stage : Stage) (who : Sid) (grants : List Permit) (before mid after : Option (List Call)) (count : ℕ)
+    → StartsBy committed stage who before mid
+    → (calls : List Call) × (after ≡ with_calls calls mid) × Releases who (release_way committed) grants calls count
+    → (calls : List Call) × (after ≡ with_calls calls before) × GivesUp stage who grants calls count
+gives_up true stage who grants before mid after count (number, is, same) (calls, record_is, releases) =
+    (calls, record_is ∙ ap (with_calls calls) same, subst (λ (s : Stage). GivesUp s who grants calls count) (sym is) releases)
+gives_up false stage who grants before mid after count (was, is, same) (calls, record_is, releases) =
+    let all_calls = Asked who wanted.End (desk.End was) ∷ calls in
+    let withdraws : Withdraws who grants all_calls count = record { was = was; others = calls; calls_are = refl; releases = releases } in
+    (all_calls, record_is ∙ ap (with_calls calls) same, withdrawn stage who grants all_calls count is withdraws)
+
+-- the reply to a session's end
+pub record IsEnd (heard : Reply) : Type 0 where
+  pub was : Bool
+  pub is : heard ≡ desk.End was
+
+pub ended : (who : Sid) (heard : Reply) → Belongs who wanted.End heard → IsEnd heard
+ended who (desk.End was) b = record { was = was; is = refl }
+ended who other b = absurd b

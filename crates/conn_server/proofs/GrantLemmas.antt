@@ -1,7 +1,9 @@
 -- Where the first grant on a key stands, and that one that is put back stands where it stood.
 use Rattle.std.proofs.Common.{ℕ, zero, suc, ◌≡◌, ◌<◌, ◌≤◌, Bool, true, false, List, [], ◌∷◌, length, slice_get, get_or, position, Option}
-use Rattle.std.proofs.Common.{Some, None, refl, ap, arith}
-use Rattle.std.specs.List.{insert, remove}
+use Rattle.std.proofs.Common.{Some, None, cond, refl, ap, sym, subst, arith}
+use Rattle.std.specs.List.{insert, remove, position_or_len}
+use Rattle.std.specs.Prelude.{IsSome, if◌then◌else◌}
+use Rattle.std.proofs.lemmas.Bool.{lt-ltb}
 use Rattle.std.proofs.lemmas.List.Quantifiers.{position-Some}
 use Rattle.rows_model.specs.declared.keys.QKey.{QKey}
 use Rattle.rows_model.specs.Key.{same_key}
@@ -43,3 +45,34 @@ pub insert-remove : (grants : List Permit) (place : ℕ) (grant : Permit) → sl
 insert-remove [] place grant e = cc
 insert-remove (first ∷ grants) zero grant e = cc
 insert-remove (first ∷ grants) (suc place) grant e = ap (λ (l : List Permit). first ∷ l) (insert-remove grants place grant e)
+
+-- where a grant on the key is held, some place has the first of them
+within_by : (test : Bool) (key : QKey) (first : Permit) (grants : List Permit) (grant : Permit) → same_key first.key key ≡ test
+    → (grant_on key grants ≡ Some grant → position_or_len (λ (other : Permit). same_key other.key key) grants < length grants)
+    → (if test then Some first else grant_on key grants) ≡ Some grant
+    → position_or_len (λ (other : Permit). same_key other.key key) (first ∷ grants) < length (first ∷ grants)
+within_by true key first grants grant is rest e = rw is (omega arith)
+within_by false key first grants grant is rest e = let more = rest e in rw is (omega arith)
+
+within_first : (key : QKey) (grants : List Permit) (grant : Permit) → grant_on key grants ≡ Some grant
+    → position_or_len (λ (other : Permit). same_key other.key key) grants < length grants
+within_first key [] grant e = cc
+within_first key (first ∷ grants) grant e = within_by (same_key first.key key) key first grants grant refl (within_first key grants grant) e
+
+pub some_place : (key : QKey) (grants : List Permit) (grant : Permit) → grant_on key grants ≡ Some grant
+    → IsSome (position (λ (other : Permit). same_key other.key key) grants)
+some_place key grants grant e =
+    let place = position_or_len (λ (other : Permit). same_key other.key key) grants in
+    let within = lt-ltb place (length grants) (within_first key grants grant e) in
+    subst (λ (b : Bool). IsSome (cond b (Some place) None)) (sym within) refl
+
+-- no place has one where none is held
+none_by : (found : Option Permit) (key : QKey) (grants : List Permit) → grant_on key grants ≡ found
+    → position (λ (other : Permit). same_key other.key key) grants ≡ None → found ≡ None
+none_by None key grants is none = refl
+none_by (Some grant) key grants is none =
+    let some = subst (λ (place : Option ℕ). IsSome place) none (some_place key grants grant is) in
+    cc
+
+pub none_held : (key : QKey) (grants : List Permit) → position (λ (other : Permit). same_key other.key key) grants ≡ None → grant_on key grants ≡ None
+none_held key grants none = none_by (grant_on key grants) key grants refl none

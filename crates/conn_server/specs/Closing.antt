@@ -1,5 +1,5 @@
 -- How a session is given up: it is ended at the store unless it has committed, and its grants are released.
-use Rattle.std.specs.Prelude.{ℕ, ◌+◌, ◌≡◌, ◌×◌, ⊥, Bool, true, false, List, [], ◌∷◌, Option, Some, None}
+use Rattle.std.specs.Prelude.{ℕ, ◌+◌, ◌≡◌, Bool, true, false, List, [], ◌∷◌, Option, Some, None}
 use Rattle.rows_model.specs.declared.keys.Sid.{Sid}
 use Rattle.key_shard.specs.Permit.{Permit}
 use Rattle.key_shard.specs.declared.replies.Rel.{Rel}

@@ -1,5 +1,5 @@
 -- What a command that isn't refused asks of the desk, and what its client is told of the desk's reply.
-use Rattle.std.specs.Prelude.{ℕ, ◌++◌, ◌×◌, List, [], ◌∷◌, Option, Some, None}
+use Rattle.std.specs.Prelude.{ℕ, ◌++◌, List, [], ◌∷◌, Option, Some, None}
 use Rattle.std.specs.Option.{option_map, unwrap_or}
 use Rattle.rows_model.specs.declared.keys.QKey.{QKey}
 use Rattle.rows_model.specs.declared.keys.Sid.{Sid}
@@ -91,7 +91,7 @@ commit_told commit.KeepFault = reply.Store
 
 -- of a grant: its token; and to refresh, the value that the key has
 abbrev pub granted_told : Command → Permit → Option (List ℕ × ℕ) → LineReply
-granted_told (QaRead key sid) grant (Some (value , stamp)) = reply.GrantedStamped grant.token grant.key stamp value
+granted_told (QaRead key sid) grant (Some (value, stamp)) = reply.GrantedStamped grant.token grant.key stamp value
 granted_told (QaRead key sid) grant None = reply.GrantedNone grant.token
 granted_told other grant old = reply.Granted grant.token
 

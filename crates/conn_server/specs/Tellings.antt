@@ -1,5 +1,5 @@
 -- What is told of a reply by those commands that are told alike.
-use Rattle.std.specs.Prelude.{ℕ, ◌×◌, Bool, true, false, List, Option, Some, None}
+use Rattle.std.specs.Prelude.{ℕ, Bool, true, false, List, Option, Some, None}
 use Rattle.key_shard.specs.Permit.{Permit}
 use Rattle.key_shard.specs.declared.replies.QAnswer.TheVariants as quarantine
 use Rattle.key_shard.specs.declared.replies.Rel.TheVariants as rel
@@ -11,7 +11,7 @@ use Rattle.conn_server.specs.Requests.{fault_told}
 
 -- of a grant, whether to refresh or not: its token; and to refresh, the value that the key has
 abbrev pub granted_as : Bool → Permit → Option (List ℕ × ℕ) → LineReply
-granted_as true grant (Some (value , stamp)) = reply.GrantedStamped grant.token grant.key stamp value
+granted_as true grant (Some (value, stamp)) = reply.GrantedStamped grant.token grant.key stamp value
 granted_as true grant None = reply.GrantedNone grant.token
 granted_as false grant old = reply.Granted grant.token
 

@@ -1,4 +1,4 @@
-ghost use Rattle.std.specs.Prelude.{◌≡◌, ◌≢◌, ◌<◌, ◌≤◌, ℕ, List, Some, None, length};
+ghost use Rattle.std.specs.Prelude.{◌≡◌, ◌≢◌, ◌<◌, ◌≤◌, ℕ, true, List, Some, None, length};
 ghost use Rattle.std.specs.List.{insert};
 ghost use Rattle.std.specs.Option.{option_map};
 ghost use Rattle.rows_model.specs.declared.keys.Sid.{Sid};
@@ -12,11 +12,12 @@ ghost use Rattle.conn_server.specs.Clients.{grant_on, grants_but};
 ghost use Rattle.conn_server.specs.Refusals.{refused};
 ghost use Rattle.conn_server.specs.Requests.{commits, stamp_of, with_grants};
 ghost use Rattle.conn_server.specs.Closing.{MayAbort, aborted};
-ghost use Rattle.conn_server.specs.Answers.{first_stage, Asks, Makes, Begins, Aborts, HasFirst, HasFirstIn, with_calls};
+ghost use Rattle.conn_server.specs.Answers.{first_stage, is_writer, Asks, Makes, Begins, Aborts, HasFirst, HasFirstIn, with_calls};
 
 use crate::clients::{Client, Present, Stage};
 use crate::tellings::{
-    tell_answer, tell_lookup, tell_not_committed, tell_quarantine, tell_release, tell_set, tell_staged,
+    tell_answer, tell_lookup, tell_not_committed, tell_quarantine, tell_release, tell_set,
+    tell_staged,
 };
 use key_shard::Grant;
 use mc_text::{Command, LineReply, Role};
@@ -82,7 +83,7 @@ impl Client {
             × (D.record_of desk.new ≡ with_calls calls (D.record_of desk.old))
             × Begins self.old role calls result self.new }
     {
-        match desk.begin(role == Role::Write) {
+        match desk.begin(is_writer(role)) {
             Ok(sid) => {
                 let stage = first_stage(role);
                 self.present = Some(Present { sid, stage });
@@ -242,7 +243,14 @@ impl Client {
         let stamp = self.stamp();
         let (place, grant) = self.take_on(&key);
         let value = Some(block);
-        match desk.call(who, Wanted::Sar { grant, value, stamp }) {
+        match desk.call(
+            who,
+            Wanted::Sar {
+                grant,
+                value,
+                stamp,
+            },
+        ) {
             Reply::SarBack { grant } => {
                 self.grants.put_back(place, grant);
                 LineReply::Memory
@@ -278,6 +286,16 @@ impl Client {
         let count = self.give_up(desk);
         self.present = aborted(self.present);
         LineReply::Released { count }
+    }
+}
+
+/// Whether a session of this role writes.
+fn is_writer(role: Role) -> bool
+    ensures { result ≡ is_writer role }
+{
+    match role {
+        Role::Read => false,
+        Role::Write => true,
     }
 }
 

@@ -110,14 +110,18 @@ impl Client {
         ensures { result ≡ stamp_of self.now.present }
     {
         match self.present {
-            Some(Present {
-                sid: _,
-                stage: Stage::Committed { number },
-            }) => number,
-            Some(Present {
-                sid: _,
-                stage: Stage::Reading | Stage::Open | Stage::Aborted,
-            })
+            Some(
+                Present {
+                    sid: _,
+                    stage: Stage::Committed { number },
+                },
+            ) => number,
+            Some(
+                Present {
+                    sid: _,
+                    stage: Stage::Reading | Stage::Open | Stage::Aborted,
+                },
+            )
             | None => 0,
         }
     }

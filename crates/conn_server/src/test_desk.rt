@@ -1,8 +1,9 @@
 // A desk of one shard and no store, and a client that talks with it in lines of text.
-ghost use Rattle.std.specs.Prelude.{◌≡◌, Some};
+ghost use Rattle.std.specs.Prelude.{◌≡◌, Some, None};
 ghost use Rattle.lease_table.specs.declared.records.Mode.TheVariants as Mode;
 ghost use Rattle.key_shard.specs.Answers.{FitsMode, FitsShift};
 ghost use Rattle.session_client.specs.Belongs.{Belongs};
+ghost use Rattle.session_client.specs.Desks.{IsProper};
 ghost use Rattle.session_client.specs.declared.replies.Reply.TheVariants as reply;
 ghost use Rattle.session_client.specs.declared.replies.Wanted.TheVariants as wanted;
 ghost use Rattle.key_shard.specs.declared.replies.Rel.{Rel};
@@ -112,6 +113,9 @@ impl TestDesk {
         ensures delta { mode ≡ Mode.Delta → Belongs who (wanted.Delta key by) result }
     {
         let fault = Fault::Spent;
+        if self.ails {
+            return Reply::Fault { fault };
+        }
         match self.shard.quarantine(key, who, mode, by, 0) {
             Ok(told) => Reply::Quar { told },
             Err(_) => Reply::Fault { fault },
@@ -146,6 +150,16 @@ impl TestDesk {
         match self.shard.replace(grant, value, stamp) {
             Ok(told) => Reply::Rel { told },
             Err(Back { grant, value: _ }) => Reply::SarBack { grant },
+        }
+    }
+
+    fn replace(&mut self, grant: Grant, value: Option<Value>, stamp: u64) -> Reply
+        requires { IsProper (wanted.Sar grant value stamp) }
+        ensures { (who : Sid) → Belongs who (wanted.Sar grant value stamp) result }
+    {
+        match value {
+            Some(value) => self.put(grant, value, stamp),
+            None => self.release(grant, How::Drop),
         }
     }
 
@@ -189,14 +203,9 @@ impl Desk for TestDesk {
             Wanted::Dar { grant } => self.release(grant, How::Drop),
             Wanted::Sar {
                 grant,
-                value: Some(value),
+                value,
                 stamp,
-            } => self.put(grant, value, stamp),
-            Wanted::Sar {
-                grant,
-                value: None,
-                stamp: _,
-            } => self.release(grant, How::Drop),
+            } => self.replace(grant, value, stamp),
             Wanted::Apply { grant, stamp } => self.release(grant, How::Shift { stamp }),
             Wanted::Abort { grant } => self.release(grant, How::Keep),
             Wanted::Nothing => Reply::Nothing,
@@ -250,6 +259,13 @@ impl Talk {
     pub fn says_all(&mut self, rt: &impl Abort, table: &[(&str, &str)]) {
         for (line, want) in table {
             self.says(rt, line, want);
+        }
+    }
+
+    /// Ends the quarantine of this token as a sweep does, whose client hasn't heard of it.
+    pub fn sweep(&mut self, key: QKey, token: u64) {
+        if self.desk.shard.is_home(&key) {
+            let _ = self.desk.shard.sweep_drop(key, token);
         }
     }
 
