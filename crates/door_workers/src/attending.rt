@@ -1,0 +1,72 @@
+ghost use Rattle.std.specs.Prelude.{◌≡◌, ℕ, ◌+◌, ◌<◌, ◌≤◌, true, IfSome, IfNone, length, vec_capacity};
+ghost use Rattle.door_workers.specs.Attending.{Stands, is_over, told};
+ghost use Rattle.door_workers.specs.Told.{Told};
+
+use crate::progress::Progress;
+use crate::stand_in::LineEnd;
+use iq_outside::Door;
+
+/// A door that workers attend, and how far they have come there.
+pub(crate) struct Attending<'a, D: Door> {
+    pub door: &'a mut D,
+    pub so_far: Progress,
+}
+
+impl<'a, D: Door> Attending<'a, D> {
+    /// Accepts the next line, unless as many were accepted as may be, or no more come, or the door
+    /// failed. It may wait.
+    pub fn accept(&mut self) -> Option<D::Line>
+        ensures same_door { self.new.door.ghost_name ≡ self.old.door.ghost_name }
+        ensures line { IfSome result (λ line. (first : Told) (most out : ℕ) →
+            Stands first most (told D.lines D.faults D.ended D.closed self.old.door.now)
+            self.old.so_far out →
+            Stands first most (told D.lines D.faults D.ended D.closed self.new.door.now)
+            self.new.so_far (out + 1)) }
+        ensures none { IfNone result ((first : Told) (most out : ℕ) →
+            Stands first most (told D.lines D.faults D.ended D.closed self.old.door.now)
+            self.old.so_far out →
+            Stands first most (told D.lines D.faults D.ended D.closed self.new.door.now)
+            self.new.so_far out) }
+        ensures over { IfNone result (is_over self.new.so_far ≡ true) }
+        ensures counted { IfSome result (λ line.
+            (self.new.so_far.accepted ≡ self.old.so_far.accepted + 1)
+            × (self.new.so_far.accepted ≤ self.new.so_far.most)) }
+        ensures most { self.new.so_far.most ≡ self.old.so_far.most }
+        ensures stays_fresh { D.fresh self.old.door.now → D.fresh self.new.door.now }
+    {
+        if self.so_far.is_over() {
+            return None;
+        }
+        match self.door.accept() {
+            Ok(Some(line)) => {
+                self.so_far.accepted += 1;
+                Some(line)
+            }
+            Ok(None) => {
+                self.so_far.ended = true;
+                None
+            }
+            Err(_) => {
+                self.so_far.failed = true;
+                None
+            }
+        }
+    }
+
+    /// Hands a line back that was served, and notes how it ended. It takes no memory.
+    pub fn hand_back(&mut self, line: D::Line, end: LineEnd)
+        requires room { length self.old.so_far.ends.items < vec_capacity self.old.so_far.ends }
+        ensures same_door { self.new.door.ghost_name ≡ self.old.door.ghost_name }
+        ensures stands { (first : Told) (most out : ℕ) →
+            Stands first most (told D.lines D.faults D.ended D.closed self.old.door.now)
+            self.old.so_far (out + 1) →
+            Stands first most (told D.lines D.faults D.ended D.closed self.new.door.now)
+            self.new.so_far out }
+        ensures accepted { self.new.so_far.accepted ≡ self.old.so_far.accepted }
+        ensures most { self.new.so_far.most ≡ self.old.so_far.most }
+        ensures stays_fresh { D.fresh self.old.door.now → D.fresh self.new.door.now }
+    {
+        self.so_far.ends.push_reserved(end);
+        self.door.close(line);
+    }
+}
