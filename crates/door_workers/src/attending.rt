@@ -34,20 +34,21 @@ impl<'a, D: Door> Attending<'a, D> {
         ensures most { self.new.so_far.most ≡ self.old.so_far.most }
         ensures stays_fresh { D.fresh self.old.door.now → D.fresh self.new.door.now }
     {
-        if self.so_far.is_over() {
+        let so_far = &mut self.so_far;
+        if so_far.accepted >= so_far.most || so_far.ended || so_far.failed {
             return None;
         }
         match self.door.accept() {
             Ok(Some(line)) => {
-                self.so_far.accepted += 1;
+                so_far.accepted += 1;
                 Some(line)
             }
             Ok(None) => {
-                self.so_far.ended = true;
+                so_far.ended = true;
                 None
             }
             Err(_) => {
-                self.so_far.failed = true;
+                so_far.failed = true;
                 None
             }
         }

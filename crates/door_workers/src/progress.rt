@@ -1,5 +1,5 @@
 ghost use Rattle.std.specs.Prelude.{◌≡◌};
-ghost use Rattle.door_workers.specs.Attending.{begun, is_over};
+ghost use Rattle.door_workers.specs.Attending.{begun};
 
 use crate::stand_in::LineEnd;
 
@@ -30,12 +30,5 @@ impl Progress {
             ended: false,
             failed: false,
         }
-    }
-
-    /// Whether no line is to be accepted any more.
-    pub fn is_over(&self) -> bool
-        ensures { result ≡ is_over self.now }
-    {
-        self.accepted >= self.most || self.ended || self.failed
     }
 }

@@ -63,8 +63,6 @@ pub fn serve_all<D: Door, K: Desk + Send, R: Threads + Wait + Sync>(
     let so_far = Progress::new(conns, ends);
     let ledger = Blank::new(desks.len() as u64);
     let at = attend::<D, K, Brand, R>(rt, alloc, desks, ledger, Attending { door, so_far });
-    let mut at = at;
-    attend_alone(alloc, &mut at, &mut desks[0]);
     let Attending { door: _, so_far } = at;
     Attended {
         ends: so_far.ends,
@@ -72,8 +70,8 @@ pub fn serve_all<D: Door, K: Desk + Send, R: Threads + Wait + Sync>(
     }
 }
 
-/// Puts the door under a lock and lets the workers attend it, with a part of the ledger for each. What
-/// they have left of it comes back when all have ended.
+/// Puts the door under a lock and lets the workers attend it, with a part of the ledger for each. When
+/// all have ended the caller attends it alone, so that nothing is left to accept.
 fn attend<'a, D: Door, K: Desk + Send, N: DoorName + Send + Sync, R: Threads + Wait + Sync>(
     rt: &R,
     alloc: Global,
@@ -91,13 +89,16 @@ fn attend<'a, D: Door, K: Desk + Send, N: DoorName + Send + Sync, R: Threads + W
     ensures door { result.door.ghost_name ≡ N.door }
     ensures stands { Stands N.first N.most
         (told D.lines D.faults D.ended D.closed result.door.now) result.so_far 0 }
+    ensures over { is_over result.so_far ≡ true }
     ensures stays_fresh { N.fresh → D.fresh result.door.now }
 {
     let conns = at.so_far.most;
     let (out, mine) = ledger.open::<N>();
     let lock = Mutex::new(Kept { at, out });
     let all = work_from(rt, &alloc, &lock, conns, mine, desks);
-    lock.into_inner().into_attending(all)
+    let mut at = lock.into_inner().into_attending(all);
+    attend_alone(alloc, &mut at, &mut desks[0]);
+    at
 }
 
 /// Attends the door at each of the desks: at the first in a thread of its own, beside those behind it.
@@ -132,7 +133,7 @@ fn work_from<D: Door, K: Desk + Send, N: DoorName + Send + Sync, R: Threads + Wa
         move || -> Share<N>
             requires { IsSync R.row × (mine.amount ≡ 0) × (1 ≤ length back.now)
                 × (length back.now ≤ mine.parts) }
-            ensures { (result.parts ≡ mine.entry.parts) × (result.amount ≡ 0) }
+            ensures { (result.parts ≡ mine.parts) × (result.amount ≡ 0) }
         { work_from(rt, alloc, lock, conns, mine, back) },
     );
     all.merge(others);
