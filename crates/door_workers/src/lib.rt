@@ -9,4 +9,6 @@ mod kept;
 mod names;
 mod progress;
 mod stand_in;
+#[cfg(test)]
+mod tests;
 mod workers;

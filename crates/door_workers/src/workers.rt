@@ -86,7 +86,7 @@ fn attend<'a, D: Door, K: Desk + Send, N: DoorName + Send + Sync, R: Threads + W
     requires first { Stands N.first N.most
         (told D.lines D.faults D.ended D.closed at.door.now) at.so_far 0 }
     requires fresh { N.fresh → D.fresh at.door.now }
-    ensures door { result.door.ghost_name ≡ N.door }
+    ensures same_door { result.door.ghost_name ≡ at.entry.door.ghost_name }
     ensures stands { Stands N.first N.most
         (told D.lines D.faults D.ended D.closed result.door.now) result.so_far 0 }
     ensures over { is_over result.so_far ≡ true }
