@@ -23,10 +23,10 @@ impl<'a, D: Door, N: DoorName> Model for Kept<'a, D, N> {
 
     ghost view = { λ kept. tt };
 
-    ghost invariant = { λ kept. (kept.at.door.ghost_name ≡ N.door)
-        × Stands N.first N.most (told D.lines D.faults D.ended D.closed kept.at.door.now)
+    ghost invariant = { λ kept. (kept.at.lent.door.ghost_name ≡ N.door)
+        × Stands N.first N.most (told D.lines D.faults D.ended D.closed kept.at.lent.door.now)
         kept.at.so_far kept.out.total
-        × (N.fresh → D.fresh kept.at.door.now) };
+        × (N.fresh → D.fresh kept.at.lent.door.now) };
 }
 
 impl<'a, D: Door, N: DoorName> Kept<'a, D, N> {
@@ -60,10 +60,10 @@ impl<'a, D: Door, N: DoorName> Kept<'a, D, N> {
     pub fn into_attending(self, all: Share<N>) -> Attending<'a, D>
         requires all { all.parts ≡ N.parts }
         requires none { all.amount ≡ 0 }
-        ensures door { result.door.ghost_name ≡ N.door }
+        ensures door { result.lent.door.ghost_name ≡ N.door }
         ensures stands { Stands N.first N.most
-            (told D.lines D.faults D.ended D.closed result.door.now) result.so_far 0 }
-        ensures stays_fresh { N.fresh → D.fresh result.door.now }
+            (told D.lines D.faults D.ended D.closed result.lent.door.now) result.so_far 0 }
+        ensures stays_fresh { N.fresh → D.fresh result.lent.door.now }
     {
         let mut all = all;
         let Kept { at, mut out } = self;

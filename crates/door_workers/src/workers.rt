@@ -5,7 +5,7 @@ ghost use Rattle.iq_outside.specs.Outside.{Rose};
 ghost use Rattle.door_workers.specs.Attending.{GivesBack, Stands, count_up_by, is_over, told};
 ghost use Rattle.door_workers.specs.Told.{Told};
 
-use crate::attending::Attending;
+use crate::attending::{Attending, Lent};
 use crate::kept::Kept;
 use crate::names::DoorName;
 use crate::progress::Progress;
@@ -14,6 +14,7 @@ use iq_outside::{Door, Line};
 use session_client::Desk;
 use std::alloc::Global;
 use std::marker::Brand;
+use std::mem;
 use std::sync::ledger::{Blank, Share};
 use std::sync::{Mutex, Wait};
 use std::thread::{Threads, join};
@@ -60,10 +61,11 @@ pub fn serve_all<D: Door, K: Desk + Send, R: Threads + Wait + Sync>(
     ensures given_back { GivesBack (length result.ends.items)
         (option_map length (D.closed door.old)) (option_map length (D.closed door.new)) }
 {
-    let so_far = Progress::new(conns, ends);
+    let mut so_far = Progress::new(conns, ends);
     let ledger = Blank::new(desks.len() as u64);
-    let at = attend::<D, K, Brand, R>(rt, alloc, desks, ledger, Attending { door, so_far });
-    let Attending { door: _, so_far } = at;
+    let lent = Lent { door };
+    let lent = attend::<D, K, Brand, R>(rt, alloc, desks, ledger, lent, &mut so_far);
+    let Lent { door: _ } = lent;
     Attended {
         ends: so_far.ends,
         failed: so_far.failed,
@@ -77,28 +79,36 @@ fn attend<'a, D: Door, K: Desk + Send, N: DoorName + Send + Sync, R: Threads + W
     alloc: Global,
     desks: &mut [K],
     ledger: Blank,
-    at: Attending<'a, D>,
-) -> Attending<'a, D>
+    lent: Lent<'a, D>,
+    so_far: &mut Progress,
+) -> Lent<'a, D>
     requires some { 1 ≤ length desks.old }
     requires ledger { (ledger.name ≡ N.name) × (ledger.parts ≡ N.parts) }
     requires one_each { ledger.parts ≡ length desks.old }
-    requires door { at.door.ghost_name ≡ N.door }
+    requires door { lent.door.ghost_name ≡ N.door }
     requires first { Stands N.first N.most
-        (told D.lines D.faults D.ended D.closed at.door.now) at.so_far 0 }
-    requires fresh { N.fresh → D.fresh at.door.now }
-    ensures same_door { result.door.ghost_name ≡ at.entry.door.ghost_name }
+        (told D.lines D.faults D.ended D.closed lent.door.now) so_far.old 0 }
+    requires fresh { N.fresh → D.fresh lent.door.now }
+    ensures same_door { result.door.ghost_name ≡ lent.entry.door.ghost_name }
     ensures stands { Stands N.first N.most
-        (told D.lines D.faults D.ended D.closed result.door.now) result.so_far 0 }
-    ensures over { is_over result.so_far ≡ true }
+        (told D.lines D.faults D.ended D.closed result.door.now) so_far.new 0 }
+    ensures over { is_over so_far.new ≡ true }
     ensures stays_fresh { N.fresh → D.fresh result.door.now }
 {
-    let conns = at.so_far.most;
+    let conns = so_far.most;
     let (out, mine) = ledger.open::<N>();
+    let begun = mem::replace(so_far, Progress::new(0, Vec::new(alloc)));
+    let at = Attending {
+        lent,
+        so_far: begun,
+    };
     let lock = Mutex::new(Kept { at, out });
     let all = work_from(rt, &alloc, &lock, conns, mine, desks);
     let mut at = lock.into_inner().into_attending(all);
     attend_alone(alloc, &mut at, &mut desks[0]);
-    at
+    let Attending { lent, so_far: done } = at;
+    *so_far = done;
+    lent
 }
 
 /// Attends the door at each of the desks: at the first in a thread of its own, beside those behind it.
@@ -188,15 +198,15 @@ fn work<D: Door, K: Desk, N: DoorName, R: Wait>(
 /// Accepts lines and serves them, with no lock, until none is to be accepted.
 fn attend_alone<D: Door, K: Desk>(alloc: Global, at: &mut Attending<'_, D>, desk: &mut K)
     requires stands { (first : Told) × (most : ℕ) × Stands first most
-        (told D.lines D.faults D.ended D.closed at.old.door.now) at.old.so_far 0 }
-    ensures same_door { at.new.door.ghost_name ≡ at.old.door.ghost_name }
+        (told D.lines D.faults D.ended D.closed at.old.lent.door.now) at.old.so_far 0 }
+    ensures same_door { at.new.lent.door.ghost_name ≡ at.old.lent.door.ghost_name }
     ensures stands { (first : Told) (most : ℕ) →
-        Stands first most (told D.lines D.faults D.ended D.closed at.old.door.now)
+        Stands first most (told D.lines D.faults D.ended D.closed at.old.lent.door.now)
         at.old.so_far 0 →
-        Stands first most (told D.lines D.faults D.ended D.closed at.new.door.now)
+        Stands first most (told D.lines D.faults D.ended D.closed at.new.lent.door.now)
         at.new.so_far 0 }
     ensures over { is_over at.new.so_far ≡ true }
-    ensures stays_fresh { D.fresh at.old.door.now → D.fresh at.new.door.now }
+    ensures stays_fresh { D.fresh at.old.lent.door.now → D.fresh at.new.lent.door.now }
 {
     while let Some(line) = at.accept() {
         let mut line = line;

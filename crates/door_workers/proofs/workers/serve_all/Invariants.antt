@@ -4,10 +4,10 @@ use Rattle.door_workers.proofs.workers.serve_all.Given as goal
 -- the door as it is handed in, and a part of the ledger for each desk
 abbrev pub ghosts-attend-N-DoorName : goal.ghosts-attend-N-DoorName
 ghosts-attend-N-DoorName g a = record {
-  door = a.at.door.ghost_name;
-  first = told g.D.Door.lines g.D.Door.faults g.D.Door.ended g.D.Door.closed a.at.door.now;
-  fresh = g.D.Door.fresh a.at.door.now;
-  most = a.at.so_far.most;
+  door = a.lent.door.ghost_name;
+  first = told g.D.Door.lines g.D.Door.faults g.D.Door.ended g.D.Door.closed a.lent.door.now;
+  fresh = g.D.Door.fresh a.lent.door.now;
+  most = a.so_far.now.most;
 }
 
 abbrev pub ghosts-attend-N-Ledger : goal.ghosts-attend-N-Ledger
