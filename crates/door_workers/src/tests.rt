@@ -35,10 +35,10 @@ impl Desk for IdleDesk {
         match wanted {
             Wanted::Get { .. }
             | Wanted::Ask { .. }
-            | Wanted::Set { .. }
             | Wanted::QaReg { .. }
             | Wanted::QaRead { .. }
             | Wanted::Delta { .. } => Reply::Fault { fault },
+            Wanted::Set { value: _value, .. } => Reply::Fault { fault },
             Wanted::Staged { key: _, txn } => Reply::NotStaged {
                 fault: AfterFault::Memory,
                 txn,
@@ -49,10 +49,15 @@ impl Desk for IdleDesk {
                 grants,
             },
             Wanted::End => Reply::End { was: true },
-            Wanted::Dar { grant }
-            | Wanted::Apply { grant, stamp: _ }
-            | Wanted::Abort { grant }
-            | Wanted::Sar { grant, .. } => {
+            Wanted::Dar { grant } | Wanted::Apply { grant, stamp: _ } | Wanted::Abort { grant } => {
+                grant.let_go();
+                Reply::Rel { told }
+            }
+            Wanted::Sar {
+                grant,
+                value: _value,
+                stamp: _,
+            } => {
                 grant.let_go();
                 Reply::Rel { told }
             }
