@@ -1,10 +1,11 @@
-ghost use Rattle.std.specs.Prelude.{◌≡◌, ℕ, ◌+◌, ◌<◌, ◌≤◌, true, IfSome, IfNone, length, vec_capacity};
+ghost use Rattle.std.specs.Prelude.{◌≡◌, ℕ, ◌+◌, ◌<◌, ◌≤◌, ◌||◌, true, is_none, IfSome, IfNone, IfOk, OnOk, OnErr, length, vec_capacity};
+ghost use Rattle.iq_outside.specs.Outside.{Rose, lines_with};
 ghost use Rattle.door_workers.specs.Attending.{Stands, is_over, told};
 ghost use Rattle.door_workers.specs.Told.{Told};
 
 use crate::progress::Progress;
 use crate::stand_in::LineEnd;
-use iq_outside::Door;
+use iq_outside::{Door, Failed};
 
 /// A door that is lent to workers.
 pub(crate) struct Lent<'a, D: Door> {
@@ -15,6 +16,28 @@ pub(crate) struct Lent<'a, D: Door> {
 pub(crate) struct Attending<'a, D: Door> {
     pub lent: Lent<'a, D>,
     pub so_far: Progress,
+}
+
+impl<'a, D: Door> Lent<'a, D> {
+    /// Accepts the next line. What is said of the door is what it says itself.
+    fn accept(&mut self) -> Result<Option<D::Line>, Failed>
+        ensures same_door { self.new.door.ghost_name ≡ self.old.door.ghost_name }
+        ensures failed_rose { OnErr result
+            (Rose (D.faults self.old.door.now) (D.faults self.new.door.now)) }
+        ensures no_fault { OnOk result
+            (D.faults self.new.door.now ≡ D.faults self.old.door.now) }
+        ensures never_falls { D.faults self.old.door.now ≤ D.faults self.new.door.now }
+        ensures counts { IfOk result (λ answer.
+            D.lines self.new.door.now ≡ lines_with answer (D.lines self.old.door.now)) }
+        ensures ends { IfOk result (λ answer.
+            D.ended self.new.door.now ≡ (is_none answer || D.ended self.old.door.now)) }
+        ensures no_line { OnErr result (D.lines self.new.door.now ≡ D.lines self.old.door.now) }
+        ensures no_end { OnErr result (D.ended self.new.door.now ≡ D.ended self.old.door.now) }
+        ensures stays_fresh { D.fresh self.old.door.now → D.fresh self.new.door.now }
+        ensures keeps_closed { D.closed self.new.door.now ≡ D.closed self.old.door.now }
+    {
+        self.door.accept()
+    }
 }
 
 impl<'a, D: Door> Attending<'a, D> {
@@ -45,7 +68,7 @@ impl<'a, D: Door> Attending<'a, D> {
         if so_far.accepted >= so_far.most || so_far.ended || so_far.failed {
             return None;
         }
-        match self.lent.door.accept() {
+        match self.lent.accept() {
             Ok(Some(line)) => {
                 so_far.accepted += 1;
                 Some(line)

@@ -6,8 +6,8 @@ use std::marker::Brand;
 use std::sync::ledger::Ledger;
 
 /// Names what the lock of a door keeps: which door it is, what that told when its workers began,
-/// whether it was to give only fresh lines then, and how many lines they may accept. It names a ledger too, whose total is the number of
-/// lines that are being served.
+/// whether it was to give only fresh lines then, and how many lines they may accept. It names a ledger
+/// too, whose total is the number of lines that are being served.
 ///
 /// The name is picked where a caller that is generic in it is called, at the type `Brand`.
 pub(crate) trait DoorName: Ledger {
