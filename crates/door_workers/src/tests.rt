@@ -33,12 +33,16 @@ impl Desk for IdleDesk {
         let fault = Fault::Memory;
         let told = Rel::Gone;
         match wanted {
-            Wanted::Get { .. }
-            | Wanted::Ask { .. }
-            | Wanted::QaReg { .. }
-            | Wanted::QaRead { .. }
-            | Wanted::Delta { .. } => Reply::Fault { fault },
-            Wanted::Set { value: _value, .. } => Reply::Fault { fault },
+            Wanted::Get { key: _, floor: _ } => Reply::Fault { fault },
+            Wanted::Ask { key: _ } => Reply::Fault { fault },
+            Wanted::Set {
+                key: _,
+                token: _,
+                value: _,
+                stamp: _,
+            } => Reply::Fault { fault },
+            Wanted::QaReg { key: _ } | Wanted::QaRead { key: _ } => Reply::Fault { fault },
+            Wanted::Delta { key: _, by: _ } => Reply::Fault { fault },
             Wanted::Staged { key: _, txn } => Reply::NotStaged {
                 fault: AfterFault::Memory,
                 txn,
@@ -55,7 +59,7 @@ impl Desk for IdleDesk {
             }
             Wanted::Sar {
                 grant,
-                value: _value,
+                value: _,
                 stamp: _,
             } => {
                 grant.let_go();
