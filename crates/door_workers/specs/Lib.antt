@@ -1,0 +1,3 @@
+pub use Rattle.iq_outside.specs.Outside
+pub mod Told
+pub mod Attending

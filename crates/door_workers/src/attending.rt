@@ -1,0 +1,103 @@
+ghost use Rattle.std.specs.Prelude.{◌≡◌, ℕ, ◌+◌, ◌<◌, ◌≤◌, ◌||◌, true, is_none, IfSome, IfNone, IfOk, OnOk, OnErr, length, vec_capacity};
+ghost use Rattle.iq_outside.specs.Outside.{Rose, lines_with};
+ghost use Rattle.door_workers.specs.Attending.{Stands, is_over, told};
+ghost use Rattle.door_workers.specs.Told.{Told};
+
+use crate::progress::Progress;
+use conn_server::LineEnd;
+use iq_outside::{Door, Failed};
+
+/// A door that is lent to workers.
+pub(crate) struct Lent<'a, D: Door> {
+    pub door: &'a mut D,
+}
+
+/// A door that workers attend, and how far they have come there.
+pub(crate) struct Attending<'a, D: Door> {
+    pub lent: Lent<'a, D>,
+    pub so_far: Progress,
+}
+
+impl<'a, D: Door> Lent<'a, D> {
+    /// Accepts the next line. What is said of the door is what it says itself.
+    fn accept(&mut self) -> Result<Option<D::Line>, Failed>
+        ensures same_door { self.new.door.ghost_name ≡ self.old.door.ghost_name }
+        ensures failed_rose { OnErr result
+            (Rose (D.faults self.old.door.now) (D.faults self.new.door.now)) }
+        ensures no_fault { OnOk result
+            (D.faults self.new.door.now ≡ D.faults self.old.door.now) }
+        ensures never_falls { D.faults self.old.door.now ≤ D.faults self.new.door.now }
+        ensures counts { IfOk result (λ answer.
+            D.lines self.new.door.now ≡ lines_with answer (D.lines self.old.door.now)) }
+        ensures ends { IfOk result (λ answer.
+            D.ended self.new.door.now ≡ (is_none answer || D.ended self.old.door.now)) }
+        ensures no_line { OnErr result (D.lines self.new.door.now ≡ D.lines self.old.door.now) }
+        ensures no_end { OnErr result (D.ended self.new.door.now ≡ D.ended self.old.door.now) }
+        ensures stays_fresh { D.fresh self.old.door.now → D.fresh self.new.door.now }
+        ensures keeps_closed { D.closed self.new.door.now ≡ D.closed self.old.door.now }
+    {
+        self.door.accept()
+    }
+}
+
+impl<'a, D: Door> Attending<'a, D> {
+    /// Accepts the next line, unless as many were accepted as may be, or no more come, or the door
+    /// failed. It may wait.
+    pub fn accept(&mut self) -> Option<D::Line>
+        ensures same_door { self.new.lent.door.ghost_name ≡ self.old.lent.door.ghost_name }
+        ensures line { IfSome result (λ line. (first : Told) (most out : ℕ) →
+            Stands first most (told D.lines D.faults D.ended D.closed self.old.lent.door.now)
+            self.old.so_far out →
+            Stands first most (told D.lines D.faults D.ended D.closed self.new.lent.door.now)
+            self.new.so_far (out + 1)) }
+        ensures none { IfNone result ((first : Told) (most out : ℕ) →
+            Stands first most (told D.lines D.faults D.ended D.closed self.old.lent.door.now)
+            self.old.so_far out →
+            Stands first most (told D.lines D.faults D.ended D.closed self.new.lent.door.now)
+            self.new.so_far out) }
+        ensures over { IfNone result (is_over self.new.so_far ≡ true) }
+        ensures counted { IfSome result (λ line.
+            (self.new.so_far.accepted ≡ self.old.so_far.accepted + 1)
+            × (self.new.so_far.accepted ≤ self.new.so_far.most)) }
+        ensures most { self.new.so_far.most ≡ self.old.so_far.most }
+        ensures stands_still { is_over self.old.so_far ≡ true →
+            self.new.lent.door.now ≡ self.old.lent.door.now }
+        ensures stays_fresh { D.fresh self.old.lent.door.now → D.fresh self.new.lent.door.now }
+    {
+        let so_far = &mut self.so_far;
+        if so_far.accepted >= so_far.most || so_far.ended || so_far.failed {
+            return None;
+        }
+        match self.lent.accept() {
+            Ok(Some(line)) => {
+                so_far.accepted += 1;
+                Some(line)
+            }
+            Ok(None) => {
+                so_far.ended = true;
+                None
+            }
+            Err(_) => {
+                so_far.failed = true;
+                None
+            }
+        }
+    }
+
+    /// Hands a line back that was served, and notes how it ended. It takes no memory.
+    pub fn hand_back(&mut self, line: D::Line, end: LineEnd)
+        requires room { length self.old.so_far.ends.items < vec_capacity self.old.so_far.ends }
+        ensures same_door { self.new.lent.door.ghost_name ≡ self.old.lent.door.ghost_name }
+        ensures stands { (first : Told) (most out : ℕ) →
+            Stands first most (told D.lines D.faults D.ended D.closed self.old.lent.door.now)
+            self.old.so_far (out + 1) →
+            Stands first most (told D.lines D.faults D.ended D.closed self.new.lent.door.now)
+            self.new.so_far out }
+        ensures accepted { self.new.so_far.accepted ≡ self.old.so_far.accepted }
+        ensures most { self.new.so_far.most ≡ self.old.so_far.most }
+        ensures stays_fresh { D.fresh self.old.lent.door.now → D.fresh self.new.lent.door.now }
+    {
+        self.so_far.ends.push_reserved(end);
+        self.lent.door.close(line);
+    }
+}

@@ -1,0 +1,217 @@
+ghost use Rattle.std.specs.Prelude.{◌≡◌, ℕ, ◌≤◌, ◌⊎◌, true, false, [], length, vec_capacity};
+ghost use Rattle.std.specs.Option.{option_map};
+ghost use Rattle.std.specs.Thread.{IsSync};
+ghost use Rattle.iq_outside.specs.Outside.{Rose};
+ghost use Rattle.door_workers.specs.Attending.{GivesBack, Stands, count_up_by, is_over, told};
+ghost use Rattle.door_workers.specs.Told.{Told};
+
+use crate::attending::{Attending, Lent};
+use crate::kept::Kept;
+use crate::names::DoorName;
+use crate::progress::Progress;
+use conn_server::{LineEnd, serve_line};
+use iq_outside::{Door, Line};
+use session_client::Desk;
+use std::alloc::Global;
+use std::marker::Brand;
+use std::mem;
+use std::sync::ledger::{Blank, Share};
+use std::sync::{Mutex, Wait};
+use std::thread::{Threads, join};
+
+/// What the workers left.
+#[derive(Drop)]
+pub struct Attended {
+    /// How each line ended, in the order in which the lines were handed back.
+    pub ends: Vec<LineEnd>,
+    /// Whether the door failed.
+    pub failed: bool,
+}
+
+/// Accepts connections from the door until so many were accepted, or no more come, or the door fails.
+/// Each is served and handed back to the door. As many workers as there are desks do so at the same
+/// time, each on its desk and in a thread of its own, and all are joined. The door has a lock, under
+/// which a worker accepts a line or hands one back; it serves a line and ends it for the peer without
+/// the lock. The caller works at the last desk itself, and does the work for which no thread can be
+/// started. It may wait.
+///
+/// `ends` is empty and has room for an entry for each connection. It becomes the list of the ends: a
+/// connection that ends by a fault is an entry like any other. Beyond what serving a line takes no
+/// memory is taken, but what a thread needs.
+pub fn serve_all<D: Door, K: Desk + Send, R: Threads + Wait + Sync>(
+    rt: &R,
+    alloc: Global,
+    desks: &mut [K],
+    door: &mut D,
+    conns: u32,
+    ends: Vec<LineEnd>,
+) -> Attended
+    requires some { 1 ≤ length desks.old }
+    requires none { ends.items ≡ [] }
+    requires room { conns ≤ vec_capacity ends }
+    ensures few { length result.ends.items ≤ conns }
+    ensures counted { D.lines door.new
+        ≡ count_up_by (length result.ends.items) (D.lines door.old) }
+    ensures all { result.failed ≡ false →
+        (length result.ends.items ≡ conns) ⊎ (D.ended door.new ≡ true) }
+    ensures failed { result.failed ≡ true → Rose (D.faults door.old) (D.faults door.new) }
+    ensures no_fault { result.failed ≡ false → D.faults door.new ≡ D.faults door.old }
+    ensures never_falls { D.faults door.old ≤ D.faults door.new }
+    ensures stays_fresh { D.fresh door.old → D.fresh door.new }
+    ensures given_back { GivesBack (length result.ends.items)
+        (option_map length (D.closed door.old)) (option_map length (D.closed door.new)) }
+{
+    let mut so_far = Progress::new(conns, ends);
+    let ledger = Blank::new(desks.len() as u64);
+    let lent = Lent { door };
+    let lent = attend::<D, K, Brand, R>(rt, alloc, desks, ledger, lent, &mut so_far);
+    let Lent { door: _ } = lent;
+    Attended {
+        ends: so_far.ends,
+        failed: so_far.failed,
+    }
+}
+
+/// Puts the door under a lock and lets the workers attend it, with a part of the ledger for each. When
+/// all have ended the caller attends it alone, so that nothing is left to accept.
+fn attend<'a, D: Door, K: Desk + Send, N: DoorName + Send + Sync, R: Threads + Wait + Sync>(
+    rt: &R,
+    alloc: Global,
+    desks: &mut [K],
+    ledger: Blank,
+    lent: Lent<'a, D>,
+    so_far: &mut Progress,
+) -> Lent<'a, D>
+    requires some { 1 ≤ length desks.old }
+    requires ledger { (ledger.name ≡ N.name) × (ledger.parts ≡ N.parts) }
+    requires one_each { ledger.parts ≡ length desks.old }
+    requires door { lent.door.ghost_name ≡ N.door }
+    requires first { Stands N.first N.most
+        (told D.lines D.faults D.ended D.closed lent.door.now) so_far.old 0 }
+    requires fresh { N.fresh → D.fresh lent.door.now }
+    ensures same_door { result.door.ghost_name ≡ lent.entry.door.ghost_name }
+    ensures stands { Stands N.first N.most
+        (told D.lines D.faults D.ended D.closed result.door.now) so_far.new 0 }
+    ensures over { is_over so_far.new ≡ true }
+    ensures stays_fresh { N.fresh → D.fresh result.door.now }
+{
+    let conns = so_far.most;
+    let (out, mine) = ledger.open::<N>();
+    let begun = mem::replace(so_far, Progress::new(0, Vec::new(alloc)));
+    let at = Attending {
+        lent,
+        so_far: begun,
+    };
+    let lock = Mutex::new(Kept { at, out });
+    let all = work_from(rt, &alloc, &lock, conns, mine, desks);
+    let mut at = lock.into_inner().into_attending(all);
+    attend_alone(alloc, &mut at, &mut desks[0]);
+    let Attending { lent, so_far: done } = at;
+    *so_far = done;
+    lent
+}
+
+/// Attends the door at each of the desks: at the first in a thread of its own, beside those behind it.
+/// The last one needs no thread. The share comes back as it was.
+fn work_from<D: Door, K: Desk + Send, N: DoorName + Send + Sync, R: Threads + Wait + Sync>(
+    rt: &R,
+    alloc: &Global,
+    lock: &Mutex<Kept<'_, D, N>>,
+    conns: u32,
+    mine: Share<N>,
+    desks: &mut [K],
+) -> Share<N>
+    requires some { 1 ≤ length desks.old }
+    requires parts { length desks.old ≤ mine.parts }
+    requires none { mine.amount ≡ 0 }
+    ensures parts { result.parts ≡ mine.parts }
+    ensures none { result.amount ≡ 0 }
+{
+    let mut mine = mine;
+    if desks.len() < 2 {
+        work(rt, *alloc, lock, conns, &mut mine, &mut desks[0]);
+        return mine;
+    }
+    let part = mine.split_off(1, 0);
+    let (front, back) = desks.split_at_mut(1);
+    let (mut all, others) = join(
+        rt,
+        move || -> Share<N>
+            requires { (part.parts ≡ 1) × (part.amount ≡ 0) × (1 ≤ length front.now) }
+            ensures { (result.parts ≡ 1) × (result.amount ≡ 0) }
+        { work_one(rt, *alloc, lock, conns, part, front) },
+        move || -> Share<N>
+            requires { IsSync R.row × (mine.amount ≡ 0) × (1 ≤ length back.now)
+                × (length back.now ≤ mine.parts) }
+            ensures { (result.parts ≡ mine.parts) × (result.amount ≡ 0) }
+        { work_from(rt, alloc, lock, conns, mine, back) },
+    );
+    all.merge(others);
+    all
+}
+
+/// Attends the door at the first desk.
+fn work_one<D: Door, K: Desk, N: DoorName, R: Wait>(
+    rt: &R,
+    alloc: Global,
+    lock: &Mutex<Kept<'_, D, N>>,
+    conns: u32,
+    mine: Share<N>,
+    desks: &mut [K],
+) -> Share<N>
+    requires some { 1 ≤ length desks.old }
+    requires part { 1 ≤ mine.parts }
+    requires none { mine.amount ≡ 0 }
+    ensures part { result.parts ≡ mine.parts }
+    ensures none { result.amount ≡ 0 }
+{
+    let mut mine = mine;
+    work(rt, alloc, lock, conns, &mut mine, &mut desks[0]);
+    mine
+}
+
+/// Accepts lines under the lock and serves each without it, until none is to be accepted.
+fn work<D: Door, K: Desk, N: DoorName, R: Wait>(
+    rt: &R,
+    alloc: Global,
+    lock: &Mutex<Kept<'_, D, N>>,
+    conns: u32,
+    mine: &mut Share<N>,
+    desk: &mut K,
+)
+    requires part { 1 ≤ mine.old.parts }
+    requires none { mine.old.amount ≡ 0 }
+    ensures part { mine.new.parts ≡ mine.old.parts }
+    ensures none { mine.new.amount ≡ 0 }
+{
+    for _ in 0..conns {
+        let accepted = lock.lock(rt).accept(mine);
+        let Some(mut line) = accepted else {
+            return;
+        };
+        let end = serve_line(alloc, &mut line, desk);
+        line.finish();
+        lock.lock(rt).hand_back(line, end, mine);
+    }
+}
+
+/// Accepts lines and serves them, with no lock, until none is to be accepted.
+fn attend_alone<D: Door, K: Desk>(alloc: Global, at: &mut Attending<'_, D>, desk: &mut K)
+    requires stands { (first : Told) × (most : ℕ) × Stands first most
+        (told D.lines D.faults D.ended D.closed at.old.lent.door.now) at.old.so_far 0 }
+    ensures same_door { at.new.lent.door.ghost_name ≡ at.old.lent.door.ghost_name }
+    ensures stands { (first : Told) (most : ℕ) →
+        Stands first most (told D.lines D.faults D.ended D.closed at.old.lent.door.now)
+        at.old.so_far 0 →
+        Stands first most (told D.lines D.faults D.ended D.closed at.new.lent.door.now)
+        at.new.so_far 0 }
+    ensures over { is_over at.new.so_far ≡ true }
+    ensures stays_fresh { D.fresh at.old.lent.door.now → D.fresh at.new.lent.door.now }
+{
+    while let Some(line) = at.accept() {
+        let mut line = line;
+        let end = serve_line(alloc, &mut line, desk);
+        line.finish();
+        at.hand_back(line, end);
+    }
+}
