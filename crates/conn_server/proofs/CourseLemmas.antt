@@ -413,9 +413,13 @@ shut_ends ends.Memory fault last start rounds reads writes calls old new lasts p
     ending_memory start rounds reads writes calls old new s client c
 shut_ends other fault last start rounds reads writes calls old new lasts place s client c = absurd s
 
--- what a line tells of its reading, in its parts
-reads_left : (reads : ReadSide) (left given : Option (List ℕ)) (faults : ℕ) → reads ≡ record { left = left; given = given; faults = faults } → reads.left ≡ left
-reads_left reads left given faults is = ap (λ (r : ReadSide). r.left) is
+pub shut_by : (end : LineEnd) (fault found : FrameFault) (last : LineReply) (start : Start) (rounds : ℕ) (reads : ReadSide) (writes : WriteSide)
+    (calls : Option (List Call)) (old new : Serving)
+    → fault ≡ found → Lasts old.framer.rest found last → place_of found ≡ old.framer.place → Shuts end fault last old.out.items new.out.items
+    → new.client ≡ old.client → Course start rounds reads writes calls old → Ending end start reads writes calls new
+shut_by end fault found last start rounds reads writes calls old new is lasts place s client c =
+    shut_ends end fault last start rounds reads writes calls old new
+    (subst (λ (f : FrameFault). Lasts old.framer.rest f last) (sym is) lasts) (ap place_of is ∙ place) s client c
 
 -- more bytes were given
 abbrev done_fed : (start : Start) (old new : ReadSide) (writes : WriteSide) (calls : Option (List Call)) (client : Client) (bytes : List ℕ)
