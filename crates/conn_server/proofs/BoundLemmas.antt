@@ -119,6 +119,7 @@ shut_command stream long said (Some bytes) many line says e is_open = by (cases_
   where
     announces : Announces stream long bytes
     announces = record { line = line; command = said; says = says; bytes_are = e }
+
     by : ((1048576 < bytes) ⊎ (bytes ≤ 1048576)) → EndsAt stream (long + 2 + bytes) ⊎ (EndsAt stream (long + 2 + bytes) → ⊥) → ⊥
     by (inl big) here = is_open big_block 0 (record { long = long; bytes = bytes; line = announces; big = big }, refl)
     by (inr small) (inr wrong) =
@@ -141,7 +142,7 @@ shut_line stream long many line is_open =
     let none : (said : Command) → AreWords said (words_in (take long stream)) → ⊥ =
     λ said says. shut_command stream long said (announced said) many line says refl is_open in
     none Unknown (unknown_by (words_in (take long stream))
-      (λ verb. is_open bad_line (long + 2) (record { long = long; line = line; says = record { verb = verb; none = none }; taken_is = refl })))
+    (λ verb. is_open bad_line (long + 2) (record { long = long; line = line; says = record { verb = verb; none = none }; taken_is = refl })))
 
 -- where nothing whole stands, fewer bytes stand than a command may have
 pub open_bound : (stream : List ℕ) → IsOpen stream → length stream < 1050628
@@ -150,6 +151,7 @@ open_bound stream is_open = by (cases_lt (length stream) 1050628)
     many : 1050628 ≤ length stream → FirstEnd stream 2049 ⊎ NoEnd stream 2049 → ⊥
     many l (inl f) = let within = f.within in shut_line stream f.long l (record { ends = f.ends; first = f.first; short = omega arith }) is_open
     many l (inr none) = is_open long_line 0 (record { enough = omega arith; endless = λ place le e. none place (omega arith) e }, refl)
+
     by : (length stream < 1050628) ⊎ (1050628 ≤ length stream) → length stream < 1050628
     by (inl few) = few
     by (inr l) = absurd (many l (first_end stream 2049))

@@ -256,7 +256,7 @@ course_same start rounds reads writes new_writes calls old new done framer clien
       count = count ∙ (c.count ∙ ap (λ (xs : List Item). length xs) (sym items));
       due = due;
       rest = ap (λ (f : Frames). f.rest) framer
-        ∙ (c.rest ∙ (ap (λ (n : ℕ). drop n c.done.given) (sym size) ∙ ap (λ (xs : List ℕ). drop done.size xs) (sym given)));
+          ∙ (c.rest ∙ (ap (λ (n : ℕ). drop n c.done.given) (sym size) ∙ ap (λ (xs : List ℕ). drop done.size xs) (sym given)));
       place = ap (λ (f : Frames). f.place) framer ∙ (c.place ∙ ap (λ (n : ℕ). min n (2 ^ 64 - 1)) (sym size));
       fed = subst (λ (xs : List ℕ). rounds ≤ length xs) (sym given) c.fed;
       few = c.few;
@@ -305,8 +305,8 @@ some_of : (told : List LineReply) (sent out : List ℕ) (written : ℕ) → text
 some_of told sent out written due = (
   drop written out,
   due ∙ (ap (λ (xs : List ℕ). sent ++ xs) (sym (take-append-drop written out))
-  ∙ (sym (append_assoc sent (take written out) (drop written out))
-  ∙ ap (λ (xs : List ℕ). xs ++ drop written out) (sym (append-nil (sent ++ take written out))))),
+      ∙ (sym (append_assoc sent (take written out) (drop written out))
+      ∙ ap (λ (xs : List ℕ). xs ++ drop written out) (sym (append-nil (sent ++ take written out))))),
 )
 
 ending_write : (start : Start) (rounds : ℕ) (reads : ReadSide) (writes new_writes : WriteSide) (calls : Option (List Call)) (old new : Serving) (written : ℕ)
@@ -320,7 +320,7 @@ ending_write start rounds reads writes new_writes calls old new written gains ro
       ends = (
         omega arith,
         inl (subst (λ (xs : List ℕ). TookSome ((c.done.sent ++ take written old.out.items) ++ xs) c.done.told) (sym none)
-          (some_of c.done.told c.done.sent old.out.items written c.due)),
+            (some_of c.done.told c.done.sent old.out.items written c.due)),
       );
       rose = Rose-later start.writes.faults writes.faults new_writes.faults c.done.write_faults rose;
       none_left = tt;
@@ -395,8 +395,11 @@ ending_shut fault last start rounds reads writes calls old new lasts place out c
       ends = (
         c.within,
         place ∙ c.place,
-        (last, subst (λ (bytes : List ℕ). Lasts bytes fault last) c.rest lasts,
-          sym (due_one c.done.told c.done.sent old.out.items new.out.items last c.due out)),
+        (
+          last,
+          subst (λ (bytes : List ℕ). Lasts bytes fault last) c.rest lasts,
+          sym (due_one c.done.told c.done.sent old.out.items new.out.items last c.due out),
+        ),
       );
       rose = tt;
       none_left = tt;
@@ -413,9 +416,13 @@ shut_ends ends.Memory fault last start rounds reads writes calls old new lasts p
     ending_memory start rounds reads writes calls old new s client c
 shut_ends other fault last start rounds reads writes calls old new lasts place s client c = absurd s
 
--- what a line tells of its reading, in its parts
-reads_left : (reads : ReadSide) (left given : Option (List ℕ)) (faults : ℕ) → reads ≡ record { left = left; given = given; faults = faults } → reads.left ≡ left
-reads_left reads left given faults is = ap (λ (r : ReadSide). r.left) is
+pub shut_by : (end : LineEnd) (fault found : FrameFault) (last : LineReply) (start : Start) (rounds : ℕ) (reads : ReadSide) (writes : WriteSide)
+    (calls : Option (List Call)) (old new : Serving)
+    → fault ≡ found → Lasts old.framer.rest found last → place_of found ≡ old.framer.place → Shuts end fault last old.out.items new.out.items
+    → new.client ≡ old.client → Course start rounds reads writes calls old → Ending end start reads writes calls new
+shut_by end fault found last start rounds reads writes calls old new is lasts place s client c =
+    shut_ends end fault last start rounds reads writes calls old new
+    (subst (λ (f : FrameFault). Lasts old.framer.rest f last) (sym is) lasts) (ap place_of is ∙ place) s client c
 
 -- more bytes were given
 abbrev done_fed : (start : Start) (old new : ReadSide) (writes : WriteSide) (calls : Option (List Call)) (client : Client) (bytes : List ℕ)
@@ -474,7 +481,7 @@ course_fed start rounds reads new_reads writes calls old new bytes r some is_ope
       count = count ∙ c.count;
       due = c.due ∙ ap (λ (xs : List ℕ). c.done.sent ++ xs) (sym out);
       rest = ap (λ (f : Frames). f.rest) framer
-        ∙ (ap (λ (xs : List ℕ). xs ++ bytes) c.rest ∙ sym (drop-append-le c.done.size c.done.given bytes fit));
+          ∙ (ap (λ (xs : List ℕ). xs ++ bytes) c.rest ∙ sym (drop-append-le c.done.size c.done.given bytes fit));
       place = ap (λ (f : Frames). f.place) framer ∙ c.place;
       fed = omega (arith, length-append c.done.given bytes);
       few = rounds_few c.done.given c.done.items c.done.size rounds c.done.first c.within here c.fed;
@@ -603,8 +610,8 @@ some_less : (told : List LineReply) (sent out : List ℕ) (written : ℕ) → To
 some_less told sent out written t = (
   drop written out ++ t.0,
   t.1 ∙ (ap (λ (xs : List ℕ). (sent ++ xs) ++ t.0) (sym (take-append-drop written out))
-  ∙ (ap (λ (xs : List ℕ). xs ++ t.0) (sym (append_assoc sent (take written out) (drop written out)))
-  ∙ append_assoc (sent ++ take written out) (drop written out) t.0)),
+      ∙ (ap (λ (xs : List ℕ). xs ++ t.0) (sym (append_assoc sent (take written out) (drop written out)))
+      ∙ append_assoc (sent ++ take written out) (drop written out) t.0)),
 )
 
 ends_less : (items : List Item) (size : ℕ) (rest sent out : List ℕ) (told : List LineReply) (written : ℕ)
@@ -640,7 +647,7 @@ finished_by end start reads writes new_writes calls new_calls serving bytes done
     gives = done.gives;
     takes = Gains-append start.writes.taken writes.taken new_writes.taken done.sent bytes done.takes gains;
     asks = up_given.record_is
-      ∙ (ap (λ (calls : Option (List Call)). with_calls up_given.calls calls) done.asks ∙ sym (with_calls-append done.asked up_given.calls start.calls));
+        ∙ (ap (λ (calls : Option (List Call)). with_calls up_given.calls calls) done.asks ∙ sym (with_calls-append done.asked up_given.calls start.calls));
     served = record {
       items = done.items;
       size = done.size;
@@ -677,15 +684,15 @@ finished due end start reads new_reads writes new_writes calls new_calls serving
     subst (λ (r : ReadSide). Finished start r new_writes new_calls end) (sym apart)
     (subst (λ (x : LineEnd). Finished start reads new_writes new_calls x) (sym f.2)
     (finished_by due start reads writes new_writes calls new_calls serving serving.out.items e.done f.0 (omega (arith, f.1)) e.ends
-      (rose_on due start reads writes new_writes f.1 e.rose) e.none_left up))
+    (rose_on due start reads writes new_writes f.1 e.rose) e.none_left up))
 finished due end start reads new_reads writes new_writes calls new_calls serving e (inr f) apart up =
     let bytes = take f.0.0 serving.out.items in
     let less = ends_less e.done.items e.done.size (drop e.done.size e.done.given) e.done.sent serving.out.items e.done.told f.0.0
-      (ends_some due e.done.items e.done.size (drop e.done.size e.done.given) (e.done.sent ++ serving.out.items) e.done.told e.ends) in
+    (ends_some due e.done.items e.done.size (drop e.done.size e.done.given) (e.done.sent ++ serving.out.items) e.done.told e.ends) in
     subst (λ (r : ReadSide). Finished start r new_writes new_calls end) (sym apart)
     (subst (λ (x : LineEnd). Finished start reads new_writes new_calls x) (sym f.3)
     (finished_by ends.WriteFault start reads writes new_writes calls new_calls serving bytes e.done f.0.1 f.2 less
-      (Rose-later start.writes.faults writes.faults new_writes.faults e.done.write_faults f.1) tt up))
+    (Rose-later start.writes.faults writes.faults new_writes.faults e.done.write_faults f.1) tt up))
 
 -- a connection for which memory ran out at once
 pub never_served : (left taken : Option (List ℕ)) (calls : Option (List Call)) → IsServed left left taken taken calls calls ends.Memory
@@ -762,8 +769,8 @@ closed_by left old_reads new_reads old_writes new_writes a b e f n room old new 
     subst (λ (x : Option (List ℕ)). AtEnd x) (sym p.left_is) (AtEnd-zero a b n room is zero gives) in
     subst (λ (w : WriteSide). Ending (ends.Closed left) start new_reads w calls new) (sym apart)
     (ending_closed left start rounds old_reads new_reads old_writes calls old new
-      (left_same old_reads new_reads a b e f o p (takes_nothing a b nothing))
-      (omega (arith, o.faults_is, p.faults_is, same)) at_end stops left_is none out client c)
+    (left_same old_reads new_reads a b e f o p (takes_nothing a b nothing))
+    (omega (arith, o.faults_is, p.faults_is, same)) at_end stops left_is none out client c)
 
 -- a read failed
 pub read_failed : (old_reads new_reads : ReadSide) (old_writes new_writes : WriteSide) (a b : Option (List ℕ)) (e f : ℕ) (old new : Serving)
@@ -776,19 +783,19 @@ read_failed old_reads new_reads old_writes new_writes a b e f old new o p same r
     subst (λ (x : ℕ). Rose x new_reads.faults) (sym o.faults_is) (subst (λ (x : ℕ). Rose e x) (sym p.faults_is) rose) in
     subst (λ (w : WriteSide). Ending ends.ReadFault start new_reads w calls new) (sym apart)
     (ending_read start rounds old_reads new_reads old_writes calls old new
-      (left_same old_reads new_reads a b e f o p same) (omega (arith, o.faults_is, p.faults_is)) risen stops out client c)
+    (left_same old_reads new_reads a b e f o p same) (omega (arith, o.faults_is, p.faults_is)) risen stops out client c)
 
 -- bytes were read, and fed
 pub fed_by : (old_reads new_reads : ReadSide) (old_writes new_writes : WriteSide) (a b : Option (List ℕ)) (e f : ℕ) (bytes : List ℕ) (old new : Serving)
     → IsSide old_reads a e → IsSide new_reads b f → Takes a b bytes → f ≡ e → new_writes ≡ old_writes
     → 1 ≤ length bytes → IsOpen old.framer.rest → new.framer ≡ fed old.framer bytes → new.out.items ≡ old.out.items → new.client ≡ old.client
-        → new.count ≡ old.count
+    → new.count ≡ old.count
     → (start : Start) (rounds : ℕ) (calls : Option (List Call))
     → Course start rounds old_reads old_writes calls old → Course start (rounds + 1) new_reads new_writes calls new
 fed_by old_reads new_reads old_writes new_writes a b e f bytes old new o p gives same apart some stops framer out client count start rounds calls c =
     subst (λ (w : WriteSide). Course start (rounds + 1) new_reads w calls new) (sym apart)
     (course_fed start rounds old_reads new_reads old_writes calls old new bytes
-      (reads_by old_reads new_reads a b e f bytes o p gives same) some stops framer out client count c)
+    (reads_by old_reads new_reads a b e f bytes o p gives same) some stops framer out client count c)
 
 -- bytes were read, and lost for want of memory
 pub unfed_by : (old_reads new_reads : ReadSide) (old_writes new_writes : WriteSide) (a b : Option (List ℕ)) (e f : ℕ) (bytes : List ℕ) (old new : Serving)
@@ -799,7 +806,7 @@ pub unfed_by : (old_reads new_reads : ReadSide) (old_writes new_writes : WriteSi
 unfed_by old_reads new_reads old_writes new_writes a b e f bytes old new o p gives same apart out client start rounds calls c =
     subst (λ (w : WriteSide). Ending ends.Memory start new_reads w calls new) (sym apart)
     (ending_unfed start rounds old_reads new_reads old_writes calls old new bytes
-      (reads_by old_reads new_reads a b e f bytes o p gives same) out client c)
+    (reads_by old_reads new_reads a b e f bytes o p gives same) out client c)
 
 -- at the end of a line, by what it tells
 pub record Ended (left_old left_new taken_old taken_new : Option (List ℕ)) (calls_old calls_new : Option (List Call))

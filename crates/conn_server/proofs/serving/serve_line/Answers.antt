@@ -10,9 +10,9 @@ returns-in-Ok-clause-served g c =
       calls = g.D.Desk.record_of c.args.desk.now;
     } in
     let f = finished c.serve-end.result c.finish.result start (g.L.Sink.read_side c.serve-end.new.line) (g.L.Sink.read_side c.finish.new.line)
-      (g.L.Source.write_side c.serve-end.new.line) (g.L.Source.write_side c.finish.new.line) (g.D.Desk.record_of c.serve-end.new.desk)
-      (g.D.Desk.record_of c.finish.new.desk) c.serve-end.new.self c.serve-end.ensures c.finish.ensures.finishes c.finish.ensures.keeps_reading
-      c.finish.ensures.given_up in
+    (g.L.Source.write_side c.serve-end.new.line) (g.L.Source.write_side c.finish.new.line) (g.D.Desk.record_of c.serve-end.new.desk)
+    (g.D.Desk.record_of c.finish.new.desk) c.serve-end.new.self c.serve-end.ensures c.finish.ensures.finishes c.finish.ensures.keeps_reading
+    c.finish.ensures.given_up in
     served_as (g.L.Sink.read_side c.args.line.now) (g.L.Sink.read_side c.finish.new.line) (g.L.Source.write_side c.args.line.now)
     (g.L.Source.write_side c.finish.new.line) _ _ _ _ _ _ _ _ _ _ _ _ _ (g.met.L.Line.reading c.args.line.now)
     (g.met.L.Line.reading c.finish.new.line) (g.met.L.Line.writing c.args.line.now) (g.met.L.Line.writing c.finish.new.line) f.served

@@ -7,8 +7,8 @@ pub returns-in_err-answer_next-clause-ends : goal.returns-in_err-answer_next-cla
 returns-in_err-answer_next-clause-ends g c =
     let p = err_from_is_err_and c.from_residual.result c.from_residual.ensures.1 in
     rw (p.1, p.2) (λ start rounds course.
-      c.in_err-answer_next.ensures.ends start rounds (g.L.Sink.read_side c.loop-self.line) (g.L.Source.write_side c.loop-self.line)
-      (c.loop-self.invariant.goes start rounds course))
+    c.in_err-answer_next.ensures.ends start rounds (g.L.Sink.read_side c.loop-self.line) (g.L.Source.write_side c.loop-self.line)
+    (c.loop-self.invariant.goes start rounds course))
 
 pub returns-then-not-branch-clause-goes_on : goal.returns-then-not-branch-clause-goes_on
 returns-then-not-branch-clause-goes_on g c =
@@ -25,7 +25,7 @@ loop-self-preserved-in_ok-flush g c = record {
       c.in_ok-flush.ensures.flushes c.in_ok-flush.ensures.keeps_reading c.in_ok-flush.ensures.none c.in_ok-flush.ensures.framer
       c.in_ok-flush.ensures.client c.in_ok-flush.ensures.count start rounds (g.D.Desk.record_of c.answer_next.new.desk)
       (c.in_ok-answer_next.ensures.goes_on start rounds (g.L.Sink.read_side c.loop-self.line) (g.L.Source.write_side c.loop-self.line)
-        (c.loop-self.invariant.goes start rounds course));
+      (c.loop-self.invariant.goes start rounds course));
 }
 
 pub loop-self-preserved : goal.loop-self-preserved
@@ -40,9 +40,9 @@ pub returns-in_err-flush-clause-ends : goal.returns-in_err-flush-clause-ends
 returns-in_err-flush-clause-ends g c =
     let p = err_from_is_err_and c.from_residual-in_err-flush.result c.from_residual-in_err-flush.ensures.1 in
     rw (p.1, p.2) (λ start rounds course.
-      IfErr-at_err _ c.in_err-flush.was (flushed_ends c.flush.result (g.L.Sink.read_side c.loop-self.line) (g.L.Sink.read_side c.flush.new.line)
-      (g.L.Source.write_side c.loop-self.line) (g.L.Source.write_side c.flush.new.line) c.answer_next.new.self c.flush.new.self
-      c.flush.ensures.flushes c.flush.ensures.keeps_reading c.flush.ensures.none c.flush.ensures.client) start rounds
-      (g.D.Desk.record_of c.answer_next.new.desk)
-      (c.in_ok-answer_next.ensures.goes_on start rounds (g.L.Sink.read_side c.loop-self.line) (g.L.Source.write_side c.loop-self.line)
-        (c.loop-self.invariant.goes start rounds course)))
+    IfErr-at_err _ c.in_err-flush.was (flushed_ends c.flush.result (g.L.Sink.read_side c.loop-self.line) (g.L.Sink.read_side c.flush.new.line)
+    (g.L.Source.write_side c.loop-self.line) (g.L.Source.write_side c.flush.new.line) c.answer_next.new.self c.flush.new.self
+    c.flush.ensures.flushes c.flush.ensures.keeps_reading c.flush.ensures.none c.flush.ensures.client) start rounds
+    (g.D.Desk.record_of c.answer_next.new.desk)
+    (c.in_ok-answer_next.ensures.goes_on start rounds (g.L.Sink.read_side c.loop-self.line) (g.L.Source.write_side c.loop-self.line)
+    (c.loop-self.invariant.goes start rounds course)))

@@ -2,11 +2,12 @@ use Rattle.std.proofs.Common.{◌≡◌, ◌∙◌, refl, sym, subst, Some, None
 use Rattle.std.specs.Prelude.{Ok}
 use Rattle.mc_text.specs.Streams.{command}
 use Rattle.mc_text.specs.declared.commands.Command.TheVariants.{Quit}
+use Rattle.mc_text.specs.declared.faults.FrameFault.TheVariants as frame
 use Rattle.mc_text.specs.declared.replies.LineReply.TheVariants as reply
 use Rattle.conn_server.specs.declared.clients.Client.{Client}
 use Rattle.conn_server.specs.Answers.{ItemAnswers}
 use Rattle.conn_server.proofs.CourseLemmas.{Answered, answered_goes_on, answered_ends, tells_within, tells_more, next_said, next_none, next_fault}
-use Rattle.conn_server.proofs.CourseLemmas.{bad_line_answered, course_open, ending_quit, ending_memory, shut_ends}
+use Rattle.conn_server.proofs.CourseLemmas.{bad_line_answered, course_open, ending_quit, ending_memory, shut_by}
 use Rattle.conn_server.proofs.serving.Serving.answer_next.Goals as goal
 
 pub returns-in-Ok-Some-Quit-clause-ends : goal.returns-in-Ok-Some-Quit-clause-ends
@@ -29,7 +30,7 @@ returns-in-Ok-Some g c =
       framer = c.tell.ensures.framer ∙ t.goes_on;
       asks = c.tell.ensures.asks_nothing ∙ c.answer-reply.ensures.record_is;
       answers = subst (λ (x : Client). ItemAnswers c.args.self.now.client (command c.in-Ok-Some.said) c.answer-reply.ensures.calls c.answer-reply.result x)
-        (sym c.tell.ensures.client) c.answer-reply.ensures.answers;
+          (sym c.tell.ensures.client) c.answer-reply.ensures.answers;
       count = c.tell.ensures.counts;
     } in
     record {
@@ -50,19 +51,19 @@ returns-in-Ok-None-clause-goes_on g c =
 pub returns-in-BadLine-clause-goes_on : goal.returns-in-BadLine-clause-goes_on
 returns-in-BadLine-clause-goes_on g c =
     let f = next_fault c.args.self.now.framer c.next_command-next.new.self c.next_command-next.result c.in-Err.fault _ c.next_command-next.ensures
-      c.in-Err.is c.in-BadLine.is in
+    c.in-Err.is c.in-BadLine.is in
     let t = c.tell-in-BadLine.ensures in
     let a = bad_line_answered (g.D.Desk.record_of c.args.desk.now) (g.D.Desk.record_of c.tell-in-BadLine.new.desk) c.args.self.now
-      c.tell-in-BadLine.new.self _ c.next_command-next.new.self f t.framer t.asks_nothing t.client t.counts in
+    c.tell-in-BadLine.new.self _ c.next_command-next.new.self f t.framer t.asks_nothing t.client t.counts in
     answered_goes_on c.tell-in-BadLine.result _ _ c.args.self.now _ c.tell-in-BadLine.new.self reply.BadLine refl t.tells a
 
 pub returns-in-BadLine-clause-ends : goal.returns-in-BadLine-clause-ends
 returns-in-BadLine-clause-ends g c =
     let f = next_fault c.args.self.now.framer c.next_command-next.new.self c.next_command-next.result c.in-Err.fault _ c.next_command-next.ensures
-      c.in-Err.is c.in-BadLine.is in
+    c.in-Err.is c.in-BadLine.is in
     let t = c.tell-in-BadLine.ensures in
     let a = bad_line_answered (g.D.Desk.record_of c.args.desk.now) (g.D.Desk.record_of c.tell-in-BadLine.new.desk) c.args.self.now
-      c.tell-in-BadLine.new.self _ c.next_command-next.new.self f t.framer t.asks_nothing t.client t.counts in
+    c.tell-in-BadLine.new.self _ c.next_command-next.new.self f t.framer t.asks_nothing t.client t.counts in
     answered_ends c.tell-in-BadLine.result _ _ c.args.self.now _ c.tell-in-BadLine.new.self reply.BadLine refl t.tells a
 
 pub returns-in-Memory-clause-ends : goal.returns-in-Memory-clause-ends
@@ -73,23 +74,29 @@ returns-in-Memory-clause-ends g c =
 pub returns-in-LongLine-clause-ends : goal.returns-in-LongLine-clause-ends
 returns-in-LongLine-clause-ends g c =
     let f = next_fault c.args.self.now.framer c.next_command-next.new.self c.next_command-next.result c.in-Err.fault _ c.next_command-next.ensures
-      c.in-Err.is c.in-LongLine.is in
+    c.in-Err.is c.in-LongLine.is in
     λ start rounds reads writes course.
-    shut_ends c.shut.result _ reply.LongLine start rounds reads writes (g.D.Desk.record_of c.args.desk.now)
-    c.args.self.now c.shut.new.self ((f.1.stands.0, refl), refl) f.0 c.shut.ensures.shuts c.shut.ensures.client course
+    shut_by c.shut.result c.in-Err.fault (frame.LongLine c.in-LongLine.place) reply.LongLine start rounds reads writes
+    (g.D.Desk.record_of c.args.desk.now)
+    c.args.self.now c.shut.new.self c.in-LongLine.is ((f.1.stands.0, refl), refl) f.0 c.shut.ensures.shuts
+    c.shut.ensures.client course
 
 pub returns-in-BadBlock-clause-ends : goal.returns-in-BadBlock-clause-ends
 returns-in-BadBlock-clause-ends g c =
     let f = next_fault c.args.self.now.framer c.next_command-next.new.self c.next_command-next.result c.in-Err.fault _ c.next_command-next.ensures
-      c.in-Err.is c.in-BadBlock.is in
+    c.in-Err.is c.in-BadBlock.is in
     λ start rounds reads writes course.
-    shut_ends c.shut-in-BadBlock.result _ reply.BadBlock start rounds reads writes (g.D.Desk.record_of c.args.desk.now)
-    c.args.self.now c.shut-in-BadBlock.new.self ((f.1.stands.0, refl), refl) f.0 c.shut-in-BadBlock.ensures.shuts c.shut-in-BadBlock.ensures.client course
+    shut_by c.shut-in-BadBlock.result c.in-Err.fault (frame.BadBlock c.in-BadBlock.place) reply.BadBlock start rounds reads writes
+    (g.D.Desk.record_of c.args.desk.now)
+    c.args.self.now c.shut-in-BadBlock.new.self c.in-BadBlock.is ((f.1.stands.0, refl), refl) f.0 c.shut-in-BadBlock.ensures.shuts
+    c.shut-in-BadBlock.ensures.client course
 
 pub returns-in-BigBlock-clause-ends : goal.returns-in-BigBlock-clause-ends
 returns-in-BigBlock-clause-ends g c =
     let f = next_fault c.args.self.now.framer c.next_command-next.new.self c.next_command-next.result c.in-Err.fault _ c.next_command-next.ensures
-      c.in-Err.is c.in-BigBlock.is in
+    c.in-Err.is c.in-BigBlock.is in
     λ start rounds reads writes course.
-    shut_ends c.shut-in-BigBlock.result _ reply.BigBlock start rounds reads writes (g.D.Desk.record_of c.args.desk.now)
-    c.args.self.now c.shut-in-BigBlock.new.self ((f.1.stands.0, refl), refl) f.0 c.shut-in-BigBlock.ensures.shuts c.shut-in-BigBlock.ensures.client course
+    shut_by c.shut-in-BigBlock.result c.in-Err.fault (frame.BigBlock c.in-BigBlock.place) reply.BigBlock start rounds reads writes
+    (g.D.Desk.record_of c.args.desk.now)
+    c.args.self.now c.shut-in-BigBlock.new.self c.in-BigBlock.is ((f.1.stands.0, refl), refl) f.0 c.shut-in-BigBlock.ensures.shuts
+    c.shut-in-BigBlock.ensures.client course

@@ -6,7 +6,7 @@ pub loop-init : goal.loop-init
 loop-init g c = record {
   within = omega (arith, c.requires.count);
   course = course_begins (g.L.Sink.read_side c.args.line.now) (g.L.Source.write_side c.args.line.now) (g.D.Desk.record_of c.args.desk.now)
-    c.args.self.now c.requires;
+      c.args.self.now c.requires;
 }
 
 pub loop-preserved : goal.loop-preserved
