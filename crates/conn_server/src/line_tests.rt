@@ -51,7 +51,7 @@ fn serves(
     let mut line = line;
     let end = serve_line(alloc, &mut line, desk);
     let taken = String::from_utf8_lossy(alloc, line.taken()).expect(rt, "memory");
-    assert_eq!(rt; taken.as_str(), *want.0);
+    assert_eq!(rt; taken.as_str(), want.0);
     assert_eq!(rt; end, want.1);
 }
 
