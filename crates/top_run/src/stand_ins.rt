@@ -1,0 +1,84 @@
+// Stand-ins for what other crates give: the words of a command, and workers that serve connections.
+ghost use Rattle.std.specs.Prelude.{◌≡◌, ◌≤◌, ◌-◌, ◌+◌, ◌^◌, ◌⊎◌, false, true, [], List, min, map, length, vec_capacity, IfOk, IfErr};
+ghost use Rattle.iq_outside.specs.Outside.{Rose};
+ghost use Rattle.top_run.specs.StandIns.{AreReadAs, AreNoCommand, IsFit};
+
+use iq_outside::Door;
+use run_inputs::WorkSpec;
+use session_client::Desk;
+use std::alloc::Global;
+use std::sync::Wait;
+use std::thread::Threads;
+
+#[derive(Debug, Drop)]
+pub struct ServeSpec {
+    pub addr: Vec<u8>,
+    pub conns: u32,
+    pub workers: u32,
+    pub shards: u32,
+    pub members: u32,
+}
+
+#[derive(Debug, Drop)]
+pub enum Words {
+    Replay,
+    Work { spec: WorkSpec },
+    Serve { spec: ServeSpec },
+    Told { text: Vec<u8> },
+}
+
+#[derive(Clone, Copy, Debug, PartialEq, Eq)]
+pub enum WordsFault {
+    Usage,
+    Memory,
+}
+
+pub fn read_words(_alloc: Global, words: &[Vec<u8>]) -> Result<Words, WordsFault>
+    ensures read { AreReadAs (map (λ word. word.items) words.now) result }
+    ensures fit { IfOk result IsFit }
+{
+    let _ = words;
+    unreachable!()
+}
+
+#[derive(Clone, Copy, Debug, PartialEq, Eq)]
+pub enum LineEnd {
+    Quit,
+    Closed { left: u64 },
+    Budget,
+    ReadFault,
+    WriteFault,
+    Memory,
+}
+
+#[derive(Drop)]
+pub struct Attended {
+    pub ends: Vec<LineEnd>,
+    pub failed: bool,
+}
+
+pub fn serve_all<D: Door, K: Desk + Send, R: Threads + Wait + Sync>(
+    _rt: &R,
+    _alloc: Global,
+    _desks: &mut [K],
+    door: &mut D,
+    conns: u32,
+    ends: Vec<LineEnd>,
+) -> Attended
+    requires none { ends.items ≡ [] }
+    requires room { conns ≤ vec_capacity ends }
+    requires some { 1 ≤ length _desks.old }
+    requires few { length _desks.old ≤ 64 }
+    ensures few { length result.ends.items ≤ conns }
+    ensures counted { D.lines door.new ≡
+        min (D.lines door.old + length result.ends.items) (2 ^ 64 - 1) }
+    ensures all { result.failed ≡ false →
+        (length result.ends.items ≡ conns) ⊎ (D.ended door.new ≡ true) }
+    ensures failed_rose { result.failed ≡ true → Rose (D.faults door.old) (D.faults door.new) }
+    ensures no_fault { result.failed ≡ false → D.faults door.new ≡ D.faults door.old }
+    ensures never_falls { D.faults door.old ≤ D.faults door.new }
+    ensures stays_fresh { D.fresh door.old → D.fresh door.new }
+{
+    let _ = ends;
+    unreachable!()
+}
