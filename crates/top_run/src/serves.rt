@@ -340,7 +340,7 @@ fn serve_over<
     ensures door_never_falls { D.faults door.old ≤ D.faults door.new }
 {
     match desks_over(rt, alloc, hub, spec.workers, clock, gate) {
-        Ok(desks) => serve_with(rt, alloc, spec, sink, desks, door, ends),
+        Ok(mut desks) => serve_with(rt, alloc, spec, sink, desks.as_mut_slice(), door, ends),
         Err(Memory) => unserved(ends),
     }
 }
@@ -351,12 +351,12 @@ fn serve_with<W: Sink, K: Desk + Send, D: Door, R: Threads + Wait + Sync>(
     alloc: Global,
     spec: &ServeSpec,
     sink: &mut W,
-    desks: Vec<K>,
+    desks: &mut [K],
     door: &mut D,
     ends: Vec<LineEnd>,
 ) -> Served
-    requires some { 1 ≤ length desks.items }
-    requires few { length desks.items ≤ 64 }
+    requires some { 1 ≤ length desks.old }
+    requires few { length desks.old ≤ 64 }
     requires none { ends.items ≡ [] }
     requires room { spec.now.conns ≤ vec_capacity ends }
     ensures attended { IsAttended spec.now result.status (W.taken sink.old) (W.taken sink.new)
@@ -370,7 +370,6 @@ fn serve_with<W: Sink, K: Desk + Send, D: Door, R: Threads + Wait + Sync>(
     ensures sink_never_falls { W.faults sink.old ≤ W.faults sink.new }
     ensures door_never_falls { D.faults door.old ≤ D.faults door.new }
 {
-    let mut desks = desks;
     let mut written = 0;
     if let Err(status) = open_up(spec.addr.as_slice(), sink, door, &mut written) {
         return Served {
@@ -379,14 +378,7 @@ fn serve_with<W: Sink, K: Desk + Send, D: Door, R: Threads + Wait + Sync>(
             written,
         };
     }
-    let Attended { ends, failed } = serve_all(
-        rt,
-        alloc,
-        desks.as_mut_slice(),
-        door,
-        spec.conns,
-        ends,
-    );
+    let Attended { ends, failed } = serve_all(rt, alloc, desks, door, spec.conns, ends);
     let status = if failed {
         Status::DoorFault
     } else {
