@@ -1,5 +1,5 @@
 -- What a server prints and keeps, and how its lines ended.
-use Rattle.std.specs.Prelude.{ℕ, ◌≡◌, ◌+◌, ◌-◌, ◌^◌, ◌≤◌, ◌⊎◌, min, Bool, true, List, [], ◌∷◌, ◌++◌, length, Option, codes, decimal}
+use Rattle.std.specs.Prelude.{ℕ, ◌≡◌, ◌+◌, ◌-◌, ◌^◌, ◌≤◌, ◌⊎◌, Bool, true, List, [], ◌∷◌, ◌++◌, length, Option, codes, decimal}
 use Rattle.iq_outside.specs.Outside.{Rose}
 use Rattle.rows_model.specs.Rows.{Tables}
 use Rattle.session_client.specs.declared.plans.Shape.{Shape}
@@ -50,12 +50,16 @@ IsServedText status.DoorFault lines printed = IsUntold lines printed
 IsServedText status.Memory lines printed = IsUntold lines printed
 IsServedText other lines printed = ⊥
 
+-- A door gave so many lines, unless their number stands at the end of its type.
+abbrev pub HasGiven : ℕ → ℕ → ℕ → Type 0
+HasGiven count before after = (after ≡ before + count) ⊎ (after ≡ 2 ^ 64 - 1)
+
 -- What is so of sink, door and lines where a server ends. There is an end for each line that the
 -- door gave, and no more than were asked for. At Done they are as many, or the door said that no more come.
 pub record IsAttended (spec : ServeSpec) (ended : Status) (taken_old taken_new : Option (List ℕ))
     (before after : DoorTells) (ends : List LineEnd) (written : ℕ) : Type 0 where
   pub few : length ends ≤ spec.conns
-  pub counted : after.lines ≡ min (before.lines + length ends) (2 ^ 64 - 1)
+  pub counted : HasGiven (length ends) before.lines after.lines
   pub all : ended ≡ status.Done → (length ends ≡ spec.conns) ⊎ (after.ended ≡ true)
   pub printed : List ℕ
   pub is_text : IsServedText ended (length ends) printed

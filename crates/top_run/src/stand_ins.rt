@@ -1,5 +1,5 @@
 // Stand-ins for what other crates give: the words of a command, and workers that serve connections.
-ghost use Rattle.std.specs.Prelude.{◌≡◌, ◌≤◌, ◌-◌, ◌+◌, ◌^◌, ◌⊎◌, false, true, [], List, min, map, length, vec_capacity, IfOk, IfErr};
+ghost use Rattle.std.specs.Prelude.{◌≡◌, ◌≤◌, ◌-◌, ◌+◌, ◌^◌, ◌⊎◌, false, true, [], List, map, length, vec_capacity, IfOk, IfErr};
 ghost use Rattle.iq_outside.specs.Outside.{Rose};
 ghost use Rattle.top_run.specs.StandIns.{AreReadAs, AreNoCommand, IsFit};
 
@@ -70,8 +70,8 @@ pub fn serve_all<D: Door, K: Desk + Send, R: Threads + Wait + Sync>(
     requires some { 1 ≤ length _desks.old }
     requires few { length _desks.old ≤ 64 }
     ensures few { length result.ends.items ≤ conns }
-    ensures counted { D.lines door.new ≡
-        min (D.lines door.old + length result.ends.items) (2 ^ 64 - 1) }
+    ensures counted { (D.lines door.new ≡ D.lines door.old + length result.ends.items)
+        ⊎ (D.lines door.new ≡ 2 ^ 64 - 1) }
     ensures all { result.failed ≡ false →
         (length result.ends.items ≡ conns) ⊎ (D.ended door.new ≡ true) }
     ensures failed_rose { result.failed ≡ true → Rose (D.faults door.old) (D.faults door.new) }

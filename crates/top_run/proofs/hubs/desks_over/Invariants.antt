@@ -1,5 +1,5 @@
 use Rattle.std.proofs.Common.{◌≡◌, length}
-use Rattle.top_run.proofs.works.run_over.Given as goal
+use Rattle.top_run.proofs.hubs.desks_over.Given as goal
 
 abbrev pub invariant-loop-worker : goal.invariant-loop-worker
 invariant-loop-worker g l = length l.desks.items ≡ l.worker
