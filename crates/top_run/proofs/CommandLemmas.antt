@@ -1,10 +1,12 @@
 -- The ends of a command, by its words.
-use Rattle.std.proofs.Common.{ℕ, ◌≡◌, ◌<◌, ◌≤◌, ◌-◌, ◌^◌, inl, inr, List, [], length, arith, ap, refl, sym, subst}
-use Rattle.std.specs.Prelude.{◌⊎◌, Option, Result, Ok, Err}
+use Rattle.std.proofs.Common.{ℕ, ◌≡◌, ◌<◌, ◌≤◌, ◌-◌, ◌^◌, inl, inr, List, [], ◌∷◌, length, decimal, arith, ap, refl, sym, ◌∙◌, subst}
+use Rattle.std.specs.Prelude.{Option, Result, Ok, Err, MatchResult}
+use Rattle.std.proofs.lemmas.Fmt.{decimal_injective}
 use Rattle.iq_outside.specs.Outside.{Rose, Takes, TakesAtMost}
 use Rattle.iq_outside.proofs.OutsideLemmas.{Takes-none}
 use Rattle.run_inputs.specs.declared.loads.WorkSpec.{WorkSpec}
 use Rattle.run_inputs.specs.Words.{AreWork}
+use Rattle.run_inputs.proofs.WorkLemmas.{numbers, one_load}
 use Rattle.top_run.specs.declared.runs.Status.{Status}
 use Rattle.top_run.specs.declared.runs.Status.TheVariants as status
 use Rattle.top_run.specs.declared.stand_ins.ServeSpec.{ServeSpec}
@@ -12,42 +14,65 @@ use Rattle.top_run.specs.declared.stand_ins.Words.{Words}
 use Rattle.top_run.specs.declared.stand_ins.Words.TheVariants as words
 use Rattle.top_run.specs.declared.stand_ins.WordsFault.{WordsFault}
 use Rattle.top_run.specs.declared.stand_ins.WordsFault.TheVariants as fault
-use Rattle.top_run.specs.Commands.{IsUnread, EndedAs, CommandEnded}
+use Rattle.top_run.specs.Commands.{IsUnread, IsReading, EndedAs, CommandEnded}
 use Rattle.top_run.specs.Runs.{AreReplay, Held, Tells, Left, IsUnasked, Ended, most_taken}
 use Rattle.top_run.specs.Serves.{Course, ServeEnded}
-use Rattle.top_run.specs.StandIns.{AreServe, AreReadAs, AreNoCommand}
+use Rattle.top_run.specs.StandIns.{AreServe, AreWords}
 use Rattle.top_run.specs.Works.{WorkEnded}
 use Rattle.top_run.proofs.ServeLemmas.{same_server}
 
--- ---- which words are read as which command
+-- ---- what words that are a command's, word for word, are read as
 
-no_replay : (spoken : List (List ℕ)) (read : Result Words WordsFault) → AreReadAs spoken read → (read ≡ Ok words.Replay → ⊥) → (read ≡ Err fault.Memory → ⊥)
-    → AreReplay spoken → ⊥
-no_replay spoken read as other no_memory are = by (as.replay are)
-  where
-    by : ((read ≡ Ok words.Replay) ⊎ (read ≡ Err fault.Memory)) → ⊥
-    by (inl is) = other is
-    by (inr is) = no_memory is
+-- they are read as a command that they are, or memory runs out
+abbrev pub Accepts : List (List ℕ) → Result Words WordsFault → Type 0
+Accepts spoken read = (command : Words) → AreWords spoken command → MatchResult read (AreWords spoken) (λ why. why ≡ fault.Memory)
 
-no_work : (spoken : List (List ℕ)) (read : Result Words WordsFault) → AreReadAs spoken read → (spec : WorkSpec)
-    → (read ≡ Ok (words.Work spec) → ⊥) → (read ≡ Err fault.Memory → ⊥) → AreWork spoken spec → ⊥
-no_work spoken read as spec other no_memory are = by (as.work spec are)
-  where
-    by : ((read ≡ Ok (words.Work spec)) ⊎ (read ≡ Err fault.Memory)) → ⊥
-    by (inl is) = other is
-    by (inr is) = no_memory is
+-- words of one command are of no other
+replay_or_work : (spoken : List (List ℕ)) → AreReplay spoken → (spec : WorkSpec) → AreWork spoken spec → ⊥
+replay_or_work spoken one spec six =
+    let lengths : length spoken ≡ 1 = ap length one in
+    let others : length spoken ≡ 6 = ap length six.written in
+    absurd (omega (arith, lengths, others))
 
--- words that can't be read are no command
-pub none_of : (spoken : List (List ℕ)) → AreReadAs spoken (Err fault.Usage) → AreNoCommand spoken
-none_of spoken as = record {
-  no_replay = λ are. no_replay spoken (Err fault.Usage) as (λ is. cc) (λ is. cc) are;
-  no_work = λ spec are. no_work spoken (Err fault.Usage) as spec (λ is. cc) (λ is. cc) are;
-  no_serve = λ spec are. as.serve spec are;
-}
+replay_or_serve : (spoken : List (List ℕ)) → AreReplay spoken → (spec : ServeSpec) → AreServe spoken spec → ⊥
+replay_or_serve spoken one spec six =
+    let lengths : length spoken ≡ 1 = ap length one in
+    let others : length spoken ≡ 6 = ap length six.written in
+    absurd (omega (arith, lengths, others))
 
-same_load : (spec found : WorkSpec) → ((Ok (words.Work spec) ≡ Ok (words.Work found)) ⊎ (Ok (words.Work spec) ≡ Err fault.Memory)) → spec ≡ found
-same_load spec found (inl is) = cc
-same_load spec found (inr is) = absurd cc
+work_or_serve : (spoken : List (List ℕ)) (spec : WorkSpec) → AreWork spoken spec → (other : ServeSpec) → AreServe spoken other → ⊥
+work_or_serve spoken spec work other serve =
+    let same = sym work.written ∙ serve.written in
+    cc
+
+-- they are those of one load at most
+same_load : (spoken : List (List ℕ)) (spec other : WorkSpec) → AreWork spoken spec → AreWork spoken other → spec ≡ other
+same_load spoken spec other h k =
+    one_load (decimal spec.members) (decimal spec.sessions) (decimal spec.workers) (decimal spec.shards) (decimal spec.seed) spec other
+    (numbers spoken (decimal spec.members) (decimal spec.sessions) (decimal spec.workers) (decimal spec.shards) (decimal spec.seed) h.written spec h)
+    (numbers spoken (decimal spec.members) (decimal spec.sessions) (decimal spec.workers) (decimal spec.shards) (decimal spec.seed) h.written other k)
+
+-- and of one server's numbers
+same_conns : (spoken : List (List ℕ)) (spec other : ServeSpec) → AreServe spoken spec → AreServe spoken other → spec.conns ≡ other.conns
+same_conns spoken spec other h k =
+    let low = h.fits.few_conns in
+    let high = k.fits.few_conns in
+    let same = sym h.written ∙ k.written in
+    decimal_injective spec.conns other.conns (omega arith) (omega arith) cc
+
+same_members : (spoken : List (List ℕ)) (spec other : ServeSpec) → AreServe spoken spec → AreServe spoken other → spec.members ≡ other.members
+same_members spoken spec other h k =
+    let low = h.fits.few_members in
+    let high = k.fits.few_members in
+    let same = sym h.written ∙ k.written in
+    decimal_injective spec.members other.members (omega arith) (omega arith) cc
+
+same_shards : (spoken : List (List ℕ)) (spec other : ServeSpec) → AreServe spoken spec → AreServe spoken other → spec.shards ≡ other.shards
+same_shards spoken spec other h k =
+    let low = h.fits.few_shards in
+    let high = k.fits.few_shards in
+    let same = sym h.written ∙ k.written in
+    decimal_injective spec.shards other.shards (omega arith) (omega arith) cc
 
 -- ---- where nothing was done
 
@@ -61,70 +86,76 @@ took_none : (course : Course) → course.after ≡ course.before → TakesAtMost
 took_none course same = (
   [],
   subst (λ (t : Tells). Takes course.before.left t.left []) (sym same) (Takes-none course.before.left),
-  arith,
+  omega arith,
 )
 
 -- ---- how a command ends, by what its words were read as
 
-replayed_of : (spoken : List (List ℕ)) (read : Result Words WordsFault) (ended : Status) (course : Course) → AreReadAs spoken read
+replayed_of : (spoken : List (List ℕ)) (read : Result Words WordsFault) (ended : Status) (course : Course) → Accepts spoken read
     → EndedAs read ended course → AreReplay spoken → Ended ended course.held course.before course.after course.left course.written
-replayed_of spoken (Ok words.Replay) ended course as h are = h.0
-replayed_of spoken (Ok (words.Work spec)) ended course as h are =
-    absurd (no_replay spoken (Ok (words.Work spec)) as (λ is. cc) (λ is. cc) are)
-replayed_of spoken (Ok (words.Serve spec)) ended course as h are =
-    absurd (no_replay spoken (Ok (words.Serve spec)) as (λ is. cc) (λ is. cc) are)
-replayed_of spoken (Ok (words.Told text)) ended course as h are = absurd (no_replay spoken (Ok (words.Told text)) as (λ is. cc) (λ is. cc) are)
-replayed_of spoken (Err fault.Usage) ended course as h are = absurd (no_replay spoken (Err fault.Usage) as (λ is. cc) (λ is. cc) are)
-replayed_of spoken (Err fault.Memory) ended course as h are =
+replayed_of spoken (Ok words.Replay) ended course accepts h are = h.0
+replayed_of spoken (Ok (words.Work spec)) ended course accepts h are = absurd (replay_or_work spoken are spec (accepts words.Replay are))
+replayed_of spoken (Ok (words.Serve spec)) ended course accepts h are = absurd (replay_or_serve spoken are spec (accepts words.Replay are))
+replayed_of spoken (Ok (words.Told text)) ended course accepts h are = absurd (accepts words.Replay are)
+replayed_of spoken (Err fault.Usage) ended course accepts h are =
+    let none : fault.Usage ≡ fault.Memory = accepts words.Replay are in absurd cc
+replayed_of spoken (Err fault.Memory) ended course accepts h are =
     let same = h.1.same in
     subst (λ (e : Status). Ended e course.held course.before course.after course.left course.written) (sym h.0)
     (inl (took_none course same, unasked_of course same, h.1.nothing))
 
-worked_of : (spoken : List (List ℕ)) (read : Result Words WordsFault) (ended : Status) (course : Course) → AreReadAs spoken read
+worked_of : (spoken : List (List ℕ)) (read : Result Words WordsFault) (ended : Status) (course : Course) → Accepts spoken read
     → EndedAs read ended course → (spec : WorkSpec) → AreWork spoken spec
     → IsUnread course.before course.after × WorkEnded ended spec course.held course.before course.after course.left course.written
-worked_of spoken (Ok words.Replay) ended course as h spec are = absurd (no_work spoken (Ok words.Replay) as spec (λ is. cc) (λ is. cc) are)
-worked_of spoken (Ok (words.Work found)) ended course as h spec are = (
+worked_of spoken (Ok words.Replay) ended course accepts h spec are =
+    absurd (replay_or_work spoken (accepts (words.Work spec) are) spec are)
+worked_of spoken (Ok (words.Work found)) ended course accepts h spec are = (
   h.0,
   subst (λ (s : WorkSpec). WorkEnded ended s course.held course.before course.after course.left course.written)
-  (same_load found spec (as.work spec are)) h.1,
+      (same_load spoken found spec (accepts (words.Work spec) are) are) h.1,
 )
-worked_of spoken (Ok (words.Serve found)) ended course as h spec are =
-    absurd (no_work spoken (Ok (words.Serve found)) as spec (λ is. cc) (λ is. cc) are)
-worked_of spoken (Ok (words.Told text)) ended course as h spec are =
-    absurd (no_work spoken (Ok (words.Told text)) as spec (λ is. cc) (λ is. cc) are)
-worked_of spoken (Err fault.Usage) ended course as h spec are = absurd (no_work spoken (Err fault.Usage) as spec (λ is. cc) (λ is. cc) are)
-worked_of spoken (Err fault.Memory) ended course as h spec are =
+worked_of spoken (Ok (words.Serve found)) ended course accepts h spec are =
+    absurd (work_or_serve spoken spec are found (accepts (words.Work spec) are))
+worked_of spoken (Ok (words.Told text)) ended course accepts h spec are = absurd (accepts (words.Work spec) are)
+worked_of spoken (Err fault.Usage) ended course accepts h spec are =
+    let none : fault.Usage ≡ fault.Memory = accepts (words.Work spec) are in absurd cc
+worked_of spoken (Err fault.Memory) ended course accepts h spec are =
     let same = h.1.same in (
       unread_of course same,
       subst (λ (e : Status). WorkEnded e spec course.held course.before course.after course.left course.written) (sym h.0)
-      (inl (unasked_of course same, h.1.nothing)),
+          (inl (unasked_of course same, h.1.nothing)),
     )
 
-served_of : (spoken : List (List ℕ)) (read : Result Words WordsFault) (ended : Status) (course : Course) → AreReadAs spoken read
+served_of : (spoken : List (List ℕ)) (read : Result Words WordsFault) (ended : Status) (course : Course) → Accepts spoken read
     → EndedAs read ended course → (spec : ServeSpec) → AreServe spoken spec → IsUnread course.before course.after × ServeEnded ended spec course
-served_of spoken (Ok words.Replay) ended course as h spec are = absurd (as.serve spec are)
-served_of spoken (Ok (words.Work found)) ended course as h spec are = absurd (as.serve spec are)
-served_of spoken (Ok (words.Serve found)) ended course as h spec are =
-    let same = as.serve spec are in (h.0, same_server found spec ended course same.1 same.4 same.3 h.1)
-served_of spoken (Ok (words.Told text)) ended course as h spec are = absurd (as.serve spec are)
-served_of spoken (Err fault.Usage) ended course as h spec are = absurd (as.serve spec are)
-served_of spoken (Err fault.Memory) ended course as h spec are =
+served_of spoken (Ok words.Replay) ended course accepts h spec are =
+    absurd (replay_or_serve spoken (accepts (words.Serve spec) are) spec are)
+served_of spoken (Ok (words.Work found)) ended course accepts h spec are =
+    absurd (work_or_serve spoken found (accepts (words.Serve spec) are) spec are)
+served_of spoken (Ok (words.Serve found)) ended course accepts h spec are =
+    let too : AreServe spoken found = accepts (words.Serve spec) are in (
+      h.0,
+      same_server found spec ended course (same_conns spoken found spec too are)
+          (same_members spoken found spec too are) (same_shards spoken found spec too are) h.1,
+    )
+served_of spoken (Ok (words.Told text)) ended course accepts h spec are = absurd (accepts (words.Serve spec) are)
+served_of spoken (Err fault.Usage) ended course accepts h spec are =
+    let none : fault.Usage ≡ fault.Memory = accepts (words.Serve spec) are in absurd cc
+served_of spoken (Err fault.Memory) ended course accepts h spec are =
     let same = h.1.same in (
       unread_of course same,
       subst (λ (e : Status). ServeEnded e spec course) (sym h.0) (inl (unasked_of course same, h.1.nothing, h.1.unserved)),
     )
 
 pub command_ended : (spoken : List (List ℕ)) (read : Result Words WordsFault) (ended : Status) (course : Course)
-    → AreReadAs spoken read → EndedAs read ended course → (ended ≡ status.Usage → read ≡ Err fault.Usage) → CommandEnded spoken ended course
-command_ended spoken read ended course as h only = record {
-  replayed = replayed_of spoken read ended course as h;
-  worked = worked_of spoken read ended course as h;
-  served = served_of spoken read ended course as h;
+    → Accepts spoken read → IsReading spoken read → EndedAs read ended course → CommandEnded spoken ended course
+command_ended spoken read ended course accepts reading h = record {
+  replayed = replayed_of spoken read ended course accepts h;
+  worked = worked_of spoken read ended course accepts h;
+  served = served_of spoken read ended course accepts h;
   read = read;
-  read_as = as;
+  is_reading = reading;
   ended_as = h;
-  refused = λ is. none_of spoken (subst (AreReadAs spoken) (only is) as);
 }
 
 -- where the keeper's count of faults stands below the end of its type, no call of it failed

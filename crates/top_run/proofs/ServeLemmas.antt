@@ -1,6 +1,6 @@
 -- The ends of a server.
-use Rattle.std.proofs.Common.{ℕ, ◌≡◌, ◌≤◌, ◌++◌, ◌∷◌, List, [], length, ap, sym, ◌∙◌, refl, subst, inl, inr}
-use Rattle.std.specs.Prelude.{◌⊎◌, Bool, true, false, Option}
+use Rattle.std.proofs.Common.{ℕ, ◌≡◌, ◌≤◌, ◌++◌, ◌∷◌, List, [], length, decimal, append_assoc, arith, ap, sym, ◌∙◌, refl, subst, inl, inr}
+use Rattle.std.specs.Prelude.{◌⊎◌, true, false, codes, Option}
 use Rattle.session_client.specs.declared.plans.Shape.{Shape}
 use Rattle.top_run.specs.declared.runs.Status.{Status}
 use Rattle.top_run.specs.declared.runs.Status.TheVariants as status
@@ -8,8 +8,48 @@ use Rattle.top_run.specs.declared.stand_ins.LineEnd.{LineEnd}
 use Rattle.top_run.specs.declared.stand_ins.ServeSpec.{ServeSpec}
 use Rattle.top_run.specs.Runs.{Prints, is_read_fault}
 use Rattle.top_run.specs.Works.{IsKept}
-use Rattle.top_run.specs.Serves.{serve_shape, ready_line, serve_text, DoorTells, IsServedText, IsAttended, Course, IsServed, ServeEnded}
+use Rattle.top_run.specs.Serves.{serve_shape, ready_line, served_line, serve_text, DoorTells, IsServedText, IsAttended, Course, IsServed, ServeEnded}
 use Rattle.top_run.proofs.PrintLemmas.{print_none}
+
+-- ---- what is written
+
+pub ready_is : ready_line ≡ codes "ready\n"
+unfolding ready_line
+ready_is = refl
+
+-- the first bytes of the first line are the first of all that is written
+pub ready_cut : (front rest : List ℕ) (lines : ℕ) → front ++ rest ≡ codes "ready\n" → front ++ (rest ++ served_line lines) ≡ serve_text lines
+ready_cut front rest lines parts =
+    sym (append_assoc front rest (served_line lines)) ∙ ap (λ (bytes : List ℕ). bytes ++ served_line lines) (parts ∙ sym ready_is)
+
+-- the last line, word by word
+pub served_is : (lines : ℕ) → served_line lines ≡ (codes "served " ++ decimal lines) ++ 10 ∷ []
+unfolding served_line
+served_is lines = refl
+
+-- and the first bytes of the last line behind the first are too
+pub served_cut : (front rest : List ℕ) (lines : ℕ) → front ++ rest ≡ served_line lines → (ready_line ++ front) ++ rest ≡ serve_text lines
+served_cut front rest lines parts = append_assoc ready_line front rest ∙ ap (λ (bytes : List ℕ). ready_line ++ bytes) parts
+
+-- where no line was served
+pub unattended : (spec : ServeSpec) (ended : Status) (taken_old taken_new : Option (List ℕ)) (before after : DoorTells) (printed : List ℕ) (written : ℕ)
+    → after.lines ≡ before.lines → (ended ≡ status.Done → ⊥) → IsServedText ended 0 printed → Prints taken_old taken_new printed written
+    → IsAttended spec ended taken_old taken_new before after [] written
+unattended spec ended taken_old taken_new before after printed written same unfinished text prints = record {
+  few = omega arith;
+  counted = inl (omega (arith, same));
+  all = λ done. absurd (unfinished done);
+  printed = printed;
+  is_text = text;
+  prints = prints;
+}
+
+-- where memory ran out before the door was bound
+pub unattended_short : (spec : ServeSpec) (taken : Option (List ℕ)) (door : DoorTells) (ends : List LineEnd) → ends ≡ []
+    → IsAttended spec status.Memory taken taken door door ends 0
+unattended_short spec taken door ends none =
+    subst (λ (l : List LineEnd). IsAttended spec status.Memory taken taken door door l 0) (sym none)
+    (unattended spec status.Memory taken taken door door [] 0 refl (λ is. cc) (inl (refl, refl)) (print_none taken))
 
 -- ---- which ends there are
 

@@ -11,7 +11,7 @@ use Rattle.top_run.specs.declared.stand_ins.WordsFault.{WordsFault}
 use Rattle.top_run.specs.declared.stand_ins.WordsFault.TheVariants as fault
 use Rattle.top_run.specs.Runs.{AreReplay, Tells, Left, Prints, IsUnasked, IsNotStarted, Ended}
 use Rattle.top_run.specs.Serves.{Course, IsUnserved, ServeEnded}
-use Rattle.top_run.specs.StandIns.{AreServe, AreReadAs, AreNoCommand}
+use Rattle.top_run.specs.StandIns.{AreServe, AreWords, AreReadAs, IsRead}
 use Rattle.top_run.specs.Works.{WorkEnded}
 
 -- The source is as before.
@@ -58,9 +58,20 @@ EndedAs (Ok (words.Told text)) ended course =
 EndedAs (Err fault.Usage) ended course = (ended ≡ status.Usage) × IsRefused course
 EndedAs (Err fault.Memory) ended course = (ended ≡ status.Memory) × IsRefused course
 
+-- The words are no command: neither word for word, nor as they are read.
+pub record AreNoCommand (words : List (List ℕ)) : Type 0 where
+  pub no_words : (command : Words) → AreWords words command → ⊥
+  pub no_reading : (command : Words) → AreReadAs words command → ⊥
+
+-- The words can be read so: as a command or as asking for a text, or they are none, or memory runs out.
+abbrev pub IsReading : List (List ℕ) → Result Words WordsFault → Type 0
+IsReading words (Ok command) = IsRead words command
+IsReading words (Err fault.Usage) = AreNoCommand words
+IsReading words (Err fault.Memory) = Unit {0}
+
 -- What is so at an end of a command, by its words. The word `replay` alone replays a script, as
 -- the call of that name does. The words of a load run it, and those of a server serve; both read nothing.
--- Other words end as what they are read as.
+-- Words that aren't those of a command, word for word, end as what they are read as.
 pub record CommandEnded (words : List (List ℕ)) (ended : Status) (course : Course) : Type 0 where
   pub replayed : AreReplay words → Ended ended course.held course.before course.after course.left course.written
   pub worked : (spec : WorkSpec) → AreWork words spec
@@ -68,6 +79,5 @@ pub record CommandEnded (words : List (List ℕ)) (ended : Status) (course : Cou
       × WorkEnded ended spec course.held course.before course.after course.left course.written
   pub served : (spec : ServeSpec) → AreServe words spec → IsUnread course.before course.after × ServeEnded ended spec course
   pub read : Result Words WordsFault
-  pub read_as : AreReadAs words read
+  pub is_reading : IsReading words read
   pub ended_as : EndedAs read ended course
-  pub refused : ended ≡ status.Usage → AreNoCommand words

@@ -5,9 +5,8 @@ ghost use Rattle.run_inputs.specs.Fit.{IsPlayable};
 ghost use Rattle.core_history.specs.Cores.{shards_in, origin_of};
 ghost use Rattle.top_run.specs.declared.runs.Status.{Status};
 ghost use Rattle.top_run.specs.Runs.{AreReplay, Ended, Held, Left, held_at, moment, IsRead, IsOpened, RoseWhere, is_read_fault, is_write_fault, is_door_fault};
-ghost use Rattle.top_run.specs.Commands.{CommandEnded};
+ghost use Rattle.top_run.specs.Commands.{AreNoCommand, CommandEnded};
 ghost use Rattle.top_run.specs.Serves.{Course, door_at};
-ghost use Rattle.top_run.specs.StandIns.{AreNoCommand};
 ghost use Rattle.top_run.specs.Plays.{IsNew, IsFinished, IsStopped, IsUnread, at_write};
 
 use crate::endings::{ended_run, not_started, start_status};

@@ -1,7 +1,9 @@
 // Stand-ins for what other crates give: the words of a command, and workers that serve connections.
-ghost use Rattle.std.specs.Prelude.{◌≡◌, ◌≤◌, ◌-◌, ◌+◌, ◌^◌, ◌⊎◌, false, true, [], List, map, length, vec_capacity, IfOk, IfErr};
+ghost use Rattle.std.specs.Prelude.{◌≡◌, ◌≤◌, ◌-◌, ◌+◌, ◌^◌, ◌⊎◌, false, true, [], List, map, length, vec_capacity, IfOk, Err, MatchResult};
 ghost use Rattle.iq_outside.specs.Outside.{Rose};
-ghost use Rattle.top_run.specs.StandIns.{AreReadAs, AreNoCommand, IsFit};
+ghost use Rattle.top_run.specs.StandIns.{AreReadAs, AreWords, IsRead};
+ghost use Rattle.top_run.specs.declared.stand_ins.Words.{Words};
+ghost use Rattle.top_run.specs.declared.stand_ins.WordsFault.{WordsFault};
 
 use iq_outside::Door;
 use run_inputs::WorkSpec;
@@ -34,8 +36,12 @@ pub enum WordsFault {
 }
 
 pub fn read_words(_alloc: Global, words: &[Vec<u8>]) -> Result<Words, WordsFault>
-    ensures read { AreReadAs (map (λ word. word.items) words.now) result }
-    ensures fit { IfOk result IsFit }
+    ensures read { IfOk result (IsRead (map (λ word. word.items) words.now)) }
+    ensures usage { result ≡ Err WordsFault.Usage → (command : Words) →
+        AreReadAs (map (λ word. word.items) words.now) command → ⊥ }
+    ensures accepts { (command : Words) → AreWords (map (λ word. word.items) words.now) command →
+        MatchResult result (AreWords (map (λ word. word.items) words.now))
+        (λ fault. fault ≡ WordsFault.Memory) }
 {
     let _ = words;
     unreachable!()
