@@ -1,4 +1,4 @@
-use iq_outside::{ListClock, MemSink, MemSource, OpenGate, read_up_to};
+use iq_outside::{ListClock, ListDoor, MemSink, MemSource, OpenGate, read_up_to};
 use run_inputs::ScriptKind;
 use sql_keeper::MapKeeper;
 use std::alloc::Global;
@@ -267,6 +267,7 @@ fn run_over<R: Threads + Wait + Sync>(
         Vec::from_slice(alloc, writes_fail)?,
     )?;
     let keeper = MapKeeper::new(Vec::from_slice(alloc, keeps_fail)?);
+    let mut door = ListDoor::new(alloc, Vec::new(alloc), Vec::new(alloc))?;
     let clock = ListClock::new(vec![in alloc; 0]?);
     let end = run(
         rt,
@@ -275,6 +276,7 @@ fn run_over<R: Threads + Wait + Sync>(
         &mut source,
         &mut sink,
         keeper,
+        &mut door,
         &clock,
         &OpenGate,
     );
