@@ -46,7 +46,7 @@ use Rattle.top_run.specs.declared.runs.Status.TheVariants as status
 use Rattle.top_run.specs.Runs.{Prints, calls_of, AreMoves, AreFirstMoves, past_of, out, Held, Tells, Left, IsRead, IsOpened, Keeps, IsWhole}
 use Rattle.top_run.specs.Runs.{IsCutOff, IsNotStarted, Ended}
 use Rattle.callers.specs.Shards.{MeetsItsFloor, HitsMeetTheirFloors}
-use Rattle.callers.specs.Runs.{IsFreshRun, IsCleanLoad, HitsHoldCommits, AreAlike}
+use Rattle.callers.specs.Runs.{IsFreshRun, IsCleanLoad, IsDoneServer, HitsHoldCommits, AreAlike}
 
 -- a run that began
 pub record Began (held : Held) (before after : Tells) (left : Left) : Type 0 where

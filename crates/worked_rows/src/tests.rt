@@ -404,7 +404,7 @@ fn of_a_text_that_is_too_long_no_more_is_read(rt: HostRuntime) -> Result<(), Fai
 #[test]
 fn other_words_are_refused_and_nothing_is_read(rt: HostRuntime) -> Result<(), Fail> {
     let text = b"members 3\nend\n";
-    let cases: [&[&str]; 11] = [
+    let cases: [&[&str]; 17] = [
         &[],
         &[""],
         &["work"],
@@ -413,6 +413,12 @@ fn other_words_are_refused_and_nothing_is_read(rt: HostRuntime) -> Result<(), Fa
         &["work", "3", "0", "65", "1", "1"],
         &["work", "3", "0", "1", "1", "01"],
         &["work", "3", "0", "1", "1", "1", "1"],
+        &["serve", "x", "0", "1", "1", "3"],
+        &["serve", "x", "1", "65", "1", "3"],
+        &["serve", "x", "1", "1", "1", "03"],
+        &["serve", "", "1", "1", "1", "3"],
+        &["serve", "-x", "1", "1", "1", "3"],
+        &["serve", "x", "1", "1", "1"],
         &["replay", "replay"],
         &["replay", "x"],
         &["Replay"],
