@@ -36,9 +36,9 @@ const LINES: [(&str, &str, &str, LineEnd); 6] = [
         },
     ),
     (
-        "a writer, and a reader behind it",
-        "begin write;qareg profile:2 1;sql 1 rename 2 bob;iqget profile:2 1 0;dar profile:2 1;begin read;iqget profile:2 2 1;ask profile:2 2;iqset profile:2 0 0 7 2 1;bob 0 0;quit;",
-        "SESSION 1;GRANTED 1;COMMITTED 1;OWN;DELETED;SESSION 2;LEASE 2;VALUE profile:2 0 7 1;bob 0 0;END;STORED;",
+        "a reader, a writer, and a reader behind it",
+        "begin read;iqget profile:2 1 0;ask profile:2 1;iqset profile:2 0 0 6 1 0;m2 0 0;iqget profile:2 1 0;begin write;qareg profile:2 2;sql 2 rename 2 bob;iqget profile:2 2 0;dar profile:2 2;begin read;iqget profile:2 3 1;ask profile:2 3;iqset profile:2 0 0 7 3 1;bob 0 0;quit;",
+        "SESSION 1;LEASE 1;VALUE profile:2 0 6 0;m2 0 0;END;STORED;VALUE profile:2 0 6 0;m2 0 0;END;SESSION 2;GRANTED 2;COMMITTED 1;OWN;DELETED;SESSION 3;LEASE 3;VALUE profile:2 0 7 1;bob 0 0;END;STORED;",
         LineEnd::Quit,
     ),
     (
