@@ -1,6 +1,6 @@
 -- The ends of a server.
 use Rattle.std.proofs.Common.{ℕ, ◌≡◌, ◌≤◌, ◌++◌, ◌∷◌, List, [], length, decimal, append_assoc, arith, ap, sym, ◌∙◌, refl, subst, inl, inr}
-use Rattle.std.specs.Prelude.{◌⊎◌, true, false, codes, Option}
+use Rattle.std.specs.Prelude.{◌⊎◌, true, false, codes, Option, None, Some}
 use Rattle.session_client.specs.declared.plans.Shape.{Shape}
 use Rattle.top_run.specs.declared.runs.Status.{Status}
 use Rattle.top_run.specs.declared.runs.Status.TheVariants as status
@@ -8,7 +8,8 @@ use Rattle.top_run.specs.declared.stand_ins.LineEnd.{LineEnd}
 use Rattle.top_run.specs.declared.stand_ins.ServeSpec.{ServeSpec}
 use Rattle.top_run.specs.Runs.{Prints, is_read_fault}
 use Rattle.top_run.specs.Works.{IsKept}
-use Rattle.top_run.specs.Serves.{serve_shape, ready_line, served_line, serve_text, DoorTells, IsServedText, IsAttended, Course, IsServed, ServeEnded}
+use Rattle.top_run.specs.Serves.{serve_shape, ready_line, served_line, serve_text, IsServedText, IsAttended, Course, IsServed, ServeEnded}
+use Rattle.top_run.specs.StandIns.{Told, GivesBack}
 use Rattle.top_run.proofs.PrintLemmas.{print_none}
 
 -- ---- what is written
@@ -31,13 +32,19 @@ served_is lines = refl
 pub served_cut : (front rest : List ℕ) (lines : ℕ) → front ++ rest ≡ served_line lines → (ready_line ++ front) ++ rest ≡ serve_text lines
 served_cut front rest lines parts = append_assoc ready_line front rest ∙ ap (λ (bytes : List ℕ). ready_line ++ bytes) parts
 
--- where no line was served
-pub unattended : (spec : ServeSpec) (ended : Status) (taken_old taken_new : Option (List ℕ)) (before after : DoorTells) (printed : List ℕ) (written : ℕ)
-    → after.lines ≡ before.lines → (ended ≡ status.Done → ⊥) → IsServedText ended 0 printed → Prints taken_old taken_new printed written
+-- where no line was served none was handed back
+none_back : (closed : Option ℕ) → GivesBack 0 closed closed
+none_back None = inl refl
+none_back (Some count) = inr (ap (λ (n : ℕ). Some n) (omega arith))
+
+pub unattended : (spec : ServeSpec) (ended : Status) (taken_old taken_new : Option (List ℕ)) (before after : Told) (printed : List ℕ) (written : ℕ)
+    → after.lines ≡ before.lines → after.closed ≡ before.closed
+    → (ended ≡ status.Done → ⊥) → IsServedText ended 0 printed → Prints taken_old taken_new printed written
     → IsAttended spec ended taken_old taken_new before after [] written
-unattended spec ended taken_old taken_new before after printed written same unfinished text prints = record {
+unattended spec ended taken_old taken_new before after printed written same closed unfinished text prints = record {
   few = omega arith;
-  counted = inl (omega (arith, same));
+  counted = same;
+  given_back = subst (λ (o : Option ℕ). GivesBack 0 before.closed o) (sym closed) (none_back before.closed);
   all = λ done. absurd (unfinished done);
   printed = printed;
   is_text = text;
@@ -45,11 +52,11 @@ unattended spec ended taken_old taken_new before after printed written same unfi
 }
 
 -- where memory ran out before the door was bound
-pub unattended_short : (spec : ServeSpec) (taken : Option (List ℕ)) (door : DoorTells) (ends : List LineEnd) → ends ≡ []
+pub unattended_short : (spec : ServeSpec) (taken : Option (List ℕ)) (door : Told) (ends : List LineEnd) → ends ≡ []
     → IsAttended spec status.Memory taken taken door door ends 0
 unattended_short spec taken door ends none =
     subst (λ (l : List LineEnd). IsAttended spec status.Memory taken taken door door l 0) (sym none)
-    (unattended spec status.Memory taken taken door door [] 0 refl (λ is. cc) (inl (refl, refl)) (print_none taken))
+    (unattended spec status.Memory taken taken door door [] 0 refl refl (λ is. cc) (inl (refl, refl)) (print_none taken))
 
 -- ---- which ends there are
 
@@ -101,6 +108,7 @@ same_served found spec ended course conns members shards h = record {
   attended = record {
     few = subst (λ (n : ℕ). length course.ends ≤ n) conns h.attended.few;
     counted = h.attended.counted;
+    given_back = h.attended.given_back;
     all = λ done. subst (λ (n : ℕ). (length course.ends ≡ n) ⊎ (course.door_after.ended ≡ true)) conns (h.attended.all done);
     printed = h.attended.printed;
     is_text = h.attended.is_text;

@@ -26,7 +26,7 @@ IsTextPart status.WriteFault text printed = (more : List ℕ) × (printed ++ mor
 IsTextPart other text printed = ⊥
 
 -- A text was asked for, and nothing was run.
-pub record IsTold (text : List ℕ) (ended : Status) (before after : Tells) (left : Left) (written : ℕ) : Type 0 where
+pub record IsTextTold (text : List ℕ) (ended : Status) (before after : Tells) (left : Left) (written : ℕ) : Type 0 where
   pub printed : List ℕ
   pub is_part : IsTextPart ended text printed
   pub prints : Prints before.taken after.taken printed written
@@ -53,7 +53,7 @@ EndedAs (Ok (words.Work spec)) ended course =
 EndedAs (Ok (words.Serve spec)) ended course = IsUnread course.before course.after × ServeEnded ended spec course
 EndedAs (Ok (words.Told text)) ended course =
     IsUnread course.before course.after
-    × IsTold text.items ended course.before course.after course.left course.written
+    × IsTextTold text.items ended course.before course.after course.left course.written
     × IsUnserved course
 EndedAs (Err fault.Usage) ended course = (ended ≡ status.Usage) × IsRefused course
 EndedAs (Err fault.Memory) ended course = (ended ≡ status.Memory) × IsRefused course

@@ -1,5 +1,5 @@
 -- What a server prints and keeps, and how its lines ended.
-use Rattle.std.specs.Prelude.{ℕ, ◌≡◌, ◌+◌, ◌-◌, ◌^◌, ◌≤◌, ◌⊎◌, Bool, true, List, [], ◌∷◌, ◌++◌, length, Option, codes, decimal}
+use Rattle.std.specs.Prelude.{ℕ, ◌≡◌, ◌≤◌, ◌⊎◌, true, List, [], ◌∷◌, ◌++◌, length, Option, codes, decimal}
 use Rattle.iq_outside.specs.Outside.{Rose}
 use Rattle.rows_model.specs.Rows.{Tables}
 use Rattle.session_client.specs.declared.plans.Shape.{Shape}
@@ -9,6 +9,7 @@ use Rattle.top_run.specs.declared.runs.Status.TheVariants as status
 use Rattle.top_run.specs.declared.stand_ins.LineEnd.{LineEnd}
 use Rattle.top_run.specs.declared.stand_ins.ServeSpec.{ServeSpec}
 use Rattle.top_run.specs.Runs.{Held, Tells, Left, Prints, IsUnasked, IsNotStarted}
+use Rattle.top_run.specs.StandIns.{Told, GivesBack, count_up_by}
 use Rattle.top_run.specs.Works.{IsKept}
 
 -- The shape of a server's hub: so many members and shards, room for 4,096 entries in each, and leases that live 10 seconds.
@@ -27,16 +28,6 @@ served_line lines = line (codes "served" ∷ decimal lines ∷ [])
 abbrev pub serve_text : ℕ → List ℕ
 serve_text lines = ready_line ++ served_line lines
 
--- What is known of a door: how often it failed, how many lines it gave, and whether it said that no more come.
-pub record DoorTells : Type 0 where
-  pub faults : ℕ
-  pub lines : ℕ
-  pub ended : Bool
-
--- The door of which these are known.
-abbrev pub door_at : ℕ → ℕ → Bool → DoorTells
-door_at faults lines ended = record { faults = faults; lines = lines; ended = ended }
-
 -- What was written before the last line: nothing where no line was served yet, or that the door is bound.
 abbrev pub IsUntold : ℕ → List ℕ → Type 0
 IsUntold lines printed = ((lines ≡ 0) × (printed ≡ [])) ⊎ (printed ≡ ready_line)
@@ -50,16 +41,14 @@ IsServedText status.DoorFault lines printed = IsUntold lines printed
 IsServedText status.Memory lines printed = IsUntold lines printed
 IsServedText other lines printed = ⊥
 
--- A door gave so many lines, unless their number stands at the end of its type.
-abbrev pub HasGiven : ℕ → ℕ → ℕ → Type 0
-HasGiven count before after = (after ≡ before + count) ⊎ (after ≡ 2 ^ 64 - 1)
-
 -- What is so of sink, door and lines where a server ends. There is an end for each line that the
--- door gave, and no more than were asked for. At Done they are as many, or the door said that no more come.
+-- door gave, each line was handed back, and they are no more than were asked for. At Done they are as many, or the door
+-- said that no more come.
 pub record IsAttended (spec : ServeSpec) (ended : Status) (taken_old taken_new : Option (List ℕ))
-    (before after : DoorTells) (ends : List LineEnd) (written : ℕ) : Type 0 where
+    (before after : Told) (ends : List LineEnd) (written : ℕ) : Type 0 where
   pub few : length ends ≤ spec.conns
-  pub counted : HasGiven (length ends) before.lines after.lines
+  pub counted : after.lines ≡ count_up_by (length ends) before.lines
+  pub given_back : GivesBack (length ends) before.closed after.closed
   pub all : ended ≡ status.Done → (length ends ≡ spec.conns) ⊎ (after.ended ≡ true)
   pub printed : List ℕ
   pub is_text : IsServedText ended (length ends) printed
@@ -71,8 +60,8 @@ pub record Course : Type 0 where
   pub held : Held
   pub before : Tells
   pub after : Tells
-  pub door_before : DoorTells
-  pub door_after : DoorTells
+  pub door_before : Told
+  pub door_after : Told
   pub left : Left
   pub ends : List LineEnd
   pub written : ℕ

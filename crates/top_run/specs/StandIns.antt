@@ -1,5 +1,7 @@
--- Stand-ins for the specs of the crate of the words.
-use Rattle.std.specs.Prelude.{ℕ, ◌≡◌, ◌≤◌, ◌⊎◌, List, [], ◌∷◌, map, codes, decimal, Result, Ok, Err}
+-- Stand-ins for the specs of other crates.
+use Rattle.std.specs.Prelude.{ℕ, zero, suc, ◌≡◌, ◌+◌, ◌≤◌, ◌⊎◌, Bool, List, [], ◌∷◌, length, map, codes, decimal, Option, None}
+use Rattle.std.specs.Option.{option_map}
+use Rattle.iq_outside.specs.Outside.{count_up}
 use Rattle.run_inputs.specs.Words.{AreWork}
 use Rattle.top_run.specs.declared.stand_ins.ServeSpec.{ServeSpec}
 use Rattle.top_run.specs.declared.stand_ins.Words.{Words}
@@ -40,3 +42,20 @@ AskForText words = words ≡ codes "--help" ∷ []
 abbrev pub IsRead : List (List ℕ) → Words → Type 0
 IsRead words (Told text) = AskForText words
 IsRead words command = AreReadAs words command
+
+pub record Told : Type 0 where
+  pub lines : ℕ
+  pub faults : ℕ
+  pub ended : Bool
+  pub closed : Option ℕ
+
+abbrev pub count_up_by : ℕ → ℕ → ℕ
+count_up_by 0 n = n
+count_up_by (suc times) n = count_up (count_up_by times n)
+
+abbrev pub GivesBack : ℕ → Option ℕ → Option ℕ → Type 0
+GivesBack count before after = (after ≡ None) ⊎ (after ≡ option_map (λ closed. closed + count) before)
+
+abbrev pub told : {D L : Type 0} → (D → ℕ) → (D → ℕ) → (D → Bool) → (D → Option (List L)) → D → Told
+told lines faults ended closed door =
+    record { lines = lines door; faults = faults door; ended = ended door; closed = option_map length (closed door) }

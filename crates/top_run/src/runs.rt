@@ -6,7 +6,8 @@ ghost use Rattle.core_history.specs.Cores.{shards_in, origin_of};
 ghost use Rattle.top_run.specs.declared.runs.Status.{Status};
 ghost use Rattle.top_run.specs.Runs.{AreReplay, Ended, Held, Left, held_at, moment, IsRead, IsOpened, RoseWhere, is_read_fault, is_write_fault, is_door_fault};
 ghost use Rattle.top_run.specs.Commands.{AreNoCommand, CommandEnded};
-ghost use Rattle.top_run.specs.Serves.{Course, door_at};
+ghost use Rattle.top_run.specs.Serves.{Course};
+ghost use Rattle.top_run.specs.StandIns.{told};
 ghost use Rattle.top_run.specs.Plays.{IsNew, IsFinished, IsStopped, IsUnread, at_write};
 
 use crate::endings::{ended_run, not_started, start_status};
@@ -174,8 +175,8 @@ pub fn run<
       after = moment (S.left source.new) (S.faults source.new)
           (W.taken sink.new) (W.faults sink.new)
           (K.rows result.keeper) (K.faults result.keeper);
-      door_before = door_at (D.faults door.old) (D.lines door.old) (D.ended door.old);
-      door_after = door_at (D.faults door.new) (D.lines door.new) (D.ended door.new);
+      door_before = told D.lines D.faults D.ended D.closed door.old;
+      door_after = told D.lines D.faults D.ended D.closed door.new;
       left = record {
         opening = result.opening;
         log = result.log.items;

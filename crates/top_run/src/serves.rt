@@ -7,8 +7,8 @@ ghost use Rattle.core_history.specs.Machine.{terms_of, log_cap};
 ghost use Rattle.shard_lock.specs.Names.{AreAll, AreLegal, IsNamedStore};
 ghost use Rattle.top_run.specs.Ready.{IsServeReady};
 ghost use Rattle.top_run.specs.Runs.{Held, Left, Prints, held_at, moment, IsOpened, RoseWhere, is_read_fault, is_write_fault, is_door_fault};
-ghost use Rattle.top_run.specs.Serves.{serve_shape, ready_line, served_line, door_at, IsServedText, IsAttended, Course, ServeEnded};
-ghost use Rattle.top_run.specs.StandIns.{IsServe};
+ghost use Rattle.top_run.specs.Serves.{serve_shape, ready_line, served_line, IsServedText, IsAttended, Course, ServeEnded};
+ghost use Rattle.top_run.specs.StandIns.{IsServe, told};
 ghost use Rattle.top_run.specs.Works.{IsNameOf};
 ghost use Rattle.top_run.specs.declared.runs.Status.{Status};
 
@@ -61,8 +61,8 @@ pub(crate) fn serve<
               (W.taken sink.old) (W.faults sink.old) (K.rows keeper) (K.faults keeper);
           after = moment unread reads (W.taken sink.new) (W.faults sink.new)
               (K.rows result.keeper) (K.faults result.keeper);
-          door_before = door_at (D.faults door.old) (D.lines door.old) (D.ended door.old);
-          door_after = door_at (D.faults door.new) (D.lines door.new) (D.ended door.new);
+          door_before = told D.lines D.faults D.ended D.closed door.old;
+          door_after = told D.lines D.faults D.ended D.closed door.new;
           left = record {
             opening = result.opening;
             log = result.log.items;
@@ -159,8 +159,8 @@ fn serve_on<
               (W.taken sink.old) (W.faults sink.old) rows store.faults;
           after = moment unread reads (W.taken sink.new) (W.faults sink.new)
               (K.rows result.keeper) (K.faults result.keeper);
-          door_before = door_at (D.faults door.old) (D.lines door.old) (D.ended door.old);
-          door_after = door_at (D.faults door.new) (D.lines door.new) (D.ended door.new);
+          door_before = told D.lines D.faults D.ended D.closed door.old;
+          door_after = told D.lines D.faults D.ended D.closed door.new;
           left = record {
             opening = result.opening;
             log = result.log.items;
@@ -266,8 +266,8 @@ fn serve_hub<
     ensures legal { AreLegal result.shards.items }
     ensures attended { IsAttended spec.now result.served.status
         (W.taken sink.old) (W.taken sink.new)
-        (door_at (D.faults door.old) (D.lines door.old) (D.ended door.old))
-        (door_at (D.faults door.new) (D.lines door.new) (D.ended door.new))
+        (told D.lines D.faults D.ended D.closed door.old)
+        (told D.lines D.faults D.ended D.closed door.new)
         result.served.ends.items result.served.written }
     ensures writes { RoseWhere (is_write_fault result.served.status)
         (W.faults sink.old) (W.faults sink.new) }
@@ -329,8 +329,8 @@ fn serve_over<
     requires none { ends.items ≡ [] }
     requires room { spec.now.conns ≤ vec_capacity ends }
     ensures attended { IsAttended spec.now result.status (W.taken sink.old) (W.taken sink.new)
-        (door_at (D.faults door.old) (D.lines door.old) (D.ended door.old))
-        (door_at (D.faults door.new) (D.lines door.new) (D.ended door.new))
+        (told D.lines D.faults D.ended D.closed door.old)
+        (told D.lines D.faults D.ended D.closed door.new)
         result.ends.items result.written }
     ensures writes { RoseWhere (is_write_fault result.status)
         (W.faults sink.old) (W.faults sink.new) }
@@ -360,8 +360,8 @@ fn serve_with<W: Sink, K: Desk + Send, D: Door, R: Threads + Wait + Sync>(
     requires none { ends.items ≡ [] }
     requires room { spec.now.conns ≤ vec_capacity ends }
     ensures attended { IsAttended spec.now result.status (W.taken sink.old) (W.taken sink.new)
-        (door_at (D.faults door.old) (D.lines door.old) (D.ended door.old))
-        (door_at (D.faults door.new) (D.lines door.new) (D.ended door.new))
+        (told D.lines D.faults D.ended D.closed door.old)
+        (told D.lines D.faults D.ended D.closed door.new)
         result.ends.items result.written }
     ensures writes { RoseWhere (is_write_fault result.status)
         (W.faults sink.old) (W.faults sink.new) }
@@ -407,6 +407,7 @@ fn open_up<W: Sink, D: Door>(
     ensures unbound { IfErr result (λ status. status ≡ Status.DoorFault →
         Prints (W.taken sink.old) (W.taken sink.new) [] written.new) }
     ensures no_line { D.lines door.new ≡ D.lines door.old }
+    ensures keeps_closed { D.closed door.new ≡ D.closed door.old }
     ensures ok_writes { OnOk result (W.faults sink.new ≡ W.faults sink.old) }
     ensures ok_doors { OnOk result (D.faults door.new ≡ D.faults door.old) }
     ensures writes { IfErr result (λ status. RoseWhere (is_write_fault status)

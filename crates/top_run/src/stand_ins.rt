@@ -1,7 +1,8 @@
 // Stand-ins for what other crates give: the words of a command, and workers that serve connections.
 ghost use Rattle.std.specs.Prelude.{◌≡◌, ◌≤◌, ◌-◌, ◌+◌, ◌^◌, ◌⊎◌, false, true, [], List, map, length, vec_capacity, IfOk, Err, MatchResult};
 ghost use Rattle.iq_outside.specs.Outside.{Rose};
-ghost use Rattle.top_run.specs.StandIns.{AreReadAs, AreWords, IsRead};
+ghost use Rattle.std.specs.Option.{option_map};
+ghost use Rattle.top_run.specs.StandIns.{AreReadAs, AreWords, IsRead, GivesBack, count_up_by};
 ghost use Rattle.top_run.specs.declared.stand_ins.Words.{Words};
 ghost use Rattle.top_run.specs.declared.stand_ins.WordsFault.{WordsFault};
 
@@ -74,16 +75,16 @@ pub fn serve_all<D: Door, K: Desk + Send, R: Threads + Wait + Sync>(
     requires none { ends.items ≡ [] }
     requires room { conns ≤ vec_capacity ends }
     requires some { 1 ≤ length _desks.old }
-    requires few { length _desks.old ≤ 64 }
     ensures few { length result.ends.items ≤ conns }
-    ensures counted { (D.lines door.new ≡ D.lines door.old + length result.ends.items)
-        ⊎ (D.lines door.new ≡ 2 ^ 64 - 1) }
+    ensures counted { D.lines door.new ≡ count_up_by (length result.ends.items) (D.lines door.old) }
     ensures all { result.failed ≡ false →
         (length result.ends.items ≡ conns) ⊎ (D.ended door.new ≡ true) }
     ensures failed_rose { result.failed ≡ true → Rose (D.faults door.old) (D.faults door.new) }
     ensures no_fault { result.failed ≡ false → D.faults door.new ≡ D.faults door.old }
     ensures never_falls { D.faults door.old ≤ D.faults door.new }
     ensures stays_fresh { D.fresh door.old → D.fresh door.new }
+    ensures given_back { GivesBack (length result.ends.items)
+        (option_map length (D.closed door.old)) (option_map length (D.closed door.new)) }
 {
     let _ = ends;
     unreachable!()

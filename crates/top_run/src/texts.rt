@@ -1,7 +1,7 @@
 // A text that the words ask for.
 ghost use Rattle.std.specs.Prelude.{◌≡◌, ◌≤◌, ℕ, [], List, Option, map};
 ghost use Rattle.std.specs.Bool.{IsFalse};
-ghost use Rattle.top_run.specs.Commands.{IsTold};
+ghost use Rattle.top_run.specs.Commands.{IsTextTold};
 ghost use Rattle.top_run.specs.Runs.{Left, moment, RoseWhere, is_read_fault, is_write_fault};
 ghost use Rattle.top_run.specs.declared.runs.Status.{Status};
 
@@ -29,7 +29,7 @@ pub(crate) fn tell<W: Sink, K: Keeper>(
           log = result.log.items;
           histories = map (λ history. history.items) result.histories.items;
         } in
-        IsTold text.now result.status before after left result.written }
+        IsTextTold text.now result.status before after left result.written }
     ensures keeper { result.keeper ≡ keeper }
     ensures no_ends { result.ends.items ≡ [] }
     ensures writes { RoseWhere (is_write_fault result.status)
