@@ -84,6 +84,7 @@ pub(crate) fn ended_hub<K: Keeper, N: Start>(
     ensures faults { K.faults result.keeper ≡ store.faults }
     ensures opening { result.opening ≡ Some store.ledger.opening }
     ensures log { result.log.items ≡ store.ledger.log }
+    ensures short { length store.ledger.log ≤ store.ledger.cap }
     ensures histories { map (λ history. history.items) result.histories.items
         ≡ histories_in shards.items }
     ensures ends { result.ends ≡ ends }
@@ -91,6 +92,8 @@ pub(crate) fn ended_hub<K: Keeper, N: Start>(
     ensures told { ForSome store.told (λ told. told ≡ rows_of store.ledger) }
     ensures few { FewFailed N.count store.ledger.failed store.faults }
 {
+    // A store tells of its log that it is no longer than it may be.
+    let _ = store.log();
     let (keeper, opening, log) = store.into_parts();
     RunEnd {
         status,

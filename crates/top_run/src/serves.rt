@@ -356,7 +356,6 @@ fn serve_with<W: Sink, K: Desk + Send, D: Door, R: Threads + Wait + Sync>(
     ends: Vec<LineEnd>,
 ) -> Served
     requires some { 1 ≤ length desks.old }
-    requires few { length desks.old ≤ 64 }
     requires none { ends.items ≡ [] }
     requires room { spec.now.conns ≤ vec_capacity ends }
     ensures attended { IsAttended spec.now result.status (W.taken sink.old) (W.taken sink.new)
