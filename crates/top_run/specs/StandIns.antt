@@ -5,7 +5,7 @@ use Rattle.iq_outside.specs.Outside.{count_up}
 use Rattle.run_inputs.specs.Words.{AreWork}
 use Rattle.top_run.specs.declared.stand_ins.ServeSpec.{ServeSpec}
 use Rattle.top_run.specs.declared.stand_ins.Words.{Words}
-use Rattle.top_run.specs.declared.stand_ins.Words.TheVariants.{Replay, Work, Serve, Told}
+use Rattle.top_run.specs.declared.stand_ins.Words.TheVariants as said
 
 pub record IsServe (spec : ServeSpec) : Type 0 where
   pub some_conns : 1 ≤ spec.conns
@@ -25,10 +25,10 @@ pub record AreServe (words : List (List ℕ)) (spec : ServeSpec) : Type 0 where
   pub fits : IsServe spec
 
 abbrev pub AreWords : List (List ℕ) → Words → Type 0
-AreWords words Replay = words ≡ codes "replay" ∷ []
-AreWords words (Work spec) = AreWork words spec
-AreWords words (Serve spec) = AreServe words spec
-AreWords words (Told text) = ⊥
+AreWords words said.Replay = words ≡ codes "replay" ∷ []
+AreWords words (said.Work spec) = AreWork words spec
+AreWords words (said.Serve spec) = AreServe words spec
+AreWords words (said.Told text) = ⊥
 
 pub record AreTakenAs (words line : List (List ℕ)) : Type 0 where
   pub line_is : words ≡ line
@@ -40,7 +40,7 @@ abbrev pub AskForText : List (List ℕ) → Type 0
 AskForText words = words ≡ codes "--help" ∷ []
 
 abbrev pub IsRead : List (List ℕ) → Words → Type 0
-IsRead words (Told text) = AskForText words
+IsRead words (said.Told text) = AskForText words
 IsRead words command = AreReadAs words command
 
 pub record Told : Type 0 where
@@ -50,7 +50,7 @@ pub record Told : Type 0 where
   pub closed : Option ℕ
 
 abbrev pub count_up_by : ℕ → ℕ → ℕ
-count_up_by 0 n = n
+count_up_by zero n = n
 count_up_by (suc times) n = count_up (count_up_by times n)
 
 abbrev pub GivesBack : ℕ → Option ℕ → Option ℕ → Type 0
