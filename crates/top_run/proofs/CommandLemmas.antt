@@ -1,6 +1,6 @@
 -- The ends of a command, by its words.
 use Rattle.std.proofs.Common.{ℕ, ◌≡◌, ◌<◌, ◌≤◌, ◌-◌, ◌^◌, inl, inr, List, [], ◌∷◌, length, decimal, arith, ap, refl, sym, ◌∙◌, subst}
-use Rattle.std.specs.Prelude.{Option, Result, Ok, Err, MatchResult}
+use Rattle.std.specs.Prelude.{Option, Result, Ok, Err, IfOk, MatchResult}
 use Rattle.std.proofs.lemmas.Fmt.{decimal_injective}
 use Rattle.iq_outside.specs.Outside.{Rose, Takes, TakesAtMost}
 use Rattle.iq_outside.proofs.OutsideLemmas.{Takes-none}
@@ -14,10 +14,10 @@ use Rattle.top_run.specs.declared.stand_ins.Words.{Words}
 use Rattle.top_run.specs.declared.stand_ins.Words.TheVariants as words
 use Rattle.top_run.specs.declared.stand_ins.WordsFault.{WordsFault}
 use Rattle.top_run.specs.declared.stand_ins.WordsFault.TheVariants as fault
-use Rattle.top_run.specs.Commands.{IsUnread, IsReading, EndedAs, CommandEnded}
+use Rattle.top_run.specs.Commands.{AreNoCommand, IsUnread, IsReading, EndedAs, CommandEnded}
 use Rattle.top_run.specs.Runs.{AreReplay, Held, Tells, Left, IsUnasked, Ended, most_taken}
 use Rattle.top_run.specs.Serves.{Course, ServeEnded}
-use Rattle.top_run.specs.StandIns.{AreServe, AreWords}
+use Rattle.top_run.specs.StandIns.{AreServe, AreWords, AreReadAs, IsRead}
 use Rattle.top_run.specs.Works.{WorkEnded}
 use Rattle.top_run.proofs.ServeLemmas.{same_server}
 
@@ -147,7 +147,7 @@ served_of spoken (Err fault.Memory) ended course accepts h spec are =
       subst (λ (e : Status). ServeEnded e spec course) (sym h.0) (inl (unasked_of course same, h.1.nothing, h.1.unserved)),
     )
 
-pub command_ended : (spoken : List (List ℕ)) (read : Result Words WordsFault) (ended : Status) (course : Course)
+command_ended : (spoken : List (List ℕ)) (read : Result Words WordsFault) (ended : Status) (course : Course)
     → Accepts spoken read → IsReading spoken read → EndedAs read ended course → CommandEnded spoken ended course
 command_ended spoken read ended course accepts reading h = record {
   replayed = replayed_of spoken read ended course accepts h;
@@ -157,6 +157,31 @@ command_ended spoken read ended course accepts reading h = record {
   is_reading = reading;
   ended_as = h;
 }
+
+-- what the words were read as, by what is promised of their reading
+reading_of : (spoken : List (List ℕ)) (read : Result Words WordsFault) → Accepts spoken read → IfOk read (IsRead spoken)
+    → (read ≡ Err fault.Usage → (command : Words) → AreReadAs spoken command → ⊥) → IsReading spoken read
+reading_of spoken (Ok command) accepts is usage = is
+reading_of spoken (Err fault.Usage) accepts is usage = record {
+  no_words = λ command are. let none : fault.Usage ≡ fault.Memory = accepts command are in absurd cc;
+  no_reading = usage refl;
+}
+reading_of spoken (Err fault.Memory) accepts is usage = tt
+
+pub none_of : (spoken : List (List ℕ)) (read : Result Words WordsFault) → Accepts spoken read
+    → (read ≡ Err fault.Usage → (command : Words) → AreReadAs spoken command → ⊥) → read ≡ Err fault.Usage → AreNoCommand spoken
+none_of spoken read accepts usage is = record {
+  no_words = λ command are.
+      let none = subst (λ (r : Result Words WordsFault). MatchResult r (AreWords spoken) (λ why. why ≡ fault.Memory)) is (accepts command are) in
+      let wrong : fault.Usage ≡ fault.Memory = none in
+      absurd cc;
+  no_reading = usage is;
+}
+
+pub command_is : (spoken : List (List ℕ)) (read : Result Words WordsFault) (ended : Status) (course : Course)
+    → Accepts spoken read → IfOk read (IsRead spoken) → (read ≡ Err fault.Usage → (command : Words) → AreReadAs spoken command → ⊥)
+    → EndedAs read ended course → CommandEnded spoken ended course
+command_is spoken read ended course accepts is usage h = command_ended spoken read ended course accepts (reading_of spoken read accepts is usage) h
 
 -- where the keeper's count of faults stands below the end of its type, no call of it failed
 not_rose : (before after : ℕ) → Rose before after → after ≡ before → before < 2 ^ 64 - 1 → ⊥

@@ -97,6 +97,7 @@ pub fn replay<S: Source, W: Sink, K: Keeper>(
     keeper: K,
 ) -> RunEnd<K>
     ensures is_command { result.status ≢ Status.Usage }
+    ensures no_ends { result.ends.items ≡ [] }
     ensures ended { let before = moment (S.left source.old) (S.faults source.old)
         (W.taken sink.old) (W.faults sink.old) (K.rows keeper) (K.faults keeper) in
         let after = moment (S.left source.new) (S.faults source.new)
@@ -262,6 +263,7 @@ fn replay_script<W: Sink, K: Keeper>(
         Ended result.status (held_at place.now (K.holds keeper place.now)) before after left
         result.written }
     ensures other { result.status ≢ Status.Usage }
+    ensures no_ends { result.ends.items ≡ [] }
     ensures no_read_fault { IsFalse (is_read_fault result.status) }
     ensures started { IsSome result.opening → K.is_started result.keeper }
     ensures unstarted { result.opening ≡ None → K.is_started result.keeper → K.is_started keeper }
@@ -307,6 +309,7 @@ fn play_on<W: Sink, K: Keeper>(
         } in
         Ended result.status held before after left result.written }
     ensures other { result.status ≢ Status.Usage }
+    ensures no_ends { result.ends.items ≡ [] }
     ensures no_read_fault { IsFalse (is_read_fault result.status) }
     ensures started { K.is_started result.keeper }
     ensures began { IsSome result.opening }

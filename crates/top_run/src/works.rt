@@ -73,6 +73,7 @@ pub(crate) fn work<W: Sink, K: Keeper + Send, C: Clock, G: Gate, R: Threads + Wa
         (W.faults sink.old) (W.faults sink.new) }
     ensures sink_never_falls { W.faults sink.old ≤ W.faults sink.new }
     ensures command { result.status ≢ Status.Usage }
+    ensures no_ends { result.ends.items ≡ [] }
     ensures no_read_fault { IsFalse (is_read_fault result.status) }
     ensures keeper_never_falls { K.faults keeper ≤ K.faults result.keeper }
 {
@@ -159,6 +160,7 @@ fn work_on<
         (W.faults sink.old) (W.faults sink.new) }
     ensures sink_never_falls { W.faults sink.old ≤ W.faults sink.new }
     ensures command { result.status ≢ Status.Usage }
+    ensures no_ends { result.ends.items ≡ [] }
     ensures no_read_fault { IsFalse (is_read_fault result.status) }
     ensures keeper_never_falls { store.faults ≤ K.faults result.keeper }
 {
