@@ -1,12 +1,11 @@
 -- The ends of a command, by its words.
 use Rattle.std.proofs.Common.{ℕ, ◌≡◌, ◌<◌, ◌≤◌, ◌-◌, ◌^◌, inl, inr, List, [], ◌∷◌, length, decimal, arith, ap, refl, sym, ◌∙◌, subst}
-use Rattle.std.specs.Prelude.{Option, Result, Ok, Err, IfOk, MatchResult}
+use Rattle.std.specs.Prelude.{false, Option, Result, Ok, Err, IfOk, MatchResult}
 use Rattle.std.proofs.lemmas.Fmt.{decimal_injective}
 use Rattle.iq_outside.specs.Outside.{Rose, Takes, TakesAtMost}
 use Rattle.iq_outside.proofs.OutsideLemmas.{Takes-none}
 use Rattle.run_inputs.specs.declared.loads.WorkSpec.{WorkSpec}
 use Rattle.run_inputs.specs.Words.{AreWork}
-use Rattle.run_inputs.proofs.WorkLemmas.{numbers, one_load}
 use Rattle.top_run.specs.declared.runs.Status.{Status}
 use Rattle.top_run.specs.declared.runs.Status.TheVariants as status
 use Rattle.top_run.specs.declared.stand_ins.ServeSpec.{ServeSpec}
@@ -14,8 +13,8 @@ use Rattle.top_run.specs.declared.stand_ins.Words.{Words}
 use Rattle.top_run.specs.declared.stand_ins.Words.TheVariants as words
 use Rattle.top_run.specs.declared.stand_ins.WordsFault.{WordsFault}
 use Rattle.top_run.specs.declared.stand_ins.WordsFault.TheVariants as fault
-use Rattle.top_run.specs.Commands.{AreNoCommand, IsUnread, IsReading, EndedAs, CommandEnded}
-use Rattle.top_run.specs.Runs.{AreReplay, Held, Tells, Left, IsUnasked, Ended, most_taken}
+use Rattle.top_run.specs.Commands.{IsUnread, IsReading, EndedAs, CommandEnded}
+use Rattle.top_run.specs.Runs.{AreReplay, Held, Tells, Left, IsUnasked, Ended, most_taken, is_door_fault}
 use Rattle.top_run.specs.Serves.{Course, ServeEnded}
 use Rattle.top_run.specs.StandIns.{AreServe, AreWords, AreReadAs, IsRead}
 use Rattle.top_run.specs.Works.{WorkEnded}
@@ -48,9 +47,17 @@ work_or_serve spoken spec work other serve =
 -- they are those of one load at most
 same_load : (spoken : List (List ℕ)) (spec other : WorkSpec) → AreWork spoken spec → AreWork spoken other → spec ≡ other
 same_load spoken spec other h k =
-    one_load (decimal spec.members) (decimal spec.sessions) (decimal spec.workers) (decimal spec.shards) (decimal spec.seed) spec other
-    (numbers spoken (decimal spec.members) (decimal spec.sessions) (decimal spec.workers) (decimal spec.shards) (decimal spec.seed) h.written spec h)
-    (numbers spoken (decimal spec.members) (decimal spec.sessions) (decimal spec.workers) (decimal spec.shards) (decimal spec.seed) h.written other k)
+    let low = h.fits in
+    let high = k.fits in
+    let same = sym h.written ∙ k.written in
+    let members : spec.members ≡ other.members = decimal_injective spec.members other.members (omega arith) (omega arith) cc in
+    let sessions : spec.sessions ≡ other.sessions = decimal_injective spec.sessions other.sessions (omega arith) (omega arith) cc in
+    let workers : spec.workers ≡ other.workers = decimal_injective spec.workers other.workers (omega arith) (omega arith) cc in
+    let shards : spec.shards ≡ other.shards = decimal_injective spec.shards other.shards (omega arith) (omega arith) cc in
+    let seed : spec.seed ≡ other.seed = decimal_injective spec.seed other.seed h.seed_below k.seed_below cc in
+    let with : ℕ → ℕ → ℕ → ℕ → ℕ → WorkSpec = λ m n w x d. record { members = m; sessions = n; workers = w; shards = x; seed = d } in
+    let e : with spec.members spec.sessions spec.workers spec.shards spec.seed ≡ with other.members other.sessions other.workers other.shards other.seed = cc in
+    e
 
 -- and of one server's numbers
 same_conns : (spoken : List (List ℕ)) (spec other : ServeSpec) → AreServe spoken spec → AreServe spoken other → spec.conns ≡ other.conns
@@ -168,20 +175,21 @@ reading_of spoken (Err fault.Usage) accepts is usage = record {
 }
 reading_of spoken (Err fault.Memory) accepts is usage = tt
 
-pub none_of : (spoken : List (List ℕ)) (read : Result Words WordsFault) → Accepts spoken read
-    → (read ≡ Err fault.Usage → (command : Words) → AreReadAs spoken command → ⊥) → read ≡ Err fault.Usage → AreNoCommand spoken
-none_of spoken read accepts usage is = record {
-  no_words = λ command are.
-      let none = subst (λ (r : Result Words WordsFault). MatchResult r (AreWords spoken) (λ why. why ≡ fault.Memory)) is (accepts command are) in
-      let wrong : fault.Usage ≡ fault.Memory = none in
-      absurd cc;
-  no_reading = usage is;
-}
-
-pub command_is : (spoken : List (List ℕ)) (read : Result Words WordsFault) (ended : Status) (course : Course)
+pub command_ok : (spoken : List (List ℕ)) (read : Result Words WordsFault) (ended : Status) (course : Course)
     → Accepts spoken read → IfOk read (IsRead spoken) → (read ≡ Err fault.Usage → (command : Words) → AreReadAs spoken command → ⊥)
-    → EndedAs read ended course → CommandEnded spoken ended course
-command_is spoken read ended course accepts is usage h = command_ended spoken read ended course accepts (reading_of spoken read accepts is usage) h
+    → (found command : Words) → read ≡ Ok found → found ≡ command → EndedAs (Ok command) ended course → CommandEnded spoken ended course
+command_ok spoken read ended course accepts is usage found command first then h =
+    let as_read : read ≡ Ok command = cc in
+    command_ended spoken read ended course accepts (reading_of spoken read accepts is usage)
+    (subst (λ (r : Result Words WordsFault). EndedAs r ended course) (sym as_read) h)
+
+pub command_err : (spoken : List (List ℕ)) (read : Result Words WordsFault) (ended : Status) (course : Course)
+    → Accepts spoken read → IfOk read (IsRead spoken) → (read ≡ Err fault.Usage → (command : Words) → AreReadAs spoken command → ⊥)
+    → (found why : WordsFault) → read ≡ Err found → found ≡ why → EndedAs (Err why) ended course → CommandEnded spoken ended course
+command_err spoken read ended course accepts is usage found why first then h =
+    let as_read : read ≡ Err why = cc in
+    command_ended spoken read ended course accepts (reading_of spoken read accepts is usage)
+    (subst (λ (r : Result Words WordsFault). EndedAs r ended course) (sym as_read) h)
 
 -- where the keeper's count of faults stands below the end of its type, no call of it failed
 not_rose : (before after : ℕ) → Rose before after → after ≡ before → before < 2 ^ 64 - 1 → ⊥
@@ -194,6 +202,20 @@ pub load_not_failed : (ended : Status) (spec : WorkSpec) (held : Held) (before a
 load_not_failed ended spec held before after left written h same below is =
     let failed = subst (λ (e : Status). WorkEnded e spec held before after left written) is h in
     not_rose before.keeps_failed after.keeps_failed failed.0 same below
+
+pub load_no_door : (ended : Status) (spec : WorkSpec) (held : Held) (before after : Tells) (left : Left) (written : ℕ)
+    → WorkEnded ended spec held before after left written → is_door_fault ended ≡ false
+load_no_door status.Done spec held before after left written h = refl
+load_no_door status.Usage spec held before after left written h = refl
+load_no_door (status.Script row kind) spec held before after left written h = refl
+load_no_door status.ReadFault spec held before after left written h = refl
+load_no_door status.WriteFault spec held before after left written h = refl
+load_no_door status.DoorFault spec held before after left written h = absurd h
+load_no_door status.KeepFault spec held before after left written h = refl
+load_no_door (status.Spent shard) spec held before after left written h = refl
+load_no_door (status.Stale shard place) spec held before after left written h = refl
+load_no_door (status.Uncovered commit key) spec held before after left written h = refl
+load_no_door status.Memory spec held before after left written h = refl
 
 pub server_not_failed : (ended : Status) (spec : ServeSpec) (course : Course) → ServeEnded ended spec course
     → course.after.keeps_failed ≡ course.before.keeps_failed → course.before.keeps_failed < 2 ^ 64 - 1 → ended ≡ status.KeepFault → ⊥

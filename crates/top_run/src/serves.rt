@@ -148,6 +148,7 @@ fn serve_on<
     requires named { IsNameOf (serve_shape spec.now)
         store H.terms H.opening H.cap H.told H.start }
     requires cap { store.ledger.cap ≡ log_cap }
+    requires new { store.ledger.failed ≡ 0 }
     requires ready { IsServeReady spec.now H.terms ready }
     requires ledger { (ready.parts.ledger.name ≡ H.name) × (ready.parts.ledger.parts ≡ H.parts) }
     ensures ended { (unread : Option (List ℕ)) (reads : ℕ) (rows : Option Tables)

@@ -3,7 +3,7 @@ use Rattle.top_run.proofs.serves.ready_for.Goals as goal
 
 pub returns : goal.returns
 returns c = record {
-  parts = c.in_ok-parts_for.ensures;
+  parts = rw c.shape_of.ensures at c.in_ok-parts_for.ensures;
   none = c.in_ok-with_capacity.ensures.items;
   room = grind (arith, c.in_ok-with_capacity.ensures.capacity);
 }

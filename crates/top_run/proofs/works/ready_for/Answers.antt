@@ -11,5 +11,5 @@ returns c =
       plans = c.in_ok-make_plans.ensures.are_plans;
       workers = sym (length-map plans.items (λ list. list.items))
           ∙ (ap (λ (l : List (List Plan)). length l) c.in_ok-make_plans.ensures.load ∙ lists_of c.args.spec.now);
-      parts = c.in_ok-parts_for.ensures;
+      parts = rw c.shape_of.ensures at c.in_ok-parts_for.ensures;
     }
