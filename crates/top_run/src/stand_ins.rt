@@ -45,7 +45,7 @@ pub fn read_words(_alloc: Global, words: &[Vec<u8>]) -> Result<Words, WordsFault
         (λ fault. fault ≡ WordsFault.Memory) }
 {
     let _ = words;
-    unreachable!()
+    Err(WordsFault::Memory)
 }
 
 #[derive(Clone, Copy, Debug, PartialEq, Eq)]
@@ -65,7 +65,7 @@ pub struct Attended {
 }
 
 pub fn serve_all<D: Door, K: Desk + Send, R: Threads + Wait + Sync>(
-    _rt: &R,
+    rt: &R,
     _alloc: Global,
     _desks: &mut [K],
     door: &mut D,
@@ -87,5 +87,6 @@ pub fn serve_all<D: Door, K: Desk + Send, R: Threads + Wait + Sync>(
         (option_map length (D.closed door.old)) (option_map length (D.closed door.new)) }
 {
     let _ = ends;
+    for _ in rt.forever() {}
     unreachable!()
 }

@@ -81,13 +81,13 @@ returns-in-Err-Usage-clause-ended g c =
 pub returns-in-Err-Memory-clause-ended : goal.returns-in-Err-Memory-clause-ended
 returns-in-Err-Memory-clause-ended g c =
     rw (
-      c.not_started-2.ensures.status,
-      c.not_started-2.ensures.keeper,
-      c.not_started-2.ensures.opening,
-      c.not_started-2.ensures.log,
-      c.not_started-2.ensures.histories,
-      c.not_started-2.ensures.ends,
-      c.not_started-2.ensures.written,
+      c.not_started-in-Err-Memory.ensures.status,
+      c.not_started-in-Err-Memory.ensures.keeper,
+      c.not_started-in-Err-Memory.ensures.opening,
+      c.not_started-in-Err-Memory.ensures.log,
+      c.not_started-in-Err-Memory.ensures.histories,
+      c.not_started-in-Err-Memory.ensures.ends,
+      c.not_started-in-Err-Memory.ensures.written,
     )
     (command_err _ c.read_words.result _ _ c.read_words.ensures.accepts c.read_words.ensures.read c.read_words.ensures.usage
     c.in-Err-Memory.field-0 fault.Memory c.in-Err-Memory.is c.in-Err-Memory.field-0-is (
