@@ -73,6 +73,14 @@ struct Ran {
     histories: usize,
 }
 
+/// What the first line took.
+fn first_told(ran: &Ran) -> &[u8] {
+    match ran.told.first() {
+        Some(told) => told.as_slice(),
+        None => b"",
+    }
+}
+
 /// Puts CR LF for each `;`.
 fn bytes_of(alloc: Global, text: &str) -> Result<Vec<u8>, Fail> {
     let mut bytes = Vec::new(alloc);
@@ -156,8 +164,8 @@ fn a_line_is_served_in_whatever_pieces_it_is_read(rt: HostRuntime) -> Result<(),
             assert_eq!(rt; ran.printed.as_slice(), b"ready\nserved 1\n");
             assert_eq!(rt; ran.told.len(), 1);
             assert_eq!(rt;
-                ran.told[0],
-                bytes_of(alloc, told)?,
+                first_told(&ran),
+                bytes_of(alloc, told)?.as_slice(),
                 "{name}, in pieces of {piece}"
             );
             assert_eq!(rt; ran.ends.as_slice(), [end].as_slice(), "{name}");
@@ -179,7 +187,10 @@ fn a_key_has_at_most_250_bytes(rt: HostRuntime) -> Result<(), Fail> {
         input.push_str(" 1 0;quit;")?;
         let ran = serve(&rt, alloc, &words, &[input.as_str()], 64, &[], &[], &[])?;
         let wanted = format!(in alloc; "SESSION 1;CLIENT_ERROR {told};")?;
-        assert_eq!(rt; ran.told[0], bytes_of(alloc, wanted.as_str())?);
+        assert_eq!(rt;
+            first_told(&ran),
+            bytes_of(alloc, wanted.as_str())?.as_slice()
+        );
         assert_eq!(rt; ran.ends.as_slice(), [LineEnd::Quit].as_slice());
     }
     Ok(())
@@ -230,7 +241,10 @@ fn a_fault_ends_the_server_where_it_comes(rt: HostRuntime) -> Result<(), Fail> {
         assert_eq!(rt; ran.status, status);
         assert_eq!(rt; ran.printed.as_slice(), printed.as_bytes());
         assert_eq!(rt; (ran.ends.len(), ran.told.len()), (served, served));
-        assert_eq!(rt; (ran.started, ran.histories), (started, started as usize));
+        assert_eq!(rt;
+            (ran.started, ran.histories),
+            (started, usize::from(started))
+        );
     }
     Ok(())
 }
@@ -243,12 +257,12 @@ fn a_store_that_fails_is_told_to_the_client(rt: HostRuntime) -> Result<(), Fail>
     let ran = serve(&rt, alloc, &words, &[input], 64, &[], &[2], &[])?;
     assert_eq!(rt; ran.status, Status::Done);
     let told = "SESSION 1;SERVER_ERROR store;VALUE profile:2 0 6 0;m2 0 0;END;";
-    assert_eq!(rt; ran.told[0], bytes_of(alloc, told)?);
+    assert_eq!(rt; first_told(&ran), bytes_of(alloc, told)?.as_slice());
     Ok(())
 }
 
 /// Connects to this port of the loopback, once somebody listens there.
-fn connected(rt: &impl Net<Stream = TcpStream>, port: u16) -> io::Result<TcpStream> {
+fn connected(rt: &impl Net, port: u16) -> io::Result<TcpStream> {
     for _ in 0..1_000_000 {
         if let Ok(stream) = TcpStream::connect(rt, (Ipv4Addr::LOCALHOST, port)) {
             return Ok(stream);
@@ -257,25 +271,20 @@ fn connected(rt: &impl Net<Stream = TcpStream>, port: u16) -> io::Result<TcpStre
     TcpStream::connect(rt, (Ipv4Addr::LOCALHOST, port))
 }
 
-/// Sends the bytes to this port. Whether these and no others come back.
+/// Sends the bytes to this port. Whether so many bytes as are wanted come back, these, and then the end. The
+/// list has room for them.
 fn is_told(
-    rt: &impl Net<Stream = TcpStream>,
+    rt: &impl Net,
     port: u16,
     sent: &[u8],
     told: &[u8],
+    back: &mut [u8],
 ) -> io::Result<bool> {
     let mut stream = connected(rt, port)?;
     stream.write_all(sent)?;
-    let mut back = [0u8; 200];
-    let mut count = 0;
-    while count < back.len() {
-        let read = stream.read(&mut back[count..])?;
-        if read == 0 {
-            break;
-        }
-        count += read;
-    }
-    Ok(&back[..count] == told)
+    stream.read_exact(back)?;
+    let end = stream.read(&mut [0u8; 1])?;
+    Ok(*back == *told && end == 0)
 }
 
 #[test]
@@ -289,8 +298,16 @@ fn a_client_is_served_over_tcp(rt: HostRuntime) -> Result<(), Fail> {
     drop(probe);
     let sent = bytes_of(alloc, READS)?;
     let told = bytes_of(alloc, READ)?;
+    let mut back = vec![in alloc; 0u8; told.len()]?;
     let client = thread::spawn(&rt, move || {
-        is_told(&rt, port, sent.as_slice(), told.as_slice()).unwrap_or(false)
+        is_told(
+            &rt,
+            port,
+            sent.as_slice(),
+            told.as_slice(),
+            back.as_mut_slice(),
+        )
+        .unwrap_or(false)
     })?;
     let addr = format!(in alloc; "127.0.0.1:{port}")?;
     let words = words_of(alloc, &["serve", addr.as_str(), "1", "1", "1", "3"])?;
