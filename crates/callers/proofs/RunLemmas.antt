@@ -1,7 +1,7 @@
 -- What follows from how a run ended.
 use Rattle.std.proofs.Common.{◌≡◌, ℕ, ◌-◌, ◌^◌, ◌<◌, ◌⊎◌, ◌||◌, Bool, true, false, inl, inr, List, [], ◌∷◌, ◌++◌, length, map, reverse}
 use Rattle.std.proofs.Common.{Option, Some, None, IsSome, slice_get, refl, sym, ap, subst, ◌∙◌, append_assoc, append-nil, arith}
-use Rattle.std.specs.Prelude.{All, IfSome, min, nat_lt}
+use Rattle.std.specs.Prelude.{All, IfSome, Result, Ok, Err, min, nat_lt}
 use Rattle.std.specs.Option.{option_map}
 use Rattle.std.specs.List.{list_any}
 use Rattle.std.proofs.lemmas.Bool.{and_from, eq-eqb}
@@ -31,15 +31,22 @@ use Rattle.core_history.specs.Lines.{fault_turns}
 use Rattle.run_audit.specs.declared.findings.Finding.{Finding}
 use Rattle.run_audit.specs.declared.findings.Finding.TheVariants as finding
 use Rattle.run_inputs.specs.declared.loads.WorkSpec.{WorkSpec}
-use Rattle.top_run.specs.Works.{AreNoCommand, IsTold, IsSummed, IsUnread, WorkEnded, first_spent, work_status}
+use Rattle.top_run.specs.Commands.{IsUnread, IsTextPart, EndedAs}
+use Rattle.top_run.specs.Serves.{Course, ServeEnded}
+use Rattle.top_run.specs.declared.stand_ins.ServeSpec.{ServeSpec}
+use Rattle.top_run.specs.declared.stand_ins.Words.{Words}
+use Rattle.top_run.specs.declared.stand_ins.Words.TheVariants as words
+use Rattle.top_run.specs.declared.stand_ins.WordsFault.{WordsFault}
+use Rattle.top_run.specs.declared.stand_ins.WordsFault.TheVariants as fault
+use Rattle.top_run.specs.Works.{IsTold, IsSummed, WorkEnded, first_spent, work_status}
 use Rattle.core_history.specs.Machine.{Move, terms_of}
 use Rattle.core_history.specs.Truth.{IsTruePast}
 use Rattle.top_run.specs.declared.runs.Status.{Status}
 use Rattle.top_run.specs.declared.runs.Status.TheVariants as status
-use Rattle.top_run.specs.Runs.{calls_of, AreMoves, AreFirstMoves, past_of, out, Held, Tells, Left, IsRead, IsOpened, Keeps, IsWhole}
+use Rattle.top_run.specs.Runs.{Prints, calls_of, AreMoves, AreFirstMoves, past_of, out, Held, Tells, Left, IsRead, IsOpened, Keeps, IsWhole}
 use Rattle.top_run.specs.Runs.{IsCutOff, IsNotStarted, Ended}
 use Rattle.callers.specs.Shards.{MeetsItsFloor, HitsMeetTheirFloors}
-use Rattle.callers.specs.Runs.{IsFreshRun, IsCleanLoad, HitsHoldCommits, AreAlike}
+use Rattle.callers.specs.Runs.{IsFreshRun, IsCleanLoad, IsDoneServer, HitsHoldCommits, AreAlike}
 
 -- a run that began
 pub record Began (held : Held) (before after : Tells) (left : Left) : Type 0 where
@@ -160,12 +167,30 @@ covered-run s held before after left written h = by (began-or-not s held before 
     by (inl k) = λ place commit key at touched. absurd (none-at left.log place commit k.no_log at)
     by (inr b) = b.keeps.covered
 
--- no words are no command
-pub no_words : AreNoCommand []
-no_words = record {
-  no_replay = λ is. let lengths : 0 ≡ 1 = ap length is in absurd (omega (arith, lengths));
-  no_work = λ spec work. let lengths : 0 ≡ 6 = ap length work.written in absurd (omega (arith, lengths));
-}
+-- words that are refused change nothing
+pub same_of_usage : (read : Result Words WordsFault) (ended : Status) (course : Course) → EndedAs read ended course → ended ≡ status.Usage
+    → course.after ≡ course.before
+same_of_usage (Ok words.Replay) ended course h is =
+    (subst (λ (e : Status). Ended e course.held course.before course.after course.left course.written) is h.0).0
+same_of_usage (Ok (words.Work spec)) ended course h is =
+    absurd (subst (λ (e : Status). WorkEnded e spec course.held course.before course.after course.left course.written) is h.1)
+same_of_usage (Ok (words.Serve spec)) ended course h is = absurd (subst (λ (e : Status). ServeEnded e spec course) is h.1)
+same_of_usage (Ok (words.Told text)) ended course h is =
+    absurd (subst (λ (e : Status). IsTextPart e text.items h.1.printed) is h.1.is_part)
+same_of_usage (Err fault.Usage) ended course h is = h.1.same
+same_of_usage (Err fault.Memory) ended course h is = h.1.same
+
+-- a server that ended Done
+pub server_done : (ended : Status) (spec : ServeSpec) (course : Course) → ServeEnded ended spec course → ended ≡ status.Done
+    → IsDoneServer spec course.before.taken course.after.taken course.door_after.ended course.ends course.left.histories course.written
+server_done ended spec course h is =
+    let served = subst (λ (e : Status). ServeEnded e spec course) is h in
+    record {
+      served = served.attended.all refl;
+      prints = subst (λ (bytes : List ℕ). Prints course.before.taken course.after.taken bytes course.written) served.attended.is_text served.attended.prints;
+      as_many = served.kept.as_many;
+      legal = served.kept.legal;
+    }
 
 -- what holds of all elements holds of the one at a place
 pub at-place : {X : Type 0} (P : X → Type 0) (xs : List X) (i : ℕ) (x : X) → All P xs → slice_get xs i ≡ Some x → P x

@@ -1,5 +1,5 @@
 -- What is said of whole runs to who makes them.
-use Rattle.std.specs.Prelude.{ℕ, ◌≡◌, ◌<◌, true, List, ◌∷◌, ◌++◌, Option, Some, slice_get}
+use Rattle.std.specs.Prelude.{ℕ, ◌≡◌, ◌<◌, ◌⊎◌, Bool, true, List, ◌∷◌, ◌++◌, length, Option, Some, slice_get}
 use Rattle.rows_model.specs.declared.keys.QKey.{QKey}
 use Rattle.rows_model.specs.declared.keys.Sid.{Sid}
 use Rattle.std.specs.Option.{ForSome}
@@ -9,6 +9,7 @@ use Rattle.rows_model.specs.Changes.{touches}
 use Rattle.key_shard.specs.declared.steps.Ended.{Ended}
 use Rattle.key_shard.specs.declared.steps.Step.{Step}
 use Rattle.key_shard.specs.declared.steps.Step.TheVariants.{Hit, Released}
+use Rattle.key_shard.specs.Answers.{Legal}
 use Rattle.sql_keeper.specs.declared.stores.Commit.{Commit}
 use Rattle.sql_keeper.specs.Fresh.{Fresh, Covered}
 use Rattle.sql_keeper.specs.Log.{rows_after, state}
@@ -18,7 +19,11 @@ use Rattle.top_run.specs.declared.runs.Status.{Status}
 use Rattle.top_run.specs.declared.runs.Status.TheVariants as status
 use Rattle.run_audit.specs.declared.findings.Finding.TheVariants as finding
 use Rattle.run_inputs.specs.declared.loads.WorkSpec.{WorkSpec}
-use Rattle.top_run.specs.Runs.{IsRead, Tells, Left}
+use Rattle.core_history.specs.Machine.{terms_of}
+use Rattle.top_run.specs.declared.stand_ins.LineEnd.{LineEnd}
+use Rattle.top_run.specs.declared.stand_ins.ServeSpec.{ServeSpec}
+use Rattle.top_run.specs.Runs.{IsRead, Prints, Tells, Left}
+use Rattle.top_run.specs.Serves.{serve_shape, serve_text}
 use Rattle.top_run.specs.Works.{IsTold}
 
 -- A run over a keeper in memory, which began with these rows and has those at its end: it began with the rows of as many
@@ -43,6 +48,15 @@ pub record IsCleanLoad (spec : WorkSpec) (before after : Tells) (left : Left) (w
   pub fresh : Fresh opening left.log left.histories
   pub covered : Covered left.log left.histories
   pub told : IsTold spec opening left.log left.histories before.taken after.taken written finding.Clean
+
+-- A server ended Done: so many connections were served as were asked for, or the door said that no more come; the
+-- sink took all that a server writes, with that number; and there is a legal history of each shard.
+pub record IsDoneServer (spec : ServeSpec) (taken_old taken_new : Option (List ℕ)) (ended : Bool)
+    (ends : List LineEnd) (histories : List (List Step)) (written : ℕ) : Type 0 where
+  pub served : (length ends ≡ spec.conns) ⊎ (ended ≡ true)
+  pub prints : Prints taken_old taken_new (serve_text (length ends)) written
+  pub as_many : length histories ≡ spec.shards
+  pub legal : (place : ℕ) (history : List Step) → slice_get histories place ≡ Some history → Legal (terms_of (serve_shape spec) place) history
 
 -- A hit behind a release of the key, in a history that has the earliest step first: between them and around them are any steps.
 pub record IsHitBehind (history : List Step) (key : QKey) (writer : Sid) (value : List ℕ) (stamp : ℕ) : Type 0 where
@@ -72,6 +86,7 @@ IsUnharmed (status.Script line kind) = Unit {0}
 IsUnharmed status.Memory = Unit {0}
 IsUnharmed status.ReadFault = ⊥
 IsUnharmed status.WriteFault = ⊥
+IsUnharmed status.DoorFault = ⊥
 IsUnharmed status.KeepFault = ⊥
 IsUnharmed (status.Spent shard) = ⊥
 IsUnharmed (status.Stale shard place) = ⊥

@@ -2,17 +2,18 @@
 ghost use Rattle.std.specs.Prelude.{◌≡◌, ◌≢◌, ◌<◌, ◌-◌, ◌^◌, [], All, map, Some, None, IfSome, IsSome};
 ghost use Rattle.sql_keeper.specs.Fresh.{Covered};
 ghost use Rattle.top_run.specs.Runs.{Left, moment};
-ghost use Rattle.top_run.specs.Works.{AreNoCommand};
 ghost use Rattle.callers.specs.Shards.{MeetsItsFloor};
-ghost use Rattle.callers.specs.Runs.{IsFreshRun, IsCleanLoad, HitsHoldCommits, IsUnharmed, AreAlike};
+ghost use Rattle.callers.specs.Runs.{IsFreshRun, IsCleanLoad, IsDoneServer, HitsHoldCommits, IsUnharmed, AreAlike};
 ghost use Rattle.run_inputs.specs.Words.{AreWork};
 ghost use Rattle.run_inputs.specs.declared.loads.WorkSpec.{WorkSpec};
+ghost use Rattle.top_run.specs.StandIns.{AreServe};
+ghost use Rattle.top_run.specs.declared.stand_ins.ServeSpec.{ServeSpec};
 ghost use Rattle.callers.specs.Writes.{HitsAfterWrites};
 ghost use Rattle.callers.specs.Drops.{IsSweptRun};
 
 use crate::shards::hits_meet_their_floors;
 use core_history::laws::{runs_are_determined, sweeps_are_final};
-use iq_outside::{Clock, Gate, Sink, Source};
+use iq_outside::{Clock, Door, Gate, ListDoor, Sink, Source};
 use run_inputs::texts_tell_scripts;
 use sql_keeper::{Keeper, MapKeeper, Place};
 use std::alloc::Global;
@@ -111,11 +112,12 @@ pub fn run_covered<S: Source, W: Sink, K: Keeper>(
     replay(alloc, &Place::Fresh, source, sink, keeper)
 }
 
-/// Words that are no command leave the source, the sink and the keeper as they are.
-pub fn run_no_command<
+/// Words that are refused leave the source, the sink and the keeper as they are.
+pub fn run_refused<
     S: Source,
     W: Sink,
     K: Keeper + Send,
+    D: Door,
     C: Clock,
     G: Gate,
     R: Threads + Wait + Sync,
@@ -126,29 +128,38 @@ pub fn run_no_command<
     source: &mut S,
     sink: &mut W,
     keeper: K,
+    door: &mut D,
     clock: &C,
     gate: &G,
 ) -> RunEnd<K>
-    requires { AreNoCommand (map (λ word. word.items) words.now) }
     ensures { let before = moment (S.left source.old) (S.faults source.old)
         (W.taken sink.old) (W.faults sink.old) (K.rows keeper) (K.faults keeper) in
         let after = moment (S.left source.new) (S.faults source.new)
         (W.taken sink.new) (W.faults sink.new) (K.rows result.keeper) (K.faults result.keeper) in
-        after ≡ before }
+        result.status ≡ Status.Usage → after ≡ before }
 {
-    run(rt, alloc, words, source, sink, keeper, clock, gate)
+    run(rt, alloc, words, source, sink, keeper, door, clock, gate)
 }
 
 /// A load that ends Done left nothing stale, whatever its threads did and whatever the keeper is: its
 /// audit was clean, and the summary was written whole. Where the keeper tells its rows, the load began with
 /// as many members as its words say, and no links.
-pub fn run_load<S: Source, W: Sink, K: Keeper + Send, C: Clock, G: Gate, R: Threads + Wait + Sync>(
+pub fn run_load<
+    S: Source,
+    W: Sink,
+    K: Keeper + Send,
+    D: Door,
+    C: Clock,
+    G: Gate,
+    R: Threads + Wait + Sync,
+>(
     rt: &R,
     alloc: Global,
     words: &[Vec<u8>],
     source: &mut S,
     sink: &mut W,
     keeper: K,
+    door: &mut D,
     clock: &C,
     gate: &G,
 ) -> RunEnd<K>
@@ -164,7 +175,35 @@ pub fn run_load<S: Source, W: Sink, K: Keeper + Send, C: Clock, G: Gate, R: Thre
         (spec : WorkSpec) → AreWork (map (λ word. word.items) words.now) spec →
         result.status ≡ Status.Done → IsCleanLoad spec before after left result.written }
 {
-    run(rt, alloc, words, source, sink, keeper, clock, gate)
+    run(rt, alloc, words, source, sink, keeper, door, clock, gate)
+}
+
+/// A server of these words over a door in memory that ends Done served as many connections as were asked for, or
+/// all that there were: how each ended is told, and the sink took `ready` and that number. Each history is legal.
+pub fn run_server<
+    S: Source,
+    W: Sink,
+    K: Keeper + Send,
+    C: Clock,
+    G: Gate,
+    R: Threads + Wait + Sync,
+>(
+    rt: &R,
+    alloc: Global,
+    words: &[Vec<u8>],
+    source: &mut S,
+    sink: &mut W,
+    keeper: K,
+    door: &mut ListDoor,
+    clock: &C,
+    gate: &G,
+) -> RunEnd<K>
+    ensures { let histories = map (λ history. history.items) result.histories.items in
+        (spec : ServeSpec) → AreServe (map (λ word. word.items) words.now) spec →
+        result.status ≡ Status.Done → IsDoneServer spec (W.taken sink.old) (W.taken sink.new)
+        door.new.ended result.ends.items histories result.written }
+{
+    run(rt, alloc, words, source, sink, keeper, door, clock, gate)
 }
 
 /// Two runs of one text over keepers in memory that both end Done put the same bytes into their sinks,

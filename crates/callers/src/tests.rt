@@ -1,5 +1,5 @@
 use crate::{quits, runs, shards, stores};
-use iq_outside::{ListClock, MemSink, MemSource, OpenGate};
+use iq_outside::{ListClock, ListDoor, MemSink, MemSource, OpenGate};
 use key_shard::{Got, SetAnswer, Shard};
 use lease_table::Mode;
 use rows_model::{Change, Kind, Name, QKey, Sid, Txn, Value};
@@ -50,24 +50,56 @@ fn runs_are_fresh_hold_commits_and_meet_floors(rt: HostRuntime) -> Result<(), Fa
 }
 
 #[test]
-#[tactic(auto, using(crate::proofs::RunLemmas::no_words))]
 fn words_that_are_no_command_do_nothing(rt: HostRuntime) -> Result<(), Fail> {
     let alloc = rt.alloc();
     let mut source = MemSource::new(Vec::from_slice(alloc, SCRIPT)?, 5, Vec::new(alloc));
     let mut sink = MemSink::new(alloc, 4096, 7, Vec::new(alloc))?;
     let keeper = MapKeeper::new(Vec::new(alloc));
     let clock = ListClock::new(vec![in alloc; 0]?);
-    let end = runs::run_no_command(
+    let mut door = ListDoor::new(alloc, Vec::new(alloc), Vec::new(alloc))?;
+    let end = runs::run_refused(
         &rt,
         alloc,
         &[],
         &mut source,
         &mut sink,
         keeper,
+        &mut door,
         &clock,
         &OpenGate,
     );
     assert_eq!(rt; (end.status, sink.taken().len()), (Status::Usage, 0));
+    Ok(())
+}
+
+#[test]
+fn a_server_without_a_line_tells_that_it_served_none(rt: HostRuntime) -> Result<(), Fail> {
+    let alloc = rt.alloc();
+    let mut words = Vec::new(alloc);
+    for word in ["serve", "x", "5", "2", "2", "3"] {
+        words.push(Vec::from_slice(alloc, word.as_bytes())?)?;
+    }
+    let mut source = MemSource::new(Vec::new(alloc), 1, Vec::new(alloc));
+    let mut sink = MemSink::new(alloc, 4096, 7, Vec::new(alloc))?;
+    let keeper = MapKeeper::new(Vec::new(alloc));
+    let mut door = ListDoor::new(alloc, Vec::new(alloc), Vec::new(alloc))?;
+    let clock = ListClock::new(vec![in alloc; 0]?);
+    let end = runs::run_server(
+        &rt,
+        alloc,
+        words.as_slice(),
+        &mut source,
+        &mut sink,
+        keeper,
+        &mut door,
+        &clock,
+        &OpenGate,
+    );
+    assert_eq!(rt;
+        (end.status, end.ends.len(), end.histories.len()),
+        (Status::Done, 0, 2)
+    );
+    assert_eq!(rt; sink.taken(), b"ready\nserved 0\n");
     Ok(())
 }
 
@@ -83,6 +115,7 @@ fn a_load_ends_with_a_clean_audit(rt: HostRuntime) -> Result<(), Fail> {
     let keeper = MapKeeper::new(Vec::new(alloc));
     let clock = ListClock::new(vec![in alloc; 0]?);
     let words = words.as_slice();
+    let mut door = ListDoor::new(alloc, Vec::new(alloc), Vec::new(alloc))?;
     let end = runs::run_load(
         &rt,
         alloc,
@@ -90,6 +123,7 @@ fn a_load_ends_with_a_clean_audit(rt: HostRuntime) -> Result<(), Fail> {
         &mut source,
         &mut sink,
         keeper,
+        &mut door,
         &clock,
         &OpenGate,
     );

@@ -1,8 +1,8 @@
-//! The program: the words behind its name, standard input, standard output, and an exit status. The
-//! rows of its store are in memory.
+//! The program: the words behind its name, standard input, standard output, connections over TCP, and an
+//! exit status. The rows of its store are in memory.
 #![tactic(auto)]
 
-use iq_outside::{OpenGate, ReaderSource, RuntimeClock, WriterSink};
+use iq_outside::{OpenGate, ReaderSource, RuntimeClock, TcpDoor, WriterSink};
 use rows_model::QKey;
 use sql_keeper::MapKeeper;
 use std::process::ExitCode;
@@ -16,6 +16,7 @@ fn main(rt: HostRuntime) -> ExitCode {
             let mut source = ReaderSource::new(rt.stdin());
             let mut sink = WriterSink::new(rt.stdout());
             let keeper = MapKeeper::new(Vec::new(rt.alloc()));
+            let mut door = TcpDoor::new(&rt);
             let clock = RuntimeClock::new(&rt);
             run(
                 &rt,
@@ -24,6 +25,7 @@ fn main(rt: HostRuntime) -> ExitCode {
                 &mut source,
                 &mut sink,
                 keeper,
+                &mut door,
                 &clock,
                 &OpenGate,
             )
@@ -67,6 +69,7 @@ fn tell(rt: &HostRuntime, status: Status) {
         Status::Script { line, kind } => eprintln!(rt; "script line {line} {}", kind.word()),
         Status::ReadFault => eprintln!(rt; "read fault"),
         Status::WriteFault => eprintln!(rt; "write fault"),
+        Status::DoorFault => eprintln!(rt; "door fault"),
         Status::KeepFault => eprintln!(rt; "store fault"),
         Status::Spent { shard } => eprintln!(rt; "spent {shard}"),
         Status::Stale { shard, place } => eprintln!(rt; "stale {shard} {place}"),
@@ -94,6 +97,7 @@ fn exit_code(status: Status) -> u8 {
         Status::Script { .. } => 2,
         Status::ReadFault => 3,
         Status::WriteFault => 4,
+        Status::DoorFault => 5,
         Status::KeepFault => 6,
         Status::Stale { .. } => 7,
         Status::Uncovered { .. } => 8,

@@ -5,5 +5,6 @@ pub mod KeepLemmas
 pub mod RunLemmas
 pub mod SummaryLemmas
 pub mod WorkLemmas
+pub mod ServeLemmas
 pub mod CommandLemmas
 pub mod ReadyLemmas

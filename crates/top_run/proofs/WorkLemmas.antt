@@ -17,6 +17,7 @@ use Rattle.key_shard.specs.Past.{Terms}
 use Rattle.key_shard.specs.Shards.{ShardView}
 use Rattle.sql_keeper.specs.Faults.{FewFailed}
 use Rattle.sql_keeper.specs.Stores.{StoreView, rows_of}
+use Rattle.session_client.specs.declared.plans.Shape.{Shape}
 use Rattle.core_history.specs.Machine.{terms_of, log_cap}
 use Rattle.shard_lock.specs.Names.{AreAll, AreLegal, IsNamed}
 use Rattle.run_audit.specs.declared.findings.Finding.{Finding}
@@ -37,9 +38,9 @@ at_place P shards place shard all is =
     subst P (get_or_from_slice_get shards place shard shard is) (All-get_or P shards place shard (slice_get_within shards place shard is) all)
 
 -- shards in their places have the terms of their places
-terms_at_place : (terms : ℕ → Terms) (spec : WorkSpec) (shards : List ShardView) → ((place : ℕ) → terms place ≡ terms_of (work_shape spec) place)
-    → AreAll terms shards → (place : ℕ) (shard : ShardView) → slice_get shards place ≡ Some shard → shard.terms ≡ terms_of (work_shape spec) place
-terms_at_place terms spec shards are all place shard is =
+terms_at_place : (terms : ℕ → Terms) (shape : Shape) (shards : List ShardView) → ((place : ℕ) → terms place ≡ terms_of shape place)
+    → AreAll terms shards → (place : ℕ) (shard : ShardView) → slice_get shards place ≡ Some shard → shard.terms ≡ terms_of shape place
+terms_at_place terms shape shards are all place shard is =
     at_place (IsNamed terms) shards place shard all.named is ∙ ap terms (all.placed place shard is) ∙ are place
 
 -- so they can be audited
@@ -66,14 +67,14 @@ unmapped None history is = absurd (false≢true (ap (λ (o : Option (List Step))
 unmapped (Some shard) history is = (shard, refl, ap (λ (o : Option (List Step)). unwrap_or o history) is)
 
 -- and their histories are legal
-pub legal_of : (terms : ℕ → Terms) (spec : WorkSpec) (shards : List ShardView) → ((place : ℕ) → terms place ≡ terms_of (work_shape spec) place)
+pub legal_of : (terms : ℕ → Terms) (shape : Shape) (shards : List ShardView) → ((place : ℕ) → terms place ≡ terms_of shape place)
     → AreAll terms shards → AreLegal shards
-    → (place : ℕ) (history : List Step) → slice_get (histories_in shards) place ≡ Some history → Legal (terms_of (work_shape spec) place) history
-legal_of terms spec shards are all legal place history is =
+    → (place : ℕ) (history : List Step) → slice_get (histories_in shards) place ≡ Some history → Legal (terms_of shape place) history
+legal_of terms shape shards are all legal place history is =
     let there = unmapped (slice_get shards place) history (sym (slice_get-map (λ (s : ShardView). s.history) shards place) ∙ is) in
     let here = at_place (λ (s : ShardView). Legal s.terms s.history) shards place there.0 legal there.1 in
-    subst (λ (h : List Step). Legal (terms_of (work_shape spec) place) h) there.2
-    (subst (λ (t : Terms). Legal t there.0.history) (terms_at_place terms spec shards are all place there.0 there.1) here)
+    subst (λ (h : List Step). Legal (terms_of shape place) h) there.2
+    (subst (λ (t : Terms). Legal t there.0.history) (terms_at_place terms shape shards are all place there.0 there.1) here)
 
 -- ---- the least shard that is spent
 
@@ -103,26 +104,26 @@ rose_of_failed start failed faults some few = by (few start refl)
 abbrev pub left_of : StoreView → List ShardView → Left
 left_of store shards = record { opening = Some store.ledger.opening; log = store.ledger.log; histories = histories_in shards }
 
-pub kept_of : (spec : WorkSpec) (held : Held) (before after : Tells) (store : StoreView) (shards : List ShardView) (terms : ℕ → Terms) (start : Option ℕ)
+pub kept_of : (shape : Shape) (held : Held) (before after : Tells) (store : StoreView) (shards : List ShardView) (terms : ℕ → Terms) (start : Option ℕ)
     → after.rows ≡ store.told → after.keeps_failed ≡ store.faults → start ≡ Some before.keeps_failed
     → length store.ledger.log ≤ store.ledger.cap → store.ledger.cap ≡ log_cap
     → ForSome store.told (λ told. told ≡ rows_of store.ledger) → FewFailed start store.ledger.failed store.faults
-    → ((place : ℕ) → terms place ≡ terms_of (work_shape spec) place) → AreAll terms shards → AreLegal shards → length shards ≡ spec.shards
-    → IsOpened held (work_shape spec) store.ledger.opening after.rows
-    → IsKept spec held before after (left_of store shards) store.ledger.opening store.ledger.failed
-kept_of spec held before after store shards terms start rows count starts short cap told few are all legal many opened = record {
+    → ((place : ℕ) → terms place ≡ terms_of shape place) → AreAll terms shards → AreLegal shards → length shards ≡ shape.shards
+    → IsOpened held shape store.ledger.opening after.rows
+    → IsKept shape held before after (left_of store shards) store.ledger.opening store.ledger.failed
+kept_of shape held before after store shards terms start rows count starts short cap told few are all legal many opened = record {
   opening_is = refl;
   opened = opened;
   short = subst (λ (n : ℕ). length store.ledger.log ≤ n) cap short;
   rows_are = subst (λ (r : Option Tables). ForSome r (λ t. t ≡ rows_of store.ledger)) (sym rows) told;
   as_many = length-map shards (λ (s : ShardView). s.history) ∙ many;
-  legal = legal_of terms spec shards are all legal;
+  legal = legal_of terms shape shards are all legal;
   few = subst (λ (n : ℕ). FewFailed (Some before.keeps_failed) store.ledger.failed n) (sym count)
       (subst (λ (o : Option ℕ). FewFailed o store.ledger.failed store.faults) starts few);
 }
 
 module _ (spec : WorkSpec) (held : Held) (before after : Tells)
-    (left : Left) (written : ℕ) (opening : Tables) (failed : ℕ) (kept : IsKept spec held before after left opening failed) where
+    (left : Left) (written : ℕ) (opening : Tables) (failed : ℕ) (kept : IsKept (work_shape spec) held before after left opening failed) where
   same_status : (b : Bool) (spent : Option ℕ) (found : Finding) → nat_lt 0 failed ≡ b → first_spent left.histories ≡ spent
       → work_status b spent found ≡ work_status (nat_lt 0 failed) (first_spent left.histories) found
   same_status b spent found is first =

@@ -1,19 +1,35 @@
--- What is there before the run of a load begins.
+-- What is there before a run over a hub begins.
 use Rattle.std.specs.Prelude.{ℕ, ◌≡◌, ◌≤◌, [], length, All, vec_capacity}
 use Rattle.key_shard.specs.Past.{Terms}
+use Rattle.session_client.specs.declared.plans.Shape.{Shape}
 use Rattle.session_client.specs.Plans.{IsPlan}
 use Rattle.shard_lock.specs.Names.{AreAll, AreLegal}
 use Rattle.run_inputs.specs.declared.loads.WorkSpec.{WorkSpec}
+use Rattle.top_run.specs.declared.hubs.Parts.{Parts}
+use Rattle.top_run.specs.declared.serves.Ready.{Ready as ServeReady}
 use Rattle.top_run.specs.declared.works.Ready.{Ready}
+use Rattle.top_run.specs.declared.stand_ins.ServeSpec.{ServeSpec}
+use Rattle.top_run.specs.Serves.{serve_shape}
+use Rattle.top_run.specs.Works.{work_shape}
 
--- There are plans for each worker, as many shards as the load says, with the terms that
--- are named and legal histories, a ledger with a part for each, and room for their histories.
+-- There are as many shards as the shape says, with the terms that are named and legal
+-- histories, a ledger with a part for each, and room for their histories.
+pub record AreParts (shape : Shape) (terms : ℕ → Terms) (parts : Parts) : Type 0 where
+  pub shards : AreAll terms parts.shards.items
+  pub as_many : length parts.shards.items ≡ shape.shards
+  pub legal : AreLegal parts.shards.items
+  pub one_each : parts.ledger.parts ≡ shape.shards
+  pub none : parts.histories.items ≡ []
+  pub room : shape.shards ≤ vec_capacity parts.histories
+
+-- There are plans for each worker of a load, and the parts of its hub.
 pub record IsReady (spec : WorkSpec) (terms : ℕ → Terms) (ready : Ready) : Type 0 where
   pub plans : All (λ list. All IsPlan list.items) ready.plans.items
   pub workers : length ready.plans.items ≡ spec.workers
-  pub shards : AreAll terms ready.shards.items
-  pub as_many : length ready.shards.items ≡ spec.shards
-  pub legal : AreLegal ready.shards.items
-  pub one_each : ready.ledger.parts ≡ spec.shards
-  pub none : ready.histories.items ≡ []
-  pub room : spec.shards ≤ vec_capacity ready.histories
+  pub parts : AreParts (work_shape spec) terms ready.parts
+
+-- There are the parts of a server's hub, and room for the ends of all lines.
+pub record IsServeReady (spec : ServeSpec) (terms : ℕ → Terms) (ready : ServeReady) : Type 0 where
+  pub parts : AreParts (serve_shape spec) terms ready.parts
+  pub none : ready.ends.items ≡ []
+  pub room : spec.conns ≤ vec_capacity ready.ends

@@ -239,6 +239,7 @@ Ended (status.Script line kind) held before after left written =
 Ended status.ReadFault held before after left written =
     TakesAtMost most_taken before.left after.left × IsUnasked before after × IsNotStarted before after left written
 Ended status.WriteFault held before after left written = IsCutOff held before after left written
+Ended status.DoorFault held before after left written = ⊥
 Ended status.KeepFault held before after left written =
     Rose before.keeps_failed after.keeps_failed
     × (IsFailedStart before after left written ⊎ ((turns : List ℕ) × (turns ≢ []) × IsWhole held before after left written turns))
@@ -258,3 +259,8 @@ is_read_fault other = false
 abbrev pub is_write_fault : Status → Bool
 is_write_fault status.WriteFault = true
 is_write_fault other = false
+
+-- Whether a run ended at a door that failed.
+abbrev pub is_door_fault : Status → Bool
+is_door_fault status.DoorFault = true
+is_door_fault other = false

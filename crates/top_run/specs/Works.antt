@@ -20,14 +20,13 @@ use Rattle.run_audit.specs.declared.findings.Finding.{Finding}
 use Rattle.run_audit.specs.declared.findings.Finding.TheVariants as finding
 use Rattle.run_audit.specs.Findings.{IsFinding}
 use Rattle.run_inputs.specs.declared.loads.WorkSpec.{WorkSpec}
-use Rattle.run_inputs.specs.Words.{AreWork}
 use Rattle.top_run.specs.declared.plays.Stop.{Stop}
 use Rattle.top_run.specs.declared.plays.Stop.TheVariants as stop
 use Rattle.top_run.specs.declared.runs.Status.{Status}
 use Rattle.top_run.specs.declared.runs.Status.TheVariants as status
 use Rattle.top_run.specs.declared.summaries.Counted.{Counted}
 use Rattle.top_run.specs.declared.summaries.Counted.TheVariants as counted
-use Rattle.top_run.specs.Runs.{AreReplay, Held, Tells, Left, Prints, IsOpened, IsUnasked, IsNotStarted, Ended}
+use Rattle.top_run.specs.Runs.{Held, Tells, Left, Prints, IsOpened, IsUnasked, IsNotStarted}
 
 -- The shape of a load's run: so many members and shards, room for 1,024 entries in each, and leases that live 10 seconds.
 abbrev pub work_shape : WorkSpec → Shape
@@ -104,10 +103,10 @@ at_write_told (Ok found) = false
 at_write_told (Err stop.WriteFault) = true
 at_write_told (Err stop.Memory) = false
 
--- The name of a hub names what a load is run with: a shard's terms, and the store as it was handed in.
-pub record IsNameOf (spec : WorkSpec) (store : StoreView) (terms : ℕ → Terms)
+-- The name of a hub names what it is made with: a shard's terms, and the store as it was handed in.
+pub record IsNameOf (shape : Shape) (store : StoreView) (terms : ℕ → Terms)
     (opening : Tables) (cap : ℕ) (told : Option Tables) (start : Option ℕ) : Type 0 where
-  pub terms_are : (place : ℕ) → terms place ≡ terms_of (work_shape spec) place
+  pub terms_are : (place : ℕ) → terms place ≡ terms_of shape place
   pub opening_is : store.ledger.opening ≡ opening
   pub cap_is : cap ≡ log_cap
   pub told_is : told ≡ store.told
@@ -144,23 +143,23 @@ IsHalted spec opening log histories taken_old taken_new written stop.WriteFault 
     IsCut spec opening log histories taken_old taken_new written
 IsHalted spec opening log histories taken_old taken_new written stop.Memory = Prints taken_old taken_new [] written
 
--- What a run that began leaves: the rows that it began with, which are those of the place, a log that isn't too long,
+-- What a run over a hub that began leaves: the rows that it began with, which are those of the place, a log that isn't too long,
 -- and a legal history of each shard. Where the keeper tells its rows, they are the opening rows after the log. So many
 -- of the keeper's calls failed, no more than its count of faults rose by, unless that stands at the end of its type.
-pub record IsKept (spec : WorkSpec) (held : Held) (before after : Tells) (left : Left) (opening : Tables) (failed : ℕ) : Type 0 where
+pub record IsKept (shape : Shape) (held : Held) (before after : Tells) (left : Left) (opening : Tables) (failed : ℕ) : Type 0 where
   pub opening_is : left.opening ≡ Some opening
-  pub opened : IsOpened held (work_shape spec) opening after.rows
+  pub opened : IsOpened held shape opening after.rows
   pub short : length left.log ≤ log_cap
   pub rows_are : ForSome after.rows (λ told. told ≡ rows_after opening left.log)
-  pub as_many : length left.histories ≡ spec.shards
-  pub legal : (place : ℕ) (history : List Step) → slice_get left.histories place ≡ Some history → Legal (terms_of (work_shape spec) place) history
+  pub as_many : length left.histories ≡ shape.shards
+  pub legal : (place : ℕ) (history : List Step) → slice_get left.histories place ≡ Some history → Legal (terms_of shape place) history
   pub few : FewFailed (Some before.keeps_failed) failed after.keeps_failed
 
 -- A run ended with its summary written. Its status is that of what it keeps.
 pub record IsSummed (spec : WorkSpec) (held : Held) (before after : Tells) (left : Left) (written : ℕ) (ended : Status) : Type 0 where
   pub opening : Tables
   pub failed : ℕ
-  pub kept : IsKept spec held before after left opening failed
+  pub kept : IsKept (work_shape spec) held before after left opening failed
   pub found : Finding
   pub told : IsTold spec opening left.log left.histories before.taken after.taken written found
   pub ends : ended ≡ work_status (nat_lt 0 failed) (first_spent left.histories) found
@@ -169,14 +168,14 @@ pub record IsSummed (spec : WorkSpec) (held : Held) (before after : Tells) (left
 pub record IsCutShort (spec : WorkSpec) (held : Held) (before after : Tells) (left : Left) (written : ℕ) : Type 0 where
   pub opening : Tables
   pub failed : ℕ
-  pub kept : IsKept spec held before after left opening failed
+  pub kept : IsKept (work_shape spec) held before after left opening failed
   pub cut : IsCut spec opening left.log left.histories before.taken after.taken written
 
 -- A run that began stopped for want of memory: nothing is written.
 pub record IsStoppedShort (spec : WorkSpec) (held : Held) (before after : Tells) (left : Left) (written : ℕ) : Type 0 where
   pub opening : Tables
   pub failed : ℕ
-  pub kept : IsKept spec held before after left opening failed
+  pub kept : IsKept (work_shape spec) held before after left opening failed
   pub prints : Prints before.taken after.taken [] written
 
 -- What is so at an end of a load's run.
@@ -185,6 +184,7 @@ WorkEnded status.Done spec held before after left written = IsSummed spec held b
 WorkEnded status.Usage spec held before after left written = ⊥
 WorkEnded (status.Script row kind) spec held before after left written = ⊥
 WorkEnded status.ReadFault spec held before after left written = ⊥
+WorkEnded status.DoorFault spec held before after left written = ⊥
 WorkEnded status.WriteFault spec held before after left written = IsCutShort spec held before after left written
 WorkEnded status.KeepFault spec held before after left written =
     Rose before.keeps_failed after.keeps_failed
@@ -194,20 +194,3 @@ WorkEnded (status.Stale shard place) spec held before after left written = IsSum
 WorkEnded (status.Uncovered commit key) spec held before after left written = IsSummed spec held before after left written (status.Uncovered commit key)
 WorkEnded status.Memory spec held before after left written =
     (IsUnasked before after × IsNotStarted before after left written) ⊎ IsStoppedShort spec held before after left written
-
--- The source is as before.
-pub record IsUnread (before after : Tells) : Type 0 where
-  pub left : after.left ≡ before.left
-  pub count : after.reads_failed ≡ before.reads_failed
-
--- The words are no command: neither `replay` alone nor those of a load.
-pub record AreNoCommand (words : List (List ℕ)) : Type 0 where
-  pub no_replay : AreReplay words → ⊥
-  pub no_work : (spec : WorkSpec) → AreWork words spec → ⊥
-
--- What is so at an end of a command, by its words. The word `replay` alone replays a script, as
--- the call of that name does. The words of a load run it, and read nothing. Other words do nothing.
-pub record CommandEnded (words : List (List ℕ)) (ended : Status) (held : Held) (before after : Tells) (left : Left) (written : ℕ) : Type 0 where
-  pub replayed : AreReplay words → Ended ended held before after left written
-  pub worked : (spec : WorkSpec) → AreWork words spec → IsUnread before after × WorkEnded ended spec held before after left written
-  pub refused : AreNoCommand words → Ended status.Usage held before after left written

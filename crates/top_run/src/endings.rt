@@ -18,6 +18,7 @@ pub(crate) fn not_started<K: Keeper>(alloc: Global, status: Status, keeper: K) -
     ensures opening { result.opening ≡ None }
     ensures log { result.log.items ≡ [] }
     ensures histories { result.histories.items ≡ [] }
+    ensures ends { result.ends.items ≡ [] }
     ensures written { result.written ≡ 0 }
 {
     RunEnd {
@@ -26,12 +27,14 @@ pub(crate) fn not_started<K: Keeper>(alloc: Global, status: Status, keeper: K) -
         opening: None,
         log: Vec::new(alloc),
         histories: Vec::new(alloc),
+        ends: Vec::new(alloc),
         written: 0,
     }
 }
 
 /// The end of a run that began, with room for its histories.
 pub(crate) fn ended_run<K: Keeper>(
+    alloc: Global,
     core: Core<K>,
     ended: Result<(), Stop>,
     tally: Tally,
@@ -46,6 +49,7 @@ pub(crate) fn ended_run<K: Keeper>(
     ensures opening { result.opening ≡ Some core.store.ledger.opening }
     ensures log { result.log.items ≡ core.store.ledger.log }
     ensures histories { map (λ history. history.items) result.histories.items ≡ histories_in core }
+    ensures ends { result.ends.items ≡ [] }
     ensures written { result.written ≡ tally.written }
     ensures sound { (origin : Origin) (moves : List Move) →
         HasKept core origin moves → IsSound core origin moves }
@@ -58,6 +62,7 @@ pub(crate) fn ended_run<K: Keeper>(
         opening: Some(opening),
         log,
         histories: histories_of(shards, histories),
+        ends: Vec::new(alloc),
         written: tally.written,
     }
 }

@@ -1,12 +1,18 @@
 //! The top calls: a script from a source, replayed on the core over a keeper, and its lines to a sink; and
-//! a command by its words: such a script, or a load that workers run in threads.
+//! a command by its words: such a script, a load that workers run in threads, or a server of which workers
+//! serve the connections.
 #![tactic(auto)]
 
 pub use runs::{RunEnd, Status, replay, run};
+pub use stand_ins::{Attended, LineEnd, ServeSpec, Words, WordsFault, read_words, serve_all};
 
 mod endings;
+mod hubs;
 mod plays;
 mod printing;
 pub mod runs;
+mod serves;
+pub mod stand_ins;
 mod summaries;
+mod texts;
 mod works;

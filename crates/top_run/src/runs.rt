@@ -4,19 +4,24 @@ ghost use Rattle.rows_model.specs.Rows.{Tables};
 ghost use Rattle.run_inputs.specs.Fit.{IsPlayable};
 ghost use Rattle.core_history.specs.Cores.{shards_in, origin_of};
 ghost use Rattle.top_run.specs.declared.runs.Status.{Status};
-ghost use Rattle.top_run.specs.Runs.{AreReplay, Ended, Held, Left, held_at, moment, IsRead, IsOpened, RoseWhere, is_read_fault, is_write_fault};
-ghost use Rattle.top_run.specs.Works.{AreNoCommand, CommandEnded};
+ghost use Rattle.top_run.specs.Runs.{AreReplay, Ended, Held, Left, held_at, moment, IsRead, IsOpened, RoseWhere, is_read_fault, is_write_fault, is_door_fault};
+ghost use Rattle.top_run.specs.Commands.{AreNoCommand, CommandEnded};
+ghost use Rattle.top_run.specs.Serves.{Course};
+ghost use Rattle.top_run.specs.StandIns.{told};
 ghost use Rattle.top_run.specs.Plays.{IsNew, IsFinished, IsStopped, IsUnread, at_write};
 
 use crate::endings::{ended_run, not_started, start_status};
 use crate::plays::{Stop, Tally, play};
 use crate::printing::{last_line, print};
+use crate::serves::serve;
+use crate::stand_ins::{LineEnd, Words, WordsFault, read_words};
+use crate::texts::tell;
 use crate::works::work;
 use core_history::Core;
-use iq_outside::{Clock, Gate, ReadStop, Sink, Source, read_up_to};
+use iq_outside::{Clock, Door, Gate, ReadStop, Sink, Source, read_up_to};
 use key_shard::Step;
 use rows_model::{QKey, Rows};
-use run_inputs::{Script, ScriptFault, ScriptKind, work_words};
+use run_inputs::{Script, ScriptFault, ScriptKind};
 use sql_keeper::{Commit, Keeper, NoStore, Place};
 use std::alloc::Global;
 use std::sync::Wait;
@@ -39,8 +44,10 @@ pub enum Status {
     ReadFault,
     /// A write failed.
     WriteFault,
+    /// The server's door couldn't be bound, or it failed later. The lines that it had given are served.
+    DoorFault,
     /// The store's keeper didn't start, or it failed later: then all was run and printed, and of a
-    /// script some line said FAULT.
+    /// script some line said FAULT. Of a server it didn't start.
     KeepFault,
     /// This is the least shard that has no token left to draw. All sessions of the load were run, and its
     /// summary was printed.
@@ -67,6 +74,8 @@ pub struct RunEnd<K> {
     pub log: Vec<Commit>,
     /// Each shard's history, or none where nothing was run.
     pub histories: Vec<Vec<Step>>,
+    /// How each line that was served ended, in the order in which they were handed back.
+    pub ends: Vec<LineEnd>,
     /// How many bytes the sink took. It stands still at its type's end.
     pub written: u64,
 }
@@ -88,6 +97,7 @@ pub fn replay<S: Source, W: Sink, K: Keeper>(
     keeper: K,
 ) -> RunEnd<K>
     ensures is_command { result.status ≢ Status.Usage }
+    ensures no_ends { result.ends.items ≡ [] }
     ensures ended { let before = moment (S.left source.old) (S.faults source.old)
         (W.taken sink.old) (W.faults sink.old) (K.rows keeper) (K.faults keeper) in
         let after = moment (S.left source.new) (S.faults source.new)
@@ -130,65 +140,78 @@ pub fn replay<S: Source, W: Sink, K: Keeper>(
 /// found. At a write that fails, or where memory runs out, no summary stands whole; what a load that
 /// began has kept is never thrown away. The call may wait.
 ///
-/// Other words are a faulty command line, and nothing is read, written or started.
-pub fn run<S: Source, W: Sink, K: Keeper + Send, C: Clock, G: Gate, R: Threads + Wait + Sync>(
+/// The words `serve <addr> <conns> <workers> <shards> <members>` serve the lines that the door gives at this
+/// address: the workers accept and serve them in turn, until so many were accepted or no more come. `ready`
+/// goes to the sink once the door is bound, and `served` with the number of lines at the end. A line that
+/// ends with a fault ends alone, and `ends` tells of it. A keeper that fails later is told to the client.
+/// Where the door fails, no more lines are accepted, and those that it gave are served to their end.
+///
+/// The words that ask for help or for the version write that text. Words that can't be read are a faulty
+/// command line, and nothing is read, written or started.
+pub fn run<
+    S: Source,
+    W: Sink,
+    K: Keeper + Send,
+    D: Door,
+    C: Clock,
+    G: Gate,
+    R: Threads + Wait + Sync,
+>(
     rt: &R,
     alloc: Global,
     words: &[Vec<u8>],
     source: &mut S,
     sink: &mut W,
     keeper: K,
+    door: &mut D,
     clock: &C,
     gate: &G,
 ) -> RunEnd<K>
-    ensures usage { (result.status ≡ Status.Usage) ↔
+    ensures usage { result.status ≡ Status.Usage →
         AreNoCommand (map (λ word. word.items) words.now) }
-    ensures ended { let before = moment (S.left source.old) (S.faults source.old)
-        (W.taken sink.old) (W.faults sink.old) (K.rows keeper) (K.faults keeper) in
-        let after = moment (S.left source.new) (S.faults source.new)
-        (W.taken sink.new) (W.faults sink.new)
-        (K.rows result.keeper) (K.faults result.keeper) in
-        let left : Left = record {
-          opening = result.opening;
-          log = result.log.items;
-          histories = map (λ history. history.items) result.histories.items;
-        } in
-        CommandEnded (map (λ word. word.items) words.now) result.status
-        (held_at Place.Fresh (K.holds keeper Place.Fresh)) before after left result.written }
+    ensures ended { let course : Course = record {
+      held = held_at Place.Fresh (K.holds keeper Place.Fresh);
+      before = moment (S.left source.old) (S.faults source.old)
+          (W.taken sink.old) (W.faults sink.old) (K.rows keeper) (K.faults keeper);
+      after = moment (S.left source.new) (S.faults source.new)
+          (W.taken sink.new) (W.faults sink.new)
+          (K.rows result.keeper) (K.faults result.keeper);
+      door_before = told D.lines D.faults D.ended D.closed door.old;
+      door_after = told D.lines D.faults D.ended D.closed door.new;
+      left = record {
+        opening = result.opening;
+        log = result.log.items;
+        histories = map (λ history. history.items) result.histories.items;
+      };
+      ends = result.ends.items;
+      written = result.written;
+    } in
+        CommandEnded (map (λ word. word.items) words.now) result.status course }
     ensures started { IsSome result.opening → K.is_started result.keeper }
     ensures unstarted { result.opening ≡ None → K.is_started result.keeper → K.is_started keeper }
     ensures reads { RoseWhere (is_read_fault result.status)
         (S.faults source.old) (S.faults source.new) }
     ensures writes { RoseWhere (is_write_fault result.status)
         (W.faults sink.old) (W.faults sink.new) }
+    ensures doors { RoseWhere (is_door_fault result.status)
+        (D.faults door.old) (D.faults door.new) }
     ensures done { AreReplay (map (λ word. word.items) words.now) → result.status ≡ Status.Done →
         K.faults result.keeper ≡ K.faults keeper }
     ensures faultless { K.faults result.keeper ≡ K.faults keeper → K.faults keeper < 2 ^ 64 - 1 →
         result.status ≢ Status.KeepFault }
     ensures source_never_falls { S.faults source.old ≤ S.faults source.new }
     ensures sink_never_falls { W.faults sink.old ≤ W.faults sink.new }
+    ensures door_never_falls { D.faults door.old ≤ D.faults door.new }
     ensures keeper_never_falls { K.faults keeper ≤ K.faults result.keeper }
 {
-    if are_replay(words) {
-        return replay(alloc, &Place::Fresh, source, sink, keeper);
+    match read_words(alloc, words) {
+        Ok(Words::Replay) => replay(alloc, &Place::Fresh, source, sink, keeper),
+        Ok(Words::Work { spec }) => work(rt, alloc, &spec, sink, keeper, clock, gate),
+        Ok(Words::Serve { spec }) => serve(rt, alloc, &spec, sink, keeper, door, clock, gate),
+        Ok(Words::Told { text }) => tell(alloc, text.as_slice(), sink, keeper),
+        Err(WordsFault::Usage) => not_started(alloc, Status::Usage, keeper),
+        Err(WordsFault::Memory) => not_started(alloc, Status::Memory, keeper),
     }
-    match work_words(words) {
-        Some(spec) => work(rt, alloc, &spec, sink, keeper, clock, gate),
-        None => not_started(alloc, Status::Usage, keeper),
-    }
-}
-
-/// Whether the words are the one word `replay`.
-fn are_replay(words: &[Vec<u8>]) -> bool
-    ensures { IsTrue result ↔ AreReplay (map (λ word. word.items) words.now) }
-{
-    words.len() == 1 && is_replay(words[0].as_slice())
-}
-
-fn is_replay(word: &[u8]) -> bool
-    ensures { IsTrue result ↔ (word.now ≡ codes "replay") }
-{
-    word == b"replay".as_slice()
 }
 
 /// Reads the script that the source gives, or tells how the run ends without one.
@@ -240,6 +263,7 @@ fn replay_script<W: Sink, K: Keeper>(
         Ended result.status (held_at place.now (K.holds keeper place.now)) before after left
         result.written }
     ensures other { result.status ≢ Status.Usage }
+    ensures no_ends { result.ends.items ≡ [] }
     ensures no_read_fault { IsFalse (is_read_fault result.status) }
     ensures started { IsSome result.opening → K.is_started result.keeper }
     ensures unstarted { result.opening ≡ None → K.is_started result.keeper → K.is_started keeper }
@@ -285,6 +309,7 @@ fn play_on<W: Sink, K: Keeper>(
         } in
         Ended result.status held before after left result.written }
     ensures other { result.status ≢ Status.Usage }
+    ensures no_ends { result.ends.items ≡ [] }
     ensures no_read_fault { IsFalse (is_read_fault result.status) }
     ensures started { K.is_started result.keeper }
     ensures began { IsSome result.opening }
@@ -299,7 +324,7 @@ fn play_on<W: Sink, K: Keeper>(
         faulted: false,
     };
     let ended = play_whole(alloc, &mut core, script, sink, &mut tally);
-    ended_run(core, ended, tally, histories)
+    ended_run(alloc, core, ended, tally, histories)
 }
 
 /// Plays a script on a new core, and prints the last line.

@@ -19,7 +19,8 @@ ghost use Rattle.top_run.specs.Runs.{Held, Left, held_at, moment, IsOpened, Rose
 ghost use Rattle.top_run.specs.Works.{work_shape, has_spent, first_spent, work_status, end_status, at_write_told, IsNameOf, IsSummary, IsTold, IsHalted, WorkEnded};
 ghost use Rattle.top_run.specs.Ready.{IsReady};
 
-use crate::endings::{histories_of, not_started, start_status};
+use crate::endings::{not_started, start_status};
+use crate::hubs::{CAP, LIFE, Parts, desks_over, ended_hub, parts_for};
 use crate::plays::Stop;
 use crate::printing::print;
 use crate::runs::{RunEnd, Status};
@@ -30,8 +31,8 @@ use key_shard::{Shard, Step};
 use rows_model::{Memory, Rows};
 use run_audit::{Finding, audit};
 use run_inputs::{WorkSpec, make_plans};
-use session_client::Plan;
-use shard_lock::{Hub, HubName, StartOf, new_shards};
+use session_client::{Plan, Shape};
+use shard_lock::{Hub, HubName, StartOf};
 use sql_keeper::{Commit, Keeper, NoStore, Place, Start, Store};
 use std::alloc::Global;
 use std::marker::Brand;
@@ -39,14 +40,8 @@ use std::sync::Wait;
 use std::sync::ledger::Blank;
 use std::thread::Threads;
 
-/// How many entries a shard has room for.
+/// How many entries a shard of a load has room for.
 const ROOM: u32 = 1024;
-
-/// How long a lease lives, in milliseconds.
-const LIFE: u64 = 10_000;
-
-/// How many commits a store takes.
-const CAP: u64 = 8_000_000;
 
 /// Runs the load over a store with this keeper, at a fresh place, and writes its summary. What needs
 /// memory before the store is there before the keeper starts.
@@ -78,6 +73,7 @@ pub(crate) fn work<W: Sink, K: Keeper + Send, C: Clock, G: Gate, R: Threads + Wa
         (W.faults sink.old) (W.faults sink.new) }
     ensures sink_never_falls { W.faults sink.old ≤ W.faults sink.new }
     ensures command { result.status ≢ Status.Usage }
+    ensures no_ends { result.ends.items ≡ [] }
     ensures no_read_fault { IsFalse (is_read_fault result.status) }
     ensures keeper_never_falls { K.faults keeper ≤ K.faults result.keeper }
 {
@@ -92,14 +88,11 @@ pub(crate) fn work<W: Sink, K: Keeper + Send, C: Clock, G: Gate, R: Threads + Wa
     }
 }
 
-/// What a load is run with: the plans of each worker, the shards with the ledger of their hub, and room
-/// for their histories.
+/// What a load is run with: the plans of each worker, and the parts of the hub.
 #[derive(Drop)]
 struct Ready {
     plans: Vec<Vec<Plan>>,
-    shards: Vec<Shard>,
-    ledger: Blank,
-    histories: Vec<Vec<Step>>,
+    parts: Parts,
 }
 
 fn ready_for(alloc: Global, spec: &WorkSpec) -> Result<Ready, Memory>
@@ -108,10 +101,20 @@ fn ready_for(alloc: Global, spec: &WorkSpec) -> Result<Ready, Memory>
 {
     Ok(Ready {
         plans: make_plans(alloc, spec)?,
-        shards: new_shards(alloc, spec.shards, ROOM, LIFE)?,
-        ledger: Blank::new(spec.shards as u64),
-        histories: Vec::with_capacity(alloc, spec.shards as usize)?,
+        parts: parts_for(alloc, &shape_of(spec))?,
     })
+}
+
+/// The shape of a load's hub.
+fn shape_of(spec: &WorkSpec) -> Shape
+    ensures { result ≡ work_shape spec.now }
+{
+    Shape {
+        members: spec.members,
+        shards: spec.shards,
+        room: ROOM,
+        life: LIFE,
+    }
 }
 
 /// Runs the load over a store that was just started, and ends.
@@ -133,11 +136,11 @@ fn work_on<
     gate: &G,
 ) -> RunEnd<K>
     requires work { IsWork spec.now }
-    requires named { IsNameOf spec.now store H.terms H.opening H.cap H.told H.start }
+    requires named { IsNameOf (work_shape spec.now) store H.terms H.opening H.cap H.told H.start }
     requires cap { store.ledger.cap ≡ log_cap }
     requires new { store.ledger.failed ≡ 0 }
     requires ready { IsReady spec.now H.terms ready }
-    requires ledger { (ready.ledger.name ≡ H.name) × (ready.ledger.parts ≡ H.parts) }
+    requires ledger { (ready.parts.ledger.name ≡ H.name) × (ready.parts.ledger.parts ≡ H.parts) }
     ensures ended { (unread : Option (List ℕ)) (reads : ℕ) (rows : Option Tables)
         (held : Held) →
         IsOpened held (work_shape spec.now) store.ledger.opening store.told →
@@ -157,15 +160,16 @@ fn work_on<
         (W.faults sink.old) (W.faults sink.new) }
     ensures sink_never_falls { W.faults sink.old ≤ W.faults sink.new }
     ensures command { result.status ≢ Status.Usage }
+    ensures no_ends { result.ends.items ≡ [] }
     ensures no_read_fault { IsFalse (is_read_fault result.status) }
     ensures keeper_never_falls { store.faults ≤ K.faults result.keeper }
 {
-    let Ready {
-        plans,
+    let Ready { plans, parts } = ready;
+    let Parts {
         shards,
         ledger,
         histories,
-    } = ready;
+    } = parts;
     let Ran {
         store,
         shards,
@@ -190,7 +194,7 @@ fn work_on<
         transcripts,
     );
     let told = tell(sink, &mut written, made);
-    ended_work(store, shards, told, written, histories)
+    ended_work(alloc, store, shards, told, written, histories)
 }
 
 /// A store and its shards after the threads have ended, and the transcripts where memory sufficed.
@@ -267,10 +271,7 @@ fn run_over<
     requires plans { All (λ list. All IsPlan list.items) plans.now }
     requires few { length plans.now ≤ 64 }
 {
-    let mut desks = Vec::with_capacity(alloc, plans.len())?;
-    for worker in 0..plans.len() as u32 {
-        desks.push(hub.desk(rt, worker, clock, gate))?;
-    }
+    let mut desks = desks_over(rt, alloc, hub, plans.len() as u32, clock, gate)?;
     work_all(rt, alloc, desks.as_mut_slice(), plans, gate)
 }
 
@@ -335,6 +336,7 @@ fn tell<W: Sink>(
 
 /// The end of a load's run that began.
 fn ended_work<K: Keeper, N: Start>(
+    alloc: Global,
     store: Store<K, N>,
     shards: Vec<Shard>,
     told: Result<Finding, Stop>,
@@ -354,20 +356,13 @@ fn ended_work<K: Keeper, N: Start>(
     ensures histories { map (λ history. history.items) result.histories.items
         ≡ histories_in shards.items }
     ensures written { result.written ≡ written }
+    ensures no_ends { result.ends.items ≡ [] }
     ensures told { ForSome store.told (λ told. told ≡ rows_of store.ledger) }
     ensures few { FewFailed N.count store.ledger.failed store.faults }
 {
     let failed = store.failed() > 0;
     let status = end_status(failed, first_spent(shards.as_slice()), told);
-    let (keeper, opening, log) = store.into_parts();
-    RunEnd {
-        status,
-        keeper,
-        opening: Some(opening),
-        log,
-        histories: histories_of(shards, histories),
-        written,
-    }
+    ended_hub(status, store, shards, histories, Vec::new(alloc), written)
 }
 
 /// The status of a load's run that began: whether a call of its keeper failed, the least shard without

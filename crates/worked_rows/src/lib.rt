@@ -1,7 +1,9 @@
-//! Worked scripts and loads, and what they print, from the bytes in to the bytes out: tests alone.
+//! Worked scripts, loads and servers, and what they print, from the bytes in to the bytes out: tests alone.
 #![tactic(auto)]
 
 #[cfg(test)]
 mod loads;
+#[cfg(test)]
+mod servers;
 #[cfg(test)]
 mod tests;

@@ -1,5 +1,5 @@
 // Loads that are run through the top call, over a clock that stands still.
-use iq_outside::{ListClock, MemSink, MemSource, OpenGate};
+use iq_outside::{ListClock, ListDoor, MemSink, MemSource, OpenGate};
 use key_shard::Step;
 use sql_keeper::MapKeeper;
 use std::alloc::Global;
@@ -25,6 +25,7 @@ fn work<R: Threads + Wait + Abort + Sync>(
     let mut source = MemSource::new(Vec::from_slice(alloc, b"x")?, 1, vec![in alloc; 1]?);
     let mut sink = MemSink::new(alloc, 4096, 60, Vec::from_slice(alloc, writes_fail)?)?;
     let keeper = MapKeeper::new(Vec::from_slice(alloc, keeps_fail)?);
+    let mut door = ListDoor::new(alloc, Vec::new(alloc), Vec::new(alloc))?;
     let clock = ListClock::new(vec![in alloc; 0]?);
     let end = run(
         rt,
@@ -33,6 +34,7 @@ fn work<R: Threads + Wait + Abort + Sync>(
         &mut source,
         &mut sink,
         keeper,
+        &mut door,
         &clock,
         &OpenGate,
     );

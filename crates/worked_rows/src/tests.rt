@@ -1,4 +1,4 @@
-use iq_outside::{ListClock, MemSink, MemSource, OpenGate, read_up_to};
+use iq_outside::{ListClock, ListDoor, MemSink, MemSource, OpenGate, read_up_to};
 use run_inputs::ScriptKind;
 use sql_keeper::MapKeeper;
 use std::alloc::Global;
@@ -267,6 +267,7 @@ fn run_over<R: Threads + Wait + Sync>(
         Vec::from_slice(alloc, writes_fail)?,
     )?;
     let keeper = MapKeeper::new(Vec::from_slice(alloc, keeps_fail)?);
+    let mut door = ListDoor::new(alloc, Vec::new(alloc), Vec::new(alloc))?;
     let clock = ListClock::new(vec![in alloc; 0]?);
     let end = run(
         rt,
@@ -275,6 +276,7 @@ fn run_over<R: Threads + Wait + Sync>(
         &mut source,
         &mut sink,
         keeper,
+        &mut door,
         &clock,
         &OpenGate,
     );
@@ -402,7 +404,7 @@ fn of_a_text_that_is_too_long_no_more_is_read(rt: HostRuntime) -> Result<(), Fai
 #[test]
 fn other_words_are_refused_and_nothing_is_read(rt: HostRuntime) -> Result<(), Fail> {
     let text = b"members 3\nend\n";
-    let cases: [&[&str]; 11] = [
+    let cases: [&[&str]; 17] = [
         &[],
         &[""],
         &["work"],
@@ -411,6 +413,12 @@ fn other_words_are_refused_and_nothing_is_read(rt: HostRuntime) -> Result<(), Fa
         &["work", "3", "0", "65", "1", "1"],
         &["work", "3", "0", "1", "1", "01"],
         &["work", "3", "0", "1", "1", "1", "1"],
+        &["serve", "x", "0", "1", "1", "3"],
+        &["serve", "x", "1", "65", "1", "3"],
+        &["serve", "x", "1", "1", "1", "03"],
+        &["serve", "", "1", "1", "1", "3"],
+        &["serve", "-x", "1", "1", "1", "3"],
+        &["serve", "x", "1", "1", "1"],
         &["replay", "replay"],
         &["replay", "x"],
         &["Replay"],

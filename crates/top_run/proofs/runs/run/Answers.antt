@@ -1,7 +1,100 @@
-use Rattle.top_run.proofs.CommandLemmas.{load_not_failed}
+use Rattle.std.proofs.Common.{Bool, refl, sym, subst}
+use Rattle.run_inputs.specs.declared.loads.WorkSpec.{WorkSpec}
+use Rattle.top_run.specs.declared.stand_ins.Words.TheVariants as words
+use Rattle.top_run.specs.declared.stand_ins.WordsFault.TheVariants as fault
+use Rattle.top_run.specs.Runs.{RoseWhere}
+use Rattle.top_run.proofs.PrintLemmas.{print_none}
+use Rattle.top_run.proofs.CommandLemmas.{command_ok, command_err, load_not_failed, load_no_door, server_not_failed}
 use Rattle.top_run.proofs.runs.run.Goals as goal
 
-pub returns-in-Some-clause-faultless : goal.returns-in-Some-clause-faultless
-returns-in-Some-clause-faultless g c =
-    load_not_failed c.work.result.status c.in-Some.spec _ _ _ _ c.work.result.written
+pub returns-in-Ok-Replay-clause-ended : goal.returns-in-Ok-Replay-clause-ended
+returns-in-Ok-Replay-clause-ended g c =
+    command_ok _ c.read_words.result _ _ c.read_words.ensures.accepts c.read_words.ensures.read c.read_words.ensures.usage
+    c.in-Ok-Replay.field-0 words.Replay c.in-Ok-Replay.is c.in-Ok-Replay.field-0-is
+    (c.replay.ensures.ended, record { no_ends = c.replay.ensures.no_ends; door = refl })
+
+pub returns-in-Ok-Work-clause-ended : goal.returns-in-Ok-Work-clause-ended
+returns-in-Ok-Work-clause-ended g c =
+    command_ok _ c.read_words.result _ _ c.read_words.ensures.accepts c.read_words.ensures.read c.read_words.ensures.usage
+    c.in-Ok-Work.field-0 (words.Work c.in-Ok-Work.spec) c.in-Ok-Work.is c.in-Ok-Work.field-0-is (
+      record { left = refl; count = refl },
+      c.work.ensures.ended (g.S.Source.left c.args.source.now) (g.S.Source.faults c.args.source.now),
+      record { no_ends = c.work.ensures.no_ends; door = refl },
+    )
+
+pub returns-in-Ok-Work-clause-doors : goal.returns-in-Ok-Work-clause-doors
+returns-in-Ok-Work-clause-doors g c =
+    let faults = g.D.Door.faults c.args.door.now in
+    subst (λ (b : Bool). RoseWhere b faults faults)
+    (sym (load_no_door c.work.result.status c.in-Ok-Work.spec _ _ _ _ c.work.result.written
+    (c.work.ensures.ended (g.S.Source.left c.args.source.now) (g.S.Source.faults c.args.source.now)))) refl
+
+pub returns-in-Ok-Work-clause-faultless : goal.returns-in-Ok-Work-clause-faultless
+returns-in-Ok-Work-clause-faultless g c =
+    load_not_failed c.work.result.status c.in-Ok-Work.spec _ _ _ _ c.work.result.written
     (c.work.ensures.ended (g.S.Source.left c.args.source.now) (g.S.Source.faults c.args.source.now))
+
+pub returns-in-Ok-Serve-clause-ended : goal.returns-in-Ok-Serve-clause-ended
+returns-in-Ok-Serve-clause-ended g c =
+    command_ok _ c.read_words.result _ _ c.read_words.ensures.accepts c.read_words.ensures.read c.read_words.ensures.usage
+    c.in-Ok-Serve.field-0 (words.Serve c.in-Ok-Serve.spec) c.in-Ok-Serve.is c.in-Ok-Serve.field-0-is (
+      record { left = refl; count = refl },
+      c.serve.ensures.ended (g.S.Source.left c.args.source.now) (g.S.Source.faults c.args.source.now),
+    )
+
+pub returns-in-Ok-Serve-clause-faultless : goal.returns-in-Ok-Serve-clause-faultless
+returns-in-Ok-Serve-clause-faultless g c =
+    server_not_failed c.serve.result.status c.in-Ok-Serve.spec _
+    (c.serve.ensures.ended (g.S.Source.left c.args.source.now) (g.S.Source.faults c.args.source.now))
+
+pub returns-in-Ok-Told-clause-ended : goal.returns-in-Ok-Told-clause-ended
+returns-in-Ok-Told-clause-ended g c =
+    command_ok _ c.read_words.result _ _ c.read_words.ensures.accepts c.read_words.ensures.read c.read_words.ensures.usage
+    c.in-Ok-Told.field-0 (words.Told c.in-Ok-Told.text) c.in-Ok-Told.is c.in-Ok-Told.field-0-is (
+      record { left = refl; count = refl },
+      rw c.as_slice.ensures.value at
+          (c.tell.ensures.told (g.S.Source.left c.args.source.now) (g.S.Source.faults c.args.source.now)),
+      record { no_ends = c.tell.ensures.no_ends; door = refl },
+    )
+
+pub returns-in-Err-Usage-clause-ended : goal.returns-in-Err-Usage-clause-ended
+returns-in-Err-Usage-clause-ended g c =
+    rw (
+      c.not_started.ensures.status,
+      c.not_started.ensures.keeper,
+      c.not_started.ensures.opening,
+      c.not_started.ensures.log,
+      c.not_started.ensures.histories,
+      c.not_started.ensures.ends,
+      c.not_started.ensures.written,
+    )
+    (command_err _ c.read_words.result _ _ c.read_words.ensures.accepts c.read_words.ensures.read c.read_words.ensures.usage
+    c.in-Err-Usage.field-0 fault.Usage c.in-Err-Usage.is c.in-Err-Usage.field-0-is (
+      refl,
+      record {
+        same = refl;
+        nothing = record { prints = print_none (g.W.Sink.taken c.args.sink.now); no_opening = refl; no_log = refl; no_histories = refl };
+        unserved = record { no_ends = refl; door = refl };
+      },
+    ))
+
+pub returns-in-Err-Memory-clause-ended : goal.returns-in-Err-Memory-clause-ended
+returns-in-Err-Memory-clause-ended g c =
+    rw (
+      c.not_started-in-Err-Memory.ensures.status,
+      c.not_started-in-Err-Memory.ensures.keeper,
+      c.not_started-in-Err-Memory.ensures.opening,
+      c.not_started-in-Err-Memory.ensures.log,
+      c.not_started-in-Err-Memory.ensures.histories,
+      c.not_started-in-Err-Memory.ensures.ends,
+      c.not_started-in-Err-Memory.ensures.written,
+    )
+    (command_err _ c.read_words.result _ _ c.read_words.ensures.accepts c.read_words.ensures.read c.read_words.ensures.usage
+    c.in-Err-Memory.field-0 fault.Memory c.in-Err-Memory.is c.in-Err-Memory.field-0-is (
+      refl,
+      record {
+        same = refl;
+        nothing = record { prints = print_none (g.W.Sink.taken c.args.sink.now); no_opening = refl; no_log = refl; no_histories = refl };
+        unserved = record { no_ends = refl; door = refl };
+      },
+    ))

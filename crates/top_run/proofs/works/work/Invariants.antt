@@ -14,4 +14,4 @@ ghosts-work_on-H-HubName g a = record {
 }
 
 abbrev pub ghosts-work_on-H-Ledger : goal.ghosts-work_on-H-Ledger
-ghosts-work_on-H-Ledger g a = record { name = a.ready.ledger.name; parts = a.ready.ledger.parts }
+ghosts-work_on-H-Ledger g a = record { name = a.ready.parts.ledger.name; parts = a.ready.parts.ledger.parts }

@@ -11,7 +11,7 @@ use Rattle.top_run.proofs.works.work_on.Goals as goal
 pub summed_up-made-requires-clause-numbered : goal.summed_up-made-requires-clause-numbered
 summed_up-made-requires-clause-numbered g c =
     let shards = c.run_plans-store.result.shards.items in
-    let many = c.run_plans-store.ensures.as_many ∙ c.requires.ready.as_many in
+    let many = c.run_plans-store.ensures.as_many ∙ c.requires.ready.parts.as_many in
     rw c.as_slice-2.ensures.value (numbered_of g.H.HubName.terms shards c.run_plans-store.ensures.all (omega (arith, many, c.requires.work.few_shards)))
 
 pub returns-clause-ended : goal.returns-clause-ended
@@ -28,10 +28,10 @@ returns-clause-ended g c = λ unread reads rows held opens.
     subst (λ (r : Option Tables). IsSome r) c.requires.named.told_is (named.told_before some) in
     let opened = subst (λ (opening : Tables). IsOpened held (work_shape spec) opening store.told) (c.requires.named.opening_is ∙ sym named.opening_is)
     (opened_since held (work_shape spec) c.args.store.ledger.opening c.args.store.told store.told before_now opens) in
-    let kept = kept_of spec held before after store shards g.H.HubName.terms g.H.HubName.start refl refl c.requires.named.start_is
+    let kept = kept_of (work_shape spec) held before after store shards g.H.HubName.terms g.H.HubName.start refl refl c.requires.named.start_is
     short (c.run_plans-store.ensures.store.cap_is ∙ c.requires.named.cap_is) c.ended_work.ensures.told c.ended_work.ensures.few
     c.requires.named.terms_are c.run_plans-store.ensures.all c.run_plans-store.ensures.legal
-    (c.run_plans-store.ensures.as_many ∙ c.requires.ready.as_many) opened in
+    (c.run_plans-store.ensures.as_many ∙ c.requires.ready.parts.as_many) opened in
     rw (
       c.ended_work.ensures.status,
       c.ended_work.ensures.opening,

@@ -1,0 +1,132 @@
+-- The ends of a server.
+use Rattle.std.proofs.Common.{ℕ, ◌≡◌, ◌≤◌, ◌++◌, ◌∷◌, List, [], length, decimal, append_assoc, arith, ap, sym, ◌∙◌, refl, subst, inl, inr}
+use Rattle.std.specs.Prelude.{◌⊎◌, true, false, codes, Option, None, Some}
+use Rattle.session_client.specs.declared.plans.Shape.{Shape}
+use Rattle.top_run.specs.declared.runs.Status.{Status}
+use Rattle.top_run.specs.declared.runs.Status.TheVariants as status
+use Rattle.top_run.specs.declared.stand_ins.LineEnd.{LineEnd}
+use Rattle.top_run.specs.declared.stand_ins.ServeSpec.{ServeSpec}
+use Rattle.top_run.specs.Runs.{Prints, is_read_fault}
+use Rattle.top_run.specs.Works.{IsKept}
+use Rattle.top_run.specs.Serves.{serve_shape, ready_line, served_line, serve_text, IsServedText, IsAttended, Course, IsServed, ServeEnded}
+use Rattle.top_run.specs.StandIns.{Told, GivesBack}
+use Rattle.top_run.proofs.PrintLemmas.{print_none}
+
+-- ---- what is written
+
+pub ready_is : ready_line ≡ codes "ready\n"
+unfolding ready_line
+ready_is = refl
+
+-- the first bytes of the first line are the first of all that is written
+pub ready_cut : (front rest : List ℕ) (lines : ℕ) → front ++ rest ≡ codes "ready\n" → front ++ (rest ++ served_line lines) ≡ serve_text lines
+ready_cut front rest lines parts =
+    sym (append_assoc front rest (served_line lines)) ∙ ap (λ (bytes : List ℕ). bytes ++ served_line lines) (parts ∙ sym ready_is)
+
+-- the last line, word by word
+pub served_is : (lines : ℕ) → served_line lines ≡ (codes "served " ++ decimal lines) ++ 10 ∷ []
+unfolding served_line
+served_is lines = refl
+
+-- and the first bytes of the last line behind the first are too
+pub served_cut : (front rest : List ℕ) (lines : ℕ) → front ++ rest ≡ served_line lines → (ready_line ++ front) ++ rest ≡ serve_text lines
+served_cut front rest lines parts = append_assoc ready_line front rest ∙ ap (λ (bytes : List ℕ). ready_line ++ bytes) parts
+
+-- where no line was served none was handed back
+none_back : (closed : Option ℕ) → GivesBack 0 closed closed
+none_back None = inl refl
+none_back (Some count) = inr (ap (λ (n : ℕ). Some n) (omega arith))
+
+pub unattended : (spec : ServeSpec) (ended : Status) (taken_old taken_new : Option (List ℕ)) (before after : Told) (printed : List ℕ) (written : ℕ)
+    → after.lines ≡ before.lines → after.closed ≡ before.closed
+    → (ended ≡ status.Done → ⊥) → IsServedText ended 0 printed → Prints taken_old taken_new printed written
+    → IsAttended spec ended taken_old taken_new before after [] written
+unattended spec ended taken_old taken_new before after printed written same closed unfinished text prints = record {
+  few = omega arith;
+  counted = same;
+  given_back = subst (λ (o : Option ℕ). GivesBack 0 before.closed o) (sym closed) (none_back before.closed);
+  all = λ done. absurd (unfinished done);
+  printed = printed;
+  is_text = text;
+  prints = prints;
+}
+
+-- where memory ran out before the door was bound
+pub unattended_short : (spec : ServeSpec) (taken : Option (List ℕ)) (door : Told) (ends : List LineEnd) → ends ≡ []
+    → IsAttended spec status.Memory taken taken door door ends 0
+unattended_short spec taken door ends none =
+    subst (λ (l : List LineEnd). IsAttended spec status.Memory taken taken door door l 0) (sym none)
+    (unattended spec status.Memory taken taken door door [] 0 refl refl (λ is. cc) (inl (refl, refl)) (print_none taken))
+
+-- ---- which ends there are
+
+-- the end of a server that began
+pub served_ended : (ended : Status) (spec : ServeSpec) (course : Course) → IsServed spec ended course → ServeEnded ended spec course
+served_ended status.Done spec course h = h
+served_ended status.Usage spec course h = h.attended.is_text
+served_ended (status.Script row kind) spec course h = h.attended.is_text
+served_ended status.ReadFault spec course h = h.attended.is_text
+served_ended status.WriteFault spec course h = h
+served_ended status.DoorFault spec course h = h
+served_ended status.KeepFault spec course h = absurd h.attended.is_text
+served_ended (status.Spent shard) spec course h = h.attended.is_text
+served_ended (status.Stale shard place) spec course h = h.attended.is_text
+served_ended (status.Uncovered commit key) spec course h = h.attended.is_text
+served_ended status.Memory spec course h = inr h
+
+-- it is none for want of a command, nor at a read
+pub no_usage : (ended : Status) (lines : ℕ) (printed : List ℕ) → IsServedText ended lines printed → ended ≡ status.Usage → ⊥
+no_usage ended lines printed text is = subst (λ (e : Status). IsServedText e lines printed) is text
+
+pub no_read : (ended : Status) (lines : ℕ) (printed : List ℕ) → IsServedText ended lines printed → is_read_fault ended ≡ false
+no_read status.Done lines printed text = refl
+no_read status.Usage lines printed text = refl
+no_read (status.Script row kind) lines printed text = refl
+no_read status.ReadFault lines printed text = absurd text
+no_read status.WriteFault lines printed text = refl
+no_read status.DoorFault lines printed text = refl
+no_read status.KeepFault lines printed text = refl
+no_read (status.Spent shard) lines printed text = refl
+no_read (status.Stale shard place) lines printed text = refl
+no_read (status.Uncovered commit key) lines printed text = refl
+no_read status.Memory lines printed text = refl
+
+-- ---- a server of the same numbers
+
+same_shape : (found spec : ServeSpec) → found.members ≡ spec.members → found.shards ≡ spec.shards → serve_shape found ≡ serve_shape spec
+same_shape found spec members shards =
+    ap (λ (n : ℕ). record { members = n; shards = found.shards; room = 4096; life = 10000 }) members
+    ∙ ap (λ (n : ℕ). record { members = spec.members; shards = n; room = 4096; life = 10000 }) shards
+
+same_served : (found spec : ServeSpec) (ended : Status) (course : Course)
+    → found.conns ≡ spec.conns → found.members ≡ spec.members → found.shards ≡ spec.shards → IsServed found ended course → IsServed spec ended course
+same_served found spec ended course conns members shards h = record {
+  opening = h.opening;
+  failed = h.failed;
+  kept = subst (λ (shape : Shape). IsKept shape course.held course.before course.after course.left h.opening h.failed)
+      (same_shape found spec members shards) h.kept;
+  attended = record {
+    few = subst (λ (n : ℕ). length course.ends ≤ n) conns h.attended.few;
+    counted = h.attended.counted;
+    given_back = h.attended.given_back;
+    all = λ done. subst (λ (n : ℕ). (length course.ends ≡ n) ⊎ (course.door_after.ended ≡ true)) conns (h.attended.all done);
+    printed = h.attended.printed;
+    is_text = h.attended.is_text;
+    prints = h.attended.prints;
+  };
+}
+
+pub same_server : (found spec : ServeSpec) (ended : Status) (course : Course)
+    → found.conns ≡ spec.conns → found.members ≡ spec.members → found.shards ≡ spec.shards → ServeEnded ended found course → ServeEnded ended spec course
+same_server found spec status.Done course conns members shards h = same_served found spec status.Done course conns members shards h
+same_server found spec status.Usage course conns members shards h = h
+same_server found spec (status.Script row kind) course conns members shards h = h
+same_server found spec status.ReadFault course conns members shards h = h
+same_server found spec status.WriteFault course conns members shards h = same_served found spec status.WriteFault course conns members shards h
+same_server found spec status.DoorFault course conns members shards h = same_served found spec status.DoorFault course conns members shards h
+same_server found spec status.KeepFault course conns members shards h = h
+same_server found spec (status.Spent shard) course conns members shards h = h
+same_server found spec (status.Stale shard place) course conns members shards h = h
+same_server found spec (status.Uncovered commit key) course conns members shards h = h
+same_server found spec status.Memory course conns members shards (inl h) = inl h
+same_server found spec status.Memory course conns members shards (inr h) = inr (same_served found spec status.Memory course conns members shards h)

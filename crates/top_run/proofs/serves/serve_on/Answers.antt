@@ -1,0 +1,67 @@
+use Rattle.std.proofs.Common.{Option, refl, sym, ap, subst, ◌∙◌}
+use Rattle.std.specs.Prelude.{IsSome}
+use Rattle.rows_model.specs.Rows.{Tables}
+use Rattle.top_run.specs.Runs.{moment, IsOpened, is_read_fault}
+use Rattle.top_run.specs.Serves.{serve_shape, Course}
+use Rattle.top_run.specs.StandIns.{told}
+use Rattle.top_run.proofs.KeepLemmas.{opened_since}
+use Rattle.top_run.proofs.WorkLemmas.{left_of, kept_of}
+use Rattle.top_run.proofs.ServeLemmas.{served_ended, no_usage, no_read}
+use Rattle.top_run.proofs.serves.serve_on.Goals as goal
+
+pub returns-clause-ended : goal.returns-clause-ended
+returns-clause-ended g c = λ unread reads rows held opens.
+    let store = c.serve_hub-store.result.store in
+    let shards = c.serve_hub-store.result.shards.items in
+    let served = c.serve_hub-store.result.served in
+    let spec = c.args.spec.now in
+    let shape = serve_shape spec in
+    let tells = told g.D.Door.lines g.D.Door.faults g.D.Door.ended g.D.Door.closed in
+    let before = moment unread reads (g.W.Sink.taken c.args.sink.now) (g.W.Sink.faults c.args.sink.now) rows c.args.store.faults in
+    let after = moment unread reads (g.W.Sink.taken c.serve_hub-store.new.sink) (g.W.Sink.faults c.serve_hub-store.new.sink) store.told store.faults in
+    let named = c.serve_hub-store.ensures.store in
+    let before_now : IsSome store.told → IsSome c.args.store.told = λ some.
+    subst (λ (r : Option Tables). IsSome r) c.requires.named.told_is (named.told_before some) in
+    let opened = subst (λ (opening : Tables). IsOpened held shape opening store.told) (c.requires.named.opening_is ∙ sym named.opening_is)
+    (opened_since held shape c.args.store.ledger.opening c.args.store.told store.told before_now opens) in
+    let kept = kept_of shape held before after store shards g.H.HubName.terms g.H.HubName.start refl refl c.requires.named.start_is
+    c.ended_hub.ensures.short (named.cap_is ∙ c.requires.named.cap_is) c.ended_hub.ensures.told c.ended_hub.ensures.few
+    c.requires.named.terms_are c.serve_hub-store.ensures.all c.serve_hub-store.ensures.legal
+    (c.serve_hub-store.ensures.as_many ∙ c.requires.ready.parts.as_many) opened in
+    let course : Course = record {
+      held = held;
+      before = before;
+      after = after;
+      door_before = tells c.args.door.now;
+      door_after = tells c.serve_hub-store.new.door;
+      left = left_of store shards;
+      ends = served.ends.items;
+      written = served.written;
+    } in
+    rw (
+      c.ended_hub.ensures.status,
+      c.ended_hub.ensures.opening,
+      c.ended_hub.ensures.log,
+      c.ended_hub.ensures.histories,
+      c.ended_hub.ensures.ends,
+      c.ended_hub.ensures.written,
+      c.ended_hub.ensures.rows,
+      c.ended_hub.ensures.faults,
+    )
+    (served_ended served.status spec course
+    (record { opening = store.ledger.opening; failed = store.ledger.failed; kept = kept; attended = c.serve_hub-store.ensures.attended }))
+
+pub returns-clause-command : goal.returns-clause-command
+returns-clause-command g c = λ is.
+    let attended = c.serve_hub-store.ensures.attended in
+    no_usage c.serve_hub-store.result.served.status _ attended.printed attended.is_text (sym c.ended_hub.ensures.status ∙ is)
+
+pub returns-clause-no_read_fault : goal.returns-clause-no_read_fault
+returns-clause-no_read_fault g c =
+    let attended = c.serve_hub-store.ensures.attended in
+    ap is_read_fault c.ended_hub.ensures.status
+    ∙ no_read c.serve_hub-store.result.served.status _ attended.printed attended.is_text
+
+pub returns-clause-keeper_never_falls : goal.returns-clause-keeper_never_falls
+returns-clause-keeper_never_falls g c =
+    rw c.ended_hub.ensures.faults (c.serve_hub-store.ensures.store.never_fell c.args.store.faults c.requires.named.start_is)

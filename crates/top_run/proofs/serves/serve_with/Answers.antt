@@ -1,0 +1,14 @@
+use Rattle.std.proofs.Common.{ap, length}
+use Rattle.std.specs.Option.{option_map}
+use Rattle.top_run.specs.StandIns.{told}
+use Rattle.top_run.proofs.ServeLemmas.{unattended}
+use Rattle.top_run.proofs.serves.serve_with.Goals as goal
+
+pub returns-in-Err-clause-attended : goal.returns-in-Err-clause-attended
+returns-in-Err-clause-attended g c =
+    let halted = c.in-Err.ensures.halted in
+    let tells = told g.D.Door.lines g.D.Door.faults g.D.Door.ended g.D.Door.closed in
+    rw c.requires.none
+    (unattended c.args.spec.now c.in-Err.status (g.W.Sink.taken c.args.sink.now) (g.W.Sink.taken c.open_up.new.sink)
+    (tells c.args.door.now) (tells c.open_up.new.door) halted.0 c.open_up.new.written
+    c.open_up.ensures.no_line (ap (option_map length) c.open_up.ensures.keeps_closed) c.in-Err.ensures.unfinished halted.1 halted.2)

@@ -1,0 +1,83 @@
+-- What is so at the end of a command, by its words.
+use Rattle.std.specs.Prelude.{ℕ, ◌≡◌, ◌++◌, List, [], Option, None, Result, Ok, Err}
+use Rattle.run_inputs.specs.declared.loads.WorkSpec.{WorkSpec}
+use Rattle.run_inputs.specs.Words.{AreWork}
+use Rattle.top_run.specs.declared.runs.Status.{Status}
+use Rattle.top_run.specs.declared.runs.Status.TheVariants as status
+use Rattle.top_run.specs.declared.stand_ins.ServeSpec.{ServeSpec}
+use Rattle.top_run.specs.declared.stand_ins.Words.{Words}
+use Rattle.top_run.specs.declared.stand_ins.Words.TheVariants as words
+use Rattle.top_run.specs.declared.stand_ins.WordsFault.{WordsFault}
+use Rattle.top_run.specs.declared.stand_ins.WordsFault.TheVariants as fault
+use Rattle.top_run.specs.Runs.{AreReplay, Tells, Left, Prints, IsUnasked, IsNotStarted, Ended}
+use Rattle.top_run.specs.Serves.{Course, IsUnserved, ServeEnded}
+use Rattle.top_run.specs.StandIns.{AreServe, AreWords, AreReadAs, IsRead}
+use Rattle.top_run.specs.Works.{WorkEnded}
+
+-- The source is as before.
+pub record IsUnread (before after : Tells) : Type 0 where
+  pub left : after.left ≡ before.left
+  pub count : after.reads_failed ≡ before.reads_failed
+
+-- What was written of a text at such an end: all of it, or the first bytes of it at a write that failed.
+abbrev pub IsTextPart : Status → List ℕ → List ℕ → Type 0
+IsTextPart status.Done text printed = printed ≡ text
+IsTextPart status.WriteFault text printed = (more : List ℕ) × (printed ++ more ≡ text)
+IsTextPart other text printed = ⊥
+
+-- A text was asked for, and nothing was run.
+pub record IsTextTold (text : List ℕ) (ended : Status) (before after : Tells) (left : Left) (written : ℕ) : Type 0 where
+  pub printed : List ℕ
+  pub is_part : IsTextPart ended text printed
+  pub prints : Prints before.taken after.taken printed written
+  pub unasked : IsUnasked before after
+  pub no_opening : left.opening ≡ None
+  pub no_log : left.log ≡ []
+  pub no_histories : left.histories ≡ []
+
+-- Nothing was read, written or started.
+pub record IsRefused (course : Course) : Type 0 where
+  pub same : course.after ≡ course.before
+  pub nothing : IsNotStarted course.before course.after course.left course.written
+  pub unserved : IsUnserved course
+
+-- What is so at an end, by what the words were read as: a script is replayed from the source; a load and a server
+-- read nothing; a text that was asked for is written; and words that can't be read do nothing.
+abbrev pub EndedAs : Result Words WordsFault → Status → Course → Type 0
+EndedAs (Ok words.Replay) ended course =
+    Ended ended course.held course.before course.after course.left course.written × IsUnserved course
+EndedAs (Ok (words.Work spec)) ended course =
+    IsUnread course.before course.after
+    × WorkEnded ended spec course.held course.before course.after course.left course.written
+    × IsUnserved course
+EndedAs (Ok (words.Serve spec)) ended course = IsUnread course.before course.after × ServeEnded ended spec course
+EndedAs (Ok (words.Told text)) ended course =
+    IsUnread course.before course.after
+    × IsTextTold text.items ended course.before course.after course.left course.written
+    × IsUnserved course
+EndedAs (Err fault.Usage) ended course = (ended ≡ status.Usage) × IsRefused course
+EndedAs (Err fault.Memory) ended course = (ended ≡ status.Memory) × IsRefused course
+
+-- The words are no command: neither word for word, nor as they are read.
+pub record AreNoCommand (words : List (List ℕ)) : Type 0 where
+  pub no_words : (command : Words) → AreWords words command → ⊥
+  pub no_reading : (command : Words) → AreReadAs words command → ⊥
+
+-- The words can be read so: as a command or as asking for a text, or they are none, or memory runs out.
+abbrev pub IsReading : List (List ℕ) → Result Words WordsFault → Type 0
+IsReading words (Ok command) = IsRead words command
+IsReading words (Err fault.Usage) = AreNoCommand words
+IsReading words (Err fault.Memory) = Unit {0}
+
+-- What is so at an end of a command, by its words. The word `replay` alone replays a script, as
+-- the call of that name does. The words of a load run it, and those of a server serve; both read nothing.
+-- Words that aren't those of a command, word for word, end as what they are read as.
+pub record CommandEnded (words : List (List ℕ)) (ended : Status) (course : Course) : Type 0 where
+  pub replayed : AreReplay words → Ended ended course.held course.before course.after course.left course.written
+  pub worked : (spec : WorkSpec) → AreWork words spec
+      → IsUnread course.before course.after
+      × WorkEnded ended spec course.held course.before course.after course.left course.written
+  pub served : (spec : ServeSpec) → AreServe words spec → IsUnread course.before course.after × ServeEnded ended spec course
+  pub read : Result Words WordsFault
+  pub is_reading : IsReading words read
+  pub ended_as : EndedAs read ended course

@@ -1,0 +1,95 @@
+-- What a server prints and keeps, and how its lines ended.
+use Rattle.std.specs.Prelude.{ℕ, ◌≡◌, ◌≤◌, ◌⊎◌, true, List, [], ◌∷◌, ◌++◌, length, Option, codes, decimal}
+use Rattle.iq_outside.specs.Outside.{Rose}
+use Rattle.rows_model.specs.Rows.{Tables}
+use Rattle.session_client.specs.declared.plans.Shape.{Shape}
+use Rattle.core_history.specs.Lines.{line}
+use Rattle.top_run.specs.declared.runs.Status.{Status}
+use Rattle.top_run.specs.declared.runs.Status.TheVariants as status
+use Rattle.top_run.specs.declared.stand_ins.LineEnd.{LineEnd}
+use Rattle.top_run.specs.declared.stand_ins.ServeSpec.{ServeSpec}
+use Rattle.top_run.specs.Runs.{Held, Tells, Left, Prints, IsUnasked, IsNotStarted}
+use Rattle.top_run.specs.StandIns.{Told, GivesBack, count_up_by}
+use Rattle.top_run.specs.Works.{IsKept}
+
+-- The shape of a server's hub: so many members and shards, room for 4,096 entries in each, and leases that live 10 seconds.
+abbrev pub serve_shape : ServeSpec → Shape
+serve_shape spec = record { members = spec.members; shards = spec.shards; room = 4096; life = 10000 }
+
+-- The line that is written once the door is bound.
+unfoldable pub ready_line : List ℕ
+ready_line = line (codes "ready" ∷ [])
+
+-- The line that is written at the end: how many lines were served.
+unfoldable pub served_line : ℕ → List ℕ
+served_line lines = line (codes "served" ∷ decimal lines ∷ [])
+
+-- All that is written where so many lines were served.
+abbrev pub serve_text : ℕ → List ℕ
+serve_text lines = ready_line ++ served_line lines
+
+-- What was written before the last line: nothing where no line was served yet, or that the door is bound.
+abbrev pub IsUntold : ℕ → List ℕ → Type 0
+IsUntold lines printed = ((lines ≡ 0) × (printed ≡ [])) ⊎ (printed ≡ ready_line)
+
+-- What was written at such an end, where so many lines were served: all of it, the
+-- first bytes of it at a write that failed, and else what stands before the last line.
+abbrev pub IsServedText : Status → ℕ → List ℕ → Type 0
+IsServedText status.Done lines printed = printed ≡ serve_text lines
+IsServedText status.WriteFault lines printed = (more : List ℕ) × (printed ++ more ≡ serve_text lines)
+IsServedText status.DoorFault lines printed = IsUntold lines printed
+IsServedText status.Memory lines printed = IsUntold lines printed
+IsServedText other lines printed = ⊥
+
+-- What is so of sink, door and lines where a server ends. There is an end for each line that the
+-- door gave, each line was handed back, and they are no more than were asked for. At Done they are as many, or the door
+-- said that no more come.
+pub record IsAttended (spec : ServeSpec) (ended : Status) (taken_old taken_new : Option (List ℕ))
+    (before after : Told) (ends : List LineEnd) (written : ℕ) : Type 0 where
+  pub few : length ends ≤ spec.conns
+  pub counted : after.lines ≡ count_up_by (length ends) before.lines
+  pub given_back : GivesBack (length ends) before.closed after.closed
+  pub all : ended ≡ status.Done → (length ends ≡ spec.conns) ⊎ (after.ended ≡ true)
+  pub printed : List ℕ
+  pub is_text : IsServedText ended (length ends) printed
+  pub prints : Prints taken_old taken_new printed written
+
+-- How a run went: where it was made, what was known before and after it, of its door too, what it leaves, how many bytes were
+-- written, and how each line ended.
+pub record Course : Type 0 where
+  pub held : Held
+  pub before : Tells
+  pub after : Tells
+  pub door_before : Told
+  pub door_after : Told
+  pub left : Left
+  pub ends : List LineEnd
+  pub written : ℕ
+
+-- A server ended so that had begun. It leaves what a run over a hub leaves.
+pub record IsServed (spec : ServeSpec) (ended : Status) (course : Course) : Type 0 where
+  pub opening : Tables
+  pub failed : ℕ
+  pub kept : IsKept (serve_shape spec) course.held course.before course.after course.left opening failed
+  pub attended : IsAttended spec ended course.before.taken course.after.taken
+      course.door_before course.door_after course.ends course.written
+
+-- No line was served: the door is as before.
+pub record IsUnserved (course : Course) : Type 0 where
+  pub no_ends : course.ends ≡ []
+  pub door : course.door_after ≡ course.door_before
+
+-- What is so at an end of a server.
+abbrev pub ServeEnded : Status → ServeSpec → Course → Type 0
+ServeEnded status.Done spec course = IsServed spec status.Done course
+ServeEnded status.WriteFault spec course = IsServed spec status.WriteFault course
+ServeEnded status.DoorFault spec course = IsServed spec status.DoorFault course
+ServeEnded status.KeepFault spec course =
+    Rose course.before.keeps_failed course.after.keeps_failed
+    × (course.after.rows ≡ course.before.rows)
+    × IsNotStarted course.before course.after course.left course.written
+    × IsUnserved course
+ServeEnded status.Memory spec course =
+    (IsUnasked course.before course.after × IsNotStarted course.before course.after course.left course.written × IsUnserved course)
+    ⊎ IsServed spec status.Memory course
+ServeEnded other spec course = ⊥

@@ -1,0 +1,107 @@
+// What runs over a hub have in common: the parts of which it is made, the desks, and the end.
+ghost use Rattle.std.specs.Prelude.{◌≡◌, ◌≤◌, [], List, Option, Some, IfOk, length, map, vec_capacity};
+ghost use Rattle.std.specs.Option.{ForSome};
+ghost use Rattle.sql_keeper.specs.Faults.{FewFailed};
+ghost use Rattle.sql_keeper.specs.Stores.{rows_of};
+ghost use Rattle.core_history.specs.Machine.{terms_of};
+ghost use Rattle.run_audit.specs.Findings.{histories_in};
+ghost use Rattle.top_run.specs.Ready.{AreParts};
+
+use crate::endings::histories_of;
+use crate::runs::{RunEnd, Status};
+use crate::stand_ins::LineEnd;
+use iq_outside::{Clock, Gate};
+use key_shard::{Shard, Step};
+use rows_model::Memory;
+use session_client::Shape;
+use shard_lock::{Hub, HubDesk, HubName, new_shards};
+use sql_keeper::{Keeper, Start, Store};
+use std::alloc::Global;
+use std::sync::Wait;
+use std::sync::ledger::Blank;
+
+/// How long a lease of a running hub lives, in milliseconds.
+pub(crate) const LIFE: u64 = 10_000;
+
+/// How many commits a store takes.
+pub(crate) const CAP: u64 = 8_000_000;
+
+/// What a hub is made of beside its store: the shards, a ledger with a part for each, and room for
+/// their histories.
+#[derive(Drop)]
+pub(crate) struct Parts {
+    pub(crate) shards: Vec<Shard>,
+    pub(crate) ledger: Blank,
+    pub(crate) histories: Vec<Vec<Step>>,
+}
+
+/// The parts of a new hub of this shape.
+pub(crate) fn parts_for(alloc: Global, shape: &Shape) -> Result<Parts, Memory>
+    requires some { 1 ≤ shape.now.shards }
+    requires roomy { 1 ≤ shape.now.room }
+    requires lively { 1 ≤ shape.now.life }
+    ensures { IfOk result (AreParts shape.now (terms_of shape.now)) }
+{
+    Ok(Parts {
+        shards: new_shards(alloc, shape.shards, shape.room, shape.life)?,
+        ledger: Blank::new(shape.shards as u64),
+        histories: Vec::with_capacity(alloc, shape.shards as usize)?,
+    })
+}
+
+/// A desk over the hub for each worker.
+pub(crate) fn desks_over<'a, H: HubName, K: Keeper, C: Clock, G: Gate, R: Wait>(
+    rt: &'a R,
+    alloc: Global,
+    hub: &'a Hub<K, H>,
+    workers: u32,
+    clock: &'a C,
+    gate: &'a G,
+) -> Result<Vec<HubDesk<'a, K, H, C, G, R>>, Memory>
+    ensures { IfOk result (λ desks. length desks.items ≡ workers) }
+{
+    let mut desks = Vec::with_capacity(alloc, workers as usize)?;
+    for worker in 0..workers {
+        desks.push_reserved(hub.desk(rt, worker, clock, gate));
+    }
+    Ok(desks)
+}
+
+/// The end of a run over a hub that began.
+pub(crate) fn ended_hub<K: Keeper, N: Start>(
+    status: Status,
+    store: Store<K, N>,
+    shards: Vec<Shard>,
+    histories: Vec<Vec<Step>>,
+    ends: Vec<LineEnd>,
+    written: u64,
+) -> RunEnd<K>
+    requires none { histories.items ≡ [] }
+    requires room { length shards.items ≤ vec_capacity histories }
+    ensures status { result.status ≡ status }
+    ensures started { K.is_started result.keeper }
+    ensures rows { K.rows result.keeper ≡ store.told }
+    ensures faults { K.faults result.keeper ≡ store.faults }
+    ensures opening { result.opening ≡ Some store.ledger.opening }
+    ensures log { result.log.items ≡ store.ledger.log }
+    ensures short { length store.ledger.log ≤ store.ledger.cap }
+    ensures histories { map (λ history. history.items) result.histories.items
+        ≡ histories_in shards.items }
+    ensures ends { result.ends ≡ ends }
+    ensures written { result.written ≡ written }
+    ensures told { ForSome store.told (λ told. told ≡ rows_of store.ledger) }
+    ensures few { FewFailed N.count store.ledger.failed store.faults }
+{
+    // A store tells of its log that it is no longer than it may be.
+    let _ = store.log();
+    let (keeper, opening, log) = store.into_parts();
+    RunEnd {
+        status,
+        keeper,
+        opening: Some(opening),
+        log,
+        histories: histories_of(shards, histories),
+        ends,
+        written,
+    }
+}

@@ -1,0 +1,458 @@
+// A server: connections from a door, each served by a worker on a desk of its own over one hub.
+ghost use Rattle.std.specs.Prelude.{◌≡◌, ◌≢◌, ◌≤◌, ◌++◌, ℕ, [], List, Option, Some, None, IfOk, IfErr, OnOk, IsSome, length, map, vec_capacity};
+ghost use Rattle.std.specs.Bool.{IsFalse};
+ghost use Rattle.std.specs.Option.{ForSome};
+ghost use Rattle.rows_model.specs.Rows.{Tables};
+ghost use Rattle.core_history.specs.Machine.{terms_of, log_cap};
+ghost use Rattle.shard_lock.specs.Names.{AreAll, AreLegal, IsNamedStore};
+ghost use Rattle.top_run.specs.Ready.{IsServeReady};
+ghost use Rattle.top_run.specs.Runs.{Held, Left, Prints, held_at, moment, IsOpened, RoseWhere, is_read_fault, is_write_fault, is_door_fault};
+ghost use Rattle.top_run.specs.Serves.{serve_shape, ready_line, served_line, IsServedText, IsAttended, Course, ServeEnded};
+ghost use Rattle.top_run.specs.StandIns.{IsServe, told};
+ghost use Rattle.top_run.specs.Works.{IsNameOf};
+ghost use Rattle.top_run.specs.declared.runs.Status.{Status};
+
+use crate::endings::{not_started, start_status};
+use crate::hubs::{CAP, LIFE, Parts, desks_over, ended_hub, parts_for};
+use crate::printing::print;
+use crate::runs::{RunEnd, Status};
+use crate::stand_ins::{Attended, LineEnd, ServeSpec, serve_all};
+use iq_outside::{Clock, Door, Gate, Sink};
+use itoa::Buffer;
+use key_shard::Shard;
+use rows_model::Memory;
+use session_client::{Desk, Shape};
+use shard_lock::{Hub, HubName, StartOf};
+use sql_keeper::{Keeper, NoStore, Place, Store};
+use std::alloc::Global;
+use std::marker::Brand;
+use std::sync::Wait;
+use std::sync::ledger::Blank;
+use std::thread::Threads;
+
+/// How many entries a shard of a server has room for.
+const ROOM: u32 = 4096;
+
+/// Serves the lines that the door gives, over a store with this keeper at a fresh place. What needs memory
+/// before the store is there before the keeper starts; the hub, its desks and room for the ends of all
+/// lines are there before the door is bound, and the first line is written once it is.
+pub(crate) fn serve<
+    W: Sink,
+    K: Keeper + Send,
+    D: Door,
+    C: Clock,
+    G: Gate,
+    R: Threads + Wait + Sync,
+>(
+    rt: &R,
+    alloc: Global,
+    spec: &ServeSpec,
+    sink: &mut W,
+    keeper: K,
+    door: &mut D,
+    clock: &C,
+    gate: &G,
+) -> RunEnd<K>
+    requires { IsServe spec.now }
+    ensures ended { (unread : Option (List ℕ)) (reads : ℕ) →
+        let course : Course = record {
+          held = held_at Place.Fresh (K.holds keeper Place.Fresh);
+          before = moment unread reads
+              (W.taken sink.old) (W.faults sink.old) (K.rows keeper) (K.faults keeper);
+          after = moment unread reads (W.taken sink.new) (W.faults sink.new)
+              (K.rows result.keeper) (K.faults result.keeper);
+          door_before = told D.lines D.faults D.ended D.closed door.old;
+          door_after = told D.lines D.faults D.ended D.closed door.new;
+          left = record {
+            opening = result.opening;
+            log = result.log.items;
+            histories = map (λ history. history.items) result.histories.items;
+          };
+          ends = result.ends.items;
+          written = result.written;
+        } in
+        ServeEnded result.status spec.now course }
+    ensures started { IsSome result.opening → K.is_started result.keeper }
+    ensures unstarted { result.opening ≡ None → K.is_started result.keeper → K.is_started keeper }
+    ensures writes { RoseWhere (is_write_fault result.status)
+        (W.faults sink.old) (W.faults sink.new) }
+    ensures doors { RoseWhere (is_door_fault result.status)
+        (D.faults door.old) (D.faults door.new) }
+    ensures sink_never_falls { W.faults sink.old ≤ W.faults sink.new }
+    ensures door_never_falls { D.faults door.old ≤ D.faults door.new }
+    ensures command { result.status ≢ Status.Usage }
+    ensures no_read_fault { IsFalse (is_read_fault result.status) }
+    ensures keeper_never_falls { K.faults keeper ≤ K.faults result.keeper }
+{
+    let Ok(ready) = ready_for(alloc, spec) else {
+        return not_started(alloc, Status::Memory, keeper);
+    };
+    match Store::new(alloc, keeper, &Place::Fresh, spec.members, CAP) {
+        Ok(store) => serve_on::<Brand, _, _, _, _, _, _>(
+            rt, alloc, spec, sink, store, ready, door, clock, gate,
+        ),
+        Err(NoStore { keeper, cause }) => not_started(alloc, start_status(cause), keeper),
+    }
+}
+
+/// What a server is run with: the parts of its hub, and room for the ends of all lines.
+#[derive(Drop)]
+struct Ready {
+    parts: Parts,
+    ends: Vec<LineEnd>,
+}
+
+fn ready_for(alloc: Global, spec: &ServeSpec) -> Result<Ready, Memory>
+    requires { IsServe spec.now }
+    ensures { IfOk result (IsServeReady spec.now (terms_of (serve_shape spec.now))) }
+{
+    Ok(Ready {
+        parts: parts_for(alloc, &shape_of(spec))?,
+        ends: Vec::with_capacity(alloc, spec.conns as usize)?,
+    })
+}
+
+/// The shape of a server's hub.
+fn shape_of(spec: &ServeSpec) -> Shape
+    ensures { result ≡ serve_shape spec.now }
+{
+    Shape {
+        members: spec.members,
+        shards: spec.shards,
+        room: ROOM,
+        life: LIFE,
+    }
+}
+
+/// Serves over a store that was just started, and ends.
+fn serve_on<
+    H: HubName + Send + Sync,
+    W: Sink,
+    K: Keeper + Send,
+    D: Door,
+    C: Clock,
+    G: Gate,
+    R: Threads + Wait + Sync,
+>(
+    rt: &R,
+    alloc: Global,
+    spec: &ServeSpec,
+    sink: &mut W,
+    store: Store<K>,
+    ready: Ready,
+    door: &mut D,
+    clock: &C,
+    gate: &G,
+) -> RunEnd<K>
+    requires serve { IsServe spec.now }
+    requires named { IsNameOf (serve_shape spec.now)
+        store H.terms H.opening H.cap H.told H.start }
+    requires cap { store.ledger.cap ≡ log_cap }
+    requires new { store.ledger.failed ≡ 0 }
+    requires ready { IsServeReady spec.now H.terms ready }
+    requires ledger { (ready.parts.ledger.name ≡ H.name) × (ready.parts.ledger.parts ≡ H.parts) }
+    ensures ended { (unread : Option (List ℕ)) (reads : ℕ) (rows : Option Tables)
+        (held : Held) →
+        IsOpened held (serve_shape spec.now) store.ledger.opening store.told →
+        let course : Course = record {
+          held = held;
+          before = moment unread reads
+              (W.taken sink.old) (W.faults sink.old) rows store.faults;
+          after = moment unread reads (W.taken sink.new) (W.faults sink.new)
+              (K.rows result.keeper) (K.faults result.keeper);
+          door_before = told D.lines D.faults D.ended D.closed door.old;
+          door_after = told D.lines D.faults D.ended D.closed door.new;
+          left = record {
+            opening = result.opening;
+            log = result.log.items;
+            histories = map (λ history. history.items) result.histories.items;
+          };
+          ends = result.ends.items;
+          written = result.written;
+        } in
+        ServeEnded result.status spec.now course }
+    ensures started { K.is_started result.keeper }
+    ensures began { IsSome result.opening }
+    ensures writes { RoseWhere (is_write_fault result.status)
+        (W.faults sink.old) (W.faults sink.new) }
+    ensures doors { RoseWhere (is_door_fault result.status)
+        (D.faults door.old) (D.faults door.new) }
+    ensures sink_never_falls { W.faults sink.old ≤ W.faults sink.new }
+    ensures door_never_falls { D.faults door.old ≤ D.faults door.new }
+    ensures command { result.status ≢ Status.Usage }
+    ensures no_read_fault { IsFalse (is_read_fault result.status) }
+    ensures keeper_never_falls { store.faults ≤ K.faults result.keeper }
+{
+    let Ready { parts, ends } = ready;
+    let Parts {
+        shards,
+        ledger,
+        histories,
+    } = parts;
+    let Ran {
+        store,
+        shards,
+        served,
+    } = serve_hub::<H, _, _, _, _, _, _>(
+        rt,
+        alloc,
+        spec,
+        sink,
+        store.named::<StartOf<H>>(),
+        shards,
+        ledger,
+        door,
+        ends,
+        clock,
+        gate,
+    );
+    let Served {
+        status,
+        ends,
+        written,
+    } = served;
+    ended_hub(status, store, shards, histories, ends, written)
+}
+
+/// How the serving ended: with which status, how each line ended, and how many bytes were written.
+#[derive(Drop)]
+struct Served {
+    status: Status,
+    ends: Vec<LineEnd>,
+    written: u64,
+}
+
+/// A store and its shards after the threads have ended, and how the serving ended.
+#[derive(Drop)]
+struct Ran<K: Keeper, H: HubName> {
+    store: Store<K, StartOf<H>>,
+    shards: Vec<Shard>,
+    served: Served,
+}
+
+/// Serves over a hub of the store and the shards, and takes the hub apart.
+fn serve_hub<
+    H: HubName + Send + Sync,
+    W: Sink,
+    K: Keeper + Send,
+    D: Door,
+    C: Clock,
+    G: Gate,
+    R: Threads + Wait + Sync,
+>(
+    rt: &R,
+    alloc: Global,
+    spec: &ServeSpec,
+    sink: &mut W,
+    store: Store<K, StartOf<H>>,
+    shards: Vec<Shard>,
+    ledger: Blank,
+    door: &mut D,
+    ends: Vec<LineEnd>,
+    clock: &C,
+    gate: &G,
+) -> Ran<K, H>
+    requires serve { IsServe spec.now }
+    requires store { IsNamedStore H.opening H.cap H.told H.start store }
+    requires shards { AreAll H.terms shards.items }
+    requires few { length shards.items ≤ 64 }
+    requires legal { AreLegal shards.items }
+    requires ledger { (ledger.name ≡ H.name) × (ledger.parts ≡ H.parts) }
+    requires one_each { ledger.parts ≡ length shards.items }
+    requires none { ends.items ≡ [] }
+    requires room { spec.now.conns ≤ vec_capacity ends }
+    ensures store { IsNamedStore H.opening H.cap H.told H.start result.store }
+    ensures as_many { length result.shards.items ≡ length shards.items }
+    ensures all { AreAll H.terms result.shards.items }
+    ensures legal { AreLegal result.shards.items }
+    ensures attended { IsAttended spec.now result.served.status
+        (W.taken sink.old) (W.taken sink.new)
+        (told D.lines D.faults D.ended D.closed door.old)
+        (told D.lines D.faults D.ended D.closed door.new)
+        result.served.ends.items result.served.written }
+    ensures writes { RoseWhere (is_write_fault result.served.status)
+        (W.faults sink.old) (W.faults sink.new) }
+    ensures doors { RoseWhere (is_door_fault result.served.status)
+        (D.faults door.old) (D.faults door.new) }
+    ensures sink_never_falls { W.faults sink.old ≤ W.faults sink.new }
+    ensures door_never_falls { D.faults door.old ≤ D.faults door.new }
+{
+    match Hub::new(alloc, store, shards, ledger) {
+        Ok(hub) => {
+            let served = serve_over(rt, alloc, spec, sink, &hub, door, ends, clock, gate);
+            let (store, shards) = hub.into_parts();
+            Ran {
+                store,
+                shards,
+                served,
+            }
+        }
+        Err((store, shards)) => Ran {
+            store,
+            shards,
+            served: unserved(ends),
+        },
+    }
+}
+
+/// The end of a server for which memory ran out before its door was bound.
+fn unserved(ends: Vec<LineEnd>) -> Served
+    ensures { result ≡ record { status = Status.Memory; ends = ends; written = 0 } }
+{
+    Served {
+        status: Status::Memory,
+        ends,
+        written: 0,
+    }
+}
+
+/// Serves with a desk over the hub for each worker.
+fn serve_over<
+    H: HubName + Send + Sync,
+    W: Sink,
+    K: Keeper + Send,
+    D: Door,
+    C: Clock,
+    G: Gate,
+    R: Threads + Wait + Sync,
+>(
+    rt: &R,
+    alloc: Global,
+    spec: &ServeSpec,
+    sink: &mut W,
+    hub: &Hub<K, H>,
+    door: &mut D,
+    ends: Vec<LineEnd>,
+    clock: &C,
+    gate: &G,
+) -> Served
+    requires serve { IsServe spec.now }
+    requires none { ends.items ≡ [] }
+    requires room { spec.now.conns ≤ vec_capacity ends }
+    ensures attended { IsAttended spec.now result.status (W.taken sink.old) (W.taken sink.new)
+        (told D.lines D.faults D.ended D.closed door.old)
+        (told D.lines D.faults D.ended D.closed door.new)
+        result.ends.items result.written }
+    ensures writes { RoseWhere (is_write_fault result.status)
+        (W.faults sink.old) (W.faults sink.new) }
+    ensures doors { RoseWhere (is_door_fault result.status)
+        (D.faults door.old) (D.faults door.new) }
+    ensures sink_never_falls { W.faults sink.old ≤ W.faults sink.new }
+    ensures door_never_falls { D.faults door.old ≤ D.faults door.new }
+{
+    match desks_over(rt, alloc, hub, spec.workers, clock, gate) {
+        Ok(mut desks) => serve_with(rt, alloc, spec, sink, desks.as_mut_slice(), door, ends),
+        Err(Memory) => unserved(ends),
+    }
+}
+
+/// Opens the door, lets the workers serve, each on its desk, and tells how many lines were served.
+fn serve_with<W: Sink, K: Desk + Send, D: Door, R: Threads + Wait + Sync>(
+    rt: &R,
+    alloc: Global,
+    spec: &ServeSpec,
+    sink: &mut W,
+    desks: &mut [K],
+    door: &mut D,
+    ends: Vec<LineEnd>,
+) -> Served
+    requires some { 1 ≤ length desks.old }
+    requires none { ends.items ≡ [] }
+    requires room { spec.now.conns ≤ vec_capacity ends }
+    ensures attended { IsAttended spec.now result.status (W.taken sink.old) (W.taken sink.new)
+        (told D.lines D.faults D.ended D.closed door.old)
+        (told D.lines D.faults D.ended D.closed door.new)
+        result.ends.items result.written }
+    ensures writes { RoseWhere (is_write_fault result.status)
+        (W.faults sink.old) (W.faults sink.new) }
+    ensures doors { RoseWhere (is_door_fault result.status)
+        (D.faults door.old) (D.faults door.new) }
+    ensures sink_never_falls { W.faults sink.old ≤ W.faults sink.new }
+    ensures door_never_falls { D.faults door.old ≤ D.faults door.new }
+{
+    let mut written = 0;
+    if let Err(status) = open_up(spec.addr.as_slice(), sink, door, &mut written) {
+        return Served {
+            status,
+            ends,
+            written,
+        };
+    }
+    let Attended { ends, failed } = serve_all(rt, alloc, desks, door, spec.conns, ends);
+    let status = if failed {
+        Status::DoorFault
+    } else {
+        close_up(alloc, sink, &mut written, ends.len())
+    };
+    Served {
+        status,
+        ends,
+        written,
+    }
+}
+
+/// Binds the door, and writes that it is bound. Where it can't be bound, nothing is written.
+fn open_up<W: Sink, D: Door>(
+    addr: &[u8],
+    sink: &mut W,
+    door: &mut D,
+    written: &mut u64,
+) -> Result<(), Status>
+    requires nothing { written.old ≡ 0 }
+    ensures told { OnOk result
+        (Prints (W.taken sink.old) (W.taken sink.new) ready_line written.new) }
+    ensures halted { IfErr result (λ status. (printed : List ℕ) ×
+        IsServedText status 0 printed ×
+        Prints (W.taken sink.old) (W.taken sink.new) printed written.new) }
+    ensures unbound { IfErr result (λ status. status ≡ Status.DoorFault →
+        Prints (W.taken sink.old) (W.taken sink.new) [] written.new) }
+    ensures no_line { D.lines door.new ≡ D.lines door.old }
+    ensures keeps_closed { D.closed door.new ≡ D.closed door.old }
+    ensures ok_writes { OnOk result (W.faults sink.new ≡ W.faults sink.old) }
+    ensures ok_doors { OnOk result (D.faults door.new ≡ D.faults door.old) }
+    ensures writes { IfErr result (λ status. RoseWhere (is_write_fault status)
+        (W.faults sink.old) (W.faults sink.new)) }
+    ensures doors { IfErr result (λ status. RoseWhere (is_door_fault status)
+        (D.faults door.old) (D.faults door.new)) }
+    ensures unfinished { IfErr result (λ status. status ≢ Status.Done) }
+    ensures sink_never_falls { W.faults sink.old ≤ W.faults sink.new }
+    ensures door_never_falls { D.faults door.old ≤ D.faults door.new }
+{
+    if door.bind(addr).is_err() {
+        return Err(Status::DoorFault);
+    }
+    match print(sink, written, b"ready\n") {
+        Ok(()) => Ok(()),
+        Err(_) => Err(Status::WriteFault),
+    }
+}
+
+/// Writes how many lines were served, and answers how the server ends.
+fn close_up<W: Sink>(alloc: Global, sink: &mut W, written: &mut u64, lines: usize) -> Status
+    ensures text { (taken : Option (List ℕ)) →
+        Prints taken (W.taken sink.old) ready_line written.old →
+        (printed : List ℕ) × IsServedText result lines printed ×
+        Prints taken (W.taken sink.new) printed written.new }
+    ensures writes { RoseWhere (is_write_fault result) (W.faults sink.old) (W.faults sink.new) }
+    ensures no_door_fault { IsFalse (is_door_fault result) }
+    ensures sink_never_falls { W.faults sink.old ≤ W.faults sink.new }
+{
+    let Ok(line) = served_line(alloc, lines) else {
+        return Status::Memory;
+    };
+    match print(sink, written, line.as_slice()) {
+        Ok(()) => Status::Done,
+        Err(_) => Status::WriteFault,
+    }
+}
+
+/// The line that tells how many lines were served.
+fn served_line(alloc: Global, lines: usize) -> Result<Vec<u8>, Memory>
+    ensures { IfOk result (λ text. text.items ≡ served_line lines) }
+{
+    let mut buffer = Buffer::new();
+    let mut text = Vec::from_slice(alloc, b"served ")?;
+    text.extend_from_slice(buffer.format(lines as u64).as_bytes())?;
+    text.push(b'\n')?;
+    Ok(text)
+}
