@@ -1,0 +1,48 @@
+-- Words of commands, and numbers in them.
+use Rattle.std.proofs.Common.{ℕ, ◌≡◌, ◌≤◌, ◌<◌, ◌^◌, ◌+◌, ◌∙◌, List, [], ◌∷◌, ◌++◌, length, map, take, get_or, Option, Some, None, Result, Ok, Err, refl, sym, ap, ap₂, subst, arith, append_assoc}
+use Rattle.std.specs.Prelude.{codes, decimal, option_map, IfNone}
+use Rattle.std.specs.List.{All}
+use Rattle.std.specs.Str.Parse.{ParsesUnsigned}
+use Rattle.std.proofs.lemmas.Fmt.{parse-decimal}
+use Rattle.std.proofs.lemmas.List.{take_more, map-append, get_or-map, length-map}
+use Rattle.std.proofs.lemmas.List.Elements.{All-append, All-cons, All-nil}
+use Rattle.run_inputs.specs.Parsing.{IsNumberWithin}
+
+-- a word that is a number within a range is read as that number
+pub one_within : {E : Type 0} (word : List ℕ) (least most number : ℕ) (r : Result ℕ E) → most < 2 ^ 32
+    → ParsesUnsigned 32 10 word r → IsNumberWithin word least most number → r ≡ Ok number
+one_within {E} word least most number r small parsed h =
+    let to : number ≤ most = h.to in
+    parse-decimal {E = E} 32 number word r (omega arith) (omega arith) h.written parsed
+
+-- ---- a list that grows by one text
+
+pub more_texts : {X Y : Type 0} (f : X → List ℕ) (g : Y → List ℕ) (front : List (List ℕ)) (xs : List X) (ys : List Y) (i : ℕ) (x : X) (y : Y)
+    → i < length ys → y ≡ get_or ys i y → f x ≡ g y → map f xs ≡ front ++ map g (take i ys) → map f (xs ++ x ∷ []) ≡ front ++ map g (take (i + 1) ys)
+more_texts f g front xs ys i x y below is same before =
+    map-append f xs (x ∷ [])
+    ∙ ap₂ (λ (texts : List (List ℕ)) (text : List ℕ). texts ++ text ∷ []) before (same ∙ ap g is)
+    ∙ append_assoc front (map g (take i ys)) (g (get_or ys i y) ∷ [])
+    ∙ ap (λ (texts : List (List ℕ)). front ++ texts) (sym (ap (map g) (take_more ys i y below) ∙ map-append g (take i ys) (get_or ys i y ∷ [])))
+
+pub more_pass : {Y : Type 0} (P : List ℕ → Type 0) (g : Y → List ℕ) (ys : List Y) (i : ℕ) (y : Y)
+    → i < length ys → y ≡ get_or ys i y → P (g y) → All P (map g (take i ys)) → All P (map g (take (i + 1) ys))
+more_pass P g ys i y below is one before =
+    subst (All P) (sym (ap (map g) (take_more ys i y below) ∙ map-append g (take i ys) (get_or ys i y ∷ [])))
+    (All-append P (map g (take i ys)) (g (get_or ys i y) ∷ []) before
+    (All-cons P (g (get_or ys i y)) [] (subst (λ z. P (g z)) is one) (All-nil P)))
+
+-- one text that doesn't pass is enough
+pub one_fails : {Y : Type 0} (P : List ℕ → Type 0) (g : Y → List ℕ) (ys : List Y) (i : ℕ) (y : Y)
+    → i < length ys → y ≡ get_or ys i y → (P (g y) → ⊥) → All P (map g ys) → ⊥
+one_fails P g ys i y below is bad all =
+    let inside : i < length (map g ys) = subst (λ n. i < n) (sym (length-map g ys)) below in
+    bad (subst P (get_or-map g ys i y (g y) below ∙ ap g (sym is)) (all i (g y) inside))
+
+-- ---- a subcommand
+
+-- its name and what stands behind it
+pub named : {B X Y : Type 0} (f : B → X) (g : B → Y) (o : Option B) (x : X) (y : Y) → Some x ≡ option_map f o
+    → Some y ≡ option_map (λ (p : X × Y). p.1) (option_map (λ b. (f b, g b)) o) → option_map (λ b. (f b, g b)) o ≡ Some (x, y)
+named f g None x y e h = absurd cc
+named f g (Some b) x y e h = cc

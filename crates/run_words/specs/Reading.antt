@@ -1,0 +1,52 @@
+-- How `clap` reads the words.
+use Rattle.std.specs.Prelude.{ℕ, ◌≡◌, ◌⊎◌, List, [], ◌∷◌, All, Option, Some, None, Result, Ok, Err, map, option_map, unwrap_or, codes}
+use Rattle.std.specs.Borrow.{Bor}
+use Rattle.std.specs.Str.{IsUtf8}
+use Rattle.clap.specs.Words.{IsAmong, Row, Text, all_of, fault_of, subcommand_of}
+use Rattle.clap.specs.declared.error.kind.ErrorKind.{ErrorKind}
+use Rattle.clap.specs.declared.error.kind.ErrorKind.TheVariants.{DisplayHelp, DisplayVersion, OutOfMemory}
+use Rattle.run_words.specs.declared.words.Words.{Words}
+use Rattle.run_words.specs.declared.words.Words.TheVariants.{Told}
+use Rattle.run_words.specs.declared.words.WordsFault.{WordsFault}
+use Rattle.run_words.specs.declared.words.WordsFault.TheVariants as fault
+use Rattle.run_words.specs.Program.{program}
+use Rattle.run_words.specs.Words.{AreWords}
+
+-- The name of a subcommand and the values behind it.
+abbrev pub line_of : Option (Text × List Row) → List Text
+line_of None = []
+line_of (Some found) = found.0 ∷ unwrap_or (all_of (codes "values") found.1) []
+
+-- The values behind a subcommand, where it has any.
+abbrev pub texts_behind : Option (Bor (List (Bor Text))) → List Text
+texts_behind values = unwrap_or (option_map (λ (some : Bor (List (Bor Text))). map (λ (value : Bor Text). value.now) some.now) values) []
+
+-- `clap` takes the words, and reads them as this line: a subcommand's name and the values behind it.
+pub record AreTakenAs (words line : List Text) : Type 0 where
+  pub texts : All IsUtf8 words
+  pub taken : fault_of program words ≡ []
+  pub line_is : line_of (subcommand_of program words) ≡ line
+
+-- The words are read as a command: the line as which they are taken is the command's, word for word.
+abbrev pub AreReadAs : List Text → Words → Type 0
+AreReadAs words command = (line : List Text) × AreTakenAs words line × AreWords line command
+
+-- `clap` answers the words with a text, the help or the version.
+abbrev pub AskForText : List Text → Type 0
+AskForText words = IsAmong DisplayHelp (fault_of program words) ⊎ IsAmong DisplayVersion (fault_of program words)
+
+-- What is read of the words: a command as which they are read, or a text for which they ask.
+abbrev pub IsRead : List Text → Words → Type 0
+IsRead words (Told text) = AskForText words
+IsRead words command = AreReadAs words command
+
+-- A kind of refusal is a text to show.
+abbrev pub IsText : ErrorKind → Type 0
+IsText kind = (kind ≡ DisplayHelp) ⊎ (kind ≡ DisplayVersion)
+
+-- What a refusal of this kind comes to. Memory may run out at each.
+abbrev pub IsRefused : ErrorKind → Result Words WordsFault → Type 0
+IsRefused kind (Ok (Told text)) = IsText kind
+IsRefused kind (Ok command) = ⊥
+IsRefused kind (Err fault.Usage) = (IsText kind → ⊥) × (kind ≡ OutOfMemory → ⊥)
+IsRefused kind (Err fault.Memory) = (kind ≡ OutOfMemory) ⊎ IsText kind
