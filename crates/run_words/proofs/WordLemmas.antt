@@ -7,6 +7,8 @@ use Rattle.std.proofs.lemmas.Fmt.{parse-decimal}
 use Rattle.std.proofs.lemmas.List.{take_more, map-append, get_or-map, length-map}
 use Rattle.std.proofs.lemmas.List.Elements.{All-append, All-cons, All-nil}
 use Rattle.run_inputs.specs.Parsing.{IsNumberWithin}
+use Rattle.run_words.specs.declared.words.ServeSpec.{ServeSpec}
+use Rattle.run_words.specs.Words.{AreServe, AreServeNumbers}
 
 -- a word that is a number within a range is read as that number
 pub one_within : {E : Type 0} (word : List ℕ) (least most number : ℕ) (r : Result ℕ E) → most < 2 ^ 32
@@ -46,3 +48,19 @@ pub named : {B X Y : Type 0} (f : B → X) (g : B → Y) (o : Option B) (x : X) 
     → Some y ≡ option_map (λ (p : X × Y). p.1) (option_map (λ b. (f b, g b)) o) → option_map (λ b. (f b, g b)) o ≡ Some (x, y)
 named f g None x y e h = absurd cc
 named f g (Some b) x y e h = cc
+
+-- ---- what is served
+
+-- where the numbers are none, it is nothing
+pub none_served : (values : List (List ℕ)) (a x y z w : List ℕ) (o : Option ServeSpec) → values ≡ a ∷ x ∷ y ∷ z ∷ w ∷ []
+    → IfNone o ((spec : ServeSpec) → AreServeNumbers x y z w spec → ⊥) → IfNone o ((spec : ServeSpec) → AreServe (codes "serve" ∷ values) spec → ⊥)
+none_served values a x y z w (Some spec) five none = tt
+none_served values a x y z w None five none = λ spec h.
+    let written = h.written in
+    let fits = h.fits in
+    none spec (record {
+      conns_are = record { written = cc; from = fits.some_conns; to = fits.few_conns };
+      workers_are = record { written = cc; from = fits.some_workers; to = fits.few_workers };
+      shards_are = record { written = cc; from = fits.some_shards; to = fits.few_shards };
+      members_are = record { written = cc; from = fits.some_members; to = fits.few_members };
+    })

@@ -23,22 +23,29 @@ texts_behind values = unwrap_or (option_map (λ (some : Bor (List (Bor Text))). 
 
 -- `clap` takes the words, and reads them as this line: a subcommand's name and the values behind it.
 pub record AreTakenAs (words line : List Text) : Type 0 where
-  pub texts : All IsUtf8 words
   pub taken : fault_of program words ≡ []
   pub line_is : line_of (subcommand_of program words) ≡ line
 
--- The words are read as a command: the line as which they are taken is the command's, word for word.
+-- The line as which `clap` takes the words is the command's, word for word.
+abbrev pub AreSaid : List Text → Words → Type 0
+AreSaid words command = (line : List Text) × AreTakenAs words line × AreWords line command
+
+-- The words are UTF-8, and read as this command.
 abbrev pub AreReadAs : List Text → Words → Type 0
-AreReadAs words command = (line : List Text) × AreTakenAs words line × AreWords line command
+AreReadAs words command = All IsUtf8 words × AreSaid words command
 
 -- `clap` answers the words with a text, the help or the version.
 abbrev pub AskForText : List Text → Type 0
 AskForText words = IsAmong DisplayHelp (fault_of program words) ⊎ IsAmong DisplayVersion (fault_of program words)
 
--- What is read of the words: a command as which they are read, or a text for which they ask.
+-- What `clap` says of the words: a command, or that they ask for a text.
+abbrev pub IsSaid : List Text → Words → Type 0
+IsSaid words (Told text) = AskForText words
+IsSaid words command = AreSaid words command
+
+-- What is read of words, which are UTF-8.
 abbrev pub IsRead : List Text → Words → Type 0
-IsRead words (Told text) = AskForText words
-IsRead words command = AreReadAs words command
+IsRead words command = All IsUtf8 words × IsSaid words command
 
 -- A kind of refusal is a text to show.
 abbrev pub IsText : ErrorKind → Type 0

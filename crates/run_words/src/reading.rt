@@ -7,7 +7,7 @@ ghost use Rattle.run_inputs.specs.Words.{AreWork};
 ghost use Rattle.run_words.specs.declared.words.ServeSpec.{ServeSpec};
 ghost use Rattle.run_words.specs.declared.words.Words.{Words};
 ghost use Rattle.run_words.specs.Words.{AreServe, AreServeNumbers, AreWords};
-ghost use Rattle.run_words.specs.Reading.{line_of, texts_behind, AreReadAs, IsRead, IsRefused};
+ghost use Rattle.run_words.specs.Reading.{line_of, texts_behind, AreReadAs, AreSaid, IsRead, IsRefused, IsSaid};
 
 use crate::numbers::number_within;
 use crate::program::program;
@@ -32,9 +32,21 @@ pub fn read_words(alloc: Global, words: &[Vec<u8>]) -> Result<Words, WordsFault>
         MatchResult result (AreWords (map (λ word. word.items) words.now)) (λ fault. fault ≡ WordsFault.Memory) }
 {
     let texts = texts_of(alloc, words)?;
+    read_texts(alloc, texts.as_slice())
+}
+
+// What clap says of the words.
+fn read_texts<'a>(alloc: Global, texts: &'a [&'a str]) -> Result<Words, WordsFault>
+    ensures said { IfOk result (IsSaid (map (λ text. text.now) texts.now)) }
+    ensures usage { result ≡ Err WordsFault.Usage → (command : Words) →
+        AreSaid (map (λ text. text.now) texts.now) command → ⊥ }
+{
     let program = program(alloc)?;
-    match program.try_get_matches_from(texts.as_slice()) {
-        Ok(matches) => command_of(alloc, &matches)?.ok_or(WordsFault::Usage),
+    match program.try_get_matches_from(texts) {
+        Ok(matches) => match command_of(alloc, &matches)? {
+            Some(command) => Ok(command),
+            None => Err(WordsFault::Usage),
+        },
         Err(error) => told_by(alloc, &error),
     }
 }
@@ -90,9 +102,9 @@ fn command_named(
     values: Option<&[&str]>,
 ) -> Result<Option<Words>, AllocError>
     ensures found { IfOk result (λ found. IfSome found
-        (AreWords (name.now ∷ texts_behind values))) }
+        (AreWords (name.now ∷ texts_behind values.entry))) }
     ensures none { IfOk result (λ found. IfNone found ((command : Words) →
-        AreWords (name.now ∷ texts_behind values) command → ⊥)) }
+        AreWords (name.now ∷ texts_behind values.entry) command → ⊥)) }
 {
     match (name, values) {
         ("replay", None | Some([])) => Ok(Some(Words::Replay)),
