@@ -29,7 +29,8 @@ pub fn read_words(alloc: Global, words: &[Vec<u8>]) -> Result<Words, WordsFault>
     ensures usage { result ≡ Err WordsFault.Usage → (command : Words) →
         AreReadAs (map (λ word. word.items) words.now) command → ⊥ }
     ensures accepts { (command : Words) → AreWords (map (λ word. word.items) words.now) command →
-        MatchResult result (AreWords (map (λ word. word.items) words.now)) (λ fault. fault ≡ WordsFault.Memory) }
+        MatchResult result (AreWords (map (λ word. word.items) words.now))
+        (λ fault. fault ≡ WordsFault.Memory) }
 {
     let texts = texts_of(alloc, words)?;
     read_texts(alloc, texts.as_slice())
