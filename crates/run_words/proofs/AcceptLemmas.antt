@@ -1,35 +1,35 @@
 -- The words of a command are read as they stand.
 use Rattle.std.proofs.Common.{inl, inr, ℕ, zero, suc, ◌≡◌, ◌<◌, ◌≤◌, ◌^◌, ◌∙◌, List, [], ◌∷◌, length, map, get_or, Result, Ok, Err, refl, sym, subst, arith, ne_eqb}
 use Rattle.std.specs.Prelude.{All, IfOk, MatchResult, Some, ◌≢◌, codes, decimal, slice_get}
-use Rattle.std.specs.Str.{IsUtf8}
+use Rattle.std.specs.Str.{IsUtf8, is_utf8}
 use Rattle.std.proofs.lemmas.Fmt.{IsAscii-decimal, decimal_digit, decimal_nonempty, first_decimal}
 use Rattle.std.proofs.lemmas.List.Elements.{All-cons, All-nil}
 use Rattle.std.proofs.lemmas.Str.{IsUtf8-from_ascii, IsUtf8-from_is_utf8}
-use Rattle.clap.specs.Words.{IsAmong, Text, fault_of}
+use Rattle.clap.specs.Words.{IsAmong, Text, fault_of, subcommand_of}
 use Rattle.clap.proofs.OnLiterals.{clap_on_literals}
 use Rattle.clap.specs.declared.error.kind.ErrorKind.TheVariants.{DisplayHelp, DisplayVersion}
-use Rattle.run_inputs.specs.Words.{AreWork}
+use Rattle.run_inputs.specs.Words.{AreWork, numbers_of}
 use Rattle.run_words.specs.declared.words.Words.{Words}
 use Rattle.run_words.specs.declared.words.Words.TheVariants.{Replay, Work, Serve, Told}
 use Rattle.run_words.specs.declared.words.WordsFault.{WordsFault}
 use Rattle.run_words.specs.declared.words.WordsFault.TheVariants.{Usage, Memory}
 use Rattle.run_words.specs.Program.{program}
-use Rattle.run_words.specs.Words.{AreServe, AreWords, IsAddress}
-use Rattle.run_words.specs.Reading.{AreReadAs, AreSaid, AreTakenAs, AskForText, IsRead, IsSaid}
-use Rattle.run_words.proofs.TakenLemmas.{IsPlainWord, replay_taken, work_taken, serve_taken}
+use Rattle.run_words.specs.Words.{AreServe, AreWords, IsAddress, numbers_served}
+use Rattle.run_words.specs.Reading.{line_of, AreReadAs, AreSaid, AreTakenAs, AskForText, IsRead, IsSaid}
+use Rattle.run_words.proofs.TakenLemmas.{ArePlain, IsPlainWord, replay_taken, work_taken, serve_taken}
 
 -- ---- words are UTF-8, and begin with no hyphen
 
 replay_utf8 : IsUtf8 (codes "replay")
-unfolding clap_on_literals
+unfolding clap_on_literals is_utf8
 replay_utf8 = IsUtf8-from_is_utf8 (codes "replay") refl
 
 work_utf8 : IsUtf8 (codes "work")
-unfolding clap_on_literals
+unfolding clap_on_literals is_utf8
 work_utf8 = IsUtf8-from_is_utf8 (codes "work") refl
 
 serve_utf8 : IsUtf8 (codes "serve")
-unfolding clap_on_literals
+unfolding clap_on_literals is_utf8
 serve_utf8 = IsUtf8-from_is_utf8 (codes "serve") refl
 
 decimal_utf8 : (n : ℕ) → n < 2 ^ 64 → IsUtf8 (decimal n)
@@ -49,6 +49,9 @@ plain_address : (text : Text) → 1 ≤ length text → slice_get text 0 ≢ Som
 plain_address [] some other = absurd (omega arith)
 plain_address (x ∷ rest) some other = ne_eqb x 45 (λ e. other (rw e refl))
 
+plain_five : (a b c d e : Text) → IsPlainWord a → IsPlainWord b → IsPlainWord c → IsPlainWord d → IsPlainWord e → ArePlain (a ∷ b ∷ c ∷ d ∷ e ∷ [])
+plain_five a b c d e p q r s t = (p, (q, (r, (s, (t, tt)))))
+
 -- ---- six words
 
 all_six : (a b c d e f : Text) → IsUtf8 a → IsUtf8 b → IsUtf8 c → IsUtf8 d → IsUtf8 e → IsUtf8 f → All IsUtf8 (a ∷ b ∷ c ∷ d ∷ e ∷ f ∷ [])
@@ -61,9 +64,12 @@ all_six a b c d e f p q r s t u =
 abbrev Stand : List Text → Type 0
 Stand words = All IsUtf8 words × AreTakenAs words words
 
+stands : (words : List Text) → All IsUtf8 words → (fault_of program words ≡ []) × (line_of (subcommand_of program words) ≡ words) → Stand words
+stands words utf8 t = (utf8, record { taken = t.0; line_is = t.1 })
+
 pub stand : (words : List Text) (command : Words) → AreWords words command → Stand words
 stand words Replay h =
-    subst Stand (sym h) (All-cons IsUtf8 (codes "replay") [] replay_utf8 (All-nil IsUtf8), record { taken = replay_taken.0; line_is = replay_taken.1 })
+    subst Stand (sym h) (stands (codes "replay" ∷ []) (All-cons IsUtf8 (codes "replay") [] replay_utf8 (All-nil IsUtf8)) replay_taken)
 stand words (Work spec) h =
     let fits = h.fits in
     let few_members : spec.members ≤ 100000 = fits.few_members in
@@ -76,13 +82,12 @@ stand words (Work spec) h =
     let workers = small spec.workers (omega arith) in
     let shards = small spec.shards (omega arith) in
     let seed = h.seed_below in
-    let plain = (plain_decimal spec.members members, plain_decimal spec.sessions sessions, plain_decimal spec.workers workers, plain_decimal spec.shards shards, plain_decimal spec.seed seed, tt) in
+    let plain =
+    plain_five _ _ _ _ _ (plain_decimal spec.members members) (plain_decimal spec.sessions sessions) (plain_decimal spec.workers workers)
+    (plain_decimal spec.shards shards) (plain_decimal spec.seed seed) in
     let t = work_taken (decimal spec.members) (decimal spec.sessions) (decimal spec.workers) (decimal spec.shards) (decimal spec.seed) plain in
-    subst Stand (sym h.written) (
-      all_six (codes "work") _ _ _ _ _ work_utf8
-          (decimal_utf8 spec.members members) (decimal_utf8 spec.sessions sessions) (decimal_utf8 spec.workers workers) (decimal_utf8 spec.shards shards) (decimal_utf8 spec.seed seed),
-      record { taken = t.0; line_is = t.1 },
-    )
+    subst Stand (sym h.written) (stands _ (all_six (codes "work") _ _ _ _ _ work_utf8
+    (decimal_utf8 spec.members members) (decimal_utf8 spec.sessions sessions) (decimal_utf8 spec.workers workers) (decimal_utf8 spec.shards shards) (decimal_utf8 spec.seed seed)) t)
 stand words (Serve spec) h =
     let fits = h.fits in
     let few_conns : spec.conns ≤ 1000000 = fits.few_conns in
@@ -95,13 +100,12 @@ stand words (Serve spec) h =
     let shards = small spec.shards (omega arith) in
     let members = small spec.members (omega arith) in
     let address = fits.address in
-    let plain = (plain_address spec.addr.items address.some address.no_hyphen, plain_decimal spec.conns conns, plain_decimal spec.workers workers, plain_decimal spec.shards shards, plain_decimal spec.members members, tt) in
+    let plain =
+    plain_five _ _ _ _ _ (plain_address spec.addr.items address.some address.no_hyphen) (plain_decimal spec.conns conns) (plain_decimal spec.workers workers)
+    (plain_decimal spec.shards shards) (plain_decimal spec.members members) in
     let t = serve_taken spec.addr.items (decimal spec.conns) (decimal spec.workers) (decimal spec.shards) (decimal spec.members) plain in
-    subst Stand (sym h.written) (
-      all_six (codes "serve") _ _ _ _ _ serve_utf8
-          address.utf8 (decimal_utf8 spec.conns conns) (decimal_utf8 spec.workers workers) (decimal_utf8 spec.shards shards) (decimal_utf8 spec.members members),
-      record { taken = t.0; line_is = t.1 },
-    )
+    subst Stand (sym h.written) (stands _ (all_six (codes "serve") _ _ _ _ _ serve_utf8
+    address.utf8 (decimal_utf8 spec.conns conns) (decimal_utf8 spec.workers workers) (decimal_utf8 spec.shards shards) (decimal_utf8 spec.members members)) t)
 stand words (Told text) h = absurd h
 
 -- ---- what is read of them

@@ -1,13 +1,14 @@
 -- What is read of the words.
 use Rattle.std.proofs.Common.{ℕ, ◌≡◌, ◌∙◌, List, [], ◌∷◌, map, Option, Some, None, Result, Ok, Err, inl, inr, refl, sym, ap, subst}
-use Rattle.std.specs.Prelude.{◌⊎◌, All, IfOk, IfNone, MatchResult, codes, option_map, unwrap_or}
+use Rattle.std.specs.Prelude.{◌⊎◌, true, All, IfOk, IfNone, MatchResult, codes, option_map, unwrap_or}
 use Rattle.std.specs.Borrow.{Bor}
 use Rattle.std.specs.Box.{box_value}
 use Rattle.std.specs.Str.{IsUtf8}
-use Rattle.clap.specs.Words.{App, HasMatchesOf, IsAmong, Row, Text, all_of, fault_of, found_of, is_simple, is_simple_and_free, matched_of, raw_values, rows_of, subcommand_of, subcommand_rows_of}
+use Rattle.clap.specs.Words.{App, HasMatchesOf, IsAmong, Row, Text, all_of, fault_of, found_of, is_simple, is_simple_and_free, matched_of, raw_values, rows_of, subcommand_name_of, subcommand_of, subcommand_rows_of}
 use Rattle.clap.specs.declared.error.kind.ErrorKind.{ErrorKind}
 use Rattle.clap.specs.declared.error.kind.ErrorKind.TheVariants.{DisplayHelp, DisplayVersion, OutOfMemory}
 use Rattle.clap.specs.declared.parser.matches.ArgMatches.{ArgMatches}
+use Rattle.clap.specs.declared.parser.matches.ArgMatches.TheViews.{out-ArgMatches}
 use Rattle.clap.specs.declared.parser.matches.Found.{Found}
 use Rattle.clap.proofs.WalkLemmas.{raw_values-rows}
 use Rattle.run_words.specs.declared.words.Words.{Words}
@@ -16,16 +17,37 @@ use Rattle.run_words.specs.declared.words.WordsFault.{WordsFault}
 use Rattle.run_words.specs.declared.words.WordsFault.TheVariants as fault
 use Rattle.run_words.specs.Program.{program}
 use Rattle.run_words.specs.Words.{AreWords}
-use Rattle.run_words.specs.Reading.{line_of, texts_behind, AreTakenAs, AreSaid, AskForText, IsSaid, IsText, IsRefused}
+use Rattle.run_words.specs.Reading.{line_of, AreTakenAs, AreSaid, AskForText, IsSaid, IsText, IsRefused}
 use Rattle.run_words.proofs.TakenLemmas.{program_simple, program_free}
 
--- the line of a subcommand, by its name and what stands behind it
-pub line_named : (m : ArgMatches) (name : Text) (found : Found) (values : Option (Bor (List (Bor Text))))
-    → subcommand_rows_of m ≡ Some (name, rows_of found)
-    → option_map (λ (some : Bor (List (Bor Text))). map (λ (value : Bor Text). value.now) some.now) values ≡ option_map raw_values (matched_of found (codes "values"))
-    → line_of (subcommand_rows_of m) ≡ name ∷ texts_behind values
-line_named m name found values e got =
-    ap line_of e ∙ ap (λ (o : Option (List Text)). name ∷ unwrap_or o []) (sym (raw_values-rows found (codes "values")) ∙ sym got)
+-- ---- the line of a subcommand
+
+abbrev pub RawValues : Type 0
+RawValues = Bor (List (Bor Text))
+
+abbrev pub texts_in : RawValues → List Text
+texts_in values = map (λ (value : Bor Text). value.now) values.now
+
+-- values that are read as nothing where there are none
+values_or_none : (values : Option RawValues) (none : RawValues) → none.now ≡ [] → texts_in (unwrap_or values none) ≡ unwrap_or (option_map texts_in values) []
+values_or_none None none empty = ap (map (λ (value : Bor Text). value.now)) empty
+values_or_none (Some values) none empty = refl
+
+-- its name and its rows
+named : {B X Y : Type 0} (f : B → X) (g : B → Y) (o : Option B) (x : X) (y : Y) → Some x ≡ option_map f o
+    → Some y ≡ option_map (λ (p : X × Y). p.1) (option_map {U = X × Y} (λ b. (f b, g b)) o) → option_map {U = X × Y} (λ b. (f b, g b)) o ≡ Some (x, y)
+named f g None x y e h = absurd cc
+named f g (Some b) x y e h = cc
+
+-- by its name and the values behind it
+pub line_named : (m : ArgMatches) (name : Text) (found : Found) (values : Option RawValues) (none : RawValues) → none.now ≡ []
+    → Some name ≡ subcommand_name_of m → Some (rows_of found) ≡ option_map (λ (p : Text × List Row). p.1) (subcommand_rows_of m)
+    → option_map texts_in values ≡ option_map raw_values (matched_of found (codes "values"))
+    → line_of (subcommand_rows_of m) ≡ name ∷ texts_in (unwrap_or values none)
+line_named m name found values none empty name_is rows_are got =
+    ap line_of (named _ _ (out-ArgMatches m).subcommand name (rows_of found) name_is rows_are)
+    ∙ ap (λ (o : Option (List Text)). name ∷ unwrap_or o []) (sym (raw_values-rows found (codes "values")) ∙ sym got)
+    ∙ ap (λ (texts : List Text). name ∷ texts) (sym (values_or_none values none empty))
 
 -- ---- words that `clap` takes
 

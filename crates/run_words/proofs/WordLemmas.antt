@@ -41,14 +41,6 @@ one_fails P g ys i y below is bad all =
     let inside : i < length (map g ys) = subst (λ n. i < n) (sym (length-map ys g)) below in
     bad (subst P (get_or-map g ys i y (g y) below ∙ ap g (sym is)) (all i (g y) inside))
 
--- ---- a subcommand
-
--- its name and what stands behind it
-pub named : {B X Y : Type 0} (f : B → X) (g : B → Y) (o : Option B) (x : X) (y : Y) → Some x ≡ option_map f o
-    → Some y ≡ option_map (λ (p : X × Y). p.1) (option_map {U = X × Y} (λ b. (f b, g b)) o) → option_map {U = X × Y} (λ b. (f b, g b)) o ≡ Some (x, y)
-named f g None x y e h = absurd cc
-named f g (Some b) x y e h = cc
-
 -- ---- what is served
 
 -- where the numbers are none, it is nothing

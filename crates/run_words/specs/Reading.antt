@@ -1,6 +1,5 @@
 -- How `clap` reads the words.
-use Rattle.std.specs.Prelude.{ℕ, ◌≡◌, ◌⊎◌, List, [], ◌∷◌, All, Option, Some, None, Result, Ok, Err, map, option_map, unwrap_or, codes}
-use Rattle.std.specs.Borrow.{Bor}
+use Rattle.std.specs.Prelude.{ℕ, ◌≡◌, ◌⊎◌, List, [], ◌∷◌, All, Option, Some, None, Result, Ok, Err, map, unwrap_or, codes}
 use Rattle.std.specs.Str.{IsUtf8}
 use Rattle.clap.specs.Words.{IsAmong, Row, Text, all_of, fault_of, subcommand_of}
 use Rattle.clap.specs.declared.error.kind.ErrorKind.{ErrorKind}
@@ -16,10 +15,6 @@ use Rattle.run_words.specs.Words.{AreWords}
 abbrev pub line_of : Option (Text × List Row) → List Text
 line_of None = []
 line_of (Some found) = found.0 ∷ unwrap_or (all_of (codes "values") found.1) []
-
--- The values behind a subcommand, where it has any.
-abbrev pub texts_behind : Option (Bor (List (Bor Text))) → List Text
-texts_behind values = unwrap_or (option_map (λ (some : Bor (List (Bor Text))). map (λ (value : Bor Text). value.now) some.now) values) []
 
 -- `clap` takes the words, and reads them as this line: a subcommand's name and the values behind it.
 pub record AreTakenAs (words line : List Text) : Type 0 where

@@ -7,7 +7,7 @@ ghost use Rattle.run_inputs.specs.Words.{AreWork};
 ghost use Rattle.run_words.specs.declared.words.ServeSpec.{ServeSpec};
 ghost use Rattle.run_words.specs.declared.words.Words.{Words};
 ghost use Rattle.run_words.specs.Words.{AreServe, AreServeNumbers, AreWords};
-ghost use Rattle.run_words.specs.Reading.{line_of, texts_behind, AreReadAs, AreSaid, IsRead, IsRefused, IsSaid};
+ghost use Rattle.run_words.specs.Reading.{line_of, AreReadAs, AreSaid, IsRead, IsRefused, IsSaid};
 
 use crate::numbers::number_within;
 use crate::program::program;
@@ -93,27 +93,24 @@ fn command_of(alloc: Global, matches: &ArgMatches<'_>) -> Result<Option<Words>, 
     let Some((name, inner)) = matches.subcommand() else {
         return Ok(None);
     };
-    command_named(alloc, name, inner.get_raw("values"))
+    let values = inner.get_raw("values").unwrap_or(&[]);
+    command_named(alloc, name, values)
 }
 
 // The command of this name, with these values behind it.
-fn command_named(
-    alloc: Global,
-    name: &str,
-    values: Option<&[&str]>,
-) -> Result<Option<Words>, AllocError>
+fn command_named(alloc: Global, name: &str, values: &[&str]) -> Result<Option<Words>, AllocError>
     ensures found { IfOk result (λ found. IfSome found
-        (AreWords (name.now ∷ texts_behind values.entry))) }
+        (AreWords (name.now ∷ map (λ value. value.now) values.now))) }
     ensures none { IfOk result (λ found. IfNone found ((command : Words) →
-        AreWords (name.now ∷ texts_behind values.entry) command → ⊥)) }
+        AreWords (name.now ∷ map (λ value. value.now) values.now) command → ⊥)) }
 {
-    match (name, values) {
-        ("replay", None | Some([])) => Ok(Some(Words::Replay)),
-        ("work", Some(values)) => match work_of(alloc, values)? {
+    match name {
+        "replay" if values.is_empty() => Ok(Some(Words::Replay)),
+        "work" => match work_of(alloc, values)? {
             Some(spec) => Ok(Some(Words::Work { spec })),
             None => Ok(None),
         },
-        ("serve", Some(values)) => match serve_of(alloc, values)? {
+        "serve" => match serve_of(alloc, values)? {
             Some(spec) => Ok(Some(Words::Serve { spec })),
             None => Ok(None),
         },

@@ -1,12 +1,14 @@
 use Rattle.std.proofs.Common.{◌≡◌, ◌∙◌, List, ℕ, map, sym, ap, subst, Err}
 use Rattle.std.specs.Prelude.{IfOk}
+use Rattle.std.proofs.lemmas.Result.{err_from_is_err_and}
 use Rattle.run_words.specs.Reading.{AreSaid, IsSaid}
 use Rattle.run_words.proofs.AcceptLemmas.{accepted, read, unread}
 use Rattle.run_words.proofs.reading.read_words.Goals as goal
 
 pub returns-in_err-texts-clause-accepts : goal.returns-in_err-texts-clause-accepts
 returns-in_err-texts-clause-accepts c = λ command h.
-    rw c.from_residual.ensures (unread _ c.in_err-texts.field-0.0 (λ e. c.in_err-texts.ensures.usage (ap Err e)) command h)
+    let p = err_from_is_err_and c.from_residual.result c.from_residual.ensures.1 in
+    rw (p.1, p.2) (unread _ c.in_err-texts.field-0.0 (λ e. c.in_err-texts.ensures.usage (ap Err e)) command h)
 
 pub returns-clause-read : goal.returns-clause-read
 returns-clause-read c =
