@@ -43,6 +43,17 @@ one_fails P g ys i y below is bad all =
 
 -- ---- what is served
 
+-- five texts, one by one
+pub five_texts : {X : Type 0} (f : X → List ℕ) (d : X) (xs : List X) → 5 ≤ length xs → length xs < 6
+    → map f xs ≡ f (get_or xs 0 d) ∷ f (get_or xs 1 d) ∷ f (get_or xs 2 d) ∷ f (get_or xs 3 d) ∷ f (get_or xs 4 d) ∷ []
+five_texts f d [] least below = absurd (omega arith)
+five_texts f d (a ∷ []) least below = absurd (omega arith)
+five_texts f d (a ∷ x ∷ []) least below = absurd (omega arith)
+five_texts f d (a ∷ x ∷ y ∷ []) least below = absurd (omega arith)
+five_texts f d (a ∷ x ∷ y ∷ z ∷ []) least below = absurd (omega arith)
+five_texts f d (a ∷ x ∷ y ∷ z ∷ w ∷ []) least below = refl
+five_texts f d (a ∷ x ∷ y ∷ z ∷ w ∷ v ∷ more) least below = absurd (omega arith)
+
 -- where the numbers are none, it is nothing
 pub none_served : (values : List (List ℕ)) (a x y z w : List ℕ) (o : Option ServeSpec) → values ≡ a ∷ x ∷ y ∷ z ∷ w ∷ []
     → IfNone o ((spec : ServeSpec) → AreServeNumbers x y z w spec → ⊥) → IfNone o ((spec : ServeSpec) → AreServe (codes "serve" ∷ values) spec → ⊥)
