@@ -1,5 +1,5 @@
 -- The words of a command are read as they stand.
-use Rattle.std.proofs.Common.{inl, inr, ℕ, zero, suc, ◌≡◌, ◌<◌, ◌≤◌, ◌^◌, ◌∙◌, List, [], ◌∷◌, length, map, get_or, Result, Ok, Err, refl, sym, subst, arith, ne_eqb}
+use Rattle.std.proofs.Common.{inl, inr, ℕ, zero, suc, ◌≡◌, ◌<◌, ◌≤◌, ◌^◌, ◌∙◌, List, [], ◌∷◌, length, get_or, Result, Ok, Err, refl, sym, subst, arith, ne_eqb}
 use Rattle.std.specs.Prelude.{All, IfOk, MatchResult, Some, ◌≢◌, codes, decimal, slice_get}
 use Rattle.std.specs.Str.{IsUtf8, is_utf8}
 use Rattle.std.proofs.lemmas.Fmt.{IsAscii-decimal, decimal_digit, decimal_nonempty, first_decimal}
@@ -8,14 +8,13 @@ use Rattle.std.proofs.lemmas.Str.{IsUtf8-from_ascii, IsUtf8-from_is_utf8}
 use Rattle.clap.specs.Words.{IsAmong, Text, fault_of, subcommand_of}
 use Rattle.clap.proofs.OnLiterals.{clap_on_literals}
 use Rattle.clap.specs.declared.error.kind.ErrorKind.TheVariants.{DisplayHelp, DisplayVersion}
-use Rattle.run_inputs.specs.Words.{AreWork, numbers_of}
 use Rattle.run_words.specs.declared.words.Words.{Words}
 use Rattle.run_words.specs.declared.words.Words.TheVariants.{Replay, Work, Serve, Told}
 use Rattle.run_words.specs.declared.words.WordsFault.{WordsFault}
 use Rattle.run_words.specs.declared.words.WordsFault.TheVariants.{Usage, Memory}
 use Rattle.run_words.specs.Program.{program}
-use Rattle.run_words.specs.Words.{AreServe, AreWords, IsAddress, numbers_served}
-use Rattle.run_words.specs.Reading.{line_of, AreReadAs, AreSaid, AreTakenAs, AskForText, IsRead, IsSaid}
+use Rattle.run_words.specs.Words.{AreWords}
+use Rattle.run_words.specs.Reading.{line_of, AreSaid, AreTakenAs, AskForText, IsRead, IsSaid}
 use Rattle.run_words.proofs.TakenLemmas.{ArePlain, IsPlainWord, replay_taken, work_taken, serve_taken}
 
 -- ---- words are UTF-8, and begin with no hyphen
@@ -87,7 +86,8 @@ stand words (Work spec) h =
     (plain_decimal spec.shards shards) (plain_decimal spec.seed seed) in
     let t = work_taken (decimal spec.members) (decimal spec.sessions) (decimal spec.workers) (decimal spec.shards) (decimal spec.seed) plain in
     subst Stand (sym h.written) (stands _ (all_six (codes "work") _ _ _ _ _ work_utf8
-    (decimal_utf8 spec.members members) (decimal_utf8 spec.sessions sessions) (decimal_utf8 spec.workers workers) (decimal_utf8 spec.shards shards) (decimal_utf8 spec.seed seed)) t)
+    (decimal_utf8 spec.members members) (decimal_utf8 spec.sessions sessions) (decimal_utf8 spec.workers workers)
+    (decimal_utf8 spec.shards shards) (decimal_utf8 spec.seed seed)) t)
 stand words (Serve spec) h =
     let fits = h.fits in
     let few_conns : spec.conns ≤ 1000000 = fits.few_conns in

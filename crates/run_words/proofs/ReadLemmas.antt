@@ -1,12 +1,10 @@
 -- What is read of the words.
-use Rattle.std.proofs.Common.{ℕ, ◌≡◌, ◌∙◌, List, [], ◌∷◌, map, Option, Some, None, Result, Ok, Err, inl, inr, refl, sym, ap, subst}
-use Rattle.std.specs.Prelude.{◌⊎◌, true, All, IfOk, IfNone, MatchResult, codes, option_map, unwrap_or}
+use Rattle.std.proofs.Common.{◌≡◌, ◌∙◌, List, [], ◌∷◌, map, Option, Some, None, Result, Ok, Err, inl, inr, refl, sym, ap, subst}
+use Rattle.std.specs.Prelude.{◌⊎◌, true, IfOk, codes, option_map, unwrap_or}
 use Rattle.std.specs.Borrow.{Bor}
-use Rattle.std.specs.Box.{box_value}
-use Rattle.std.specs.Str.{IsUtf8}
-use Rattle.clap.specs.Words.{App, HasMatchesOf, IsAmong, Row, Text, all_of, fault_of, found_of, is_simple, is_simple_and_free, matched_of, raw_values, rows_of, subcommand_name_of, subcommand_of, subcommand_rows_of}
+use Rattle.clap.specs.Words.{App, HasMatchesOf, IsAmong, Row, Text, fault_of, is_simple, is_simple_and_free, matched_of, raw_values, rows_of, subcommand_name_of, subcommand_of, subcommand_rows_of}
 use Rattle.clap.specs.declared.error.kind.ErrorKind.{ErrorKind}
-use Rattle.clap.specs.declared.error.kind.ErrorKind.TheVariants.{DisplayHelp, DisplayVersion, OutOfMemory}
+use Rattle.clap.specs.declared.error.kind.ErrorKind.TheVariants.{OutOfMemory}
 use Rattle.clap.specs.declared.parser.matches.ArgMatches.{ArgMatches}
 use Rattle.clap.specs.declared.parser.matches.ArgMatches.TheViews.{out-ArgMatches}
 use Rattle.clap.specs.declared.parser.matches.Found.{Found}
@@ -51,7 +49,8 @@ line_named m name found values none empty name_is rows_are got =
 
 -- ---- words that `clap` takes
 
-pub taken : (app : App) (words : List Text) (m : ArgMatches) → app ≡ program → HasMatchesOf app words m → (is_simple_and_free app ≡ true → fault_of app words ≡ [])
+pub taken : (app : App) (words : List Text) (m : ArgMatches) → app ≡ program → HasMatchesOf app words m
+    → (is_simple_and_free app ≡ true → fault_of app words ≡ [])
     → AreTakenAs words (line_of (subcommand_rows_of m))
 taken app words m is matches free = record {
   taken = sym (ap (λ (a : App). fault_of a words) is) ∙ free (ap is_simple_and_free is ∙ program_free);
@@ -65,12 +64,6 @@ said words line t (Work spec) h = (line, t, h)
 said words line t (Serve spec) h = (line, t, h)
 said words line t (Told text) h = absurd h
 
--- and none is where the line is no command's
-pub none_said : (words line : List Text) → AreTakenAs words line → ((command : Words) → AreWords line command → ⊥) → (command : Words) → AreSaid words command → ⊥
-none_said words line t none command h =
-    let same : h.0 ≡ line = sym h.1.line_is ∙ t.line_is in
-    none command (subst (λ (l : List Text). AreWords l command) same h.2)
-
 -- ---- words that it doesn't take
 
 abbrev pub Refuses : List Text → ErrorKind → Type 0
@@ -78,7 +71,8 @@ Refuses words kind = (kind ≡ OutOfMemory) ⊎ IsAmong kind (fault_of program w
 
 pub refuses : (app : App) (words : List Text) (kind : ErrorKind) → app ≡ program
     → (is_simple_and_free app ≡ true → (kind ≡ OutOfMemory) ⊎ IsAmong kind (fault_of app words)) → Refuses words kind
-refuses app words kind is kinds = subst (λ (a : App). (kind ≡ OutOfMemory) ⊎ IsAmong kind (fault_of a words)) is (kinds (ap is_simple_and_free is ∙ program_free))
+refuses app words kind is kinds =
+    subst (λ (a : App). (kind ≡ OutOfMemory) ⊎ IsAmong kind (fault_of a words)) is (kinds (ap is_simple_and_free is ∙ program_free))
 
 asks : (words : List Text) (kind : ErrorKind) → Refuses words kind → IsText kind → AskForText words
 asks words kind (inl memory) (inl help) = absurd cc

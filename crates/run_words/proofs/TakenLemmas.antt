@@ -1,12 +1,12 @@
 -- What `clap` makes of the words of a command.
-use Rattle.std.proofs.Common.{ℕ, ◌==◌, ◌≡◌, ◌∙◌, Bool, true, false, List, [], ◌∷◌, ◌++◌, Option, Some, None, refl, ap, ap₂, is_some}
+use Rattle.std.proofs.Common.{◌==◌, ◌≡◌, ◌∙◌, true, false, List, [], ◌∷◌, ◌++◌, Some, None, refl, ap, ap₂}
 use Rattle.std.specs.Prelude.{codes}
 use Rattle.std.specs.List.{fold}
 use Rattle.std.specs.Str.{bytes_eq}
 use Rattle.clap.specs.Lexer.{long_of, short_of}
 use Rattle.clap.specs.Kinds.{Kinds, or_else}
-use Rattle.clap.specs.Walk.{Held, Rule, Step, Text, Waiting, Walk, after_step, finished, idle, nothing_held, positional, settled, subcommand_or_other, value, walk, walk_from, walked}
-use Rattle.clap.specs.Simple.{App, Shape, built, filled_from, help_rule, is_simple, names_of, new_shape, subcommand_of}
+use Rattle.clap.specs.Walk.{Held, Rule, Step, Text, Walk, after_step, finished, idle, nothing_held, positional, settled, subcommand_or_other, value, walk, walk_from, walked}
+use Rattle.clap.specs.Simple.{Shape, built, filled_from, help_rule, is_simple, names_of, new_shape, subcommand_of}
 use Rattle.clap.specs.Faults.{check_fault, defaults_fault, fault_of, is_simple_and_free, level_fault, settle_fault, turn_fault, walk_fault}
 use Rattle.clap.proofs.OnLiterals.{clap_on_literals}
 use Rattle.run_words.specs.Program.{program, values_rule}
@@ -121,7 +121,8 @@ all_faultless name word words p =
 abbrev ended : Text → Kinds → Walk → Kinds
 ended name faults w =
     or_else faults
-    (or_else [] (or_else (settle_fault rules false w.held) (or_else (defaults_fault (settled rules w.held).rows rules) (check_fault (leaf name) (finished rules w.held) false))))
+    (or_else [] (or_else (settle_fault rules false w.held)
+    (or_else (defaults_fault (settled rules w.held).rows rules) (check_fault (leaf name) (finished rules w.held) false))))
 
 leaf_faultless : (name a b c d e : Text) → ArePlain (a ∷ b ∷ c ∷ d ∷ e ∷ []) → level_fault (leaf name) [] nothing_held (a ∷ b ∷ c ∷ d ∷ e ∷ []) false [] ≡ []
 unfolding clap_on_literals

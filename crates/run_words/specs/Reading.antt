@@ -1,5 +1,5 @@
 -- How `clap` reads the words.
-use Rattle.std.specs.Prelude.{ℕ, ◌≡◌, ◌⊎◌, List, [], ◌∷◌, All, Option, Some, None, Result, Ok, Err, map, unwrap_or, codes}
+use Rattle.std.specs.Prelude.{◌≡◌, ◌⊎◌, List, [], ◌∷◌, All, Option, Some, None, Result, Ok, Err, unwrap_or, codes}
 use Rattle.std.specs.Str.{IsUtf8}
 use Rattle.clap.specs.Words.{IsAmong, Row, Text, all_of, fault_of, subcommand_of}
 use Rattle.clap.specs.declared.error.kind.ErrorKind.{ErrorKind}

@@ -1,4 +1,4 @@
-use Rattle.std.proofs.Common.{◌≡◌, ◌≤◌, ◌∙◌, true, false, true≢false, Ok, arith, sym, ap, decimal}
+use Rattle.std.proofs.Common.{◌≡◌, ◌≤◌, ◌∙◌, true, Ok, arith, sym, ap, decimal}
 use Rattle.run_words.proofs.WordLemmas.{one_within}
 use Rattle.run_words.proofs.numbers.number_within.Goals.{then-not-is_decimal-via-then-not-is_decimal, then-not-is_decimal-via-else-not-is_decimal+then-number-least, then-not-is_decimal-via-else-not-is_decimal+else-number-least+then-number-most}
 use Rattle.run_words.proofs.numbers.number_within.Goals as goal

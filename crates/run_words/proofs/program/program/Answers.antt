@@ -6,7 +6,7 @@ use Rattle.clap.specs.Simple.{app_of_fields, on_top}
 use Rattle.clap.specs.declared.builder.command.Command.{Command}
 use Rattle.clap.specs.declared.builder.command.Command.TheOpen.{Command-F}
 use Rattle.clap.specs.declared.builder.command.Command.TheViews.{out-Command}
-use Rattle.run_words.specs.Program.{alone, program, values_rule, with_values}
+use Rattle.run_words.specs.Program.{alone, values_rule, with_values}
 use Rattle.run_words.proofs.program.program.Goals as goal
 
 abbrev versioned : Shape → Shape
