@@ -1,0 +1,4 @@
+pub mod TakenLemmas
+pub mod WordLemmas
+pub mod ReadLemmas
+pub mod AcceptLemmas

@@ -1,0 +1,69 @@
+-- Words of commands, and numbers in them.
+use Rattle.std.proofs.Common.{ℕ, ◌≡◌, ◌≤◌, ◌<◌, ◌^◌, ◌+◌, ◌∙◌, List, [], ◌∷◌, ◌++◌, length, map, take, get_or, Option, Some, None, Result, Ok, refl, sym, ap, ap₂, subst, arith, append_assoc}
+use Rattle.std.specs.Prelude.{codes, IfNone}
+use Rattle.std.specs.List.{All}
+use Rattle.std.specs.Str.Parse.{ParsesUnsigned}
+use Rattle.std.proofs.lemmas.Fmt.{parse-decimal}
+use Rattle.std.proofs.lemmas.List.{take_more, map-append, get_or-map, length-map}
+use Rattle.std.proofs.lemmas.List.Elements.{All-append, All-cons, All-nil}
+use Rattle.run_inputs.specs.Parsing.{IsNumberWithin}
+use Rattle.run_words.specs.declared.words.ServeSpec.{ServeSpec}
+use Rattle.run_words.specs.Words.{AreServe, AreServeNumbers}
+
+-- a word that is a number within a range is read as that number
+pub one_within : {E : Type 0} (word : List ℕ) (least most number : ℕ) (r : Result ℕ E) → most < 2 ^ 32
+    → ParsesUnsigned 32 10 word r → IsNumberWithin word least most number → r ≡ Ok number
+one_within {E} word least most number r small parsed h =
+    let to : number ≤ most = h.to in
+    parse-decimal {E = E} 32 number word r (omega arith) (omega arith) h.written parsed
+
+-- ---- a list that grows by one text
+
+pub more_texts : {X Y : Type 0} (f : X → List ℕ) (g : Y → List ℕ) (front : List (List ℕ)) (xs : List X) (ys : List Y) (i : ℕ) (x : X) (y : Y)
+    → i < length ys → y ≡ get_or ys i y → f x ≡ g y → map f xs ≡ front ++ map g (take i ys) → map f (xs ++ x ∷ []) ≡ front ++ map g (take (i + 1) ys)
+more_texts f g front xs ys i x y below is same before =
+    map-append f xs (x ∷ [])
+    ∙ ap₂ (λ (texts : List (List ℕ)) (text : List ℕ). texts ++ text ∷ []) before (same ∙ ap g is)
+    ∙ append_assoc front (map g (take i ys)) (g (get_or ys i y) ∷ [])
+    ∙ ap (λ (texts : List (List ℕ)). front ++ texts) (sym (ap (map g) (take_more ys i y below) ∙ map-append g (take i ys) (get_or ys i y ∷ [])))
+
+pub more_pass : {Y : Type 0} (P : List ℕ → Type 0) (g : Y → List ℕ) (ys : List Y) (i : ℕ) (y : Y)
+    → i < length ys → y ≡ get_or ys i y → P (g y) → All P (map g (take i ys)) → All P (map g (take (i + 1) ys))
+more_pass P g ys i y below is one before =
+    subst (All P) (sym (ap (map g) (take_more ys i y below) ∙ map-append g (take i ys) (get_or ys i y ∷ [])))
+    (All-append P (map g (take i ys)) (g (get_or ys i y) ∷ []) before
+    (All-cons P (g (get_or ys i y)) [] (subst (λ z. P (g z)) is one) (All-nil P)))
+
+-- one text that doesn't pass is enough
+pub one_fails : {Y : Type 0} (P : List ℕ → Type 0) (g : Y → List ℕ) (ys : List Y) (i : ℕ) (y : Y)
+    → i < length ys → y ≡ get_or ys i y → (P (g y) → ⊥) → All P (map g ys) → ⊥
+one_fails P g ys i y below is bad all =
+    let inside : i < length (map g ys) = subst (λ n. i < n) (sym (length-map ys g)) below in
+    bad (subst P (get_or-map g ys i y (g y) below ∙ ap g (sym is)) (all i (g y) inside))
+
+-- ---- what is served
+
+-- five texts, one by one
+pub five_texts : {X : Type 0} (f : X → List ℕ) (d : X) (xs : List X) → 5 ≤ length xs → length xs < 6
+    → map f xs ≡ f (get_or xs 0 d) ∷ f (get_or xs 1 d) ∷ f (get_or xs 2 d) ∷ f (get_or xs 3 d) ∷ f (get_or xs 4 d) ∷ []
+five_texts f d [] least below = absurd (omega arith)
+five_texts f d (a ∷ []) least below = absurd (omega arith)
+five_texts f d (a ∷ x ∷ []) least below = absurd (omega arith)
+five_texts f d (a ∷ x ∷ y ∷ []) least below = absurd (omega arith)
+five_texts f d (a ∷ x ∷ y ∷ z ∷ []) least below = absurd (omega arith)
+five_texts f d (a ∷ x ∷ y ∷ z ∷ w ∷ []) least below = refl
+five_texts f d (a ∷ x ∷ y ∷ z ∷ w ∷ v ∷ more) least below = absurd (omega arith)
+
+-- where the numbers are none, it is nothing
+pub none_served : (values : List (List ℕ)) (a x y z w : List ℕ) (o : Option ServeSpec) → values ≡ a ∷ x ∷ y ∷ z ∷ w ∷ []
+    → IfNone o ((spec : ServeSpec) → AreServeNumbers x y z w spec → ⊥) → IfNone o ((spec : ServeSpec) → AreServe (codes "serve" ∷ values) spec → ⊥)
+none_served values a x y z w (Some spec) five none = tt
+none_served values a x y z w None five none = λ spec h.
+    let written = h.written in
+    let fits = h.fits in
+    none spec (record {
+      conns_are = record { written = cc; from = fits.some_conns; to = fits.few_conns };
+      workers_are = record { written = cc; from = fits.some_workers; to = fits.few_workers };
+      shards_are = record { written = cc; from = fits.some_shards; to = fits.few_shards };
+      members_are = record { written = cc; from = fits.some_members; to = fits.few_members };
+    })

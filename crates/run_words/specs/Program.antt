@@ -1,0 +1,25 @@
+-- The program's command line, as `clap` sees it.
+use Rattle.std.specs.Prelude.{List, ℕ, true, Some, codes}
+use Rattle.clap.specs.Words.{App, Rule, Shape, new_app, new_rule, with_rule, with_subcommand}
+use Rattle.clap.specs.Simple.{on_top}
+
+-- Five values, all of which are wanted.
+abbrev pub values_rule : Rule
+values_rule = record (new_rule (codes "values")) {
+  range = Some (record { start_inclusive = 5; end_inclusive = 5 });
+  value_names = 5;
+  required = true;
+}
+
+-- A command with five values.
+abbrev pub with_values : List ℕ → Shape
+with_values name = (with_rule (new_app name) values_rule).top
+
+-- The program without a command. The words begin behind its name, and it wants one of its commands.
+abbrev pub alone : App
+alone = on_top (λ s. record s { no_binary_name = true; has_version = true; subcommand_required = true }) (new_app (codes "iq"))
+
+-- The program with its three commands.
+abbrev pub program : App
+program =
+    with_subcommand (with_subcommand (with_subcommand alone (new_app (codes "replay")).top) (with_values (codes "work"))) (with_values (codes "serve"))

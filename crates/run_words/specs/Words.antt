@@ -1,0 +1,49 @@
+-- The words of the commands, as a table has them.
+use Rattle.std.specs.Prelude.{ℕ, ◌≡◌, ◌≢◌, ◌≤◌, List, [], ◌∷◌, length, map, Some, slice_get, codes, decimal}
+use Rattle.std.specs.Str.{IsUtf8}
+use Rattle.run_inputs.specs.Parsing.{IsNumberWithin}
+use Rattle.run_inputs.specs.Words.{AreWork}
+use Rattle.run_words.specs.declared.words.ServeSpec.{ServeSpec}
+use Rattle.run_words.specs.declared.words.Words.{Words}
+use Rattle.run_words.specs.declared.words.Words.TheVariants.{Replay, Work, Serve, Told}
+
+-- Connections may come in there: UTF-8 text that isn't empty and doesn't begin with a hyphen.
+pub record IsAddress (text : List ℕ) : Type 0 where
+  pub utf8 : IsUtf8 text
+  pub some : 1 ≤ length text
+  pub no_hyphen : slice_get text 0 ≢ Some 45
+
+-- What `serve` serves is within its ranges.
+pub record IsServe (spec : ServeSpec) : Type 0 where
+  pub address : IsAddress spec.addr.items
+  pub some_conns : 1 ≤ spec.conns
+  pub few_conns : spec.conns ≤ 1000000
+  pub some_workers : 1 ≤ spec.workers
+  pub few_workers : spec.workers ≤ 64
+  pub some_shards : 1 ≤ spec.shards
+  pub few_shards : spec.shards ≤ 64
+  pub some_members : 1 ≤ spec.members
+  pub few_members : spec.members ≤ 100000
+
+-- The numbers of what is served, in the order in which the words have them.
+abbrev pub numbers_served : ServeSpec → List ℕ
+numbers_served spec = spec.conns ∷ spec.workers ∷ spec.shards ∷ spec.members ∷ []
+
+-- The words are `serve`, the address, and the numbers in decimal, and all is within its range.
+pub record AreServe (words : List (List ℕ)) (spec : ServeSpec) : Type 0 where
+  pub written : words ≡ codes "serve" ∷ spec.addr.items ∷ map decimal (numbers_served spec)
+  pub fits : IsServe spec
+
+-- The four words are the numbers of what is served.
+pub record AreServeNumbers (conns workers shards members : List ℕ) (spec : ServeSpec) : Type 0 where
+  pub conns_are : IsNumberWithin conns 1 1000000 spec.conns
+  pub workers_are : IsNumberWithin workers 1 64 spec.workers
+  pub shards_are : IsNumberWithin shards 1 64 spec.shards
+  pub members_are : IsNumberWithin members 1 100000 spec.members
+
+-- The words are, word for word, those of the command.
+abbrev pub AreWords : List (List ℕ) → Words → Type 0
+AreWords words Replay = words ≡ codes "replay" ∷ []
+AreWords words (Work spec) = AreWork words spec
+AreWords words (Serve spec) = AreServe words spec
+AreWords words (Told text) = ⊥

@@ -1,0 +1,12 @@
+//! The words behind the program's name, which `clap` reads: the command that they ask for.
+#![tactic(auto)]
+
+pub use reading::read_words;
+pub use words::{ServeSpec, Words, WordsFault};
+
+mod numbers;
+mod program;
+pub mod reading;
+#[cfg(test)]
+mod tests;
+pub mod words;

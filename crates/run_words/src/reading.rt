@@ -1,0 +1,184 @@
+// How the words are read.
+ghost use Rattle.std.specs.Prelude.{◌≡◌, ◌≢◌, ◌↔◌, ◌≤◌, ◌∷◌, length, map, All, Some, Err, IfOk, IfSome, IfNone, IsTrue, MatchResult, slice_get, codes};
+ghost use Rattle.std.specs.Str.{IsUtf8};
+ghost use Rattle.clap.specs.Words.{kind_of, subcommand_rows_of};
+ghost use Rattle.run_inputs.specs.declared.loads.WorkSpec.{WorkSpec};
+ghost use Rattle.run_inputs.specs.Words.{AreWork};
+ghost use Rattle.run_words.specs.declared.words.ServeSpec.{ServeSpec};
+ghost use Rattle.run_words.specs.declared.words.Words.{Words};
+ghost use Rattle.run_words.specs.Words.{AreServe, AreServeNumbers, AreWords};
+ghost use Rattle.run_words.specs.Reading.{line_of, AreReadAs, AreSaid, IsRead, IsRefused, IsSaid};
+
+use crate::numbers::number_within;
+use crate::program::program;
+use crate::words::{ServeSpec, Words, WordsFault};
+use clap::error::ErrorKind;
+use clap::{ArgMatches, Error};
+use run_inputs::{WorkSpec, work_words};
+use std::alloc::{AllocError, Global};
+use std::str;
+
+/// The command that the words behind the program's name ask for. Those of the table in
+/// `specs/Words.antt` are read as they stand. Others are read as `clap` reads a simple command with
+/// one level of subcommands, and what it reads is held to the same ranges.
+///
+/// `Usage` comes where they say no command, also where a word isn't UTF-8, and `Memory` where
+/// memory ran out.
+pub fn read_words(alloc: Global, words: &[Vec<u8>]) -> Result<Words, WordsFault>
+    ensures read { IfOk result (IsRead (map (λ word. word.items) words.now)) }
+    ensures usage { result ≡ Err WordsFault.Usage → (command : Words) →
+        AreReadAs (map (λ word. word.items) words.now) command → ⊥ }
+    ensures accepts { (command : Words) → AreWords (map (λ word. word.items) words.now) command →
+        MatchResult result (AreWords (map (λ word. word.items) words.now))
+        (λ fault. fault ≡ WordsFault.Memory) }
+{
+    let texts = texts_of(alloc, words)?;
+    read_texts(alloc, texts.as_slice())
+}
+
+// What clap says of the words.
+fn read_texts<'a>(alloc: Global, texts: &'a [&'a str]) -> Result<Words, WordsFault>
+    ensures said { IfOk result (IsSaid (map (λ text. text.now) texts.now)) }
+    ensures usage { result ≡ Err WordsFault.Usage → (command : Words) →
+        AreSaid (map (λ text. text.now) texts.now) command → ⊥ }
+{
+    let program = program(alloc)?;
+    match program.try_get_matches_from(texts) {
+        Ok(matches) => match command_of(alloc, &matches)? {
+            Some(command) => Ok(command),
+            None => Err(WordsFault::Usage),
+        },
+        Err(error) => told_by(alloc, &error),
+    }
+}
+
+// The words as texts.
+fn texts_of<'a>(alloc: Global, words: &'a [Vec<u8>]) -> Result<Vec<&'a str>, WordsFault>
+    ensures texts { IfOk result (λ texts.
+        map (λ text. text.now) texts.items ≡ map (λ word. word.items) words.entry.now) }
+    ensures utf8 { IfOk result (λ _. All IsUtf8 (map (λ word. word.items) words.entry.now)) }
+    ensures usage { result ≡ Err WordsFault.Usage →
+        All IsUtf8 (map (λ word. word.items) words.entry.now) → ⊥ }
+{
+    let mut texts = Vec::with_capacity(alloc, words.len())?;
+    for word in words {
+        let Ok(text) = str::from_utf8(word) else {
+            return Err(WordsFault::Usage);
+        };
+        texts.push(text)?;
+    }
+    Ok(texts)
+}
+
+// What clap's refusal comes to: the text that the words ask for, or a fault.
+fn told_by(alloc: Global, error: &Error) -> Result<Words, WordsFault>
+    ensures { IsRefused (kind_of error.now) result }
+{
+    match error.kind() {
+        ErrorKind::DisplayHelp | ErrorKind::DisplayVersion => Ok(Words::Told {
+            text: format!(in alloc; "{error}")?.into_bytes(),
+        }),
+        ErrorKind::OutOfMemory => Err(WordsFault::Memory),
+        _ => Err(WordsFault::Usage),
+    }
+}
+
+// The command that the subcommand and its values are.
+fn command_of(alloc: Global, matches: &ArgMatches<'_>) -> Result<Option<Words>, AllocError>
+    ensures found { IfOk result (λ found. IfSome found
+        (AreWords (line_of (subcommand_rows_of matches.now)))) }
+    ensures none { IfOk result (λ found. IfNone found ((command : Words) →
+        AreWords (line_of (subcommand_rows_of matches.now)) command → ⊥)) }
+{
+    let Some((name, inner)) = matches.subcommand() else {
+        return Ok(None);
+    };
+    let values = inner.get_raw("values").unwrap_or(&[]);
+    command_named(alloc, name, values)
+}
+
+// The command of this name, with these values behind it.
+fn command_named(alloc: Global, name: &str, values: &[&str]) -> Result<Option<Words>, AllocError>
+    ensures found { IfOk result (λ found. IfSome found
+        (AreWords (name.now ∷ map (λ value. value.now) values.now))) }
+    ensures none { IfOk result (λ found. IfNone found ((command : Words) →
+        AreWords (name.now ∷ map (λ value. value.now) values.now) command → ⊥)) }
+{
+    match name {
+        "replay" if values.is_empty() => Ok(Some(Words::Replay)),
+        "work" => match work_of(alloc, values)? {
+            Some(spec) => Ok(Some(Words::Work { spec })),
+            None => Ok(None),
+        },
+        "serve" => match serve_of(alloc, values)? {
+            Some(spec) => Ok(Some(Words::Serve { spec })),
+            None => Ok(None),
+        },
+        _ => Ok(None),
+    }
+}
+
+// The load of which these are the numbers.
+fn work_of(alloc: Global, values: &[&str]) -> Result<Option<WorkSpec>, AllocError>
+    ensures found { IfOk result (λ found. IfSome found
+        (AreWork (codes "work" ∷ map (λ value. value.now) values.now))) }
+    ensures none { IfOk result (λ found. IfNone found ((spec : WorkSpec) →
+        AreWork (codes "work" ∷ map (λ value. value.now) values.now) spec → ⊥)) }
+{
+    let mut words = Vec::with_capacity(alloc, 1 + values.len())?;
+    words.push(Vec::from_slice(alloc, b"work")?)?;
+    for value in values {
+        words.push(Vec::from_slice(alloc, value.as_bytes())?)?;
+    }
+    Ok(work_words(words.as_slice()))
+}
+
+// What is served, where these are the address and the numbers.
+fn serve_of(alloc: Global, values: &[&str]) -> Result<Option<ServeSpec>, AllocError>
+    ensures found { IfOk result (λ found. IfSome found
+        (AreServe (codes "serve" ∷ map (λ value. value.now) values.now))) }
+    ensures none { IfOk result (λ found. IfNone found ((spec : ServeSpec) →
+        AreServe (codes "serve" ∷ map (λ value. value.now) values.now) spec → ⊥)) }
+{
+    let [addr, conns, workers, shards, members] = values else {
+        return Ok(None);
+    };
+    if !is_address(addr.as_bytes()) {
+        return Ok(None);
+    }
+    let addr = Vec::from_slice(alloc, addr.as_bytes())?;
+    Ok(spec_of(addr, conns, workers, shards, members))
+}
+
+// Whether connections may come in there: the text isn't empty and doesn't begin with a hyphen.
+fn is_address(text: &[u8]) -> bool
+    ensures { IsTrue result ↔ ((1 ≤ length text.now) × (slice_get text.now 0 ≢ Some 45)) }
+{
+    match text {
+        [first, ..] => *first != b'-',
+        [] => false,
+    }
+}
+
+// What is served at this address, where these are the numbers.
+fn spec_of(
+    addr: Vec<u8>,
+    conns: &str,
+    workers: &str,
+    shards: &str,
+    members: &str,
+) -> Option<ServeSpec>
+    ensures addr { IfSome result (λ spec. spec.addr ≡ addr) }
+    ensures found { IfSome result
+        (λ spec. AreServeNumbers conns.now workers.now shards.now members.now spec) }
+    ensures none { IfNone result ((spec : ServeSpec) →
+        AreServeNumbers conns.now workers.now shards.now members.now spec → ⊥) }
+{
+    Some(ServeSpec {
+        addr,
+        conns: number_within(conns, 1, 1_000_000)?,
+        workers: number_within(workers, 1, 64)?,
+        shards: number_within(shards, 1, 64)?,
+        members: number_within(members, 1, 100_000)?,
+    })
+}

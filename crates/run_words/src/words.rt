@@ -1,0 +1,61 @@
+ghost use Rattle.std.specs.Prelude.{◌≡◌};
+
+use run_inputs::WorkSpec;
+use std::alloc::{AllocError, AllocFailed};
+
+/// Where and how connections are served.
+#[derive(Debug, Drop)]
+pub struct ServeSpec {
+    /// Where they come in: UTF-8 text that isn't empty and doesn't begin with `-`.
+    pub addr: Vec<u8>,
+    /// How many are served, from 1 to 1,000,000.
+    pub conns: u32,
+    /// How many workers serve them, from 1 to 64.
+    pub workers: u32,
+    /// How many shards, from 1 to 64.
+    pub shards: u32,
+    /// How many members the opening rows have, from 1 to 100,000.
+    pub members: u32,
+}
+
+/// What the words ask for.
+#[derive(Debug, Drop)]
+pub enum Words {
+    /// To run the script on standard input.
+    Replay,
+    /// To draw a load and run it.
+    Work { spec: WorkSpec },
+    /// To serve connections.
+    Serve { spec: ServeSpec },
+    /// To show this text, the help or the version.
+    Told { text: Vec<u8> },
+}
+
+/// Why words were not read.
+#[derive(Clone, Copy, Debug, PartialEq, Eq)]
+pub enum WordsFault {
+    /// They are no command's, or say something out of its range.
+    Usage,
+    /// Memory ran out.
+    Memory,
+}
+
+impl From<AllocError> for WordsFault {
+    ghost use Rattle.run_words.specs.declared.words.WordsFault.TheVariants.{Memory};
+
+    ghost from_gives = { λ _ fault. fault ≡ Memory };
+
+    fn from(_error: AllocError) -> WordsFault {
+        WordsFault::Memory
+    }
+}
+
+impl<T: Drop> From<AllocFailed<T>> for WordsFault {
+    ghost use Rattle.run_words.specs.declared.words.WordsFault.TheVariants.{Memory};
+
+    ghost from_gives = { λ _ fault. fault ≡ Memory };
+
+    fn from(_error: AllocFailed<T>) -> WordsFault {
+        WordsFault::Memory
+    }
+}
