@@ -33,11 +33,11 @@ use Rattle.run_audit.specs.declared.findings.Finding.TheVariants as finding
 use Rattle.run_inputs.specs.declared.loads.WorkSpec.{WorkSpec}
 use Rattle.top_run.specs.Commands.{IsUnread, IsTextPart, EndedAs}
 use Rattle.top_run.specs.Serves.{Course, ServeEnded}
-use Rattle.top_run.specs.declared.stand_ins.ServeSpec.{ServeSpec}
-use Rattle.top_run.specs.declared.stand_ins.Words.{Words}
-use Rattle.top_run.specs.declared.stand_ins.Words.TheVariants as words
-use Rattle.top_run.specs.declared.stand_ins.WordsFault.{WordsFault}
-use Rattle.top_run.specs.declared.stand_ins.WordsFault.TheVariants as fault
+use Rattle.run_words.specs.declared.words.ServeSpec.{ServeSpec}
+use Rattle.run_words.specs.declared.words.Words.{Words}
+use Rattle.run_words.specs.declared.words.Words.TheVariants as words
+use Rattle.run_words.specs.declared.words.WordsFault.{WordsFault}
+use Rattle.run_words.specs.declared.words.WordsFault.TheVariants as fault
 use Rattle.top_run.specs.Works.{IsTold, IsSummed, WorkEnded, first_spent, work_status}
 use Rattle.core_history.specs.Machine.{Move, terms_of}
 use Rattle.core_history.specs.Truth.{IsTruePast}

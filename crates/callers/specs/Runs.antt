@@ -20,8 +20,8 @@ use Rattle.top_run.specs.declared.runs.Status.TheVariants as status
 use Rattle.run_audit.specs.declared.findings.Finding.TheVariants as finding
 use Rattle.run_inputs.specs.declared.loads.WorkSpec.{WorkSpec}
 use Rattle.core_history.specs.Machine.{terms_of}
-use Rattle.top_run.specs.declared.stand_ins.LineEnd.{LineEnd}
-use Rattle.top_run.specs.declared.stand_ins.ServeSpec.{ServeSpec}
+use Rattle.conn_server.specs.declared.ends.LineEnd.{LineEnd}
+use Rattle.run_words.specs.declared.words.ServeSpec.{ServeSpec}
 use Rattle.top_run.specs.Runs.{IsRead, Prints, Tells, Left}
 use Rattle.top_run.specs.Serves.{serve_shape, serve_text}
 use Rattle.top_run.specs.Works.{IsTold}

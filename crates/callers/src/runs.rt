@@ -6,8 +6,8 @@ ghost use Rattle.callers.specs.Shards.{MeetsItsFloor};
 ghost use Rattle.callers.specs.Runs.{IsFreshRun, IsCleanLoad, IsDoneServer, HitsHoldCommits, IsUnharmed, AreAlike};
 ghost use Rattle.run_inputs.specs.Words.{AreWork};
 ghost use Rattle.run_inputs.specs.declared.loads.WorkSpec.{WorkSpec};
-ghost use Rattle.top_run.specs.StandIns.{AreServe};
-ghost use Rattle.top_run.specs.declared.stand_ins.ServeSpec.{ServeSpec};
+ghost use Rattle.run_words.specs.Words.{AreServe};
+ghost use Rattle.run_words.specs.declared.words.ServeSpec.{ServeSpec};
 ghost use Rattle.callers.specs.Writes.{HitsAfterWrites};
 ghost use Rattle.callers.specs.Drops.{IsSweptRun};
 

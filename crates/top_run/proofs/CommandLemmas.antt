@@ -8,15 +8,16 @@ use Rattle.run_inputs.specs.declared.loads.WorkSpec.{WorkSpec}
 use Rattle.run_inputs.specs.Words.{AreWork}
 use Rattle.top_run.specs.declared.runs.Status.{Status}
 use Rattle.top_run.specs.declared.runs.Status.TheVariants as status
-use Rattle.top_run.specs.declared.stand_ins.ServeSpec.{ServeSpec}
-use Rattle.top_run.specs.declared.stand_ins.Words.{Words}
-use Rattle.top_run.specs.declared.stand_ins.Words.TheVariants as words
-use Rattle.top_run.specs.declared.stand_ins.WordsFault.{WordsFault}
-use Rattle.top_run.specs.declared.stand_ins.WordsFault.TheVariants as fault
+use Rattle.run_words.specs.declared.words.ServeSpec.{ServeSpec}
+use Rattle.run_words.specs.declared.words.Words.{Words}
+use Rattle.run_words.specs.declared.words.Words.TheVariants as words
+use Rattle.run_words.specs.declared.words.WordsFault.{WordsFault}
+use Rattle.run_words.specs.declared.words.WordsFault.TheVariants as fault
 use Rattle.top_run.specs.Commands.{IsUnread, IsReading, EndedAs, CommandEnded}
 use Rattle.top_run.specs.Runs.{AreReplay, Held, Tells, Left, IsUnasked, Ended, most_taken, is_door_fault}
 use Rattle.top_run.specs.Serves.{Course, ServeEnded}
-use Rattle.top_run.specs.StandIns.{AreServe, AreWords, AreReadAs, IsRead}
+use Rattle.run_words.specs.Words.{AreServe, AreWords}
+use Rattle.run_words.specs.Reading.{AreReadAs, IsRead}
 use Rattle.top_run.specs.Works.{WorkEnded}
 use Rattle.top_run.proofs.ServeLemmas.{same_server}
 

@@ -4,12 +4,13 @@ use Rattle.std.specs.Prelude.{◌⊎◌, true, false, codes, Option, None, Some}
 use Rattle.session_client.specs.declared.plans.Shape.{Shape}
 use Rattle.top_run.specs.declared.runs.Status.{Status}
 use Rattle.top_run.specs.declared.runs.Status.TheVariants as status
-use Rattle.top_run.specs.declared.stand_ins.LineEnd.{LineEnd}
-use Rattle.top_run.specs.declared.stand_ins.ServeSpec.{ServeSpec}
+use Rattle.conn_server.specs.declared.ends.LineEnd.{LineEnd}
+use Rattle.run_words.specs.declared.words.ServeSpec.{ServeSpec}
 use Rattle.top_run.specs.Runs.{Prints, is_read_fault}
 use Rattle.top_run.specs.Works.{IsKept}
 use Rattle.top_run.specs.Serves.{serve_shape, ready_line, served_line, serve_text, IsServedText, IsAttended, Course, IsServed, ServeEnded}
-use Rattle.top_run.specs.StandIns.{Told, GivesBack}
+use Rattle.door_workers.specs.Attending.{GivesBack}
+use Rattle.door_workers.specs.Told.{Told}
 use Rattle.top_run.proofs.PrintLemmas.{print_none}
 
 -- ---- what is written

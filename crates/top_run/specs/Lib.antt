@@ -2,7 +2,6 @@ pub use Rattle.rows_model.specs.Key
 pub mod Runs
 pub mod Plays
 pub mod Works
-pub mod StandIns
 pub mod Serves
 pub mod Ready
 pub mod Commands

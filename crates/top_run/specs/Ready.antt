@@ -8,7 +8,7 @@ use Rattle.run_inputs.specs.declared.loads.WorkSpec.{WorkSpec}
 use Rattle.top_run.specs.declared.hubs.Parts.{Parts}
 use Rattle.top_run.specs.declared.serves.Ready.{Ready as ServeReady}
 use Rattle.top_run.specs.declared.works.Ready.{Ready}
-use Rattle.top_run.specs.declared.stand_ins.ServeSpec.{ServeSpec}
+use Rattle.run_words.specs.declared.words.ServeSpec.{ServeSpec}
 use Rattle.top_run.specs.Serves.{serve_shape}
 use Rattle.top_run.specs.Works.{work_shape}
 

@@ -6,10 +6,11 @@ use Rattle.session_client.specs.declared.plans.Shape.{Shape}
 use Rattle.core_history.specs.Lines.{line}
 use Rattle.top_run.specs.declared.runs.Status.{Status}
 use Rattle.top_run.specs.declared.runs.Status.TheVariants as status
-use Rattle.top_run.specs.declared.stand_ins.LineEnd.{LineEnd}
-use Rattle.top_run.specs.declared.stand_ins.ServeSpec.{ServeSpec}
+use Rattle.conn_server.specs.declared.ends.LineEnd.{LineEnd}
+use Rattle.run_words.specs.declared.words.ServeSpec.{ServeSpec}
 use Rattle.top_run.specs.Runs.{Held, Tells, Left, Prints, IsUnasked, IsNotStarted}
-use Rattle.top_run.specs.StandIns.{Told, GivesBack, count_up_by}
+use Rattle.door_workers.specs.Attending.{GivesBack, count_up_by}
+use Rattle.door_workers.specs.Told.{Told}
 use Rattle.top_run.specs.Works.{IsKept}
 
 -- The shape of a server's hub: so many members and shards, room for 4,096 entries in each, and leases that live 10 seconds.

@@ -9,7 +9,7 @@ ghost use Rattle.top_run.specs.Ready.{AreParts};
 
 use crate::endings::histories_of;
 use crate::runs::{RunEnd, Status};
-use crate::stand_ins::LineEnd;
+use conn_server::LineEnd;
 use iq_outside::{Clock, Gate};
 use key_shard::{Shard, Step};
 use rows_model::Memory;

@@ -4,7 +4,6 @@
 #![tactic(auto)]
 
 pub use runs::{RunEnd, Status, replay, run};
-pub use stand_ins::{Attended, LineEnd, ServeSpec, Words, WordsFault, read_words, serve_all};
 
 mod endings;
 mod hubs;
@@ -12,7 +11,6 @@ mod plays;
 mod printing;
 pub mod runs;
 mod serves;
-pub mod stand_ins;
 mod summaries;
 mod texts;
 mod works;

@@ -7,14 +7,15 @@ ghost use Rattle.top_run.specs.declared.runs.Status.{Status};
 ghost use Rattle.top_run.specs.Runs.{AreReplay, Ended, Held, Left, held_at, moment, IsRead, IsOpened, RoseWhere, is_read_fault, is_write_fault, is_door_fault};
 ghost use Rattle.top_run.specs.Commands.{AreNoCommand, CommandEnded};
 ghost use Rattle.top_run.specs.Serves.{Course};
-ghost use Rattle.top_run.specs.StandIns.{told};
+ghost use Rattle.door_workers.specs.Attending.{told};
 ghost use Rattle.top_run.specs.Plays.{IsNew, IsFinished, IsStopped, IsUnread, at_write};
 
 use crate::endings::{ended_run, not_started, start_status};
 use crate::plays::{Stop, Tally, play};
 use crate::printing::{last_line, print};
 use crate::serves::serve;
-use crate::stand_ins::{LineEnd, Words, WordsFault, read_words};
+use conn_server::LineEnd;
+use run_words::{Words, WordsFault, read_words};
 use crate::texts::tell;
 use crate::works::work;
 use core_history::Core;

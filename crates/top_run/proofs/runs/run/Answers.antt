@@ -1,7 +1,7 @@
 use Rattle.std.proofs.Common.{Bool, refl, sym, subst}
 use Rattle.run_inputs.specs.declared.loads.WorkSpec.{WorkSpec}
-use Rattle.top_run.specs.declared.stand_ins.Words.TheVariants as words
-use Rattle.top_run.specs.declared.stand_ins.WordsFault.TheVariants as fault
+use Rattle.run_words.specs.declared.words.Words.TheVariants as words
+use Rattle.run_words.specs.declared.words.WordsFault.TheVariants as fault
 use Rattle.top_run.specs.Runs.{RoseWhere}
 use Rattle.top_run.proofs.PrintLemmas.{print_none}
 use Rattle.top_run.proofs.CommandLemmas.{command_ok, command_err, load_not_failed, load_no_door, server_not_failed}

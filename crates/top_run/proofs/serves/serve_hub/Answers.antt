@@ -1,4 +1,4 @@
-use Rattle.top_run.specs.StandIns.{told}
+use Rattle.door_workers.specs.Attending.{told}
 use Rattle.top_run.proofs.ServeLemmas.{unattended_short}
 use Rattle.top_run.proofs.serves.serve_hub.Goals as goal
 

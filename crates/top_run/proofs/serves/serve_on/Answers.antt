@@ -3,7 +3,7 @@ use Rattle.std.specs.Prelude.{IsSome}
 use Rattle.rows_model.specs.Rows.{Tables}
 use Rattle.top_run.specs.Runs.{moment, IsOpened, is_read_fault}
 use Rattle.top_run.specs.Serves.{serve_shape, Course}
-use Rattle.top_run.specs.StandIns.{told}
+use Rattle.door_workers.specs.Attending.{told}
 use Rattle.top_run.proofs.KeepLemmas.{opened_since}
 use Rattle.top_run.proofs.WorkLemmas.{left_of, kept_of}
 use Rattle.top_run.proofs.ServeLemmas.{served_ended, no_usage, no_read}

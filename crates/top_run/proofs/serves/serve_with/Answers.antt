@@ -1,6 +1,6 @@
 use Rattle.std.proofs.Common.{ap, length}
 use Rattle.std.specs.Option.{option_map}
-use Rattle.top_run.specs.StandIns.{told}
+use Rattle.door_workers.specs.Attending.{told}
 use Rattle.top_run.proofs.ServeLemmas.{unattended}
 use Rattle.top_run.proofs.serves.serve_with.Goals as goal
 
