@@ -8,8 +8,8 @@ abbrev pub invariant-loop-line : goal.invariant-loop-line
 invariant-loop-line g l =
     (l.at.lent.door.ghost_name ≡ l.initial.at.lent.door.ghost_name)
     × ((first : Told) (most : ℕ)
-      → Stands first most (told g.D.Door.lines g.D.Door.faults g.D.Door.ended g.D.Door.closed l.initial.at.lent.door.now) l.initial.at.so_far 0
-      → Stands first most (told g.D.Door.lines g.D.Door.faults g.D.Door.ended g.D.Door.closed l.at.lent.door.now) l.at.so_far 0)
+    → Stands first most (told g.D.Door.lines g.D.Door.faults g.D.Door.ended g.D.Door.closed l.initial.at.lent.door.now) l.initial.at.so_far 0
+    → Stands first most (told g.D.Door.lines g.D.Door.faults g.D.Door.ended g.D.Door.closed l.at.lent.door.now) l.at.so_far 0)
     × (g.D.Door.fresh l.initial.at.lent.door.now → g.D.Door.fresh l.at.lent.door.now)
 
 abbrev pub decreases-loop-line : goal.decreases-loop-line

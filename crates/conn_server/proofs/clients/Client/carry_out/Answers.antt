@@ -85,8 +85,8 @@ returns-in-IqDelta g c =
     let is = (c.in-IqDelta.is ∙ ap (λ (key : Option QKey). commands.IqDelta key c.in-IqDelta.sid c.in-IqDelta.by) c.unwrap-in-IqDelta.ensures) in
     let fits : SFits w32 c.in-IqDelta.by = search rules in
     let makes = subst (λ (by : ℤ). Makes (g.D.Desk.record_of c.args.desk.now) (g.D.Desk.record_of c.shift.new.desk) c.args.self.now
-        (wanted.Delta c.unwrap-in-IqDelta.result by) (commands.IqDelta (Some c.unwrap-in-IqDelta.result) c.in-IqDelta.sid by) c.shift.result c.shift.new.self)
-        (to_z-of_z w32 c.in-IqDelta.by fits) (c.shift.ensures c.in-IqDelta.sid) in
+    (wanted.Delta c.unwrap-in-IqDelta.result by) (commands.IqDelta (Some c.unwrap-in-IqDelta.result) c.in-IqDelta.sid by) c.shift.result c.shift.new.self)
+    (to_z-of_z w32 c.in-IqDelta.by fits) (c.shift.ensures c.in-IqDelta.sid) in
     asks_known _ _ _ _ (wanted.Delta c.unwrap-in-IqDelta.result c.in-IqDelta.by) c.args.said (commands.IqDelta (Some c.unwrap-in-IqDelta.result) c.in-IqDelta.sid c.in-IqDelta.by) _
     is c.requires.passes refl makes (λ calls made. made)
 

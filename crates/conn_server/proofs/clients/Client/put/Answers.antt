@@ -26,8 +26,8 @@ returns-in-SarBack g c = (
       let belongs = c.in-SarBack.ensures.belongs in
       let back = rw (← c.self.view_is) at c.take_on-place.ensures.back in
       let same = put_in_place c.args.self.now (record { present = c.self.inside.present; grants = c.self.inside.grants }) c.put_back.new.self
-          (grants_but c.args.key c.args.self.now.grants.items) c.take_on-place.result.0 c.take_on-place.result.1 c.in-SarBack.grant
-          (c.self.view_is ∙ c.take_on-place.ensures.others) back belongs c.put_back.ensures.items c.put_back.ensures.room in
+      (grants_but c.args.key c.args.self.now.grants.items) c.take_on-place.result.0 c.take_on-place.result.1 c.in-SarBack.grant
+      (c.self.view_is ∙ c.take_on-place.ensures.others) back belongs c.put_back.ensures.items c.put_back.ensures.room in
       subst (λ (stamp : ℕ). Makes (g.D.Desk.record_of c.args.desk.now) (g.D.Desk.record_of c.call.new.self) c.args.self.now
       (wanted.Sar c.take_on-place.result.1 (Some c.args.block) stamp) (commands.Sar (Some c.args.key) flags exptime bytes sid c.args.block)
       reply.Memory (record { present = c.self.inside.present; grants = c.put_back.new.self })) c.stamp-stamp.ensures
