@@ -21,7 +21,9 @@ unwrap-requires g c = keyed _ c.args.said c.in-IqGet.key (ap key_word c.in-IqGet
 pub returns-in-IqGet : goal.returns-in-IqGet
 returns-in-IqGet g c =
     let is = (c.in-IqGet.is ∙ ap (λ (key : Option QKey). commands.IqGet key c.in-IqGet.sid c.in-IqGet.floor) c.unwrap.ensures) in
-    asks_known _ _ _ _ (wanted.Get c.unwrap.result c.in-IqGet.floor) c.args.said (commands.IqGet (Some c.unwrap.result) c.in-IqGet.sid c.in-IqGet.floor) _ is c.requires.passes refl (c.get.ensures c.in-IqGet.sid) (λ calls made. made)
+    asks_known _ _ _ _ (wanted.Get c.unwrap.result c.in-IqGet.floor) c.args.said
+    (commands.IqGet (Some c.unwrap.result) c.in-IqGet.sid c.in-IqGet.floor) _
+    is c.requires.passes refl (c.get.ensures c.in-IqGet.sid) (λ calls made. made)
 
 pub unwrap-requires-in-Ask : goal.unwrap-requires-in-Ask
 unwrap-requires-in-Ask g c = keyed _ c.args.said c.in-Ask.key (ap key_word c.in-Ask.is) c.requires.passes
@@ -29,7 +31,9 @@ unwrap-requires-in-Ask g c = keyed _ c.args.said c.in-Ask.key (ap key_word c.in-
 pub returns-in-Ask : goal.returns-in-Ask
 returns-in-Ask g c =
     let is = (c.in-Ask.is ∙ ap (λ (key : Option QKey). commands.Ask key c.in-Ask.sid) c.unwrap-in-Ask.ensures) in
-    asks_known _ _ _ _ (wanted.Ask c.unwrap-in-Ask.result) c.args.said (commands.Ask (Some c.unwrap-in-Ask.result) c.in-Ask.sid) _ is c.requires.passes refl (c.ask.ensures c.in-Ask.sid) (λ calls made. made)
+    asks_known _ _ _ _ (wanted.Ask c.unwrap-in-Ask.result) c.args.said
+    (commands.Ask (Some c.unwrap-in-Ask.result) c.in-Ask.sid) _
+    is c.requires.passes refl (c.ask.ensures c.in-Ask.sid) (λ calls made. made)
 
 pub unwrap-requires-in-Stage : goal.unwrap-requires-in-Stage
 unwrap-requires-in-Stage g c = keyed _ c.args.said c.in-Stage.key (ap key_word c.in-Stage.is) c.requires.passes
@@ -37,15 +41,20 @@ unwrap-requires-in-Stage g c = keyed _ c.args.said c.in-Stage.key (ap key_word c
 pub returns-in-Stage : goal.returns-in-Stage
 returns-in-Stage g c =
     let is = (c.in-Stage.is ∙ ap (λ (key : Option QKey). commands.Stage key c.in-Stage.sid c.in-Stage.txn) c.unwrap-in-Stage.ensures) in
-    asks_known _ _ _ _ (wanted.Staged c.unwrap-in-Stage.result c.in-Stage.txn) c.args.said (commands.Stage (Some c.unwrap-in-Stage.result) c.in-Stage.sid c.in-Stage.txn) _ is c.requires.passes refl (c.stage.ensures c.in-Stage.sid) (λ calls made. made)
+    asks_known _ _ _ _ (wanted.Staged c.unwrap-in-Stage.result c.in-Stage.txn) c.args.said
+    (commands.Stage (Some c.unwrap-in-Stage.result) c.in-Stage.sid c.in-Stage.txn) _
+    is c.requires.passes refl (c.stage.ensures c.in-Stage.sid) (λ calls made. made)
 
 pub unwrap-requires-in-IqSet : goal.unwrap-requires-in-IqSet
 unwrap-requires-in-IqSet g c = keyed _ c.args.said c.in-IqSet.key (ap key_word c.in-IqSet.is) c.requires.passes
 
 pub returns-in-IqSet : goal.returns-in-IqSet
 returns-in-IqSet g c =
-    let is = (c.in-IqSet.is ∙ ap (λ (key : Option QKey). commands.IqSet key c.in-IqSet.flags c.in-IqSet.exptime c.in-IqSet.bytes c.in-IqSet.token c.in-IqSet.stamp c.in-IqSet.block) c.unwrap-in-IqSet.ensures) in
-    asks_known _ _ _ _ (wanted.Set c.unwrap-in-IqSet.result c.in-IqSet.token c.in-IqSet.block c.in-IqSet.stamp) c.args.said (commands.IqSet (Some c.unwrap-in-IqSet.result) c.in-IqSet.flags c.in-IqSet.exptime c.in-IqSet.bytes c.in-IqSet.token c.in-IqSet.stamp c.in-IqSet.block) _ is c.requires.passes refl (c.set.ensures c.in-IqSet.flags c.in-IqSet.exptime c.in-IqSet.bytes) (λ calls made. made)
+    let is = (c.in-IqSet.is
+    ∙ ap (λ (key : Option QKey). commands.IqSet key c.in-IqSet.flags c.in-IqSet.exptime c.in-IqSet.bytes c.in-IqSet.token c.in-IqSet.stamp c.in-IqSet.block) c.unwrap-in-IqSet.ensures) in
+    asks_known _ _ _ _ (wanted.Set c.unwrap-in-IqSet.result c.in-IqSet.token c.in-IqSet.block c.in-IqSet.stamp) c.args.said
+    (commands.IqSet (Some c.unwrap-in-IqSet.result) c.in-IqSet.flags c.in-IqSet.exptime c.in-IqSet.bytes c.in-IqSet.token c.in-IqSet.stamp c.in-IqSet.block) _
+    is c.requires.passes refl (c.set.ensures c.in-IqSet.flags c.in-IqSet.exptime c.in-IqSet.bytes) (λ calls made. made)
 
 pub unwrap-requires-in-QaReg : goal.unwrap-requires-in-QaReg
 unwrap-requires-in-QaReg g c = keyed _ c.args.said c.in-QaReg.key (ap key_word c.in-QaReg.is) c.requires.passes
@@ -56,7 +65,9 @@ invalidate-requires g c = roomy _ c.args.said (ap quarantines c.in-QaReg.is) c.r
 pub returns-in-QaReg : goal.returns-in-QaReg
 returns-in-QaReg g c =
     let is = (c.in-QaReg.is ∙ ap (λ (key : Option QKey). commands.QaReg key c.in-QaReg.sid) c.unwrap-in-QaReg.ensures) in
-    asks_known _ _ _ _ (wanted.QaReg c.unwrap-in-QaReg.result) c.args.said (commands.QaReg (Some c.unwrap-in-QaReg.result) c.in-QaReg.sid) _ is c.requires.passes refl (c.invalidate.ensures c.in-QaReg.sid) (λ calls made. made)
+    asks_known _ _ _ _ (wanted.QaReg c.unwrap-in-QaReg.result) c.args.said
+    (commands.QaReg (Some c.unwrap-in-QaReg.result) c.in-QaReg.sid) _
+    is c.requires.passes refl (c.invalidate.ensures c.in-QaReg.sid) (λ calls made. made)
 
 pub unwrap-requires-in-QaRead : goal.unwrap-requires-in-QaRead
 unwrap-requires-in-QaRead g c = keyed _ c.args.said c.in-QaRead.key (ap key_word c.in-QaRead.is) c.requires.passes
@@ -67,7 +78,9 @@ refresh-requires g c = roomy _ c.args.said (ap quarantines c.in-QaRead.is) c.req
 pub returns-in-QaRead : goal.returns-in-QaRead
 returns-in-QaRead g c =
     let is = (c.in-QaRead.is ∙ ap (λ (key : Option QKey). commands.QaRead key c.in-QaRead.sid) c.unwrap-in-QaRead.ensures) in
-    asks_known _ _ _ _ (wanted.QaRead c.unwrap-in-QaRead.result) c.args.said (commands.QaRead (Some c.unwrap-in-QaRead.result) c.in-QaRead.sid) _ is c.requires.passes refl (c.refresh.ensures c.in-QaRead.sid) (λ calls made. made)
+    asks_known _ _ _ _ (wanted.QaRead c.unwrap-in-QaRead.result) c.args.said
+    (commands.QaRead (Some c.unwrap-in-QaRead.result) c.in-QaRead.sid) _
+    is c.requires.passes refl (c.refresh.ensures c.in-QaRead.sid) (λ calls made. made)
 
 pub unwrap-requires-in-IqDelta : goal.unwrap-requires-in-IqDelta
 unwrap-requires-in-IqDelta g c = keyed _ c.args.said c.in-IqDelta.key (ap key_word c.in-IqDelta.is) c.requires.passes
@@ -87,7 +100,8 @@ returns-in-IqDelta g c =
     let makes = subst (λ (by : ℤ). Makes (g.D.Desk.record_of c.args.desk.now) (g.D.Desk.record_of c.shift.new.desk) c.args.self.now
     (wanted.Delta c.unwrap-in-IqDelta.result by) (commands.IqDelta (Some c.unwrap-in-IqDelta.result) c.in-IqDelta.sid by) c.shift.result c.shift.new.self)
     (to_z-of_z w32 c.in-IqDelta.by fits) (c.shift.ensures c.in-IqDelta.sid) in
-    asks_known _ _ _ _ (wanted.Delta c.unwrap-in-IqDelta.result c.in-IqDelta.by) c.args.said (commands.IqDelta (Some c.unwrap-in-IqDelta.result) c.in-IqDelta.sid c.in-IqDelta.by) _
+    asks_known _ _ _ _ (wanted.Delta c.unwrap-in-IqDelta.result c.in-IqDelta.by) c.args.said
+    (commands.IqDelta (Some c.unwrap-in-IqDelta.result) c.in-IqDelta.sid c.in-IqDelta.by) _
     is c.requires.passes refl makes (λ calls made. made)
 
 pub unreachable-requires : goal.unreachable-requires
@@ -113,15 +127,21 @@ unwrap-requires-in-Sar g c = keyed _ c.args.said c.in-Sar.key (ap key_word c.in-
 
 pub put-requires : goal.put-requires
 put-requires g c =
-    let is = (c.in-Sar.is ∙ ap (λ (key : Option QKey). commands.Sar key c.in-Sar.flags c.in-Sar.exptime c.in-Sar.bytes c.in-Sar.sid c.in-Sar.block) c.unwrap-in-Sar.ensures) in
-    held_in modes.Refresh _ c.args.said c.unwrap-in-Sar.result (ap releases is) (ap key_word is) (λ found. ap (λ (s : Command). is_other_mode s found) is) c.requires.passes
+    let is = (c.in-Sar.is
+    ∙ ap (λ (key : Option QKey). commands.Sar key c.in-Sar.flags c.in-Sar.exptime c.in-Sar.bytes c.in-Sar.sid c.in-Sar.block) c.unwrap-in-Sar.ensures) in
+    held_in modes.Refresh _ c.args.said c.unwrap-in-Sar.result
+    (ap releases is) (ap key_word is) (λ found. ap (λ (s : Command). is_other_mode s found) is) c.requires.passes
 
 pub returns-in-Sar : goal.returns-in-Sar
 returns-in-Sar g c =
-    let is = (c.in-Sar.is ∙ ap (λ (key : Option QKey). commands.Sar key c.in-Sar.flags c.in-Sar.exptime c.in-Sar.bytes c.in-Sar.sid c.in-Sar.block) c.unwrap-in-Sar.ensures) in
+    let is = (c.in-Sar.is
+    ∙ ap (λ (key : Option QKey). commands.Sar key c.in-Sar.flags c.in-Sar.exptime c.in-Sar.bytes c.in-Sar.sid c.in-Sar.block) c.unwrap-in-Sar.ensures) in
     let (grant, first, made) = c.put.ensures in
-    asks_known _ _ _ _ (wanted.Sar grant (Some c.in-Sar.block) (stamp_of c.args.self.now.present)) c.args.said (commands.Sar (Some c.unwrap-in-Sar.result) c.in-Sar.flags c.in-Sar.exptime c.in-Sar.bytes c.in-Sar.sid c.in-Sar.block) _ is c.requires.passes
-    (ap (option_map (λ (given : Permit). wanted.Sar given (Some c.in-Sar.block) (stamp_of c.args.self.now.present))) first) (made c.in-Sar.flags c.in-Sar.exptime c.in-Sar.bytes c.in-Sar.sid) (λ calls made. made)
+    asks_known _ _ _ _ (wanted.Sar grant (Some c.in-Sar.block) (stamp_of c.args.self.now.present)) c.args.said
+    (commands.Sar (Some c.unwrap-in-Sar.result) c.in-Sar.flags c.in-Sar.exptime c.in-Sar.bytes c.in-Sar.sid c.in-Sar.block) _
+    is c.requires.passes
+    (ap (option_map (λ (given : Permit). wanted.Sar given (Some c.in-Sar.block) (stamp_of c.args.self.now.present))) first)
+    (made c.in-Sar.flags c.in-Sar.exptime c.in-Sar.bytes c.in-Sar.sid) (λ calls made. made)
 
 pub unwrap-requires-in-IqCommit : goal.unwrap-requires-in-IqCommit
 unwrap-requires-in-IqCommit g c = keyed _ c.args.said c.in-IqCommit.key (ap key_word c.in-IqCommit.is) c.requires.passes
@@ -129,13 +149,16 @@ unwrap-requires-in-IqCommit g c = keyed _ c.args.said c.in-IqCommit.key (ap key_
 pub apply-requires : goal.apply-requires
 apply-requires g c =
     let is = (c.in-IqCommit.is ∙ ap (λ (key : Option QKey). commands.IqCommit key c.in-IqCommit.sid) c.unwrap-in-IqCommit.ensures) in
-    held_in modes.Delta _ c.args.said c.unwrap-in-IqCommit.result (ap releases is) (ap key_word is) (λ found. ap (λ (s : Command). is_other_mode s found) is) c.requires.passes
+    held_in modes.Delta _ c.args.said c.unwrap-in-IqCommit.result
+    (ap releases is) (ap key_word is) (λ found. ap (λ (s : Command). is_other_mode s found) is) c.requires.passes
 
 pub returns-in-IqCommit : goal.returns-in-IqCommit
 returns-in-IqCommit g c =
     let is = (c.in-IqCommit.is ∙ ap (λ (key : Option QKey). commands.IqCommit key c.in-IqCommit.sid) c.unwrap-in-IqCommit.ensures) in
     let (grant, first, made) = c.apply.ensures in
-    asks_known _ _ _ _ (wanted.Apply grant (stamp_of c.args.self.now.present)) c.args.said (commands.IqCommit (Some c.unwrap-in-IqCommit.result) c.in-IqCommit.sid) _ is c.requires.passes
+    asks_known _ _ _ _ (wanted.Apply grant (stamp_of c.args.self.now.present)) c.args.said
+    (commands.IqCommit (Some c.unwrap-in-IqCommit.result) c.in-IqCommit.sid) _
+    is c.requires.passes
     (ap (option_map (λ (given : Permit). wanted.Apply given (stamp_of c.args.self.now.present))) first) (made c.in-IqCommit.sid) (λ calls made. made)
 
 pub returns-in-Sql : goal.returns-in-Sql
