@@ -1,14 +1,14 @@
 -- What was done so far on a connection, one item further.
-use Rattle.std.proofs.Common.{ℕ, ◌+◌, ◌-◌, ◌*◌, ◌^◌, ◌≡◌, ◌<◌, ◌≤◌, ◌⊎◌, inl, inr, List, [], ◌∷◌, ◌++◌, length, take, drop, Option, Some, None, arith}
+use Rattle.std.proofs.Common.{ℕ, ◌+◌, ◌-◌, ◌^◌, ◌≡◌, ◌<◌, ◌≤◌, ◌⊎◌, inl, inr, List, [], ◌∷◌, ◌++◌, length, take, drop, Option, Some, None, arith}
 use Rattle.std.proofs.Common.{refl, sym, ap, subst, ◌∙◌, append_assoc, append-nil, add-zero}
-use Rattle.std.specs.Prelude.{min, Bool, true, false, Result, Ok, Err, OnOk, IfErr}
+use Rattle.std.specs.Prelude.{min, Bool, false, Result, Ok, Err, OnOk, IfErr}
 use Rattle.std.proofs.lemmas.Bool.{cases_lt}
 use Rattle.std.proofs.lemmas.List.{drop-drop, drop-append-le, length-append, length-drop, take-append-drop}
 use Rattle.iq_outside.specs.Outside.{Takes, Gains, Rose, AtEnd, ZeroAtEnd, ReadSide, WriteSide}
 use Rattle.iq_outside.proofs.OutsideLemmas.{Takes-append, Takes-none, Gains-append, Gains-none, AtEnd-zero, Rose-later}
-use Rattle.mc_text.specs.Framing.{Frames, begun, past, fed, Answers, Faults, Takes as FrameTakes}
+use Rattle.mc_text.specs.Framing.{Frames, past, fed, Answers, Faults, Takes as FrameTakes}
 use Rattle.mc_text.specs.Replies.{text_of}
-use Rattle.mc_text.specs.Streams.{Item, command, bad_line, long_line, bad_block, big_block, Stands, IsOpen, AreFirst}
+use Rattle.mc_text.specs.Streams.{Item, command, bad_line, Stands, IsOpen, AreFirst}
 use Rattle.mc_text.specs.declared.commands.Command.{Command}
 use Rattle.mc_text.specs.declared.commands.Command.TheVariants.{Quit}
 use Rattle.mc_text.specs.declared.faults.FrameFault.{FrameFault}
@@ -23,7 +23,7 @@ use Rattle.conn_server.specs.declared.ends.LineEnd.TheVariants as ends
 use Rattle.conn_server.specs.declared.serving.Serving.{Serving}
 use Rattle.conn_server.specs.Clients.{newcomer}
 use Rattle.conn_server.specs.Answers.{ItemAnswers, AllAnswer, GivenUp, with_calls}
-use Rattle.conn_server.specs.Service.{budget, texts, IsWithin, Lasts, place_of, TookAll, TookSome, TookToFault, EndsSo, Served, NoneLeft, IsServed}
+use Rattle.conn_server.specs.Service.{budget, texts, IsWithin, Lasts, place_of, TookSome, TookToFault, EndsSo, NoneLeft, IsServed}
 use Rattle.conn_server.specs.Course.{most_reads, IsUnserved, Start, Done, Course, RoseAt, Ending, Tells, Flushes, Shuts, Finishes}
 use Rattle.conn_server.proofs.ClosingLemmas.{with_calls-append}
 use Rattle.conn_server.proofs.BoundLemmas.{first_bound, open_bound}

@@ -1,5 +1,5 @@
 -- Where the first grant on a key stands, and that one that is put back stands where it stood.
-use Rattle.std.proofs.Common.{ℕ, zero, suc, ◌≡◌, ◌<◌, ◌≤◌, Bool, true, false, List, [], ◌∷◌, length, slice_get, get_or, position, Option}
+use Rattle.std.proofs.Common.{ℕ, zero, suc, ◌≡◌, ◌<◌, Bool, true, false, List, [], ◌∷◌, length, slice_get, get_or, position, Option}
 use Rattle.std.proofs.Common.{Some, None, cond, refl, ap, sym, subst, arith}
 use Rattle.std.specs.List.{insert, remove, position_or_len}
 use Rattle.std.specs.Prelude.{IsSome, if◌then◌else◌}

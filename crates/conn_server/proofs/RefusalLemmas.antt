@@ -1,5 +1,5 @@
 -- What isn't the case of a command that isn't refused.
-use Rattle.std.proofs.Common.{ℕ, ◌≡◌, ◌≢◌, ◌<◌, ◌&&◌, ◌⊎◌, inl, inr, Bool, true, false, true≢false, not, List, [], ◌∷◌, length, Option, Some, None}
+use Rattle.std.proofs.Common.{◌≡◌, ◌≢◌, ◌<◌, ◌&&◌, ◌⊎◌, inl, inr, Bool, true, false, true≢false, not, List, [], ◌∷◌, length, Option, Some, None}
 use Rattle.std.proofs.Common.{is_some, refl, sym, ap, subst, ◌∙◌}
 use Rattle.std.specs.Prelude.{nat_le}
 use Rattle.std.proofs.lemmas.Bool.{leb-false}
@@ -18,10 +18,10 @@ use Rattle.mc_text.specs.declared.replies.LineReply.{LineReply}
 use Rattle.conn_server.specs.declared.clients.Client.{Client}
 use Rattle.conn_server.specs.declared.clients.Present.{Present}
 use Rattle.conn_server.specs.Answers.{HasFirst, HasFirstIn}
-use Rattle.conn_server.specs.Clients.{is_reading, has_committed, is_busy, is_full, is_present, grant_on}
+use Rattle.conn_server.specs.Clients.{is_reading, is_full, is_present, grant_on}
 use Rattle.conn_server.specs.Closing.{MayAbort}
-use Rattle.conn_server.specs.Refusals.{key_word, named_sid, is_unknown, begins, quarantines, releases, writes, is_no_key, flags_of}
-use Rattle.conn_server.specs.Refusals.{exptime_of, is_of_another, shifts_no_count, grant_for, is_other_mode, in_mode, refusals, first_due, refused}
+use Rattle.conn_server.specs.Refusals.{key_word, named_sid, is_unknown, quarantines, releases, writes, is_no_key}
+use Rattle.conn_server.specs.Refusals.{is_of_another, shifts_no_count, grant_for, is_other_mode, in_mode, refusals, first_due, refused}
 
 -- no cause to refuse the command holds
 pub record Passes (client : Client) (said : Command) : Type 0 where

@@ -1,11 +1,8 @@
 -- Which replies of a desk belong to a request: no other comes.
-use Rattle.std.proofs.Common.{ℕ, ◌≡◌, ◌≢◌, List, Option, Some, None, refl}
+use Rattle.std.proofs.Common.{ℕ, ◌≢◌, refl}
 use Rattle.rows_model.specs.declared.keys.QKey.{QKey}
 use Rattle.rows_model.specs.declared.keys.Sid.{Sid}
-use Rattle.rows_model.specs.declared.changes.Change.{Change}
 use Rattle.key_shard.specs.declared.replies.Got.{Got}
-use Rattle.key_shard.specs.declared.replies.SetAnswer.{SetAnswer}
-use Rattle.sql_keeper.specs.declared.faults.AfterFault.{AfterFault}
 use Rattle.sql_keeper.specs.declared.stores.Answer.{Answer}
 use Rattle.session_client.specs.Belongs.{Belongs}
 use Rattle.session_client.specs.declared.replies.Fault.{Fault}

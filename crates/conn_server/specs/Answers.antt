@@ -17,12 +17,11 @@ use Rattle.mc_text.specs.declared.commands.Command.TheVariants.{Begin, IqAbort}
 use Rattle.mc_text.specs.declared.replies.LineReply.{LineReply}
 use Rattle.mc_text.specs.declared.replies.LineReply.TheVariants as reply
 use Rattle.conn_server.specs.declared.clients.Client.{Client}
-use Rattle.conn_server.specs.declared.clients.Present.{Present}
 use Rattle.conn_server.specs.declared.clients.Stage.{Stage}
 use Rattle.conn_server.specs.declared.clients.Stage.TheVariants as stages
 use Rattle.conn_server.specs.Clients.{asker, grant_on}
 use Rattle.conn_server.specs.Refusals.{refused}
-use Rattle.conn_server.specs.Requests.{request, told_of, client_after, with_grants}
+use Rattle.conn_server.specs.Requests.{request, told_of, client_after}
 use Rattle.conn_server.specs.Closing.{Leaves, aborted}
 
 -- whether a session of this role writes

@@ -7,7 +7,7 @@ use Rattle.key_shard.specs.Permit.{Permit}
 use Rattle.conn_server.specs.declared.clients.Client.{Client}
 use Rattle.conn_server.specs.declared.clients.Present.{Present}
 use Rattle.conn_server.specs.declared.clients.Stage.{Stage}
-use Rattle.conn_server.specs.declared.clients.Stage.TheVariants.{Reading, Open, Aborted, Committed}
+use Rattle.conn_server.specs.declared.clients.Stage.TheVariants.{Reading, Open, Committed}
 
 -- a session that stands here may still commit
 abbrev pub is_open_stage : Stage → Bool

@@ -8,7 +8,6 @@ use Rattle.session_client.specs.Desks.{Call, Asked}
 use Rattle.session_client.specs.declared.replies.Reply.TheVariants as desk
 use Rattle.session_client.specs.declared.replies.Wanted.{Wanted}
 use Rattle.session_client.specs.declared.replies.Wanted.TheVariants as wanted
-use Rattle.conn_server.specs.declared.clients.Client.{Client}
 use Rattle.conn_server.specs.declared.clients.Present.{Present}
 use Rattle.conn_server.specs.declared.clients.Stage.{Stage}
 use Rattle.conn_server.specs.declared.clients.Stage.TheVariants.{Reading, Open, Aborted, Committed}

@@ -10,7 +10,7 @@ use Rattle.lease_table.specs.Leases.{way_of}
 use Rattle.key_shard.specs.Permit.{Permit}
 use Rattle.mc_text.specs.declared.commands.Command.{Command}
 use Rattle.mc_text.specs.declared.commands.Command.TheVariants.{Begin, IqGet, Ask, Stage, IqSet, QaReg, QaRead, IqDelta, Sql, Dar, Sar}
-use Rattle.mc_text.specs.declared.commands.Command.TheVariants.{IqCommit, IqAbort, Quit, Unknown}
+use Rattle.mc_text.specs.declared.commands.Command.TheVariants.{IqCommit, IqAbort, Unknown}
 use Rattle.mc_text.specs.declared.replies.LineReply.{LineReply}
 use Rattle.mc_text.specs.declared.replies.LineReply.TheVariants as reply
 use Rattle.conn_server.specs.declared.clients.Client.{Client}

@@ -2,9 +2,7 @@
 use Rattle.std.specs.Prelude.{ℕ, ◌++◌, List, [], ◌∷◌, Option, Some, None}
 use Rattle.std.specs.Option.{option_map, unwrap_or}
 use Rattle.rows_model.specs.declared.keys.QKey.{QKey}
-use Rattle.rows_model.specs.declared.keys.Sid.{Sid}
 use Rattle.key_shard.specs.Permit.{Permit}
-use Rattle.key_shard.specs.declared.steps.Stands.{Stands}
 use Rattle.key_shard.specs.declared.steps.Stands.TheVariants as stands
 use Rattle.key_shard.specs.declared.replies.Got.{Got}
 use Rattle.key_shard.specs.declared.replies.Got.TheVariants as got
@@ -25,8 +23,8 @@ use Rattle.session_client.specs.declared.replies.Reply.TheVariants as desk
 use Rattle.session_client.specs.declared.replies.Wanted.{Wanted}
 use Rattle.session_client.specs.declared.replies.Wanted.TheVariants as wanted
 use Rattle.mc_text.specs.declared.commands.Command.{Command}
-use Rattle.mc_text.specs.declared.commands.Command.TheVariants.{Begin, IqGet, Ask, Stage, IqSet, QaReg, QaRead, IqDelta, Sql, Dar, Sar}
-use Rattle.mc_text.specs.declared.commands.Command.TheVariants.{IqCommit, IqAbort, Quit, Unknown}
+use Rattle.mc_text.specs.declared.commands.Command.TheVariants.{IqGet, Ask, Stage, IqSet, QaReg, QaRead, IqDelta, Sql, Dar, Sar}
+use Rattle.mc_text.specs.declared.commands.Command.TheVariants.{IqCommit}
 use Rattle.mc_text.specs.declared.replies.LineReply.{LineReply}
 use Rattle.mc_text.specs.declared.replies.LineReply.TheVariants as reply
 use Rattle.conn_server.specs.declared.clients.Client.{Client}

@@ -1,5 +1,5 @@
 -- What a connection was given, what it took, what it asked of the desk, and how it ended.
-use Rattle.std.specs.Prelude.{ℕ, ◌-◌, ◌^◌, ◌≡◌, ◌<◌, ◌≤◌, ◌⊎◌, ⊤, min, List, [], ◌∷◌, ◌++◌, length, drop, Option, Some, None}
+use Rattle.std.specs.Prelude.{ℕ, ◌-◌, ◌^◌, ◌≡◌, ◌<◌, ◌≤◌, ◌⊎◌, ⊤, min, List, [], ◌∷◌, ◌++◌, length, drop, Option}
 use Rattle.iq_outside.specs.Outside.{Takes, Gains, AtEnd}
 use Rattle.mc_text.specs.Replies.{text_of}
 use Rattle.mc_text.specs.Streams.{Item, command, long_line, bad_block, big_block, Stands, IsOpen, AreFirst}

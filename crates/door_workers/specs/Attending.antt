@@ -1,5 +1,5 @@
 -- How far workers have come at their door.
-use Rattle.std.specs.Prelude.{ℕ, zero, suc, ◌≡◌, ◌+◌, ◌≤◌, ◌⊎◌, ◌||◌, nat_le, Bool, true, false, List, [], length, Option, None, Vec, MatchBool, vec_capacity}
+use Rattle.std.specs.Prelude.{ℕ, zero, suc, ◌≡◌, ◌+◌, ◌≤◌, ◌⊎◌, ◌||◌, nat_le, Bool, true, false, List, length, Option, None, Vec, MatchBool, vec_capacity}
 use Rattle.std.specs.Global.{Global}
 use Rattle.std.specs.Option.{option_map}
 use Rattle.iq_outside.specs.Outside.{Rose, count_up}

@@ -1,6 +1,6 @@
 -- The ends of a command, by its words.
-use Rattle.std.proofs.Common.{ℕ, ◌≡◌, ◌<◌, ◌≤◌, ◌-◌, ◌^◌, inl, inr, List, [], ◌∷◌, length, decimal, arith, ap, refl, sym, ◌∙◌, subst}
-use Rattle.std.specs.Prelude.{false, Option, Result, Ok, Err, IfOk, MatchResult}
+use Rattle.std.proofs.Common.{ℕ, ◌≡◌, ◌<◌, ◌-◌, ◌^◌, inl, inr, List, [], length, arith, ap, refl, sym, ◌∙◌, subst}
+use Rattle.std.specs.Prelude.{false, Result, Ok, Err, IfOk, MatchResult}
 use Rattle.std.proofs.lemmas.Fmt.{decimal_injective}
 use Rattle.iq_outside.specs.Outside.{Rose, Takes, TakesAtMost}
 use Rattle.iq_outside.proofs.OutsideLemmas.{Takes-none}

@@ -1,5 +1,5 @@
 -- How many lists of plans a load has.
-use Rattle.std.proofs.Common.{ℕ, ◌≡◌, map, length}
+use Rattle.std.proofs.Common.{◌≡◌, map, length}
 use Rattle.std.proofs.lemmas.List.FromFn.{length-map-range_with_len}
 use Rattle.run_inputs.specs.Loads.{load, plan_at, sessions_of}
 use Rattle.run_inputs.specs.declared.loads.WorkSpec.{WorkSpec}

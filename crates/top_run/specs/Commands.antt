@@ -1,5 +1,5 @@
 -- What is so at the end of a command, by its words.
-use Rattle.std.specs.Prelude.{ℕ, ◌≡◌, ◌++◌, List, [], Option, None, Result, Ok, Err}
+use Rattle.std.specs.Prelude.{ℕ, ◌≡◌, ◌++◌, List, [], None, Result, Ok, Err}
 use Rattle.run_inputs.specs.declared.loads.WorkSpec.{WorkSpec}
 use Rattle.run_inputs.specs.Words.{AreWork}
 use Rattle.top_run.specs.declared.runs.Status.{Status}

@@ -1,4 +1,4 @@
-use Rattle.std.proofs.Common.{◌≤◌, List, length, refl, subst, ◌∙◌, arith}
+use Rattle.std.proofs.Common.{List, refl, subst, ◌∙◌, arith}
 use Rattle.key_shard.specs.Permit.{Permit}
 use Rattle.conn_server.specs.Closing.{release_way}
 use Rattle.conn_server.proofs.ClosingLemmas.{Releasing, none_left, one_less, releasing_all, releasing_next, releasing_none}

@@ -1,5 +1,4 @@
 use Rattle.std.proofs.Common.{Bool, refl, sym, subst}
-use Rattle.run_inputs.specs.declared.loads.WorkSpec.{WorkSpec}
 use Rattle.run_words.specs.declared.words.Words.TheVariants as words
 use Rattle.run_words.specs.declared.words.WordsFault.TheVariants as fault
 use Rattle.top_run.specs.Runs.{RoseWhere}

@@ -1,4 +1,4 @@
-use Rattle.std.proofs.Common.{List, [], ℕ, ◌++◌, sym, subst, ◌∙◌}
+use Rattle.std.proofs.Common.{List, [], ℕ, ◌++◌, sym, subst}
 use Rattle.top_run.specs.Runs.{Prints}
 use Rattle.top_run.specs.Serves.{served_line}
 use Rattle.top_run.proofs.PrintLemmas.{print_none}

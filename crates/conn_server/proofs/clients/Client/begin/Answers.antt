@@ -1,4 +1,4 @@
-use Rattle.std.proofs.Common.{refl, ap}
+use Rattle.std.proofs.Common.{refl}
 use Rattle.conn_server.proofs.AnswerLemmas.{begun}
 use Rattle.conn_server.proofs.clients.Client.begin.Goals as goal
 

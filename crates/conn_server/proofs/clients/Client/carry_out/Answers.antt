@@ -10,8 +10,8 @@ use Rattle.session_client.specs.declared.replies.Wanted.TheVariants as wanted
 use Rattle.lease_table.specs.declared.records.Mode.TheVariants as modes
 use Rattle.conn_server.specs.Answers.{Makes}
 use Rattle.conn_server.specs.Requests.{stamp_of}
-use Rattle.conn_server.specs.Refusals.{key_word, named_sid, is_unknown, quarantines, releases, writes, shifts_no_count, is_other_mode}
-use Rattle.conn_server.proofs.RefusalLemmas.{abortable, counted, goes_on, held, held_in, keyed, of_verb, roomy}
+use Rattle.conn_server.specs.Refusals.{key_word, named_sid, quarantines, releases, writes, shifts_no_count, is_other_mode}
+use Rattle.conn_server.proofs.RefusalLemmas.{abortable, counted, goes_on, held, held_in, keyed, roomy}
 use Rattle.conn_server.proofs.AnswerLemmas.{asks_calls, asks_known}
 use Rattle.conn_server.proofs.clients.Client.carry_out.Goals as goal
 

@@ -1,4 +1,4 @@
-use Rattle.std.proofs.Common.{Some, true, false}
+use Rattle.std.proofs.Common.{Some, false}
 use Rattle.mc_text.specs.declared.commands.Command.TheVariants as commands
 use Rattle.session_client.specs.declared.replies.Wanted.TheVariants as wanted
 use Rattle.conn_server.proofs.AnswerLemmas.{invalidates, made_quarantine, told_invalidate}

@@ -1,4 +1,3 @@
-use Rattle.conn_server.specs.Course.{Course}
 use Rattle.conn_server.proofs.CourseLemmas.{OnCourse}
 use Rattle.conn_server.proofs.serving.Serving.serve.Given as goal
 
