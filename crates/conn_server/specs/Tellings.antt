@@ -25,6 +25,6 @@ quarantine_as reads other = reply.Error
 
 -- of a reply to a release, where this is told of one that ended its quarantine
 abbrev pub release_as : LineReply → Reply → LineReply
-release_as ended (desk.Rel (rel.Released evicted)) = ended
-release_as ended (desk.Rel rel.Gone) = reply.NotFound
-release_as ended other = reply.Error
+release_as told (desk.Rel (rel.Released evicted)) = told
+release_as told (desk.Rel rel.Gone) = reply.NotFound
+release_as told other = reply.Error

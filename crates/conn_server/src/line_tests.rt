@@ -142,7 +142,7 @@ fn long_input_is_answered(rt: HostRuntime) -> Result<(), Fail> {
 
     said.clear();
     let mut replies = String::new(rt.alloc());
-    for number in 1..=1000 {
+    for number in 1..1001u64 {
         said.extend_from_slice(b"begin read\r\n")?;
         write!(replies, "SESSION {number}\r\n")?;
     }
