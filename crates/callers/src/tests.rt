@@ -99,7 +99,7 @@ fn a_server_without_a_line_tells_that_it_served_none(rt: HostRuntime) -> Result<
         (end.status, end.ends.len(), end.histories.len()),
         (Status::Done, 0, 2)
     );
-    assert_eq!(rt; sink.taken(), b"ready\nserved 0\n");
+    assert_eq!(rt; sink.taken(), b"ready\nserved 0\n".as_slice());
     Ok(())
 }
 

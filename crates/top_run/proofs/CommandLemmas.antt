@@ -13,7 +13,7 @@ use Rattle.run_words.specs.declared.words.Words.{Words}
 use Rattle.run_words.specs.declared.words.Words.TheVariants as words
 use Rattle.run_words.specs.declared.words.WordsFault.{WordsFault}
 use Rattle.run_words.specs.declared.words.WordsFault.TheVariants as fault
-use Rattle.top_run.specs.Commands.{IsUnread, IsReading, EndedAs, CommandEnded}
+use Rattle.top_run.specs.Commands.{AreNoCommand, IsUnread, IsReading, EndedAs, CommandEnded}
 use Rattle.top_run.specs.Runs.{AreReplay, Held, Tells, Left, IsUnasked, Ended, most_taken, is_door_fault}
 use Rattle.top_run.specs.Serves.{Course, ServeEnded}
 use Rattle.run_words.specs.Words.{AreServe, AreWords}
@@ -191,6 +191,37 @@ command_err spoken read ended course accepts is usage found why first then h =
     let as_read : read ≡ Err why = cc in
     command_ended spoken read ended course accepts (reading_of spoken read accepts is usage)
     (subst (λ (r : Result Words WordsFault). EndedAs r ended course) (sym as_read) h)
+
+-- words that are read as a load's, or a server's, are not those of a replay
+pub load_no_replay : (spoken : List (List ℕ)) (read : Result Words WordsFault) (found : Words) (spec : WorkSpec)
+    → Accepts spoken read → read ≡ Ok found → found ≡ words.Work spec → AreReplay spoken → ⊥
+load_no_replay spoken read found spec accepts first then are =
+    let as_read : read ≡ Ok (words.Work spec) = cc in
+    let work : AreWork spoken spec = subst (λ (r : Result Words WordsFault). MatchResult r (AreWords spoken) (λ why. why ≡ fault.Memory))
+    as_read (accepts words.Replay are) in
+    replay_or_work spoken are spec work
+
+pub server_no_replay : (spoken : List (List ℕ)) (read : Result Words WordsFault) (found : Words) (spec : ServeSpec)
+    → Accepts spoken read → read ≡ Ok found → found ≡ words.Serve spec → AreReplay spoken → ⊥
+server_no_replay spoken read found spec accepts first then are =
+    let as_read : read ≡ Ok (words.Serve spec) = cc in
+    let serve : AreServe spoken spec = subst (λ (r : Result Words WordsFault). MatchResult r (AreWords spoken) (λ why. why ≡ fault.Memory))
+    as_read (accepts words.Replay are) in
+    replay_or_serve spoken are spec serve
+
+-- words that are refused are no command
+pub no_command : (spoken : List (List ℕ)) (read : Result Words WordsFault) → Accepts spoken read
+    → (read ≡ Err fault.Usage → (command : Words) → AreReadAs spoken command → ⊥)
+    → (found : WordsFault) → read ≡ Err found → found ≡ fault.Usage → AreNoCommand spoken
+no_command spoken read accepts usage found first then =
+    let as_read : read ≡ Err fault.Usage = cc in
+    record {
+      no_words = λ command are.
+          let none : fault.Usage ≡ fault.Memory = subst (λ (r : Result Words WordsFault). MatchResult r (AreWords spoken) (λ why. why ≡ fault.Memory))
+          as_read (accepts command are) in
+          absurd cc;
+      no_reading = usage as_read;
+    }
 
 -- where the keeper's count of faults stands below the end of its type, no call of it failed
 not_rose : (before after : ℕ) → Rose before after → after ≡ before → before < 2 ^ 64 - 1 → ⊥

@@ -161,7 +161,7 @@ fn a_line_is_served_in_whatever_pieces_it_is_read(rt: HostRuntime) -> Result<(),
         for piece in [1, 7, 4096] {
             let ran = serve(&rt, alloc, &words, &[input], piece, &[], &[], &[])?;
             assert_eq!(rt; ran.status, Status::Done, "{name}, in pieces of {piece}");
-            assert_eq!(rt; ran.printed.as_slice(), b"ready\nserved 1\n");
+            assert_eq!(rt; ran.printed.as_slice(), b"ready\nserved 1\n".as_slice());
             assert_eq!(rt; ran.told.len(), 1);
             assert_eq!(rt;
                 first_told(&ran),
@@ -262,7 +262,7 @@ fn a_store_that_fails_is_told_to_the_client(rt: HostRuntime) -> Result<(), Fail>
 }
 
 /// Connects to this port of the loopback, once somebody listens there.
-fn connected(rt: &impl Net, port: u16) -> io::Result<TcpStream> {
+fn connected(rt: &impl Net<Stream = TcpStream>, port: u16) -> io::Result<TcpStream> {
     for _ in 0..1_000_000 {
         if let Ok(stream) = TcpStream::connect(rt, (Ipv4Addr::LOCALHOST, port)) {
             return Ok(stream);
@@ -274,7 +274,7 @@ fn connected(rt: &impl Net, port: u16) -> io::Result<TcpStream> {
 /// Sends the bytes to this port. Whether so many bytes as are wanted come back, these, and then the end. The
 /// list has room for them.
 fn is_told(
-    rt: &impl Net,
+    rt: &impl Net<Stream = TcpStream>,
     port: u16,
     sent: &[u8],
     told: &[u8],
@@ -329,6 +329,6 @@ fn a_client_is_served_over_tcp(rt: HostRuntime) -> Result<(), Fail> {
     assert!(rt; client.join(&rt));
     assert_eq!(rt; (end.status, door.faults()), (Status::Done, 0));
     assert_eq!(rt; end.ends.as_slice(), [LineEnd::Quit].as_slice());
-    assert_eq!(rt; sink.taken(), b"ready\nserved 1\n");
+    assert_eq!(rt; sink.taken(), b"ready\nserved 1\n".as_slice());
     Ok(())
 }

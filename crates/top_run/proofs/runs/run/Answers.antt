@@ -3,7 +3,7 @@ use Rattle.run_words.specs.declared.words.Words.TheVariants as words
 use Rattle.run_words.specs.declared.words.WordsFault.TheVariants as fault
 use Rattle.top_run.specs.Runs.{RoseWhere}
 use Rattle.top_run.proofs.PrintLemmas.{print_none}
-use Rattle.top_run.proofs.CommandLemmas.{command_ok, command_err, load_not_failed, load_no_door, server_not_failed}
+use Rattle.top_run.proofs.CommandLemmas.{command_ok, command_err, load_not_failed, load_no_door, load_no_replay, no_command, server_not_failed, server_no_replay}
 use Rattle.top_run.proofs.runs.run.Goals as goal
 
 pub returns-in-Ok-Replay-clause-ended : goal.returns-in-Ok-Replay-clause-ended
@@ -33,6 +33,11 @@ returns-in-Ok-Work-clause-faultless g c =
     load_not_failed c.work.result.status c.in-Ok-Work.spec _ _ _ _ c.work.result.written
     (c.work.ensures.ended (g.S.Source.left c.args.source.now) (g.S.Source.faults c.args.source.now))
 
+pub returns-in-Ok-Work-clause-done : goal.returns-in-Ok-Work-clause-done
+returns-in-Ok-Work-clause-done g c = λ are done.
+    absurd (load_no_replay _ c.read_words.result c.in-Ok-Work.field-0 c.in-Ok-Work.spec c.read_words.ensures.accepts
+    c.in-Ok-Work.is c.in-Ok-Work.field-0-is are)
+
 pub returns-in-Ok-Serve-clause-ended : goal.returns-in-Ok-Serve-clause-ended
 returns-in-Ok-Serve-clause-ended g c =
     command_ok _ c.read_words.result _ _ c.read_words.ensures.accepts c.read_words.ensures.read c.read_words.ensures.usage
@@ -46,6 +51,11 @@ returns-in-Ok-Serve-clause-faultless g c =
     server_not_failed c.serve.result.status c.in-Ok-Serve.spec _
     (c.serve.ensures.ended (g.S.Source.left c.args.source.now) (g.S.Source.faults c.args.source.now))
 
+pub returns-in-Ok-Serve-clause-done : goal.returns-in-Ok-Serve-clause-done
+returns-in-Ok-Serve-clause-done g c = λ are done.
+    absurd (server_no_replay _ c.read_words.result c.in-Ok-Serve.field-0 c.in-Ok-Serve.spec c.read_words.ensures.accepts
+    c.in-Ok-Serve.is c.in-Ok-Serve.field-0-is are)
+
 pub returns-in-Ok-Told-clause-ended : goal.returns-in-Ok-Told-clause-ended
 returns-in-Ok-Told-clause-ended g c =
     command_ok _ c.read_words.result _ _ c.read_words.ensures.accepts c.read_words.ensures.read c.read_words.ensures.usage
@@ -55,6 +65,11 @@ returns-in-Ok-Told-clause-ended g c =
           (c.tell.ensures.told (g.S.Source.left c.args.source.now) (g.S.Source.faults c.args.source.now)),
       record { no_ends = c.tell.ensures.no_ends; door = refl },
     )
+
+pub returns-in-Err-Usage-clause-usage : goal.returns-in-Err-Usage-clause-usage
+returns-in-Err-Usage-clause-usage g c = λ is.
+    no_command _ c.read_words.result c.read_words.ensures.accepts c.read_words.ensures.usage
+    c.in-Err-Usage.field-0 c.in-Err-Usage.is c.in-Err-Usage.field-0-is
 
 pub returns-in-Err-Usage-clause-ended : goal.returns-in-Err-Usage-clause-ended
 returns-in-Err-Usage-clause-ended g c =
