@@ -95,6 +95,7 @@ began-or-not status.Usage held before after left written h = inl h.1
 began-or-not (status.Script line kind) held before after left written h = inl h.2
 began-or-not status.ReadFault held before after left written h = inl h.2
 began-or-not status.WriteFault held before after left written h = inr (began-cut-off held before after left written h)
+began-or-not status.DoorFault held before after left written h = absurd h
 began-or-not status.KeepFault held before after left written (rose, inl h) = inl h.nothing
 began-or-not status.KeepFault held before after left written (rose, inr (turns, some, h)) = inr (began-whole held before after left written turns h)
 began-or-not (status.Spent shard) held before after left written h = absurd h
