@@ -110,6 +110,19 @@ check_proved() {
     run_iq "$top" "$work/faulty" replay
     ended 2 /dev/null 'script line 1 form\n'
     count "a faulty script, proved" $?
+    check_served
+}
+
+# Clients over the loopback, the page's conversations among them.
+check_served() {
+    if ! command -v python3 >/dev/null; then
+        echo "front: no python3 here, so no client is played"
+        return
+    fi
+    for check in $(python3 tools/play_clients.py --list); do
+        python3 tools/play_clients.py crates/iq/out/iq docs/protocol.md "$check"
+        count "served: $check" $?
+    done
 }
 
 # A picture is well-formed, and has a row for each line of the output but the last.

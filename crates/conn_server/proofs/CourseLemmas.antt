@@ -808,26 +808,6 @@ unfed_by old_reads new_reads old_writes new_writes a b e f bytes old new o p giv
     (ending_unfed start rounds old_reads new_reads old_writes calls old new bytes
     (reads_by old_reads new_reads a b e f bytes o p gives same) out client c)
 
--- at the end of a line, by what it tells
-pub record Ended (left_old left_new taken_old taken_new : Option (List ℕ)) (calls_old calls_new : Option (List Call))
-    (reads_old reads_new writes_old writes_new : ℕ) (end : LineEnd) : Type 0 where
-  pub served : IsServed left_old left_new taken_old taken_new calls_old calls_new end
-  pub read_fault : end ≡ ends.ReadFault → Rose reads_old reads_new
-  pub write_fault : end ≡ ends.WriteFault → Rose writes_old writes_new
-  pub reads_up : reads_old ≤ reads_new
-  pub writes_up : writes_old ≤ writes_new
-
-pub ended : (end : LineEnd) (start : Start) (reads : ReadSide) (writes : WriteSide) (calls : Option (List Call))
-    → Finished start reads writes calls end
-    → Ended start.reads.left reads.left start.writes.taken writes.taken start.calls calls start.reads.faults reads.faults start.writes.faults writes.faults end
-ended end start reads writes calls f = record {
-  served = f.served;
-  read_fault = λ is. subst (λ (x : LineEnd). RoseAt x start reads writes) is f.rose;
-  write_fault = λ is. subst (λ (x : LineEnd). RoseAt x start reads writes) is f.rose;
-  reads_up = f.read_faults;
-  writes_up = f.write_faults;
-}
-
 -- what is said of a line's sides is said of what it tells
 pub served_as : (reads reads_new : ReadSide) (writes writes_new : WriteSide) (left left_new given given_new taken taken_new : Option (List ℕ)) (a b d e : ℕ)
     (calls calls_new : Option (List Call)) (end : LineEnd)

@@ -157,10 +157,6 @@ abortable client said sid named is e =
     may_abort client.present sid (subst (λ (s : Option Sid). is_of_another client.present s ≡ false) named p.own)
     (subst (λ (b : Bool). (b && is_reading client.present) ≡ false) is p.writer)
 
--- the command is of a verb
-pub of_verb : (client : Client) (said : Command) → is_unknown said ≡ true → refused client said ≡ None → ⊥
-of_verb client said is e = let known = (passes client said e).known in cc
-
 -- what isn't refused has a verb, and isn't the end
 pub goes_on : (client : Client) (said : Command) → (said ≡ commands.Quit) ⊎ (said ≡ commands.Unknown) → said ≢ commands.Quit
     → refused client said ≡ None → ⊥

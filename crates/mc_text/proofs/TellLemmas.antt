@@ -9,40 +9,17 @@ use Rattle.rows_model.specs.declared.keys.QKey.{QKey}
 use Rattle.rows_model.specs.declared.keys.Sid.{Sid}
 use Rattle.rows_model.specs.Shift.{is_digit, number_from}
 use Rattle.rows_model.proofs.KeyLemmas.{key_text_injective}
+use Rattle.change_words.proofs.OnceLemmas.{txn_once}
 use Rattle.mc_text.specs.declared.commands.Role.{Role}
 use Rattle.mc_text.specs.declared.commands.Role.TheVariants.{Read, Write}
 use Rattle.mc_text.specs.declared.commands.Command.{Command}
 use Rattle.mc_text.specs.declared.commands.Command.TheVariants.{Begin, IqGet, Ask, Stage, IqSet, QaReg, QaRead, IqDelta, Sql, Dar, Sar}
 use Rattle.mc_text.specs.declared.commands.Command.TheVariants.{IqCommit, IqAbort, Quit, Unknown}
 use Rattle.mc_text.specs.Words.{Names, IsKey, is_numeral, IsBelow, IsSid, IsBy}
-use Rattle.mc_text.specs.Txns.{AreChanges, AreTxnWords}
 use Rattle.mc_text.specs.Commands.{Then, role_word, AreArgs, AreWords, block_of}
 use Rattle.mc_text.specs.Parsing.{number_of}
-use Rattle.mc_text.proofs.ChangeLemmas.{change_once}
 use Rattle.mc_text.proofs.NumberLemmas.{numeral_parts}
 use Rattle.mc_text.proofs.OnceLemmas.{IsStrange, Spells, spelled, apart, one_row}
-
--- no words and a word are two things
-nothing : (word : List ℕ) (words : List (List ℕ)) → word ∷ words ≡ [] → ⊥
-nothing word words e = let lengths = ap (λ (ws : List (List ℕ)). length ws) e in absurd (omega arith)
-
-changes_once : (a b : List Change) (words : List (List ℕ)) → AreChanges a words → AreChanges b words → a ≡ b
-changes_once [] [] words h k = refl
-changes_once [] (b ∷ bs) [] h k = absurd k
-changes_once [] (b ∷ bs) (word ∷ words) h k = absurd (nothing word words h)
-changes_once (a ∷ as') [] [] h k = absurd h
-changes_once (a ∷ as') [] (word ∷ words) h k = absurd (nothing word words k)
-changes_once (a ∷ as') (b ∷ bs) [] h k = absurd h
-changes_once (a ∷ as') (b ∷ bs) (w ∷ []) h k = absurd h
-changes_once (a ∷ as') (b ∷ bs) (w ∷ x ∷ []) h k = absurd h
-changes_once (a ∷ as') (b ∷ bs) (w ∷ x ∷ y ∷ []) h k = absurd h
-changes_once (a ∷ as') (b ∷ bs) (plus ∷ word ∷ first ∷ second ∷ words) h k =
-    let same : a ≡ b = change_once a b first second (sym h.1 ∙ k.1) h.2 k.2 in
-    let rest : as' ≡ bs = changes_once as' bs words h.3 k.3 in
-    ap (λ (c : Change). c ∷ as') same ∙ ap (λ (cs : List Change). b ∷ cs) rest
-
-txn_once : (words : List (List ℕ)) (a b : List Change) → AreTxnWords a words → AreTxnWords b words → a ≡ b
-txn_once words a b h k = changes_once a b (codes "+" ∷ words) h.1 k.1
 
 named_once : (word : List ℕ) (a b : Option QKey) → Names word a → Names word b → a ≡ b
 named_once word None None h k = refl
@@ -123,7 +100,7 @@ args_once (Stage key sid txn) (Stage key' sid' txn') words e f h k =
     let e_key = key_once w0.word key key' w0.one w0.two in
     let w1 = both _ _ _ _ w0.rest w0.left w0.right in
     let e_sid = sid_once w1.word sid sid' w1.one w1.two in
-    let e_txn = txn_once w1.rest txn txn' w1.left w1.right in
+    let e_txn = txn_once txn txn' w1.rest w1.left w1.right in
     cc
 args_once (IqSet key flags exptime bytes token stamp block) (IqSet key' flags' exptime' bytes' token' stamp' block') words e f h k =
     let w0 = both _ _ _ _ words h k in
@@ -162,7 +139,7 @@ args_once (IqDelta key sid by) (IqDelta key' sid' by') words e f h k =
 args_once (Sql sid txn) (Sql sid' txn') words e f h k =
     let w0 = both _ _ _ _ words h k in
     let e_sid = sid_once w0.word sid sid' w0.one w0.two in
-    let e_txn = txn_once w0.rest txn txn' w0.left w0.right in
+    let e_txn = txn_once txn txn' w0.rest w0.left w0.right in
     cc
 args_once (Dar key sid) (Dar key' sid') words e f h k =
     let w0 = both _ _ _ _ words h k in

@@ -7,7 +7,7 @@ use Rattle.mc_text.specs.declared.commands.Command.{Command}
 use Rattle.mc_text.specs.declared.commands.Command.TheVariants.{Begin, IqGet, Ask, Stage, IqSet, QaReg, QaRead, IqDelta, Sql, Dar, Sar}
 use Rattle.mc_text.specs.declared.commands.Command.TheVariants.{IqCommit, IqAbort, Quit, Unknown}
 use Rattle.mc_text.specs.Words.{IsKey, IsNumber, IsFlags, IsSid, IsBy}
-use Rattle.mc_text.specs.Txns.{AreTxnWords}
+use Rattle.change_words.specs.Txns.{AreTxnWords}
 
 -- the words are one of this kind, and then others of that kind
 abbrev pub Then : (List ℕ → Type 0) → (List (List ℕ) → Type 0) → List (List ℕ) → Type 0

@@ -1,5 +1,4 @@
 pub mod Words
-pub mod Txns
 pub mod Commands
 pub mod Streams
 pub mod Replies

@@ -1,13 +1,10 @@
 -- What the parts of the parser answer.
-use Rattle.std.specs.Prelude.{ℕ, ◌≡◌, List, ◌∷◌, codes}
-use Rattle.rows_model.specs.declared.changes.Change.{Change}
-use Rattle.rows_model.specs.declared.changes.Change.TheVariants.{Invite, Accept, Reject, Thaw, Rename}
+use Rattle.std.specs.Prelude.{ℕ, ◌≡◌, List, ◌∷◌}
 use Rattle.mc_text.specs.declared.commands.Command.{Command}
 use Rattle.mc_text.specs.declared.commands.Command.TheVariants.{Begin, IqGet, Ask, Stage, IqSet, QaReg, QaRead, IqDelta, Sql, Dar, Sar}
 use Rattle.mc_text.specs.declared.commands.Command.TheVariants.{IqCommit, IqAbort, Quit, Unknown}
 use Rattle.mc_text.specs.declared.commands.Head.{Head}
 use Rattle.mc_text.specs.declared.commands.Head.TheVariants as head
-use Rattle.mc_text.specs.Txns.{change_word, AreSides, AreChanges}
 use Rattle.mc_text.specs.Commands.{AreArgs}
 
 -- the first of the words is this value, and these stand behind
@@ -19,25 +16,6 @@ pub record IsFirst {X : Type 0} (Is : List ℕ → X → Type 0) (words : List (
 -- the first of the words is no such value, or there is none
 abbrev pub IsNoFirst : {X : Type 0} → (List ℕ → X → Type 0) → List (List ℕ) → Type 0
 IsNoFirst {X} Is words = (value : X) (word : List ℕ) (rest : List (List ℕ)) → words ≡ word ∷ rest → Is word value → ⊥
-
--- the words begin with three of a change, and these stand behind
-pub record BeginsWith (change : Change) (words rest : List (List ℕ)) : Type 0 where
-  pub first : List ℕ
-  pub second : List ℕ
-  pub words_are : words ≡ change_word change ∷ first ∷ second ∷ rest
-  pub sides : AreSides change first second
-
--- the words begin with no change
-abbrev pub BeginsWithNone : List (List ℕ) → Type 0
-BeginsWithNone words = (change : Change) (changes : List Change) → AreChanges (change ∷ changes) (codes "+" ∷ words) → ⊥
-
--- the change is one between these two members
-abbrev pub IsPair : Change → ℕ → ℕ → Type 0
-IsPair (Invite a b) first second = (a ≡ first) × (b ≡ second)
-IsPair (Accept a b) first second = (a ≡ first) × (b ≡ second)
-IsPair (Reject a b) first second = (a ≡ first) × (b ≡ second)
-IsPair (Thaw a b) first second = (a ≡ first) × (b ≡ second)
-IsPair (Rename a name) first second = ⊥
 
 -- the number of the row of a command in the table of verbs
 abbrev pub number_of : Command → ℕ

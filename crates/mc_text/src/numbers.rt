@@ -2,11 +2,9 @@
 ghost use Rattle.std.specs.Prelude.{◌≡◌, ◌<◌, ◌≤◌, ◌^◌, ℕ, ℤ, pos, neg_ℤ, Option, SomeIff, IfSome, IfNone};
 ghost use Rattle.std.specs.List.{list_all};
 ghost use Rattle.rows_model.specs.declared.keys.QKey.{QKey};
-ghost use Rattle.rows_model.specs.Shift.{number_in};
 ghost use Rattle.mc_text.specs.Words.{is_key_byte, is_key, is_numeral, IsKey, IsNumber, IsFlags, IsSid, IsBy};
 
 use rows_model::{QKey, Sid};
-use std::str;
 
 // The most bytes of a key, and the most digits of a number.
 const LONGEST_KEY: usize = 250;
@@ -94,25 +92,6 @@ fn from_zero(number: u64) -> Option<i32>
         return None;
     }
     Some(number as i32)
-}
-
-/// The number below 2^64 that the word is, with no sign and no leading zero.
-pub(crate) fn canonical_of(word: &[u8]) -> Option<u64>
-    ensures { result ≡ number_in word.now }
-{
-    let [first, ..] = word else {
-        return None;
-    };
-    if *first == b'0' {
-        return if word.len() == 1 { Some(0) } else { None };
-    }
-    if !(b'1'..=b'9').contains(first) {
-        return None;
-    }
-    let Ok(digits) = str::from_utf8(word) else {
-        return None;
-    };
-    digits.parse().ok()
 }
 
 // Whether the word may be a key.

@@ -1,6 +1,5 @@
 pub mod CutLemmas
 pub mod WordLemmas
-pub mod ChangeLemmas
 pub mod LineLemmas
 pub mod ScriptLemmas
 pub mod FitLemmas

@@ -1,28 +1,23 @@
 -- Words say one thing at most.
-use Rattle.std.proofs.Common.{ℕ, ◌==◌, ◌≡◌, List, [], ◌∷◌, length, Option, Some, None, arith, refl, sym, ap, ◌∙◌, get_or}
-use Rattle.std.specs.Prelude.{codes, if◌then◌else◌}
+use Rattle.std.proofs.Common.{ℕ, ◌==◌, ◌≡◌, List, [], ◌∷◌, Option, Some, None, arith, refl, sym, ap, ◌∙◌, get_or}
+use Rattle.std.specs.Prelude.{if◌then◌else◌}
 use Rattle.lease_table.specs.declared.records.Mode.{Mode}
 use Rattle.lease_table.specs.declared.records.Mode.TheVariants.{Invalidate, Refresh, Delta}
-use Rattle.rows_model.specs.declared.changes.Change.{Change}
 use Rattle.rows_model.specs.declared.keys.QKey.{QKey}
 use Rattle.rows_model.specs.Key.{IsKeyText}
 use Rattle.rows_model.proofs.KeyLemmas.{key_text_injective}
+use Rattle.change_words.proofs.OnceLemmas.{nothing, txn_once}
 use Rattle.run_inputs.specs.declared.lines.Job.{Job}
 use Rattle.run_inputs.specs.declared.lines.Job.TheVariants.{Read, Write, Look, Quit, Skip}
 use Rattle.run_inputs.specs.declared.lines.Line.{Line}
 use Rattle.run_inputs.specs.declared.lines.Line.TheVariants.{Head, Session, Turn, Tick, Sweep, End}
-use Rattle.run_inputs.specs.Lines.{AreNumber, AreCount, AreFloor, mode_word, AreChanges, AreTxnWords, AreJobWords, AreArgs, AreWords, task_of, verb_of}
-use Rattle.run_inputs.proofs.ChangeLemmas.{change_once}
+use Rattle.run_inputs.specs.Lines.{AreNumber, AreCount, AreFloor, mode_word, AreJobWords, AreArgs, AreWords, task_of, verb_of}
 use Rattle.run_inputs.proofs.LineLemmas.{verb_once}
 
 pub number_once : (a b : ℕ) (words : List (List ℕ)) → AreNumber a words → AreNumber b words → a ≡ b
 number_once a b [] h k = absurd h
 number_once a b (word ∷ []) h k = let e : Some a ≡ Some b = sym h ∙ k in cc
 number_once a b (word ∷ next ∷ words) h k = absurd h
-
--- no words and a word are two things
-nothing : (word : List ℕ) (words : List (List ℕ)) → word ∷ words ≡ [] → ⊥
-nothing word words e = let lengths = ap (λ (ws : List (List ℕ)). length ws) e in absurd (omega arith)
 
 count_once : (a b : Option ℕ) (words : List (List ℕ)) → AreCount a words → AreCount b words → a ≡ b
 count_once None None words h k = refl
@@ -56,24 +51,6 @@ mode_back Delta = refl
 
 mode_once : (a b : Mode) (word : List ℕ) → word ≡ mode_word a → word ≡ mode_word b → a ≡ b
 mode_once a b word h k = sym (mode_back a) ∙ (ap (λ (w : List ℕ). mode_with (get_or w 0 0)) (sym h ∙ k) ∙ mode_back b)
-
-changes_once : (a b : List Change) (words : List (List ℕ)) → AreChanges a words → AreChanges b words → a ≡ b
-changes_once [] [] words h k = refl
-changes_once [] (b ∷ bs) [] h k = absurd k
-changes_once [] (b ∷ bs) (word ∷ words) h k = absurd (nothing word words h)
-changes_once (a ∷ as') [] [] h k = absurd h
-changes_once (a ∷ as') [] (word ∷ words) h k = absurd (nothing word words k)
-changes_once (a ∷ as') (b ∷ bs) [] h k = absurd h
-changes_once (a ∷ as') (b ∷ bs) (w ∷ []) h k = absurd h
-changes_once (a ∷ as') (b ∷ bs) (w ∷ x ∷ []) h k = absurd h
-changes_once (a ∷ as') (b ∷ bs) (w ∷ x ∷ y ∷ []) h k = absurd h
-changes_once (a ∷ as') (b ∷ bs) (plus ∷ word ∷ first ∷ second ∷ words) h k =
-    let same : a ≡ b = change_once a b first second (sym h.1 ∙ k.1) h.2 k.2 in
-    let rest : as' ≡ bs = changes_once as' bs words h.3 k.3 in
-    ap (λ (c : Change). c ∷ as') same ∙ ap (λ (cs : List Change). b ∷ cs) rest
-
-txn_once : (a b : List Change) (words : List (List ℕ)) → AreTxnWords a words → AreTxnWords b words → a ≡ b
-txn_once a b words h k = changes_once a b (codes "+" ∷ words) h.1 k.1
 
 job_once : (a b : Job) (words : List (List ℕ)) → task_of a ≡ task_of b → AreJobWords a words → AreJobWords b words → a ≡ b
 job_once (Read key floor) (Read key' floor') (word ∷ words) e h k =

@@ -1,13 +1,12 @@
 -- Which words are those of no line.
 use Rattle.std.proofs.Common.{ℕ, ◌==◌, ◌≡◌, List, [], ◌∷◌, length, Option, Some, None, arith, refl, ap}
-use Rattle.std.specs.Prelude.{codes, IfNone}
+use Rattle.std.specs.Prelude.{IfNone}
 use Rattle.std.proofs.lemmas.List.Splits.{length-slice_split}
-use Rattle.rows_model.specs.declared.changes.Change.{Change}
 use Rattle.run_inputs.specs.declared.lines.Part.{Part}
 use Rattle.run_inputs.specs.declared.lines.Verb.TheVariants as verb
 use Rattle.run_inputs.specs.declared.lines.Line.TheVariants.{Head, Tick, End}
 use Rattle.run_inputs.specs.Texts.{parts_at}
-use Rattle.run_inputs.specs.Lines.{AreNumber, AreCount, AreFloor, AreChanges, AreArgs}
+use Rattle.run_inputs.specs.Lines.{AreNumber, AreCount, AreFloor, AreArgs}
 use Rattle.run_inputs.specs.Parsing.{IsNoLine}
 
 -- what an option's absence gives
@@ -38,19 +37,6 @@ no_count text none (Some count) h = none count h.2
 pub no_floor : (word : List ℕ) (words : List (List ℕ)) → ((number : ℕ) → AreNumber number words → ⊥) → (floor : Option ℕ) → AreFloor floor (word ∷ words) → ⊥
 no_floor word words none None h = let lengths = ap (λ (parts : List (List ℕ)). length parts) h in omega arith
 no_floor word words none (Some floor) h = none floor h.1
-
--- one word is that of no changes
-pub one_alone : (word : List ℕ) (changes : List Change) → AreChanges changes (word ∷ []) → ⊥
-one_alone word [] h = let lengths = ap (λ (parts : List (List ℕ)). length parts) h in omega arith
-one_alone word (change ∷ changes) h = h
-
--- nor are words that begin with no plus
-pub no_plus : (word : List ℕ) (words : List (List ℕ)) → (word ≡ codes "+" → ⊥) → (changes : List Change) → AreChanges changes (word ∷ words) → ⊥
-no_plus word words other [] h = let lengths = ap (λ (parts : List (List ℕ)). length parts) h in omega arith
-no_plus word [] other (change ∷ changes) h = h
-no_plus word (a ∷ []) other (change ∷ changes) h = h
-no_plus word (a ∷ b ∷ []) other (change ∷ changes) h = h
-no_plus word (a ∷ b ∷ c ∷ words) other (change ∷ changes) h = other h.0
 
 -- no line of a verb
 pub no_head : (part : Part) (words : List (List ℕ)) → ((number : ℕ) → AreArgs (Head part number) words → ⊥) → IsNoLine (verb.Head part) words

@@ -1,7 +1,5 @@
 -- What the parts of the parser answer.
-use Rattle.std.specs.Prelude.{ℕ, ◌≡◌, ◌≤◌, ◌<◌, ◌^◌, List, [], ◌∷◌, Option, Some, None, codes, decimal}
-use Rattle.rows_model.specs.declared.changes.Change.{Change}
-use Rattle.rows_model.specs.declared.changes.Change.TheVariants.{Invite, Accept, Reject, Thaw, Rename}
+use Rattle.std.specs.Prelude.{ℕ, ◌≡◌, ◌≤◌, ◌<◌, ◌^◌, List, [], ◌∷◌, Option, Some, None, decimal}
 use Rattle.run_inputs.specs.declared.lines.Task.{Task}
 use Rattle.run_inputs.specs.declared.lines.Verb.{Verb}
 use Rattle.run_inputs.specs.declared.lines.Job.{Job}
@@ -12,7 +10,7 @@ use Rattle.run_inputs.specs.declared.loads.WorkSpec.{WorkSpec}
 use Rattle.run_inputs.specs.declared.lines.LineFault.{LineFault}
 use Rattle.run_inputs.specs.declared.lines.LineFault.TheVariants.{Bad, Memory}
 use Rattle.run_inputs.specs.Texts.{parts_at}
-use Rattle.run_inputs.specs.Lines.{most, change_word, AreSides, AreChanges, AreJobWords, AreArgs, task_of, verb_of}
+use Rattle.run_inputs.specs.Lines.{most, AreJobWords, AreArgs, task_of, verb_of}
 use Rattle.run_inputs.specs.Script.{IsFaulty}
 
 -- The parts of what stands behind a cut, if anything does.
@@ -23,25 +21,6 @@ parts_behind byte (Some rest) = parts_at byte rest
 -- The words behind a space, if there is one.
 abbrev pub words_behind : Option (List ℕ) → List (List ℕ)
 words_behind rest = parts_behind 32 rest
-
--- The words begin with three of a change, and these stand behind.
-pub record BeginsWith (change : Change) (words rest : List (List ℕ)) : Type 0 where
-  pub first : List ℕ
-  pub second : List ℕ
-  pub words_are : words ≡ change_word change ∷ first ∷ second ∷ rest
-  pub sides : AreSides change first second
-
--- The words begin with no change.
-abbrev pub BeginsWithNone : List (List ℕ) → Type 0
-BeginsWithNone words = (change : Change) (changes : List Change) → AreChanges (change ∷ changes) (codes "+" ∷ words) → ⊥
-
--- The change is one between these two members.
-abbrev pub IsPair : Change → ℕ → ℕ → Type 0
-IsPair (Invite a b) first second = (a ≡ first) × (b ≡ second)
-IsPair (Accept a b) first second = (a ≡ first) × (b ≡ second)
-IsPair (Reject a b) first second = (a ≡ first) × (b ≡ second)
-IsPair (Thaw a b) first second = (a ≡ first) × (b ≡ second)
-IsPair (Rename a name) first second = ⊥
 
 -- The words are those of a job for this task.
 pub record IsJobOf (task : Task) (words : List (List ℕ)) (job : Job) : Type 0 where

@@ -4,8 +4,8 @@ ghost use Rattle.run_inputs.specs.declared.loads.WorkSpec.{WorkSpec};
 ghost use Rattle.run_inputs.specs.Words.{AreWork};
 ghost use Rattle.run_inputs.specs.Parsing.{AreNumbers, IsNumberWithin};
 
-use crate::cuts::number_of;
 use crate::loads::WorkSpec;
+use change_words::number_of;
 
 /// The load that the words ask for, or `None` exactly where they aren't the word `work` and five
 /// numbers in decimal, each within its range: members 1 to 100,000, sessions 0 to 500,000, workers
@@ -46,8 +46,9 @@ fn spec_of(
     })
 }
 
-// The number that the word is in decimal, if it is at least and at most so great.
-fn number_within(word: &[u8], least: u32, most: u32) -> Option<u32>
+/// The number that the word is in decimal, with no sign and no leading zero, if it is at least and at
+/// most so great.
+pub fn number_within(word: &[u8], least: u32, most: u32) -> Option<u32>
     ensures found { IfSome result (λ number. IsNumberWithin word.now least most number) }
     ensures none { IfNone result
         ((number : ℕ) → IsNumberWithin word.now least most number → ⊥) }

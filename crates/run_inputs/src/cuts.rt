@@ -2,12 +2,12 @@
 ghost use Rattle.std.specs.Prelude.{◌≡◌, ◌==◌, position, ℕ, ◌<◌, ◌≤◌, List, [], ◌∷◌, length, Option, IfSome, IfNone};
 ghost use Rattle.std.specs.List.{list_all};
 ghost use Rattle.std.specs.Option.{option_copied};
-ghost use Rattle.rows_model.specs.Shift.{is_digit, is_number, number_in};
+ghost use Rattle.rows_model.specs.Shift.{is_digit, is_number};
 ghost use Rattle.run_inputs.specs.Texts.{parts_at, lines_in};
 ghost use Rattle.run_inputs.specs.Lines.{IsSessionNumber, AreNumber, AreCount};
 ghost use Rattle.run_inputs.specs.Parsing.{parts_behind, words_behind};
 
-use std::str;
+use change_words::number_of;
 
 // The most turns of one line.
 const MOST_AT_ONCE: u64 = 1_000;
@@ -43,25 +43,6 @@ pub(crate) fn first_line(text: &[u8]) -> (&[u8], &[u8])
         Some(rest) => (line, rest),
         None => (line, b""),
     }
-}
-
-/// The number below 2^64 that the word is, with no sign and no leading zero.
-pub(crate) fn number_of(word: &[u8]) -> Option<u64>
-    ensures { result ≡ number_in word.now }
-{
-    let [first, ..] = word else {
-        return None;
-    };
-    if *first == b'0' {
-        return if word.len() == 1 { Some(0) } else { None };
-    }
-    if !(b'1'..=b'9').contains(first) {
-        return None;
-    }
-    let Ok(digits) = str::from_utf8(word) else {
-        return None;
-    };
-    digits.parse().ok()
 }
 
 // Whether all bytes are decimal digits.

@@ -1,21 +1,20 @@
 // What the words behind a session's number say.
-ghost use Rattle.std.specs.Prelude.{◌≡◌, ◌≢◌, ℕ, ◌≤◌, List, [], ◌∷◌, ◌++◌, length, All, Option, Some, IfSome, IfNone, IfOk, codes};
+ghost use Rattle.std.specs.Prelude.{◌≡◌, ℕ, List, [], ◌∷◌, Option, IfSome, IfNone, IfOk};
 ghost use Rattle.std.specs.Option.{option_copied};
 ghost use Rattle.lease_table.specs.declared.records.Mode.{Mode};
 ghost use Rattle.rows_model.specs.declared.changes.Change.{Change};
-ghost use Rattle.run_inputs.specs.Texts.{words_in};
-ghost use Rattle.run_inputs.specs.Lines.{IsId, AreSides, AreChanges, AreTxnWords, AreFloor, AreJobWords, change_word, mode_word};
-ghost use Rattle.run_inputs.specs.Parsing.{words_behind, BeginsWith, BeginsWithNone, IsPair, IsJobOf, IsNoJob};
+ghost use Rattle.change_words.specs.Txns.{AreTxnWords};
+ghost use Rattle.change_words.specs.Parsing.{BeginsWith, BeginsWithNone};
+ghost use Rattle.run_inputs.specs.Lines.{AreFloor, AreJobWords, mode_word};
+ghost use Rattle.run_inputs.specs.Parsing.{words_behind, IsJobOf, IsNoJob};
 ghost use Rattle.run_inputs.specs.declared.lines.Task.TheVariants as task;
 
-use crate::cuts::{cut, number_of, only_number};
+use crate::cuts::{cut, only_number};
 use crate::lines::{Job, Task};
+use change_words::{MOST_CHANGES, change_of, is_plus, whole_txn};
 use lease_table::Mode;
-use rows_model::{Change, Memory, Name, QKey, Txn, TxnFault};
+use rows_model::{Change, Memory, QKey, Txn};
 use std::alloc::Global;
-
-// The most changes of a transaction.
-const MOST_CHANGES: usize = 8;
 
 /// The job for the task that the words behind a session's number say.
 pub(crate) fn job_of(alloc: Global, task: Task, args: Option<&[u8]>) -> Result<Option<Job>, Memory>
@@ -146,113 +145,43 @@ fn mode_of(word: &[u8]) -> Option<Mode>
     }
 }
 
-// The transaction of which these are the words.
+// The transaction of which these are the words: 1 to 8 changes, joined by `+`.
 fn txn_of(alloc: Global, args: Option<&[u8]>) -> Result<Option<Txn>, Memory>
     ensures found { IfOk result (λ read. IfSome read
         (λ txn. AreTxnWords txn (words_behind (option_copied args.entry)))) }
     ensures none { IfOk result (λ read. IfNone read
         ((txn : List Change) → AreTxnWords txn (words_behind (option_copied args.entry)) → ⊥)) }
 {
-    let Some(words) = args else {
-        return Ok(None);
-    };
-    let Some(changes) = changes_of(alloc, words)? else {
-        return Ok(None);
-    };
-    match Txn::of(alloc, changes.as_slice()) {
-        Ok(txn) => Ok(Some(txn)),
-        Err(TxnFault::Length { .. }) => Ok(None),
-        Err(TxnFault::Memory) => Err(Memory),
-    }
-}
-
-// The changes of which these are the words, joined by `+`: 1 to 8 of them.
-fn changes_of(alloc: Global, words: &[u8]) -> Result<Option<Vec<Change>>, Memory>
-    ensures found { IfOk result (λ read. IfSome read
-        (λ changes. AreTxnWords changes.items (words_in words.now))) }
-    ensures none { IfOk result (λ read. IfNone read
-        ((txn : List Change) → AreTxnWords txn (words_in words.now) → ⊥)) }
-{
     let mut changes = Vec::new(alloc);
-    let mut rest = words;
+    let mut rest = args;
     for _ in 0..MOST_CHANGES {
         let Some((change, behind)) = first_change(rest) else {
             return Ok(None);
         };
         changes.push(change)?;
         let Some(behind) = behind else {
-            return Ok(Some(changes));
+            let txn = whole_txn(alloc, changes.as_slice())?;
+            return Ok(Some(txn));
         };
-        let Some(more) = behind_plus(behind) else {
+        let (word, more) = cut(behind, b' ');
+        if !is_plus(word) {
             return Ok(None);
-        };
+        }
         rest = more;
     }
     Ok(None)
 }
 
-// What stands behind the word `+`, if that is the first word and not the last.
-fn behind_plus(text: &[u8]) -> Option<&[u8]>
-    ensures found { IfSome result (λ rest. words_in text.now ≡ codes "+" ∷ words_in rest.now) }
-    ensures none { IfNone result
-        ((changes : List Change) → AreChanges changes (words_in text.now) → ⊥) }
-{
-    let (word, more) = cut(text, b' ');
-    if word == b"+".as_slice() { more } else { None }
-}
-
 // The change that the first three words are, and what stands behind them if anything does.
-fn first_change(text: &[u8]) -> Option<(Change, Option<&[u8]>)>
+fn first_change(text: Option<&[u8]>) -> Option<(Change, Option<&[u8]>)>
     ensures found { IfSome result
-        (λ read. BeginsWith read.0 (words_in text.now) (words_behind (option_copied read.1))) }
-    ensures none { IfNone result (BeginsWithNone (words_in text.now)) }
+        (λ read. BeginsWith read.0 (words_behind (option_copied text.entry))
+        (words_behind (option_copied read.1))) }
+    ensures none { IfNone result (BeginsWithNone (words_behind (option_copied text.entry))) }
 {
-    let (word, rest) = cut(text, b' ');
+    let (word, rest) = cut(text?, b' ');
     let (first, rest) = cut(rest?, b' ');
     let (second, rest) = cut(rest?, b' ');
     let change = change_of(word, first, second)?;
     Some((change, rest))
-}
-
-// The change of these three words.
-fn change_of(word: &[u8], first: &[u8], second: &[u8]) -> Option<Change>
-    ensures word { IfSome result (λ change. word.now ≡ change_word change) }
-    ensures sides { IfSome result (λ change. AreSides change first.now second.now) }
-    ensures none { IfNone result
-        ((change : Change) → word.now ≡ change_word change → AreSides change first.now second.now → ⊥) }
-{
-    let a = id_of(first)?;
-    if word == b"rename".as_slice() {
-        let name = Name::of(second)?;
-        return Some(Change::Rename { a, name });
-    }
-    pair_of(word, a, id_of(second)?)
-}
-
-// The change between two members of which this is the word.
-fn pair_of(word: &[u8], a: u32, b: u32) -> Option<Change>
-    ensures word { IfSome result (λ change. word.now ≡ change_word change) }
-    ensures pair { IfSome result (λ change. IsPair change a b) }
-    ensures none { IfNone result
-        ((change : Change) → word.now ≡ change_word change → change_word change ≢ codes "rename" → ⊥) }
-{
-    match word {
-        b"invite" => Some(Change::Invite { a, b }),
-        b"accept" => Some(Change::Accept { a, b }),
-        b"reject" => Some(Change::Reject { a, b }),
-        b"thaw" => Some(Change::Thaw { a, b }),
-        _ => None,
-    }
-}
-
-// The id that the word is.
-fn id_of(word: &[u8]) -> Option<u32>
-    ensures found { IfSome result (λ id. IsId word.now id) }
-    ensures none { IfNone result ((id : ℕ) → IsId word.now id → ⊥) }
-{
-    let number = number_of(word)?;
-    if number < 1 || number > 4_294_967_295 {
-        return None;
-    }
-    Some(number as u32)
 }

@@ -1,7 +1,7 @@
 //! What a run is made from: the script that a text says, and the load that a seed gives.
 #![tactic(auto)]
 
-pub use commands::work_words;
+pub use commands::{number_within, work_words};
 pub use faults::{ScriptFault, ScriptKind};
 pub use laws::texts_tell_scripts;
 pub use loads::{WorkSpec, make_plans};

@@ -1,21 +1,11 @@
--- Words of commands, and numbers in them.
+-- Words of commands, and lists of them.
 use Rattle.std.proofs.Common.{ℕ, ◌≡◌, ◌≤◌, ◌<◌, ◌^◌, ◌+◌, ◌∙◌, List, [], ◌∷◌, ◌++◌, length, map, take, get_or, Option, Some, None, Result, Ok, refl, sym, ap, ap₂, subst, arith, append_assoc}
 use Rattle.std.specs.Prelude.{codes, IfNone}
 use Rattle.std.specs.List.{All}
-use Rattle.std.specs.Str.Parse.{ParsesUnsigned}
-use Rattle.std.proofs.lemmas.Fmt.{parse-decimal}
 use Rattle.std.proofs.lemmas.List.{take_more, map-append, get_or-map, length-map}
 use Rattle.std.proofs.lemmas.List.Elements.{All-append, All-cons, All-nil}
-use Rattle.run_inputs.specs.Parsing.{IsNumberWithin}
 use Rattle.run_words.specs.declared.words.ServeSpec.{ServeSpec}
 use Rattle.run_words.specs.Words.{AreServe, AreServeNumbers}
-
--- a word that is a number within a range is read as that number
-pub one_within : {E : Type 0} (word : List ℕ) (least most number : ℕ) (r : Result ℕ E) → most < 2 ^ 32
-    → ParsesUnsigned 32 10 word r → IsNumberWithin word least most number → r ≡ Ok number
-one_within {E} word least most number r small parsed h =
-    let to : number ≤ most = h.to in
-    parse-decimal {E = E} 32 number word r (omega arith) (omega arith) h.written parsed
 
 -- ---- a list that grows by one text
 

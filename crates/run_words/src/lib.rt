@@ -4,7 +4,6 @@
 pub use reading::read_words;
 pub use words::{ServeSpec, Words, WordsFault};
 
-mod numbers;
 mod program;
 pub mod reading;
 #[cfg(test)]

@@ -9,12 +9,11 @@ ghost use Rattle.run_words.specs.declared.words.Words.{Words};
 ghost use Rattle.run_words.specs.Words.{AreServe, AreServeNumbers, AreWords};
 ghost use Rattle.run_words.specs.Reading.{line_of, AreReadAs, AreSaid, IsRead, IsRefused, IsSaid};
 
-use crate::numbers::number_within;
 use crate::program::program;
 use crate::words::{ServeSpec, Words, WordsFault};
 use clap::error::ErrorKind;
 use clap::{ArgMatches, Error};
-use run_inputs::{WorkSpec, work_words};
+use run_inputs::{WorkSpec, number_within, work_words};
 use std::alloc::{AllocError, Global};
 use std::str;
 
@@ -176,9 +175,9 @@ fn spec_of(
 {
     Some(ServeSpec {
         addr,
-        conns: number_within(conns, 1, 1_000_000)?,
-        workers: number_within(workers, 1, 64)?,
-        shards: number_within(shards, 1, 64)?,
-        members: number_within(members, 1, 100_000)?,
+        conns: number_within(conns.as_bytes(), 1, 1_000_000)?,
+        workers: number_within(workers.as_bytes(), 1, 64)?,
+        shards: number_within(shards.as_bytes(), 1, 64)?,
+        members: number_within(members.as_bytes(), 1, 100_000)?,
     })
 }

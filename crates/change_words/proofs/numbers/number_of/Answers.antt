@@ -1,7 +1,7 @@
 use Rattle.std.proofs.Common.{◌≤◌, arith, get_or, sym, ◌∙◌}
 use Rattle.std.proofs.lemmas.Bool.Decides.{nat_tests}
 use Rattle.rows_model.proofs.ShiftLemmas.{no_text, no_digit, low_first, zero_alone, number_parsed, no_utf8}
-use Rattle.mc_text.proofs.numbers.canonical_of.Goals as goal
+use Rattle.change_words.proofs.numbers.number_of.Goals as goal
 
 pub returns-in_default : goal.returns-in_default
 returns-in_default c = sym (no_text c.args.word.now (omega arith))

@@ -1,30 +1,13 @@
--- The changes that words say.
-use Rattle.std.proofs.Common.{ℕ, ◌+◌, ◌*◌, ◌≡◌, ◌<◌, List, [], ◌∷◌, ◌++◌, length, Some, arith, refl, sym, ap, ◌∙◌, get_or, append_assoc}
-use Rattle.std.proofs.Common.{append-nil, length-append, subst}
+-- The changes that were taken off the front of words.
+use Rattle.std.proofs.Common.{ℕ, ◌≡◌, ◌<◌, List, [], ◌∷◌, ◌++◌, length, arith, refl, sym, ap, ◌∙◌, append_assoc, append-nil, length-append, subst}
 use Rattle.std.specs.Prelude.{codes, All}
 use Rattle.std.proofs.lemmas.List.Elements.{All-nil, All-cons}
 use Rattle.rows_model.specs.declared.changes.Change.{Change}
 use Rattle.rows_model.specs.declared.changes.Change.TheVariants.{Invite, Accept, Reject, Thaw, Rename}
 use Rattle.rows_model.specs.Changes.{HasIds}
-use Rattle.run_inputs.specs.Lines.{IsId, change_word, AreSides, AreChanges, AreTxnWords}
-use Rattle.run_inputs.specs.Parsing.{BeginsWith, BeginsWithNone}
-
--- two ids of one word are one
-id_once : (word : List ℕ) (a b : ℕ) → IsId word a → IsId word b → a ≡ b
-id_once word a b h k = let e : Some a ≡ Some b = sym h.value ∙ k.value in cc
-
--- the first and the third letter of a word, as one number
-abbrev letters : List ℕ → ℕ
-letters word = 256 * get_or word 0 0 + get_or word 2 0
-
--- three words are those of one change
-pub change_once : (a b : Change) (first second : List ℕ) → change_word a ≡ change_word b → AreSides a first second → AreSides b first second → a ≡ b
-change_once (Invite a b) (Invite a' b') first second e h k = let f = id_once first a a' h.0 k.0 in let g = id_once second b b' h.1 k.1 in cc
-change_once (Accept a b) (Accept a' b') first second e h k = let f = id_once first a a' h.0 k.0 in let g = id_once second b b' h.1 k.1 in cc
-change_once (Reject a b) (Reject a' b') first second e h k = let f = id_once first a a' h.0 k.0 in let g = id_once second b b' h.1 k.1 in cc
-change_once (Thaw a b) (Thaw a' b') first second e h k = let f = id_once first a a' h.0 k.0 in let g = id_once second b b' h.1 k.1 in cc
-change_once (Rename a name) (Rename a' name') first second e h k = let f = id_once first a a' h.0 k.0 in let g : name ≡ name' = h.1 ∙ sym k.1 in cc
-change_once a b first second e h k = let two : letters (change_word a) ≡ letters (change_word b) = ap letters e in absurd (omega arith)
+use Rattle.change_words.specs.Txns.{change_word, AreSides, AreChanges, AreTxnWords}
+use Rattle.change_words.specs.Parsing.{BeginsWith, BeginsWithNone}
+use Rattle.change_words.proofs.OnceLemmas.{change_once}
 
 -- the ids of a change that words say
 has_ids : (change : Change) (first second : List ℕ) → AreSides change first second → HasIds change
@@ -107,3 +90,11 @@ pub no_more : (words : List (List ℕ)) (changes : List Change) (rest left : Lis
 no_more words changes rest left change h b none txn k =
     let was = back_more words changes rest left change h b txn k.1 in
     none was.0 was.2
+
+-- words that aren't those of changes: no plus in front
+pub no_plus : (word : List ℕ) (words : List (List ℕ)) → (word ≡ codes "+" → ⊥) → (changes : List Change) → AreChanges changes (word ∷ words) → ⊥
+no_plus word words other [] h = let lengths = ap (λ (parts : List (List ℕ)). length parts) h in absurd (omega arith)
+no_plus word [] other (change ∷ changes) h = h
+no_plus word (a ∷ []) other (change ∷ changes) h = h
+no_plus word (a ∷ b ∷ []) other (change ∷ changes) h = h
+no_plus word (a ∷ b ∷ c ∷ words) other (change ∷ changes) h = other h.0

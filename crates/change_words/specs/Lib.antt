@@ -1,0 +1,3 @@
+pub mod Txns
+pub mod Parsing
+pub mod Laws

@@ -1,0 +1,196 @@
+#!/usr/bin/env python3
+"""Plays clients against a server over the loopback.
+
+    python3 tools/play_clients.py PROGRAM PAGE CHECK
+
+PROGRAM is the proved `iq`, PAGE is docs/protocol.md, and CHECK is one of the names that `--list` in its place
+prints. The status is 0 where the server does what it must; else a line on standard error says what it did.
+"""
+import re
+import socket
+import subprocess
+import sys
+import time
+
+PATIENCE = 20
+
+
+def conversations(page):
+    """The conversations of a page: the words of the server, and turns of what is sent and what comes back.
+
+    A conversation is the first block behind a paragraph that names a fresh server. In it a line of the client
+    stands left, and one of the server is set in.
+    """
+    text = open(page, encoding="utf-8").read()
+    for found in re.finditer(r"On a fresh `iq serve (\S+) ([0-9 ]+)`.*?```\n(.*?)```", text, re.S):
+        turns = []
+        for line in found.group(3).splitlines():
+            told = line.startswith("    ")
+            if not turns or (not told and turns[-1][1]):
+                turns.append(["", ""])
+            turns[-1][told] += line.strip(" ") + "\r\n"
+        yield found.group(2).split(), [(sent.encode(), told.encode()) for sent, told in turns]
+
+
+class Server:
+    """A server at a port that was free a moment ago."""
+
+    def __init__(self, program, numbers):
+        with socket.create_server(("127.0.0.1", 0)) as probe:
+            self.port = probe.getsockname()[1]
+        self.process = subprocess.Popen(
+            [program, "serve", f"127.0.0.1:{self.port}", *map(str, numbers)],
+            stdout=subprocess.PIPE,
+            stderr=subprocess.PIPE,
+        )
+        expect(self.process.stdout.readline(), b"ready\n")
+
+    def connect(self):
+        return socket.create_connection(("127.0.0.1", self.port), timeout=PATIENCE)
+
+    def resident(self):
+        """How many KiB of its memory are resident."""
+        with open(f"/proc/{self.process.pid}/status", encoding="ascii") as status:
+            return int(re.search(r"VmRSS:\s+(\d+) kB", status.read()).group(1))
+
+    def served(self, count):
+        """Waits for its end, behind so many connections."""
+        out, err = self.process.communicate(timeout=PATIENCE)
+        expect((out, err, self.process.returncode), (f"served {count}\n".encode(), b"", 0))
+
+
+def expect(found, wanted):
+    if found != wanted:
+        raise AssertionError(f"{found!r} in place of {wanted!r}")
+
+
+def receive(stream, count):
+    """So many bytes, or fewer where the stream ends."""
+    got = b""
+    while len(got) < count:
+        more = stream.recv(count - len(got))
+        if not more:
+            break
+        got += more
+    return got
+
+
+def play(stream, turns):
+    """Plays a whole conversation, which the server ends."""
+    for sent, told in turns:
+        stream.sendall(sent)
+        expect(receive(stream, len(told)), told)
+    expect(stream.recv(1), b"")
+    stream.close()
+
+
+def page(program, path):
+    """Every conversation of the page, and the bytes that it shows of the first turn."""
+    found = list(conversations(path))
+    if not found:
+        raise AssertionError("no conversation on the page")
+    for numbers, turns in found:
+        server = Server(program, numbers)
+        play(server.connect(), turns)
+        server.served(1)
+    shown = re.findall(r"`((?:[0-9a-f]{2} )+[0-9a-f]{2})`", open(path, encoding="utf-8").read())
+    expect([bytes.fromhex(it) for it in shown], list(found[0][1][0]))
+
+
+def silent(program, path):
+    """A client that sends nothing holds one worker, and another client is served by the other."""
+    _, turns = next(conversations(path))
+    server = Server(program, [2, 2, 1, 3])
+    quiet = server.connect()
+    play(server.connect(), turns)
+    quiet.close()
+    server.served(2)
+
+
+def queued(program, path):
+    """Where the silent client has the only worker, another waits, and is served once that one is gone."""
+    _, turns = next(conversations(path))
+    server = Server(program, [2, 1, 1, 3])
+    quiet = server.connect()
+    time.sleep(0.1)
+    waiting = server.connect()
+    waiting.sendall(turns[0][0])
+    waiting.settimeout(0.3)
+    try:
+        raise AssertionError(f"{waiting.recv(100)!r} came while the worker was held")
+    except socket.timeout:
+        waiting.settimeout(PATIENCE)
+    quiet.close()
+    expect(receive(waiting, len(turns[0][1])), turns[0][1])
+    play(waiting, turns[1:])
+    server.served(2)
+
+
+def unread(program, path):
+    """A client that reads nothing is read no further, takes no memory, and another client is served."""
+    _, turns = next(conversations(path))
+    server = Server(program, [2, 2, 1, 3])
+    # No history grows by an `ask`, so what is resident tells of the buffers.
+    deaf = server.connect()
+    deaf.sendall(b"ask profile:2 7\r\n" * 10000)
+    receive(deaf, 10000 * len(b"CLIENT_ERROR not yours\r\n"))
+    before = server.resident()
+    deaf.settimeout(0.5)
+    sent = 0
+    try:
+        while sent < 1 << 28:
+            sent += deaf.send(b"ask profile:2 7\r\n" * 4096)
+        raise AssertionError(f"{sent} bytes were taken of a client that reads nothing")
+    except socket.timeout:
+        pass
+    if server.resident() - before > 1024:
+        raise AssertionError(f"{before} KiB before, {server.resident()} KiB with replies that nobody reads")
+    play(server.connect(), turns)
+    deaf.close()
+    server.served(2)
+
+
+def broken(program, path):
+    """A client that goes in the midst of a block leaves nothing, and the next one is served."""
+    _, turns = next(conversations(path))
+    server = Server(program, [2, 1, 1, 3])
+    gone = server.connect()
+    gone.sendall(b"ask profile:2 7\r\niqset profile:2 0 0 1000 1 0\r\nquit\r\n")
+    expect(receive(gone, 24), b"CLIENT_ERROR not yours\r\n")
+    gone.close()
+    play(server.connect(), turns)
+    server.served(2)
+
+
+def taken(program, _path):
+    """An address at which another one listens is a door fault."""
+    with socket.create_server(("127.0.0.1", 0)) as other:
+        port = other.getsockname()[1]
+        ran = subprocess.run(
+            [program, "serve", f"127.0.0.1:{port}", "1", "1", "1", "3"],
+            capture_output=True,
+            timeout=PATIENCE,
+            check=False,
+        )
+    expect((ran.stdout, ran.stderr, ran.returncode), (b"", b"door fault\n", 5))
+
+
+CHECKS = {it.__name__: it for it in (page, silent, queued, unread, broken, taken)}
+
+
+def main():
+    if sys.argv[1:] == ["--list"]:
+        print(*CHECKS)
+        return 0
+    if len(sys.argv) != 4 or sys.argv[3] not in CHECKS:
+        print(__doc__, file=sys.stderr)
+        return 2
+    try:
+        CHECKS[sys.argv[3]](sys.argv[1], sys.argv[2])
+    except (AssertionError, OSError, subprocess.SubprocessError) as wrong:
+        print(f"{sys.argv[3]}: {wrong}", file=sys.stderr)
+        return 1
+    return 0
+
+
+sys.exit(main())
