@@ -1,8 +1,8 @@
-ghost use Rattle.std.specs.Prelude.{◌≤◌};
+ghost use Rattle.std.specs.Prelude.{◌≤◌, ◌<◌, None, length, refl};
 
 use crate::test_desk::TestDesk;
 use crate::{LineEnd, serve_line};
-use iq_outside::{MemLine, MemSink, MemSource};
+use iq_outside::{Failed, Line, MemLine, MemSink, MemSource, Sink, Source};
 use mc_text::FrameFault;
 use std::alloc::Global;
 use std::process::Abort;
@@ -179,4 +179,117 @@ fn faults_end_it(rt: HostRuntime) -> Result<(), Fail> {
     let line = failing_line(alloc, b"begin read\r\nquit\r\n", (4096, 4), &[], &[1])?;
     serves(&rt, alloc, line, &mut desk, ("", LineEnd::WriteFault));
     Ok(())
+}
+
+/// A line whose client says so many commands at a time, each with a reply of one line, and says more only
+/// once all those are told. It counts the reads that come before.
+#[derive(Drop)]
+struct Patient {
+    line: MemLine,
+    at_once: usize,
+    /// How many commands were given.
+    given: usize,
+    /// How many reads came while a reply was due.
+    early: usize,
+    read_faults: u64,
+    write_faults: u64,
+}
+
+impl Patient {
+    /// How many lines it took.
+    fn told(&self) -> usize {
+        let mut lines = 0usize;
+        for byte in self.line.taken() {
+            if *byte == b'\n' {
+                lines = lines.saturating_add(1);
+            }
+        }
+        lines
+    }
+}
+
+impl Source for Patient {
+    ghost left = { λ _. None };
+
+    ghost faults = { λ patient. patient.read_faults };
+
+    ghost write_side = { λ patient. record { taken = None; faults = patient.write_faults } };
+
+    fn read(&mut self, room: &mut [u8]) -> Result<usize, Failed> {
+        if self.told() < self.given {
+            self.early = self.early.saturating_add(1);
+        }
+        match self.line.read(room) {
+            Ok(count) => {
+                if count > 0 {
+                    self.given = self.given.saturating_add(self.at_once);
+                }
+                Ok(count)
+            }
+            Err(_) => {
+                self.read_faults = self.read_faults.saturating_add(1);
+                Err(Failed)
+            }
+        }
+    }
+}
+
+impl Sink for Patient {
+    ghost taken = { λ _. None };
+
+    ghost faults = { λ patient. patient.write_faults };
+
+    ghost read_side = { λ patient. record { left = None; given = None; faults = patient.read_faults } };
+
+    fn write(&mut self, piece: &[u8]) -> Result<usize, Failed> {
+        match self.line.write(piece) {
+            Ok(count) => Ok(count),
+            Err(_) => {
+                self.write_faults = self.write_faults.saturating_add(1);
+                Err(Failed)
+            }
+        }
+    }
+}
+
+impl Line for Patient {
+    ghost reading = { λ _. refl };
+
+    ghost writing = { λ _. refl };
+
+    ghost tells_given = { λ _ told. told };
+
+    fn finish(&mut self) {
+        self.line.finish();
+    }
+}
+
+/// Twelve commands, so many at a time and of so many bytes together, are each answered before the next are read.
+fn answers_first(rt: &impl Abort, alloc: Global, at_once: usize, piece: usize) -> Result<(), Fail>
+    requires { 1 ≤ piece }
+{
+    let mut desk = TestDesk::new(alloc)?;
+    let mut said = Vec::new(alloc);
+    for _ in 0..12 {
+        said.extend_from_slice(b"begin read\r\n")?;
+    }
+    let mut line = Patient {
+        line: line_of(alloc, &said, (piece, 5))?,
+        at_once,
+        given: 0,
+        early: 0,
+        read_faults: 0,
+        write_faults: 0,
+    };
+    let end = serve_line(alloc, &mut line, &mut desk);
+    assert_eq!(rt; end, LineEnd::Closed { left: 0 });
+    assert_eq!(rt; (line.given, line.told(), line.early), (12, 12, 0));
+    Ok(())
+}
+
+#[test]
+fn replies_are_written_before_each_read(rt: HostRuntime) -> Result<(), Fail> {
+    answers_first(&rt, rt.alloc(), 1, 12)?;
+    answers_first(&rt, rt.alloc(), 2, 24)?;
+    answers_first(&rt, rt.alloc(), 12, 144)
 }

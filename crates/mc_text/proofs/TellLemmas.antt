@@ -1,10 +1,9 @@
 -- Words say one command at most, but for its block.
-use Rattle.std.proofs.Common.{ℕ, ℤ, pos, neg_ℤ, ◌==◌, ◌≡◌, ◌⊎◌, inl, inr, true, List, [], ◌∷◌, length, get_or, drop, Option, Some, None}
+use Rattle.std.proofs.Common.{ℕ, ℤ, pos, neg_ℤ, ◌==◌, ◌≡◌, ◌⊎◌, inl, inr, true, List, [], ◌∷◌, get_or, drop, Option, Some, None}
 use Rattle.std.proofs.Common.{arith, refl, sym, ap, ◌∙◌, subst}
-use Rattle.std.specs.Prelude.{codes, if◌then◌else◌}
+use Rattle.std.specs.Prelude.{if◌then◌else◌}
 use Rattle.std.proofs.lemmas.Bool.{false≢true}
 use Rattle.std.proofs.lemmas.List.Folds.{list_all_at}
-use Rattle.rows_model.specs.declared.changes.Change.{Change}
 use Rattle.rows_model.specs.declared.keys.QKey.{QKey}
 use Rattle.rows_model.specs.declared.keys.Sid.{Sid}
 use Rattle.rows_model.specs.Shift.{is_digit, number_from}

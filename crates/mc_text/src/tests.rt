@@ -2,6 +2,7 @@ use super::*;
 use lease_table::Mode;
 use rows_model::{Change, Kind, QKey, Sid, Txn, Value};
 use std::alloc::{AllocError, Global};
+use std::process::Abort;
 use std::test::Fail;
 
 // What a test tells of a command, of a stream and of a reply, as a line of text.
@@ -74,6 +75,15 @@ fn command_told(alloc: Global, command: &Command) -> Result<String, AllocError> 
                 block_told(alloc, *bytes, block)?
             )
         }
+        Command::Quit => format!(in alloc; "quit"),
+        Command::Unknown => format!(in alloc; "unknown"),
+        writes => write_told(alloc, writes),
+    }
+}
+
+// The same of a command that only a session that writes may give.
+fn write_told(alloc: Global, command: &Command) -> Result<String, AllocError> {
+    match command {
         Command::QaReg { key, sid } => {
             format!(in alloc; "qareg {} {}", key_told(alloc, key)?, sid.number)
         }
@@ -108,8 +118,7 @@ fn command_told(alloc: Global, command: &Command) -> Result<String, AllocError> 
             format!(in alloc; "iqcommit {} {}", key_told(alloc, key)?, sid.number)
         }
         Command::IqAbort { sid } => format!(in alloc; "iqabort {}", sid.number),
-        Command::Quit => format!(in alloc; "quit"),
-        Command::Unknown => format!(in alloc; "unknown"),
+        _ => format!(in alloc; "reads"),
     }
 }
 
@@ -462,8 +471,24 @@ fn a_block_may_be_a_mebibyte(rt: HostRuntime) -> Result<(), Fail> {
     Ok(())
 }
 
+/// The reply is written behind what stands, as this text, with a semicolon for each CR LF.
+fn writes(rt: &impl Abort, alloc: Global, reply: &LineReply, want: &str) -> Result<(), Fail> {
+    let want = stream_of(alloc, want)?;
+    let mut out = Vec::from_slice(alloc, b"OWN;")?;
+    write_reply(&mut out, reply)?;
+    let mut whole = Vec::from_slice(alloc, b"OWN;")?;
+    whole.extend_from_slice(want.as_slice())?;
+    assert_eq!(rt; out.as_slice(), whole.as_slice(), "at {reply:?}");
+    assert_eq!(rt;
+        reply_text(alloc, reply)?.bytes(),
+        want.as_slice(),
+        "at {reply:?}"
+    );
+    Ok(())
+}
+
 #[test]
-fn writes_each_reply(rt: HostRuntime) -> Result<(), Fail> {
+fn writes_each_reply_with_a_value(rt: HostRuntime) -> Result<(), Fail> {
     let alloc = rt.alloc();
     let key = QKey {
         kind: Kind::Profile,
@@ -473,7 +498,6 @@ fn writes_each_reply(rt: HostRuntime) -> Result<(), Fail> {
         kind: Kind::NPending,
         id: u32::MAX,
     };
-    let sid = Sid { number: 1 };
     let stamped = LineReply::Stamped {
         key,
         stamp: 0,
@@ -494,27 +518,31 @@ fn writes_each_reply(rt: HostRuntime) -> Result<(), Fail> {
         stamp: 3,
         value: Value::of(alloc, b"-")?,
     };
-    let refused = LineReply::Refused {
-        holder: Sid { number: 12 },
-        mode: Mode::Invalidate,
-    };
-    let refused_again = LineReply::Refused {
-        holder: sid,
-        mode: Mode::Refresh,
-    };
-    let refused_delta = LineReply::Refused {
-        holder: sid,
-        mode: Mode::Delta,
-    };
-    let mut out = Vec::new(alloc);
     for (reply, want) in [
-        (LineReply::Session { sid }, "SESSION 1;"),
         (stamped, "VALUE profile:2 0 6 0;m2 0 0;END;"),
         (
             empty,
             "VALUE npending:4294967295 0 0 18446744073709551615;;END;",
         ),
         (unstamped, "VALUE profile:2 0 6;a;b c;END;"),
+        (granted, "GRANTED 7;VALUE profile:2 0 1 3;-;END;"),
+    ] {
+        writes(&rt, alloc, &reply, want)?;
+    }
+    Ok(())
+}
+
+#[test]
+fn writes_each_answer(rt: HostRuntime) -> Result<(), Fail> {
+    let key = QKey {
+        kind: Kind::Profile,
+        id: 2,
+    };
+    let sid = Sid { number: 1 };
+    let holder = Sid { number: 12 };
+    let mode = Mode::Invalidate;
+    for (reply, want) in [
+        (LineReply::Session { sid }, "SESSION 1;"),
         (LineReply::Lease { token: 10 }, "LEASE 10;"),
         (LineReply::AgainI, "AGAIN I;"),
         (LineReply::AgainQ, "AGAIN Q;"),
@@ -523,18 +551,34 @@ fn writes_each_reply(rt: HostRuntime) -> Result<(), Fail> {
         (LineReply::Stored, "STORED;"),
         (LineReply::NotStored, "NOT_STORED;"),
         (LineReply::Granted { token: 5 }, "GRANTED 5;"),
-        (granted, "GRANTED 7;VALUE profile:2 0 1 3;-;END;"),
         (LineReply::GrantedNone { token: 8 }, "GRANTED 8;END;"),
         (LineReply::Held, "HELD;"),
-        (refused, "REFUSED 12 invalidate;"),
-        (refused_again, "REFUSED 1 refresh;"),
-        (refused_delta, "REFUSED 1 delta;"),
+        (
+            LineReply::Refused { holder, mode },
+            "REFUSED 12 invalidate;",
+        ),
         (LineReply::Committed { commit: 1 }, "COMMITTED 1;"),
         (LineReply::Ended, "ENDED;"),
         (LineReply::Uncovered { key }, "UNCOVERED profile:2;"),
         (LineReply::Deleted, "DELETED;"),
         (LineReply::NotFound, "NOT_FOUND;"),
         (LineReply::Released { count: 64 }, "RELEASED 64;"),
+    ] {
+        writes(&rt, rt.alloc(), &reply, want)?;
+    }
+    let holder = sid;
+    for (mode, want) in [
+        (Mode::Refresh, "REFUSED 1 refresh;"),
+        (Mode::Delta, "REFUSED 1 delta;"),
+    ] {
+        writes(&rt, rt.alloc(), &LineReply::Refused { holder, mode }, want)?;
+    }
+    Ok(())
+}
+
+#[test]
+fn writes_each_error(rt: HostRuntime) -> Result<(), Fail> {
+    for (reply, want) in [
         (LineReply::Error, "ERROR;"),
         (LineReply::BadLine, "CLIENT_ERROR bad line;"),
         (LineReply::LongLine, "CLIENT_ERROR long line;"),
@@ -557,15 +601,7 @@ fn writes_each_reply(rt: HostRuntime) -> Result<(), Fail> {
         (LineReply::Store, "SERVER_ERROR store;"),
         (LineReply::Memory, "SERVER_ERROR memory;"),
     ] {
-        let want = stream_of(alloc, want)?;
-        let before = out.len();
-        write_reply(&mut out, &reply)?;
-        assert_eq!(rt; &out[before..], want.as_slice(), "at {reply:?}");
-        assert_eq!(rt;
-            reply_text(alloc, &reply)?.bytes(),
-            want.as_slice(),
-            "at {reply:?}"
-        );
+        writes(&rt, rt.alloc(), &reply, want)?;
     }
     Ok(())
 }
