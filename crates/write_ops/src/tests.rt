@@ -138,16 +138,6 @@ fn leaves_the_value_of_an_aborted_write(rt: HostRuntime) -> Result<(), Fail> {
 }
 
 #[test]
-fn a_quarantine_outlives_its_grant(rt: HostRuntime) -> Result<(), Fail> {
-    let mut shard = warm_shard(rt.alloc(), &rt)?;
-    granted(&rt, &mut shard, 2).let_go();
-    assert!(rt; is_held(&mut shard));
-    let got = shard.get(KEY, WRITER, 0, 0);
-    assert!(rt; matches!(got, Ok(Got::Own)));
-    Ok(())
-}
-
-#[test]
 fn a_new_value_is_hit(rt: HostRuntime) -> Result<(), Fail> {
     let mut shard = warm_shard(rt.alloc(), &rt)?;
     let value = Value::of(rt.alloc(), b"b")?;
@@ -160,36 +150,6 @@ fn a_new_value_is_hit(rt: HostRuntime) -> Result<(), Fail> {
             assert_eq!(rt; stamp, 6);
         }
         _ => panic!(rt; "no hit"),
-    }
-    Ok(())
-}
-
-#[test]
-fn without_a_new_value_the_key_is_missed(rt: HostRuntime) -> Result<(), Fail> {
-    let mut shard = warm_shard(rt.alloc(), &rt)?;
-    let grant = read_under(&rt, &mut shard, 2);
-    let rel = refreshed(&rt, &mut shard, grant, None);
-    assert_eq!(rt; rel, Rel::Released { evicted: None });
-    let got = shard.get(KEY, READER, 0, 0);
-    assert!(rt; matches!(got, Ok(Got::Lease { token: 3 })));
-    Ok(())
-}
-
-#[test]
-fn a_second_mode_is_refused(rt: HostRuntime) -> Result<(), Fail> {
-    let mut shard = warm_shard(rt.alloc(), &rt)?;
-    granted(&rt, &mut shard, 2).let_go();
-    match qa_read(&mut shard, KEY, WRITER, 0) {
-        Ok(QAnswer::Refused { holder, mode }) => {
-            assert_eq!(rt; holder, WRITER);
-            assert_eq!(rt; mode, Mode::Invalidate);
-        }
-        Ok(QAnswer::Granted { grant, old: _ }) => {
-            grant.let_go();
-            panic!(rt; "granted")
-        }
-        Ok(QAnswer::Held) => panic!(rt; "held"),
-        Err(fault) => panic!(rt; "{fault:?}"),
     }
     Ok(())
 }
