@@ -1,6 +1,7 @@
 // A desk over a store and shards in memory, and sessions that are driven over it.
 ghost use Rattle.std.specs.Prelude.{◌≡◌, ℕ, ℤ, ◌≤◌, ◌<◌, Bool, List, Some, None, length, IfOk, Contains};
 ghost use Rattle.lease_table.specs.declared.records.Mode.TheVariants as Mode;
+ghost use Rattle.rows_model.specs.Changes.{HasIds};
 ghost use Rattle.key_shard.specs.Answers.{FitsMode, FitsShift};
 ghost use Rattle.session_client.specs.Belongs.{Belongs};
 ghost use Rattle.session_client.specs.Desks.{IsProper, sids_to};
@@ -45,9 +46,9 @@ impl MemoryDesk {
             Ok(store) => store,
             Err(none) => panic!(rt; "{:?}", none.cause),
         };
-        let first = Shard::new(alloc, 0, 2, 8, 100, 1)?;
-        let second = Shard::new(alloc, 1, 2, 8, 100, 1)?;
-        let shards = vec![in alloc; first, second]?;
+        let mut shards = Vec::new(alloc);
+        shards.push(Shard::new(alloc, 0, 2, 8, 100, 1)?)?;
+        shards.push(Shard::new(alloc, 1, 2, 8, 100, 1)?)?;
         Ok(MemoryDesk { store, shards })
     }
 }
@@ -328,80 +329,118 @@ fn check(
     Ok(())
 }
 
+/// The number of pending invitations of 2.
+const COUNT: QKey = QKey {
+    kind: Kind::NPending,
+    id: 2,
+};
+
+/// A session of this number reads the count, and ends so.
+fn reads(
+    rt: &impl Abort,
+    alloc: Global,
+    desk: &mut MemoryDesk,
+    number: u64,
+    outcome: Outcome,
+) -> Result<(), Fail> {
+    let read = Plan::Read {
+        key: COUNT,
+        floor: 0,
+    };
+    check(rt, alloc, desk, read, number, outcome)
+}
+
 #[test]
 fn reads_and_writes_to_their_ends(rt: HostRuntime) -> Result<(), Fail> {
     let alloc = rt.alloc();
     let mut desk = MemoryDesk::new(&rt, alloc)?;
-    let key = QKey {
-        kind: Kind::NPending,
-        id: 2,
-    };
-    let txn = Txn::of(alloc, &[Change::Invite { a: 1, b: 2 }])?;
-    let mode = Mode::Invalidate;
-    let committed = Outcome::Committed { number: 1 };
-    check(
-        &rt,
-        alloc,
-        &mut desk,
-        Plan::Read { key, floor: 0 },
-        1,
-        Outcome::Stored,
-    )?;
-    check(
-        &rt,
-        alloc,
-        &mut desk,
-        Plan::Read { key, floor: 0 },
-        2,
-        Outcome::Hit,
-    )?;
-    check(
-        &rt,
-        alloc,
-        &mut desk,
-        Plan::Write { mode, txn },
-        3,
-        committed,
-    )?;
-    check(
-        &rt,
-        alloc,
-        &mut desk,
-        Plan::Read { key, floor: 0 },
-        4,
-        Outcome::Stored,
-    )?;
-    match desk.call(Sid { number: 5 }, Wanted::Get { key, floor: 1 }) {
-        Reply::Got {
-            got: Got::Hit { value, stamp: 1 },
-        } => assert_eq!(rt; value.bytes(), b"1".as_slice()),
-        other => {
-            other.let_go();
-            panic!(rt; "no hit")
-        }
-    }
+    reads(&rt, alloc, &mut desk, 1, Outcome::Stored)?;
+    reads(&rt, alloc, &mut desk, 2, Outcome::Hit)?;
+    let invite = Change::Invite { a: 1, b: 2 };
+    writes(&rt, alloc, &mut desk, Mode::Invalidate, invite, 3, 1)?;
+    reads(&rt, alloc, &mut desk, 4, Outcome::Stored)?;
+    is_count(&rt, &mut desk, ("1", 1));
     Ok(())
 }
 
-/// A session of this number ended so, and the number of pending invitations of 2 has this text and
-/// stamp then.
-fn check_count(
+/// A session of this number writes the change in this mode, as the commit of this number.
+fn writes(
     rt: &impl Abort,
     alloc: Global,
     desk: &mut MemoryDesk,
-    plan: Plan,
+    mode: Mode,
+    change: Change,
+    number: u64,
+    commit: u64,
+) -> Result<(), Fail>
+    requires { HasIds change }
+{
+    let txn = Txn::of(alloc, &[change])?;
+    let committed = Outcome::Committed { number: commit };
+    check(
+        rt,
+        alloc,
+        desk,
+        Plan::Write { mode, txn },
+        number,
+        committed,
+    )
+}
+
+/// A session of this number looks at the count on its way to the change, and ends so.
+fn looks(
+    rt: &impl Abort,
+    alloc: Global,
+    desk: &mut MemoryDesk,
+    mode: Mode,
+    change: Change,
     number: u64,
     outcome: Outcome,
-    count: (&str, u64),
 ) -> Result<(), Fail>
-    requires { IsPlan plan }
+    requires { HasIds change }
 {
-    check(rt, alloc, desk, plan, number, outcome)?;
-    let key = QKey {
-        kind: Kind::NPending,
-        id: 2,
+    let key = COUNT;
+    let txn = Txn::of(alloc, &[change])?;
+    assert!(rt; touches(&txn, &key));
+    check(
+        rt,
+        alloc,
+        desk,
+        Plan::Look { mode, key, txn },
+        number,
+        outcome,
+    )
+}
+
+/// A session of this number quits on its way to the change.
+fn quits(
+    rt: &impl Abort,
+    alloc: Global,
+    desk: &mut MemoryDesk,
+    mode: Mode,
+    change: Change,
+    number: u64,
+) -> Result<(), Fail>
+    requires { HasIds change }
+{
+    let txn = Txn::of(alloc, &[change])?;
+    check(
+        rt,
+        alloc,
+        desk,
+        Plan::Quit { mode, txn },
+        number,
+        Outcome::Quit,
+    )
+}
+
+/// The count has this text and this stamp, for whoever gets it.
+fn is_count(rt: &impl Abort, desk: &mut MemoryDesk, count: (&str, u64)) {
+    let get = Wanted::Get {
+        key: COUNT,
+        floor: 0,
     };
-    match desk.call(Sid { number: 99 }, Wanted::Get { key, floor: 0 }) {
+    match desk.call(Sid { number: 99 }, get) {
         Reply::Got {
             got: Got::Hit { value, stamp },
         } => {
@@ -413,71 +452,31 @@ fn check_count(
             panic!(rt; "no hit")
         }
     }
-    Ok(())
 }
 
 #[test]
 fn keeps_a_count_in_every_mode(rt: HostRuntime) -> Result<(), Fail> {
     let alloc = rt.alloc();
     let mut desk = MemoryDesk::new(&rt, alloc)?;
-    let key = QKey {
-        kind: Kind::NPending,
-        id: 2,
-    };
-    let read = Plan::Read { key, floor: 0 };
-    check_count(&rt, alloc, &mut desk, read, 1, Outcome::Stored, ("0", 0))?;
-    let mode = Mode::Refresh;
-    let txn = Txn::of(alloc, &[Change::Invite { a: 1, b: 2 }])?;
-    let first = Outcome::Committed { number: 1 };
-    check_count(
-        &rt,
-        alloc,
-        &mut desk,
-        Plan::Write { mode, txn },
-        2,
-        first,
-        ("1", 1),
-    )?;
-    let mode = Mode::Delta;
-    let txn = Txn::of(alloc, &[Change::Invite { a: 3, b: 2 }])?;
-    let second = Outcome::Committed { number: 2 };
-    check_count(
-        &rt,
-        alloc,
-        &mut desk,
-        Plan::Write { mode, txn },
-        3,
-        second,
-        ("2", 2),
-    )?;
-    let txn = Txn::of(alloc, &[Change::Reject { a: 1, b: 2 }])?;
-    let quit = Plan::Quit { mode, txn };
-    check_count(&rt, alloc, &mut desk, quit, 4, Outcome::Quit, ("2", 2))?;
-    let txn = Txn::of(alloc, &[Change::Reject { a: 1, b: 2 }])?;
-    assert!(rt; touches(&txn, &key));
-    let third = Outcome::Committed { number: 3 };
-    check_count(
-        &rt,
-        alloc,
-        &mut desk,
-        Plan::Look { mode, key, txn },
-        5,
-        third,
-        ("1", 3),
-    )?;
-    let mode = Mode::Refresh;
-    let txn = Txn::of(alloc, &[Change::Invite { a: 3, b: 2 }])?;
-    assert!(rt; touches(&txn, &key));
+    reads(&rt, alloc, &mut desk, 1, Outcome::Stored)?;
+    is_count(&rt, &mut desk, ("0", 0));
+    let invite = Change::Invite { a: 1, b: 2 };
+    writes(&rt, alloc, &mut desk, Mode::Refresh, invite, 2, 1)?;
+    is_count(&rt, &mut desk, ("1", 1));
+    let again = Change::Invite { a: 3, b: 2 };
+    writes(&rt, alloc, &mut desk, Mode::Delta, again, 3, 2)?;
+    is_count(&rt, &mut desk, ("2", 2));
+    let reject = Change::Reject { a: 1, b: 2 };
+    quits(&rt, alloc, &mut desk, Mode::Delta, reject, 4)?;
+    is_count(&rt, &mut desk, ("2", 2));
+    let committed = Outcome::Committed { number: 3 };
+    let reject = Change::Reject { a: 1, b: 2 };
+    looks(&rt, alloc, &mut desk, Mode::Delta, reject, 5, committed)?;
+    is_count(&rt, &mut desk, ("1", 3));
     let fault = CommitFault::Rejected { index: 0 };
     let none = Outcome::NotCommitted { fault };
-    check_count(
-        &rt,
-        alloc,
-        &mut desk,
-        Plan::Look { mode, key, txn },
-        6,
-        none,
-        ("1", 3),
-    )?;
+    let again = Change::Invite { a: 3, b: 2 };
+    looks(&rt, alloc, &mut desk, Mode::Refresh, again, 6, none)?;
+    is_count(&rt, &mut desk, ("1", 3));
     Ok(())
 }

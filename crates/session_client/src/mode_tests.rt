@@ -9,7 +9,7 @@ use crate::tests::{
 };
 use key_shard::{Got, How, QAnswer, Rel, SetAnswer, Shard};
 use lease_table::Mode;
-use rows_model::{Change, Name, QKey, Txn, Value, touches};
+use rows_model::{Change, Kind, Name, QKey, Txn, Value, touches};
 use sql_keeper::{AfterFault, CommitFault};
 use std::alloc::Global;
 use std::process::Abort;
@@ -178,43 +178,60 @@ fn drops_what_came_back(rt: HostRuntime) -> Result<(), Fail> {
     Ok(())
 }
 
-#[test]
-fn keeps_values_apart_whose_tokens_are_alike(rt: HostRuntime) -> Result<(), Fail> {
-    let alloc = rt.alloc();
-    let mut even = Shard::new(alloc, 0, 2, 8, 100, 1)?;
-    let mut odd = Shard::new(alloc, 1, 2, 8, 100, 1)?;
-    let first = QKey {
-        kind: PROFILE.kind,
-        id: 1,
-    };
-    store(&rt, alloc, &mut odd, first, "m1 0 0")?;
-    store(&rt, alloc, &mut even, PROFILE, "m2 1 0")?;
-    let ann = Name::of(b"ann").expect(&rt, "a name");
-    let bob = Name::of(b"bob").expect(&rt, "a name");
+/// The profile of 1.
+const FIRST: QKey = QKey {
+    kind: Kind::Profile,
+    id: 1,
+};
+
+/// A session that is to rename 1 and 2, in mode Refresh.
+fn renamer(rt: &impl Abort, alloc: Global) -> Result<Session, Fail>
+    ensures { IfOk result (λ session. IsReady session) }
+{
+    let ann = Name::of(b"ann").expect(rt, "a name");
+    let bob = Name::of(b"bob").expect(rt, "a name");
     let changes = [
         Change::Rename { a: 1, name: ann },
         Change::Rename { a: 2, name: bob },
     ];
     let txn = Txn::of(alloc, &changes)?;
     let mode = Mode::Refresh;
-    let mut session = Session::new(alloc, WHO, Plan::Write { mode, txn })?;
-    quarantine(&rt, &mut session, &mut odd, (first, mode, 0));
-    quarantine(&rt, &mut session, &mut even, (PROFILE, mode, 0));
-    let (txn, grants) = commit(&rt, &mut session);
+    Ok(Session::new(alloc, WHO, Plan::Write { mode, txn })?)
+}
+
+/// The session has its commit made, as the first, under quarantines that all have this token.
+fn make_under(rt: &impl Abort, session: &mut Session, token: u64)
+    requires { IsReady session.old }
+    ensures { IsReady session.new }
+{
+    let (txn, grants) = commit(rt, session);
     for grant in grants.items() {
-        assert_eq!(rt; grant.token(), 2);
+        assert_eq!(rt; grant.token(), token);
     }
     let number = 1;
     tell(
-        &rt,
-        &mut session,
+        rt,
+        session,
         Reply::Committed {
             number,
             txn,
             grants,
         },
     );
-    put(&rt, &mut session, first, Some("ann 0 0"));
+}
+
+#[test]
+fn keeps_values_apart_whose_tokens_are_alike(rt: HostRuntime) -> Result<(), Fail> {
+    let alloc = rt.alloc();
+    let mut even = Shard::new(alloc, 0, 2, 8, 100, 1)?;
+    let mut odd = Shard::new(alloc, 1, 2, 8, 100, 1)?;
+    store(&rt, alloc, &mut odd, FIRST, "m1 0 0")?;
+    store(&rt, alloc, &mut even, PROFILE, "m2 1 0")?;
+    let mut session = renamer(&rt, alloc)?;
+    quarantine(&rt, &mut session, &mut odd, (FIRST, Mode::Refresh, 0));
+    quarantine(&rt, &mut session, &mut even, (PROFILE, Mode::Refresh, 0));
+    make_under(&rt, &mut session, 2);
+    put(&rt, &mut session, FIRST, Some("ann 0 0"));
     put(&rt, &mut session, PROFILE, Some("bob 1 0"));
     check_end(&rt, &mut session, COMMITTED);
     session.let_go();
@@ -335,43 +352,38 @@ fn commits_whatever_it_is_told_of_its_key(rt: HostRuntime) -> Result<(), Fail> {
     Ok(())
 }
 
-#[test]
-fn quits_in_each_mode(rt: HostRuntime) -> Result<(), Fail> {
-    let alloc = rt.alloc();
+/// A session that quits quarantines its three keys, each as this says, ends, and leaves each value.
+fn quits(
+    rt: &impl Abort,
+    alloc: Global,
+    mode: Mode,
+    others: Mode,
+    count: (Mode, i32),
+) -> Result<(), Fail> {
     let mut shard = new_shard(alloc)?;
-    let mut session = quitter(alloc, Mode::Invalidate)?;
-    quarantine_all(&rt, &mut session, &mut shard, Mode::Invalidate);
-    end(&rt, &mut session);
-    keep_all(&rt, &mut session);
-    check_end(&rt, &mut session, Outcome::Quit);
-    session.let_go();
-    let mut shard = new_shard(alloc)?;
-    let mut session = quitter(alloc, Mode::Refresh)?;
-    quarantine_all(&rt, &mut session, &mut shard, Mode::Refresh);
-    end(&rt, &mut session);
-    keep_all(&rt, &mut session);
-    check_end(&rt, &mut session, Outcome::Quit);
-    session.let_go();
-    let mut shard = new_shard(alloc)?;
-    let mut session = quitter(alloc, Mode::Delta)?;
-    quarantine(
-        &rt,
-        &mut session,
-        &mut shard,
-        (PROFILE, Mode::Invalidate, 0),
-    );
-    quarantine(
-        &rt,
-        &mut session,
-        &mut shard,
-        (PENDING, Mode::Invalidate, 0),
-    );
-    quarantine(&rt, &mut session, &mut shard, (N_PENDING, Mode::Delta, 1));
-    end(&rt, &mut session);
-    keep_all(&rt, &mut session);
-    check_end(&rt, &mut session, Outcome::Quit);
+    let mut session = quitter(alloc, mode)?;
+    quarantine(rt, &mut session, &mut shard, (PROFILE, others, 0));
+    quarantine(rt, &mut session, &mut shard, (PENDING, others, 0));
+    quarantine(rt, &mut session, &mut shard, (N_PENDING, count.0, count.1));
+    end(rt, &mut session);
+    keep_all(rt, &mut session);
+    check_end(rt, &mut session, Outcome::Quit);
     session.let_go();
     Ok(())
+}
+
+#[test]
+fn quits_in_each_mode(rt: HostRuntime) -> Result<(), Fail> {
+    for mode in [Mode::Invalidate, Mode::Refresh] {
+        quits(&rt, rt.alloc(), mode, mode, (mode, 0))?;
+    }
+    quits(
+        &rt,
+        rt.alloc(),
+        Mode::Delta,
+        Mode::Invalidate,
+        (Mode::Delta, 1),
+    )
 }
 
 #[test]

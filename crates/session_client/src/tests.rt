@@ -306,6 +306,44 @@ fn answer_of(alloc: Global, key: QKey) -> Result<Answer, Fail> {
     })
 }
 
+/// The session stores its answer, which nothing makes room for.
+fn set(rt: &impl Abort, session: &mut Session, shard: &mut Shard)
+    requires { IsReady session.old }
+    ensures { IsReady session.new }
+{
+    match session.wants() {
+        Wanted::Set {
+            key,
+            token,
+            value,
+            stamp,
+        } => match shard.set(key, token, value, stamp, 0) {
+            Ok(told) => {
+                assert_eq!(rt; told, SetAnswer::Stored { evicted: None });
+                tell(rt, session, Reply::Set { told });
+            }
+            Err(fault) => panic!(rt; "{fault:?}"),
+        },
+        other => {
+            other.let_go();
+            panic!(rt; "no set")
+        }
+    }
+}
+
+/// Another session reads the key, and hits.
+fn hits(rt: &impl Abort, alloc: Global, shard: &mut Shard) -> Result<(), Fail> {
+    let mut session = reader(alloc)?;
+    get(rt, &mut session, shard);
+    check_end(rt, &mut session, Outcome::Hit);
+    session.let_go();
+    match shard.get(PROFILE, WHO, 4, 0) {
+        Ok(Got::Hit { value, stamp: 4 }) => assert_eq!(rt; value.bytes(), b"a".as_slice()),
+        _ => panic!(rt; "not stored"),
+    }
+    Ok(())
+}
+
 #[test]
 fn reads_to_a_stored_answer(rt: HostRuntime) -> Result<(), Fail> {
     let alloc = rt.alloc();
@@ -317,35 +355,10 @@ fn reads_to_a_stored_answer(rt: HostRuntime) -> Result<(), Fail> {
     get(&rt, &mut session, &mut shard);
     assert_eq!(rt; session.done(), None);
     ask(&rt, &mut session, answer);
-    match session.wants() {
-        Wanted::Set {
-            key,
-            token,
-            value,
-            stamp,
-        } => match shard.set(key, token, value, stamp, 0) {
-            Ok(told) => {
-                assert_eq!(rt; told, SetAnswer::Stored { evicted: None });
-                tell(&rt, &mut session, Reply::Set { told });
-            }
-            Err(fault) => panic!(rt; "{fault:?}"),
-        },
-        other => {
-            other.let_go();
-            panic!(rt; "no set")
-        }
-    }
+    set(&rt, &mut session, &mut shard);
     check_end(&rt, &mut session, Outcome::Stored);
     session.let_go();
-    match shard.get(PROFILE, WHO, 4, 0) {
-        Ok(Got::Hit { value, stamp: 4 }) => assert_eq!(rt; value.bytes(), b"a".as_slice()),
-        _ => panic!(rt; "not stored"),
-    }
-    let mut session = reader(alloc)?;
-    get(&rt, &mut session, &mut shard);
-    check_end(&rt, &mut session, Outcome::Hit);
-    session.let_go();
-    Ok(())
+    hits(&rt, alloc, &mut shard)
 }
 
 #[test]
