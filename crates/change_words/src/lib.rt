@@ -3,7 +3,7 @@
 
 pub use changes::{MOST_CHANGES, change_of, is_plus, whole_txn};
 pub use laws::words_tell_txns;
-pub use numbers::{id_of, number_of};
+pub use numbers::id_of;
 
 pub mod changes;
 pub mod laws;

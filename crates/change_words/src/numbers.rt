@@ -1,28 +1,9 @@
-// What a word is: a number, the id of a member.
+// The id of a member that a word is.
 ghost use Rattle.std.specs.Prelude.{◌≡◌, ℕ, IfSome, IfNone};
 ghost use Rattle.rows_model.specs.Shift.{number_in};
 ghost use Rattle.change_words.specs.Txns.{IsId};
 
-use std::str;
-
-/// The number below 2^64 that the word is, with no sign and no leading zero; `None` where it is none.
-pub fn number_of(word: &[u8]) -> Option<u64>
-    ensures { result ≡ number_in word.now }
-{
-    let [first, ..] = word else {
-        return None;
-    };
-    if *first == b'0' {
-        return if word.len() == 1 { Some(0) } else { None };
-    }
-    if !(b'1'..=b'9').contains(first) {
-        return None;
-    }
-    let Ok(digits) = str::from_utf8(word) else {
-        return None;
-    };
-    digits.parse().ok()
-}
+use rows_model::number_of;
 
 /// The id that the word is: such a number from 1 and below 2^32; `None` where it is none.
 pub fn id_of(word: &[u8]) -> Option<u32>

@@ -10,7 +10,7 @@ use Rattle.rows_model.specs.declared.keys.Sid.{Sid}
 use Rattle.rows_model.specs.Rows.{Tables}
 use Rattle.sql_keeper.specs.declared.stores.Phase.{Phase}
 use Rattle.sql_keeper.specs.Sessions.{may_commit as may, is_open as may_commit, first_phase, begun as begun_phases}
-use Rattle.sql_keeper.specs.Stores.{Ledger, with_session}
+use Rattle.sql_keeper.specs.Stores.{Ledger, StoreView, with_session}
 use Rattle.session_client.specs.Follows.{plan_of, sid_of, IsReady, Follows}
 use Rattle.session_client.specs.Plans.{IsPlan, writes}
 use Rattle.session_client.specs.declared.replies.Reply.{Reply}
@@ -23,10 +23,8 @@ use Rattle.session_client.specs.declared.plans.Turn.TheVariants as turn
 use Rattle.expiry_sweeper.specs.declared.replies.SweepReply.TheVariants as sweeps
 use Rattle.expiry_sweeper.specs.declared.replies.SweepWanted.{SweepWanted}
 use Rattle.expiry_sweeper.specs.declared.replies.SweepWanted.TheVariants as sweep
-use Rattle.expiry_sweeper.specs.declared.sweepers.Sweeper.{Sweeper}
 use Rattle.session_client.specs.declared.sessions.Session.{Session}
-use Rattle.key_shard.specs.Shards.{ShardView}
-use Rattle.core_history.specs.Cores.{Origin, CoreView, HasShards, HasPhases, HasSweeper, RoseBy, IsAt, AreFollowing}
+use Rattle.core_history.specs.Cores.{Origin, CoreView, HasPhases, RoseBy, IsAt, AreFollowing}
 use Rattle.core_history.specs.Events.{Event, Stepped, Called, Ticked, Swept, told_by, told_in, told_to, swept_in, ends_told, ends_swept}
 use Rattle.core_history.specs.Events.{ends_in, ended_of, was_ended, has_committed}
 use Rattle.core_history.specs.Lines.{is_fault}
@@ -170,26 +168,25 @@ phases_begun phases world plan has none unended =
     from : (who : Sid) → 1 ≤ who.number → length phases ≤ who.number - 1 → may_commit who (phases ++ first ∷ []) ≡ is_open (begun world plan) who
     from who some far = ⊎_elim (λ h. new who some (omega (arith, h, far))) (λ h. later who some h) (cases_lt (who.number - 1) (length phases + 1))
 
--- a session began
-pub core_begun : (old new : CoreView) (origin : Origin) (moves : List Move) (plan : Plan) (session : Session) → IsAt old origin moves → IsPlan plan
+-- a session began, which leaves the shards, the sweeper and the clock
+pub core_begun : (old : CoreView) (new : StoreView) (sessions : List Session) (origin : Origin) (moves : List Move) (plan : Plan) (session : Session)
+    → IsAt old origin moves → IsPlan plan
     → plan_of session ≡ plan → (sid_of session).number ≡ length old.sessions + 1 → IsReady session → Follows session false [] →
-    new.sessions ≡ old.sessions ++ session ∷ [] → new.shards ≡ old.shards → new.sweeper ≡ old.sweeper → new.clock ≡ old.clock
-    → new.store.ledger ≡ with_session (writes plan) old.store.ledger
-    → new.store.told ≡ old.store.told → new.store.faults ≡ old.store.faults → IsAt new origin (Begin plan ∷ moves)
-core_begun old new origin moves plan session at is_plan plan_is number ready follows sessions shards sweeper now ledger told faults =
+    sessions ≡ old.sessions ++ session ∷ [] → new.ledger ≡ with_session (writes plan) old.store.ledger → new.told ≡ old.store.told → new.faults ≡ old.store.faults
+    → IsAt (record { store = new; shards = old.shards; sessions = sessions; sweeper = old.sweeper; clock = old.clock }) origin (Begin plan ∷ moves)
+core_begun old new sessions origin moves plan session at is_plan plan_is number ready follows added ledger told faults =
     let world = world_of origin.shape moves in
     let count : length old.sessions ≡ length world.plans = sym (length-map old.sessions plan_of) ∙ ap (λ (l : List Plan). length l) at.sessions.plans in
     let none : told_to (length world.plans + 1) world.past ≡ [] = at.sessions.unbegun (length world.plans + 1) (omega (arith, count)) in
     let S : List Session → Type 0 = λ xs. AreFollowing xs world.past in
     let N : List Session → Type 0 = λ xs. NoneUnbegun xs world.past in
-    let H : List ShardView → Type 0 = λ xs. HasShards xs origin.shape world.past in
     let P : List Phase → Type 0 = λ xs. HasPhases xs (begun world plan) in
     let store = at.kept.store in
     record {
       kept = record {
         plans = (is_plan, at.kept.plans);
         fit = at.kept.fit;
-        shards = subst H (sym shards) at.kept.shards;
+        shards = at.kept.shards;
         store = record {
           opening = ap (λ (l : Ledger). l.opening) ledger ∙ store.opening;
           log = ap (λ (l : Ledger). l.log) ledger ∙ store.log;
@@ -201,14 +198,14 @@ core_begun old new origin moves plan session at is_plan plan_is number ready fol
           truth = λ is_told. store.truth (subst (λ (o : Option Tables). IsSome o) told is_told);
         };
       };
-      clock = now ∙ at.clock;
-      sweeper = subst (λ (s : Sweeper). HasSweeper s origin.shape world.past) (sym sweeper) at.sweeper;
+      clock = at.clock;
+      sweeper = at.sweeper;
       phases = subst P (sym (ap (λ (l : Ledger). l.sessions) ledger))
           (phases_begun old.store.ledger.sessions world plan at.phases none (never_ended origin.shape moves (length world.plans + 1) none));
       sessions = record {
-        plans = ap (map plan_of) sessions ∙ plans_begun old.sessions session world.plans plan at.sessions.plans plan_is;
-        following = subst S (sym sessions) (follow_begun old.sessions session world.past at.sessions.following at.sessions.unbegun ready number follows);
-        unbegun = subst N (sym sessions) (none_begun old.sessions session world.past at.sessions.unbegun);
+        plans = ap (map plan_of) added ∙ plans_begun old.sessions session world.plans plan at.sessions.plans plan_is;
+        following = subst S (sym added) (follow_begun old.sessions session world.past at.sessions.following at.sessions.unbegun ready number follows);
+        unbegun = subst N (sym added) (none_begun old.sessions session world.past at.sessions.unbegun);
         nobody = at.sessions.nobody;
       };
     }

@@ -22,7 +22,7 @@ use Rattle.session_client.specs.Wants.{wants}
 use Rattle.rows_model.specs.declared.refusals.Memory.{Memory}
 use Rattle.session_client.specs.declared.plans.Turn.{Turn}
 use Rattle.session_client.specs.declared.plans.Turn.TheVariants as turn
-use Rattle.expiry_sweeper.specs.Follows.{wanted_of as wanted_by_stage, Follows as IsTold}
+use Rattle.expiry_sweeper.specs.Follows.{shards_of, wanted_of as wanted_by_stage, Follows as IsTold}
 use Rattle.expiry_sweeper.specs.Sweeps.{sweep_wants}
 use Rattle.expiry_sweeper.specs.declared.replies.SweepReply.{SweepReply}
 use Rattle.expiry_sweeper.specs.declared.replies.SweepWanted.{SweepWanted}
@@ -30,7 +30,7 @@ use Rattle.expiry_sweeper.specs.declared.replies.SweepWanted.TheVariants as swee
 use Rattle.expiry_sweeper.specs.declared.sweepers.Sweeper.{Sweeper}
 use Rattle.sql_keeper.specs.Stores.{StoreView}
 use Rattle.core_history.specs.declared.told.Told.{Told}
-use Rattle.core_history.specs.Cores.{Origin, CoreView, HasShards, HasStore, AreFollowing, HasKept, HasPhases, HasSessions, HasSweeper, IsAt}
+use Rattle.core_history.specs.Cores.{Origin, CoreView, HasShards, HasHomes, AreFollowing, HasKept, HasSessions, HasSweeper, IsAt, IsRunning, HasBegun}
 use Rattle.core_history.specs.Events.{Event, Ticked, told_in, told_to, swept_in, sweeps_of, now_of, reply_in}
 use Rattle.core_history.specs.Machine.{World, wanted_by, wanted_of, event_of, sweep_of, swept_next, later, turn_event, out_of, Said, Failed}
 use Rattle.core_history.specs.Machine.{Move, Take, world_of}
@@ -41,7 +41,7 @@ use Rattle.core_history.proofs.FoundLemmas.{ends_numbered}
 use Rattle.core_history.proofs.GrantLemmas.{grant_facts}
 use Rattle.core_history.proofs.GrantFacts.{GrantFacts, IsReleaseOf}
 use Rattle.core_history.proofs.OpenLemmas.{phases_same}
-use Rattle.core_history.proofs.ShardsLemmas.{slice_get_push, slice_get_pushed, slice_get-set_same, slice_get-set_other, shard_found, shards_ticked}
+use Rattle.core_history.proofs.ShardsLemmas.{slice_get_push, slice_get_pushed, slice_get-set_same, slice_get-set_other, homes_of, shard_found, shards_ticked}
 use Rattle.core_history.proofs.StoreEvents.{store_quiet, quiet_tick}
 use Rattle.core_history.proofs.TellLemmas.{event_turn}
 
@@ -191,10 +191,19 @@ out_there shards shape world who request has facts is = by request (λ grant h. 
     by wanted.End f = tt
     by wanted.Nothing f = tt
 
--- the session of a turn waits for it
-pub waits_there : (core : CoreView) (origin : Origin) (moves : List Move) (who : Sid) (session : Session) → IsAt core origin moves → 1 ≤ who.number
+-- a core that runs has each key's shard
+pub homes_there : (core : CoreView) → IsRunning core → HasHomes core.shards
+homes_there core running =
+    let origin = running.0 in
+    homes_of core.shards origin.shape (world_of origin.shape running.1).past running.2.kept.shards running.3
+
+-- and the session of a turn waits for it
+pub waits_there : (core : CoreView) (who : Sid) (session : Session) → IsRunning core → 1 ≤ who.number
     → slice_get core.sessions (who.number - 1) ≡ Some session → IsWaiting core.shards who session
-waits_there core origin moves who session at some found =
+waits_there core who session running some found =
+    let origin = running.0 in
+    let moves = running.1 in
+    let at = running.2 in
     let world = world_of origin.shape moves in
     let following = at.sessions.following (who.number - 1) session found in
     let number : who.number - 1 + 1 ≡ who.number = omega arith in
@@ -244,22 +253,32 @@ sessions_same sessions world event none has = record {
     same : (number : ℕ) → told_to number (event ∷ world.past) ≡ told_to number world.past
     same number = ap (λ (l : List Reply). l ++ told_to number world.past) (none number)
 
--- a turn of a session
-pub turn_taken : (old new : CoreView) (origin : Origin) (moves : List Move) (who : Sid) (result : Result Told Memory) → IsAt old origin moves → 1 ≤ who.number
-    → who.number ≤ length old.sessions → new.sweeper ≡ old.sweeper → new.clock ≡ old.clock →
-    TakesOne old.shards old.store old.sessions who old.clock new.shards new.store new.sessions result → TakesStep origin moves (turn.Session who) new result
-turn_taken old new origin moves who result at some begun sweeper now takes = by result one.4 taken
+-- a turn of a session, which leaves the sweeper and the clock
+pub turn_taken : (old : CoreView) (shards : List ShardView) (store : StoreView) (sessions : List Session)
+    (origin : Origin) (moves : List Move) (who : Sid) (result : Result Told Memory) → IsAt old origin moves → HasBegun old (turn.Session who) →
+    TakesOne old.shards old.store old.sessions who old.clock shards store sessions result → TakesStep origin moves (turn.Session who)
+    (record { store = store; shards = shards; sessions = sessions; sweeper = old.sweeper; clock = old.clock }) result
+turn_taken old shards store sessions origin moves who result at has_begun takes = by result one.4 taken
   where
+    new : CoreView
+    new = record { store = store; shards = shards; sessions = sessions; sweeper = old.sweeper; clock = old.clock }
+
+    some : 1 ≤ who.number
+    some = has_begun.0
+
+    begun : who.number ≤ length old.sessions
+    begun = has_begun.1
+
     world : World
     world = world_of origin.shape moves
 
     found : (session : Session) × (slice_get old.sessions (who.number - 1) ≡ Some session)
     found = there old.sessions (who.number - 1) (omega (arith, some, begun))
 
-    one : (after : Session) × (new.sessions ≡ set old.sessions (who.number - 1) after)
+    one : (after : Session) × (sessions ≡ set old.sessions (who.number - 1) after)
         × (plan_of after ≡ plan_of found.0) × (sid_of after ≡ sid_of found.0) × OnOk result (IsReady after)
         × ((origin : Origin) (world : World) (heard : List Reply) → Stands old.shards old.store origin world → old.clock ≡ now_of world.past
-        → Follows found.0 false heard → TakesTurn origin world who (wants (plan_of found.0) false heard) heard new.shards new.store after result)
+        → Follows found.0 false heard → TakesTurn origin world who (wants (plan_of found.0) false heard) heard shards store after result)
     one = takes found.0 found.1
 
     number : who.number - 1 + 1 ≡ who.number
@@ -271,20 +290,20 @@ turn_taken old new origin moves who result at some begun sweeper now takes = by 
     follows : Follows found.0 false heard
     follows = subst (λ (n : ℕ). Follows found.0 false (told_to n world.past)) number (at.sessions.following (who.number - 1) found.0 found.1).2
 
-    taken : TakesTurn origin world who (wanted_of world who) heard new.shards new.store one.0 result
+    taken : TakesTurn origin world who (wanted_of world who) heard shards store one.0 result
     taken =
-        subst (λ (w : Wanted). TakesTurn origin world who w heard new.shards new.store one.0 result)
+        subst (λ (w : Wanted). TakesTurn origin world who w heard shards store one.0 result)
         (wants_is world who old.sessions found.0 at.sessions.plans found.1)
         (one.5 origin world heard (at.kept.shards, (at.kept.store, at.phases)) at.clock follows)
 
-    kept : (said : Said) → Stands new.shards new.store origin (after world (event_of origin.shape world who (wanted_of world who) said))
+    kept : (said : Said) → Stands shards store origin (after world (event_of origin.shape world who (wanted_of world who) said))
         → HasKept new origin (Take (turn.Session who) said ∷ moves)
     kept said stands = record { plans = at.kept.plans; fit = at.kept.fit; shards = stands.0; store = stands.1.0 }
 
     sid : (sid_of one.0).number ≡ who.number
     sid = ap (λ (s : Sid). s.number) one.3 ∙ (at.sessions.following (who.number - 1) found.0 found.1).1 ∙ number
 
-    by : (r : Result Told Memory) → OnOk r (IsReady one.0) → TakesTurn origin world who (wanted_of world who) heard new.shards new.store one.0 r
+    by : (r : Result Told Memory) → OnOk r (IsReady one.0) → TakesTurn origin world who (wanted_of world who) heard shards store one.0 r
         → TakesStep origin moves (turn.Session who) new r
     by (Ok told) ready t =
         let event = event_of origin.shape world who (wanted_of world who) t.0 in
@@ -296,9 +315,8 @@ turn_taken old new origin moves who result at some begun sweeper now takes = by 
           t.0,
           record {
             kept = kept t.0 t.2;
-            clock = now ∙ at.clock ∙ sym (is.clock world.past);
-            sweeper = subst (λ (s : Sweeper). HasSweeper s origin.shape (event ∷ world.past))
-                (sym sweeper) (sweeper_same old.sweeper origin.shape world.past event is.swept at.sweeper);
+            clock = at.clock ∙ sym (is.clock world.past);
+            sweeper = sweeper_same old.sweeper origin.shape world.past event is.swept at.sweeper;
             phases = t.2.1.1;
             sessions = record {
               plans = ap (map plan_of) one.1 ∙ plans_turn old.sessions (who.number - 1) one.0 found.0 found.1 one.2 ∙ at.sessions.plans;
@@ -313,19 +331,21 @@ turn_taken old new origin moves who result at some begun sweeper now takes = by 
     by (Err memory) ready (inl stands) = inl (record { plans = at.kept.plans; fit = at.kept.fit; shards = stands.0; store = stands.1.0 })
     by (Err memory) ready (inr made) = inr (made.0, kept made.0 made.1)
 
--- a tick of the clock
-pub tick_taken : (old new : CoreView) (origin : Origin) (moves : List Move) (by : ℕ) (result : Result Told Memory) → IsAt old origin moves
-    → new.store ≡ old.store → new.shards ≡ old.shards → new.sessions ≡ old.sessions → new.sweeper ≡ old.sweeper
-    → new.clock ≡ min (old.clock + by) (2 ^ 64 - 1) →
-    IfOk result (IsToldOf (Ticked new.clock)) → TakesStep origin moves (turn.Tick by) new result
-tick_taken old new origin moves by result at store shards sessions sweeper now line =
+-- a tick of the clock, which leaves the rest
+pub tick_taken : (old : CoreView) (now : ℕ) (origin : Origin) (moves : List Move) (by : ℕ) (result : Result Told Memory) → IsAt old origin moves
+    → now ≡ min (old.clock + by) (2 ^ 64 - 1) → IfOk result (IsToldOf (Ticked now)) → TakesStep origin moves (turn.Tick by)
+    (record { store = old.store; shards = old.shards; sessions = old.sessions; sweeper = old.sweeper; clock = now }) result
+tick_taken old now origin moves by result at ticks line =
     event_taken new origin moves (turn.Tick by) Failed result ticked (subst (λ (n : ℕ). IfOk result (IsToldOf (Ticked n))) clock line)
   where
+    new : CoreView
+    new = record { store = old.store; shards = old.shards; sessions = old.sessions; sweeper = old.sweeper; clock = now }
+
     world : World
     world = world_of origin.shape moves
 
-    clock : new.clock ≡ later by world.past
-    clock = now ∙ ap (λ (n : ℕ). min (n + by) (2 ^ 64 - 1)) at.clock
+    clock : now ≡ later by world.past
+    clock = ticks ∙ ap (λ (n : ℕ). min (n + by) (2 ^ 64 - 1)) at.clock
 
     event : Event
     event = Ticked (later by world.past)
@@ -334,23 +354,17 @@ tick_taken old new origin moves by result at store shards sessions sweeper now l
     kept = record {
       plans = at.kept.plans;
       fit = at.kept.fit;
-      shards = subst (λ (xs : List ShardView). HasShards xs origin.shape (event ∷ world.past))
-          (sym shards) (shards_ticked old.shards origin.shape world.past (later by world.past) at.kept.shards);
-      store = subst (λ (s : StoreView). HasStore s origin (event ∷ world.past))
-          (sym store) (store_quiet old.store origin world.past event at.kept.store (quiet_tick (later by world.past)));
+      shards = shards_ticked old.shards origin.shape world.past (later by world.past) at.kept.shards;
+      store = store_quiet old.store origin world.past event at.kept.store (quiet_tick (later by world.past));
     }
 
     ticked : IsAt new origin (Take (turn.Tick by) Failed ∷ moves)
     ticked = record {
       kept = kept;
       clock = clock;
-      sweeper = subst (λ (s : Sweeper). HasSweeper s origin.shape (event ∷ world.past))
-          (sym sweeper) (sweeper_same old.sweeper origin.shape world.past event refl at.sweeper);
-      phases = subst (λ (s : StoreView). HasPhases s.ledger.sessions (after world event))
-          (sym store) (phases_same old.store.ledger.sessions world event at.phases refl refl);
-      sessions =
-          subst (λ (xs : List Session). HasSessions xs (after world event))
-          (sym sessions) (sessions_same old.sessions world event (λ number. refl) at.sessions);
+      sweeper = sweeper_same old.sweeper origin.shape world.past event refl at.sweeper;
+      phases = phases_same old.store.ledger.sessions world event at.phases refl refl;
+      sessions = sessions_same old.sessions world event (λ number. refl) at.sessions;
     }
 
 -- no session is told anything of a step of the sweeper's
@@ -365,23 +379,38 @@ unmoved shape world (sweep.Scan place) = refl
 unmoved shape world (sweep.End who) = refl
 unmoved shape world (sweep.Drop key token) = refl
 
--- whom the sweeper wants to end has a number
-pub sweeper_numbered : (core : CoreView) (origin : Origin) (moves : List Move) → IsAt core origin moves → IsNumbered (wanted_by_stage core.sweeper)
-sweeper_numbered core origin moves at =
+-- the sweeper of a core that runs sweeps all shards
+pub sweeper_all : (core : CoreView) → IsRunning core → shards_of core.sweeper ≡ length core.shards
+sweeper_all core running = running.2.sweeper.shards ∙ sym running.2.kept.shards.count
+
+-- and whom it wants to end has a number
+pub sweeper_numbered : (core : CoreView) → IsRunning core → IsNumbered (wanted_by_stage core.sweeper)
+sweeper_numbered core running =
+    let origin = running.0 in
+    let moves = running.1 in
+    let at = running.2 in
     let heard = sweeps_of (world_of origin.shape moves).past in
     let wants : wanted_by_stage core.sweeper ≡ swept_next origin.shape (world_of origin.shape moves) =
     at.sweeper.following.wants ∙ ap (λ (n : ℕ). sweep_wants n heard) at.sweeper.shards in
     subst IsNumbered (sym wants) (ends_numbered origin.shape moves at.sessions.nobody)
 
--- a step of the sweeper's
-pub sweep_taken : (old new : CoreView) (origin : Origin) (moves : List Move) (result : Result Told Memory) → IsAt old origin moves
-    → new.sessions ≡ old.sessions → new.clock ≡ old.clock →
-    TakesSweep origin (world_of origin.shape moves) new.shards new.store new.sweeper result → TakesStep origin moves turn.Sweep new result
-sweep_taken old new origin moves result at sessions now takes =
+-- a step of the sweeper's, which leaves the sessions and the clock
+pub sweep_taken : (old : CoreView) (shards : List ShardView) (store : StoreView) (sweeper : Sweeper)
+    (origin : Origin) (moves : List Move) (result : Result Told Memory) → IsAt old origin moves →
+    ((origin : Origin) (world : World) → Stands old.shards old.store origin world → old.clock ≡ now_of world.past
+    → HasSweeper old.sweeper origin.shape world.past → TakesSweep origin world shards store sweeper result) → TakesStep origin moves turn.Sweep
+    (record { store = store; shards = shards; sessions = old.sessions; sweeper = sweeper; clock = old.clock }) result
+sweep_taken old shards store sweeper origin moves result at sweeps =
     event_taken new origin moves turn.Sweep Failed result swept takes.2
   where
+    new : CoreView
+    new = record { store = store; shards = shards; sessions = old.sessions; sweeper = sweeper; clock = old.clock }
+
     world : World
     world = world_of origin.shape moves
+
+    takes : TakesSweep origin world shards store sweeper result
+    takes = sweeps origin world (at.kept.shards, (at.kept.store, at.phases)) at.clock at.sweeper
 
     request : SweepWanted
     request = swept_next origin.shape world
@@ -389,11 +418,10 @@ sweep_taken old new origin moves result at sessions now takes =
     swept : IsAt new origin (Take turn.Sweep Failed ∷ moves)
     swept = record {
       kept = record { plans = at.kept.plans; fit = at.kept.fit; shards = takes.0.0; store = takes.0.1.0 };
-      clock = now ∙ at.clock ∙ sym (unmoved origin.shape world request);
+      clock = at.clock ∙ sym (unmoved origin.shape world request);
       sweeper = takes.1;
       phases = takes.0.1.1;
-      sessions = subst (λ (xs : List Session). HasSessions xs (after world (sweep_of origin.shape world request)))
-          (sym sessions) (sessions_same old.sessions world (sweep_of origin.shape world request) (untold origin.shape world request) at.sessions);
+      sessions = sessions_same old.sessions world (sweep_of origin.shape world request) (untold origin.shape world request) at.sessions;
     }
 
 -- a claim by cases gives each of its cases

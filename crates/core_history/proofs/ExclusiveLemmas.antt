@@ -23,6 +23,7 @@ use Rattle.key_freshness.specs.Known.{Known, IsLogged, IsOver, IsMore, IsRuled}
 use Rattle.key_freshness.specs.Moments.{IsMoment, IsSince}
 use Rattle.key_freshness.specs.Held.{IsHeld, IsEntryHeld, IsTied}
 use Rattle.key_freshness.specs.Laws.{IsOwn}
+use Rattle.key_freshness.proofs.GrantMarks.{none_in, one_in, no_grant}
 use Rattle.key_freshness.proofs.KnownLemmas.{more-refl, more-trans, more-stood}
 use Rattle.key_freshness.proofs.MomentSteps.{moment-of, since-refl, since-append}
 use Rattle.key_freshness.proofs.WriteLemmas.{put_is_held}
@@ -134,28 +135,6 @@ grants-on key token (step.Held on sid mode) e = absurd (false≢true e)
 grants-on key token (step.Refused on sid mode holder held) e = absurd (false≢true e)
 grants-on key token (step.Released on sid t how) e = absurd (false≢true e)
 grants-on key token (step.Gone on sid t) e = absurd (false≢true e)
-
--- no mark is among none
-none_in : (mark : Mark) (b : Bool) → Has mark (cond b [] []) → ⊥
-none_in mark true h = h
-none_in mark false h = h
-
-one_in : (mark other : Mark) (b : Bool) → (other ≡ mark → ⊥) → Has mark (cond b (other ∷ []) []) → ⊥
-one_in mark other true apart h = ⊎_elim apart (λ f. f) h
-one_in mark other false apart h = h
-
--- the end of a quarantine grants none
-pub no_grant : (who token by at : ℕ) (how : Ends) → Has (Granted who token) (writes_by how ++ Ended by at ∷ []) → ⊥
-no_grant who token by at ended.Keep (inl e) = cc
-no_grant who token by at ended.Keep (inr h) = h
-no_grant who token by at ended.Drop (inl e) = cc
-no_grant who token by at ended.Drop (inr h) = h
-no_grant who token by at (ended.Put value stamp evicted) (inl e) = cc
-no_grant who token by at (ended.Put value stamp evicted) (inr (inl e)) = cc
-no_grant who token by at (ended.Put value stamp evicted) (inr (inr h)) = h
-no_grant who token by at (ended.Shift change stamp) (inl e) = cc
-no_grant who token by at (ended.Shift change stamp) (inr (inl e)) = cc
-no_grant who token by at (ended.Shift change stamp) (inr (inr h)) = h
 
 goes : (b : Bool) (found : Option (List ℕ × ℕ)) → StaysOrGoes found (cond b None found)
 goes true found = inr refl

@@ -23,6 +23,7 @@ use Rattle.key_freshness.specs.Known.{Known, IsLogged, IsMore, IsRuled}
 use Rattle.key_freshness.specs.Moments.{IsMoment, IsSince}
 use Rattle.key_freshness.specs.Held.{IsHeld, IsEntryHeld, IsTied}
 use Rattle.key_freshness.specs.Laws.{IsHonest, EndsItsOwn, with_commit, with_end}
+use Rattle.key_freshness.proofs.GrantMarks.{none_in, no_grant}
 use Rattle.key_freshness.proofs.KnownLemmas.{more-refl, more-trans, more-length}
 use Rattle.key_freshness.proofs.MomentLemmas.{more_is_held, stored_is_latest}
 use Rattle.key_freshness.proofs.MomentSteps.{moment-of-none, since-append}
@@ -40,7 +41,7 @@ use Rattle.session_client.specs.declared.replies.Wanted.{Wanted}
 use Rattle.session_client.specs.declared.replies.Wanted.TheVariants as wanted
 use Rattle.core_history.specs.Events.{Event, Stepped, Called, Ticked, Swept, steps_of, commits_told, log_of, ends_told, ends_swept, ended_of, known_of}
 use Rattle.core_history.specs.Facts.{leases, leased_at, answers_in, answers_under, Found, grants_as, found_at}
-use Rattle.core_history.proofs.ExclusiveLemmas.{AreAlone, HasNoReader, no_grant, grants-on, writes_held, apart_step, alone_step, alone-more, alone-after}
+use Rattle.core_history.proofs.ExclusiveLemmas.{AreAlone, HasNoReader, grants-on, writes_held, apart_step, alone_step, alone-more, alone-after}
 use Rattle.core_history.proofs.GoodEvents.{IsTold, SetsTold, IsGoodStep, IsGoodSweep, IsGoodEnd, IsGoodEvent}
 use Rattle.core_history.proofs.ListLemmas.{choose, every-append, every-weaker, not_both, and_elim}
 
@@ -88,11 +89,6 @@ pub record Holds (shape : Shape) (past : List Event) (known : Known) : Type 0 wh
       → AreAlone key (standing key (steps_at shape past key)) past (marks_of key (steps_at shape past key)) known (entry key (steps_at shape past key))
   pub grants : (key : QKey) (token : ℕ) (found : Found) → found_at key token past ≡ Some found → IsFound (length known.log) found
   pub homes : (place : ℕ) → AllByRecursion (IsHome shape place) (steps_of place past)
-
--- no mark is among none
-none_in : (mark : Mark) (b : Bool) → Has mark (cond b [] []) → ⊥
-none_in mark true h = h
-none_in mark false h = h
 
 no_end : (who token by at : ℕ) (how : Ends) (b : Bool) → Has (Granted who token) (cond b (writes_by how ++ Ended by at ∷ []) []) → ⊥
 no_end who token by at how true h = no_grant who token by at how h
@@ -221,6 +217,19 @@ honest_is shape past who (step.Held on sid mode) holds good = tt
 honest_is shape past who (step.Refused on sid mode holder held) holds good = tt
 honest_is shape past who (step.Gone on sid token) holds good = tt
 
+-- a lease that was given before stays a moment of nobody, where later marks grant nothing, and as much or more is known
+lease-more : (key : QKey) (token : ℕ) (past after : List Event) (marks later : List Mark) (known new : Known)
+    → leased_at key token after ≡ leased_at key token past → ((by t : ℕ) → Has (Granted by t) later → ⊥) → IsMore known new
+    → IsLeased key token past marks known → IsLeased key token after (later ++ marks) new
+lease-more key token past after marks later known new same grants grows was = record {
+  then_marks = was.then_marks;
+  then_known = was.then_known;
+  leased = same ∙ was.leased;
+  moment = was.moment;
+  since = since-append None was.then_marks marks later grants was.since;
+  more = more-trans was.more grows;
+}
+
 module _ (shape : Shape) (past : List Event) (who : Sid) (request : Wanted) (s : Step) (told : Reply) (holds : Holds shape past (known_of past))
     (good : IsGoodStep past (steps_at shape past (key_of s)) who s) (own : EndsItsOwn (steps_at shape past (key_of s)) s) where
   abbrev place : ℕ
@@ -266,14 +275,9 @@ module _ (shape : Shape) (past : List Event) (who : Sid) (request : Wanted) (s :
   same_lease : (key : QKey) (lease : ReadLease) (marks : List Mark) → leases key lease.token s ≡ false → ((by t : ℕ) → Has (Granted by t) marks → ⊥)
       → IsLeased key lease.token past (marks_of key (steps_at shape past key)) (known_of past)
       → IsLeased key lease.token (event ∷ past) (marks ++ marks_of key (steps_at shape past key)) (known_of past)
-  same_lease key lease marks none grants was = record {
-    then_marks = was.then_marks;
-    then_known = was.then_known;
-    leased = ap (λ b. cond b (Some (length (log_of past))) (leased_at key lease.token past)) none ∙ was.leased;
-    moment = was.moment;
-    since = since-append None was.then_marks (marks_of key (steps_at shape past key)) marks (λ by t h. grants by t h) was.since;
-    more = was.more;
-  }
+  same_lease key lease marks none grants was =
+      lease-more key lease.token past (event ∷ past) (marks_of key (steps_at shape past key)) marks (known_of past) (known_of past)
+      (ap (λ b. cond b (Some (length (log_of past))) (leased_at key lease.token past)) none) grants (more-refl (known_of past)) was
 
   pub stepped_holds : Holds shape (event ∷ past) (known_of past)
   stepped_holds = record {
@@ -376,14 +380,8 @@ grow_holds shape past known new grows ruled holds = record {
   ruled = ruled;
   tied = holds.tied;
   held = λ key. entry_more key (entry key (steps_at shape past key)) (holds.held key);
-  leased = λ key lease is. let was = holds.leased key lease is in record {
-    then_marks = was.then_marks;
-    then_known = was.then_known;
-    leased = was.leased;
-    moment = was.moment;
-    since = was.since;
-    more = more-trans was.more grows;
-  };
+  leased = λ key lease is.
+      lease-more key lease.token past past (marks_of key (steps_at shape past key)) [] known new refl (λ by t h. h) grows (holds.leased key lease is);
   asked = λ key token number least is.
       let was = holds.asked key token number least is in (
         omega (arith, was.0, longer),
@@ -419,15 +417,10 @@ same_holds shape past after known same holds = record {
   tied = λ key. subst (λ l. IsTied (marks_of key l) None (standing key l) (entry key l)) (at key) (holds.tied key);
   held = λ key. subst (λ l. IsEntryHeld key (marks_of key l) known (entry key l)) (at key) (holds.held key);
   leased = λ key lease is.
-      let was = holds.leased key lease (subst (λ l. recorded key l ≡ Some lease) (sym (at key)) is) in
-      subst (λ l. IsLeased key lease.token after (marks_of key l) known) (at key) (record {
-        then_marks = was.then_marks;
-        then_known = was.then_known;
-        leased = same.leased key lease.token ∙ was.leased;
-        moment = was.moment;
-        since = was.since;
-        more = was.more;
-      });
+      subst (λ l. IsLeased key lease.token after (marks_of key l) known) (at key)
+      (lease-more key lease.token past after (marks_of key (steps_at shape past key)) []
+      known known (same.leased key lease.token) (λ by t h. h) (more-refl known)
+      (holds.leased key lease (subst (λ l. recorded key l ≡ Some lease) (sym (at key)) is)));
   asked = λ key token number least is.
       subst (λ l. (least ≤ length known.log) × AllByRecursion (IsBetween least (length known.log)) l) (sym (same.under key token number))
       (holds.asked key token number least (sym (same.leased key token) ∙ is));
@@ -492,14 +485,9 @@ answer_holds shape past who request answered known stamp holds = record {
   ruled = holds.ruled;
   tied = holds.tied;
   held = holds.held;
-  leased = λ key lease is. let was = holds.leased key lease is in record {
-    then_marks = was.then_marks;
-    then_known = was.then_known;
-    leased = was.leased;
-    moment = was.moment;
-    since = was.since;
-    more = was.more;
-  };
+  leased = λ key lease is.
+      lease-more key lease.token past (Called who request (reply.Answer answered) ∷ past) (marks_of key (steps_at shape past key)) []
+      known known refl (λ by t h. h) (more-refl known) (holds.leased key lease is);
   asked = λ key token number least is.
       let was = holds.asked key token number least is in
       let le = was.0 in (

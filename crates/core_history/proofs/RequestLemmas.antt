@@ -29,7 +29,7 @@ use Rattle.session_client.specs.declared.replies.Wanted.TheVariants as wanted
 use Rattle.core_history.specs.Cores.{HasShards}
 use Rattle.core_history.specs.Events.{Event, steps_of, now_of, reply_in}
 use Rattle.core_history.specs.Machine.{World, Failed, event_of, stepped_on, terms_of, shown, put_step}
-use Rattle.core_history.specs.Requests.{MakesStep, quarantined_as, released_as}
+use Rattle.core_history.specs.Requests.{MakesStep, quarantined_as, quarantine_of, released_as}
 use Rattle.core_history.proofs.ShardsLemmas.{IsShardOf, grown, shards_made}
 
 tells_got : (terms : Terms) (past : List Step) (s : Step) (answer : Got) → ShowsGot s answer → reply.Got answer ≡ shown terms past s
@@ -134,8 +134,7 @@ set_made shape world who key token value stamp now shards place shard new answer
 quarantine_in : (shape : Shape) (world : World) (who : Sid) (key : QKey) (mode : Mode) (by : ℤ) (now : ℕ) (shards : List ShardView) (place : ℕ)
     (shard new : ShardView) (told : Reply) → FitsShift mode by → now ≡ now_of world.past
     → HasShards shards shape world.past → IsShardOf shape world.past key place shard →
-    new ≡ stepped shard (quarantine_step shard.terms (past_of shard) key who mode by now)
-    → told ≡ shown shard.terms (past_of shard) (quarantine_step shard.terms (past_of shard) key who mode by now)
+    new ≡ stepped shard (quarantine_of shard key who mode by now) → told ≡ shown shard.terms (past_of shard) (quarantine_of shard key who mode by now)
     → MakesStep shape world who (quarantined_as mode key by) (set shards place new) (Ok told)
 quarantine_in shape world who key Invalidate by now shards place shard new told fits time has is grew tells =
     let f : ℤ → ℕ → Terms → List Step → Step = λ z n terms steps. quarantine_step terms steps key who Invalidate z n in
@@ -155,8 +154,8 @@ quarantine_in shape world who key Delta by now shards place shard new told fits 
 pub quarantine_made : (shape : Shape) (world : World) (who : Sid) (key : QKey) (mode : Mode) (by : ℤ) (now : ℕ) (shards : List ShardView) (place : ℕ)
     (shard new : ShardView) (answer : QAnswer) → FitsShift mode by
     → now ≡ now_of world.past → HasShards shards shape world.past → IsShardOf shape world.past key place shard →
-    new ≡ stepped shard (quarantine_step shard.terms (past_of shard) key who mode by now)
-    → ShowsQuarantine shard.terms (past_of shard) (quarantine_step shard.terms (past_of shard) key who mode by now) answer
+    new ≡ stepped shard (quarantine_of shard key who mode by now)
+    → ShowsQuarantine shard.terms (past_of shard) (quarantine_of shard key who mode by now) answer
     → MakesStep shape world who (quarantined_as mode key by) (set shards place new) (Ok (reply.Quar answer))
 quarantine_made shape world who key mode by now shards place shard new answer fits time has is grew shows =
     quarantine_in shape world who key mode by now shards place shard new

@@ -384,16 +384,48 @@ writer-more shape event past n heard writing late keeps w = record {
   olds = λ i one e. old-more shape event past one late (w.drawn i one.permit (given-granted heard i one e)) (w.olds i one e);
 }
 
+no-given : (told : Reply) → grants_in told ≡ [] → given_in told ≡ []
+no-given (reply.Quar (quarantine.Granted grant old)) e = cc
+no-given other e = refl
+
+-- a writer that is told a reply which brings no grant stays one, where each grant that isn't released stands, and its end and its number are right
+pub writer-told : (shape : Shape) (event : Event) (past : List Event) (n : ℕ) (told : Reply) (heard : List Reply) (writing : Writing)
+    → grants_in told ≡ [] → is_had told ≡ false → DrawsLate shape past event
+    → ((i : ℕ) (grant : Permit) → slice_get (granted heard) i ≡ Some grant → released (told ∷ heard) ≤ i → Stood shape (event ∷ past) n grant)
+    → (released (told ∷ heard) ≡ 0) ⊎ (closed n (event ∷ past) ≡ true)
+    → (is_ending (told ∷ heard) ≡ true → closed n (event ∷ past) ≡ true)
+    → ((number : ℕ) → number_of (told ∷ heard) ≡ Some number → IsNumber (log_of (event ∷ past)) n number)
+    → Writer shape past n heard writing → Writer shape (event ∷ past) n (told ∷ heard) writing
+writer-told shape event past n told heard writing brings none late stood shut ending numbered w =
+    let same : granted (told ∷ heard) ≡ granted heard = ap (λ l. granted heard ++ l) brings ∙ append-nil (granted heard) in
+    let all : given (told ∷ heard) ≡ given heard = ap (λ l. given heard ++ l) (no-given told brings) ∙ append-nil (given heard) in
+    let a = count-cons is_had told heard in
+    let b = zero_if (is_had told) none in
+    let had = w.had in
+    let len = ap length same in
+    let old : (i : ℕ) (grant : Permit) → slice_get (granted (told ∷ heard)) i ≡ Some grant
+    → slice_get (granted heard) i ≡ Some grant = λ i grant e. sym (ap (λ l. slice_get l i) same) ∙ e in
+    record {
+      once = w.once;
+      fits = λ i grant e. w.fits i grant (old i grant e);
+      had = omega (arith, a, b, had, len);
+      drawn = λ i grant e. drawn-more shape event past grant (w.drawn i grant (old i grant e));
+      stood = λ i grant e not_yet. stood i grant (old i grant e) not_yet;
+      shut = shut;
+      ending = ending;
+      going = λ asks. absurd (not_both asks none);
+      numbered = numbered;
+      olds = λ i one e.
+          let here = sym (ap (λ l. slice_get l i) all) ∙ e in
+          old-more shape event past one late (w.drawn i one.permit (given-granted heard i one here)) (w.olds i one here);
+    }
+
 -- a reply that brings no grant, and is none of a release or a commit
 pub record Mild (told : Reply) : Type 0 where
   pub brings : grants_in told ≡ []
   pub had : is_had told ≡ false
   pub release : is_release told ≡ false
   pub commit : is_commit told ≡ false
-
-no-given : (told : Reply) → grants_in told ≡ [] → given_in told ≡ []
-no-given (reply.Quar (quarantine.Granted grant old)) e = cc
-no-given other e = refl
 
 no-number : (told : Reply) (heard : List Reply) → is_commit told ≡ false → number_of (told ∷ heard) ≡ number_of heard
 no-number (reply.Committed number txn grants) heard e = cc
@@ -404,27 +436,10 @@ pub writer-mild : (shape : Shape) (event : Event) (past : List Event) (n : ℕ) 
     → (is_ending (told ∷ heard) ≡ true → closed n (event ∷ past) ≡ true)
     → Writer shape past n heard writing → Writer shape (event ∷ past) n (told ∷ heard) writing
 writer-mild shape event past n told heard writing mild late keeps ending w =
-    let more = writer-more shape event past n heard writing late keeps w in
-    let same : granted (told ∷ heard) ≡ granted heard = ap (λ l. granted heard ++ l) mild.brings ∙ append-nil (granted heard) in
-    let all : given (told ∷ heard) ≡ given heard = ap (λ l. given heard ++ l) (no-given told mild.brings) ∙ append-nil (given heard) in
-    let a = count-cons is_had told heard in
-    let b = zero_if (is_had told) mild.had in
     let c = count-cons is_release told heard in
     let d = zero_if (is_release told) mild.release in
     let rel : released (told ∷ heard) ≡ released heard = omega (arith, c, d) in
-    let had = w.had in
-    let len = ap length same in
-    let old : (i : ℕ) (grant : Permit) → slice_get (granted (told ∷ heard)) i ≡ Some grant
-    → slice_get (granted heard) i ≡ Some grant = λ i grant e. sym (ap (λ l. slice_get l i) same) ∙ e in
-    record {
-      once = w.once;
-      fits = λ i grant e. w.fits i grant (old i grant e);
-      had = omega (arith, a, b, had, len);
-      drawn = λ i grant e. more.drawn i grant (old i grant e);
-      stood = λ i grant e not_yet. more.stood i grant (old i grant e) (omega (arith, not_yet, rel));
-      shut = subst (λ r. (r ≡ 0) ⊎ (closed n (event ∷ past) ≡ true)) (sym rel) more.shut;
-      ending = ending;
-      going = λ asks. absurd (not_both asks mild.had);
-      numbered = λ number e. more.numbered number (sym (no-number told heard mild.commit) ∙ e);
-      olds = λ i one e. more.olds i one (sym (ap (λ l. slice_get l i) all) ∙ e);
-    }
+    writer-told shape event past n told heard writing mild.brings mild.had late
+    (λ i grant at not_yet. keeps grant (w.fits i grant at).own (w.stood i grant at (omega (arith, not_yet, rel))))
+    (subst (λ r. (r ≡ 0) ⊎ (closed n (event ∷ past) ≡ true)) (sym rel) (shut-more n event past heard w.shut)) ending
+    (λ number e. number-more event past n number (w.numbered number (sym (no-number told heard mild.commit) ∙ e))) w

@@ -1,10 +1,11 @@
 -- How the shards of a core follow an event.
 use Rattle.std.proofs.Common.{ℕ, zero, suc, ◌+◌, ◌-◌, ◌^◌, ◌≡◌, ◌≢◌, ◌<◌, ◌≤◌, ◌==◌, ◌&&◌, Bool, true, false, cond, List, [], ◌∷◌, ◌++◌}
-use Rattle.std.proofs.Common.{length, reverse, Option, Some, None, Err, option_to_list, slice_get, set, refl, sym, ap, subst, ◌∙◌, inl, inr}
+use Rattle.std.proofs.Common.{length, reverse, Option, Some, None, Err, option_to_list, slice_get, get_or, set, refl, sym, ap, subst, ◌∙◌, inl, inr}
 use Rattle.std.proofs.Common.{⊎_elim, ◌⊎◌, length-append, arith, rules, eq-eqb}
 use Rattle.std.proofs.lemmas.Bool.{eqb-true, cases_Bool, cases_lt, false≢true}
 use Rattle.std.proofs.lemmas.List.{reverse-reverse, reverse-append}
 use Rattle.std.proofs.lemmas.List.Sums.{count_by-le-length}
+use Rattle.std.proofs.lemmas.Option.{slice_get_read}
 use Rattle.std.proofs.Math.ListN.{length-set}
 use Rattle.rows_model.specs.declared.keys.QKey.{QKey}
 use Rattle.rows_model.specs.declared.keys.Sid.{Sid}
@@ -201,6 +202,12 @@ homes_of shards shape past has few key =
           subst P same (rw reverse-reverse (omega (arith, count_by-le-length draws (steps_of home past), length-steps_of home past)));
     }
 
+-- the shard that is read at the place of a key's shard
+pub home_read : (key : QKey) (shards : List ShardView) {place : ℕ} {shard : ShardView} → place ≡ shard_of key (length shards) → place < length shards
+    → shard ≡ get_or shards place shard → slice_get shards (shard_of key (length shards)) ≡ Some shard
+home_read key shards {place} {shard} at within read =
+    ap (λ (n : ℕ). slice_get shards n) (sym at) ∙ slice_get_read shards (length shards) place shard refl within read
+
 -- the shard at a key's place is the one of that number
 pub record IsShardOf (shape : Shape) (past : List Event) (key : QKey) (place : ℕ) (shard : ShardView) : Type 0 where
   pub here : place ≡ shard_of key shape.shards
@@ -208,11 +215,11 @@ pub record IsShardOf (shape : Shape) (past : List Event) (key : QKey) (place : �
   pub same : shard ≡ shard_after shape past (shard_of key shape.shards)
 
 pub shard_found : (shape : Shape) (past : List Event) (key : QKey) (shards : List ShardView) (place : ℕ) (shard : ShardView) → HasShards shards shape past
-    → place ≡ shard_of key (length shards) → slice_get shards place ≡ Some shard → IsShardOf shape past key place shard
+    → place ≡ shard_of key (length shards) → slice_get shards (shard_of key (length shards)) ≡ Some shard → IsShardOf shape past key place shard
 shard_found shape past key shards place shard has at found =
     let here : place ≡ shard_of key shape.shards = at ∙ ap (λ (n : ℕ). shard_of key n) has.count in
     let within = shard_below key shape.shards has.fit.some_shards in
-    let there : slice_get shards (shard_of key shape.shards) ≡ Some shard = ap (λ (n : ℕ). slice_get shards n) (sym here) ∙ found in
+    let there : slice_get shards (shard_of key shape.shards) ≡ Some shard = ap (λ (n : ℕ). slice_get shards (shard_of key n)) (sym has.count) ∙ found in
     record { here = here; within = within; same = some_is shard _ (sym there ∙ has.each (shard_of key shape.shards) within) }
 
 -- what follows the shard's own past follows the steps on it

@@ -1,5 +1,5 @@
 -- What the grants of a writer are after each reply.
-use Rattle.std.proofs.Common.{append-nil, ℕ, ℤ, ◌≡◌, ◌<◌, ◌+◌, ◌==◌, true, cond, List, [], ◌∷◌, ◌++◌, length, length-append, count_by, Some}
+use Rattle.std.proofs.Common.{ℕ, ℤ, ◌≡◌, ◌<◌, ◌+◌, ◌==◌, true, cond, List, [], ◌∷◌, ◌++◌, length, length-append, count_by, Some}
 use Rattle.std.proofs.Common.{slice_get, refl, sym, ap, subst, ◌∙◌, inl, inr, ◌⊎◌, arith}
 use Rattle.std.proofs.lemmas.Bool.{false≢true, eq-eqb}
 use Rattle.rows_model.specs.declared.keys.QKey.{QKey}
@@ -25,14 +25,14 @@ use Rattle.session_client.specs.declared.replies.Reply.TheVariants as reply
 use Rattle.session_client.specs.declared.replies.Wanted.{Wanted}
 use Rattle.session_client.specs.Plans.{mode_on}
 use Rattle.session_client.specs.Wants.{Writing, given, granted, is_had, is_release, released}
-use Rattle.session_client.proofs.WantCases.{is_asking, given-granted}
+use Rattle.session_client.proofs.WantCases.{is_asking}
 use Rattle.core_history.specs.Events.{Event, Stepped, Called, steps_of, log_of, has_committed, was_ended}
 use Rattle.core_history.specs.Machine.{terms_of, stepped_on}
 use Rattle.core_history.specs.Facts.{found_at}
 use Rattle.core_history.proofs.ListLemmas.{or_inl, and_intro, not_both, any-at, push-place, slice-last, count-cons}
 use Rattle.core_history.proofs.EventLemmas.{closed, closed-more}
 use Rattle.core_history.proofs.SessionLemmas.{Stood, Fits, Writer, Keeps, IsDrawn, IsOld, ReleasesNone, ReturnsGrant, IsLateDraw}
-use Rattle.core_history.proofs.SessionLemmas.{maybe-step, late-draw, drawn-more, number-more, old-more, writer-more, stood-stepped}
+use Rattle.core_history.proofs.SessionLemmas.{maybe-step, late-draw, number-more, writer-more, writer-told, stood-stepped}
 use Rattle.core_history.proofs.SessionLemmas.{stood-granted, stood-new, stood-called, out-other}
 
 -- the event of a quarantine that is granted
@@ -119,35 +119,16 @@ writer-released shape past place who request s rel gone heard writing returns la
     let n = who.number in
     let told = reply.Rel rel in
     let event = Stepped place who request s told in
-    let a = count-cons is_had told heard in
     let c = count-cons is_release told heard in
-    let same : granted (told ∷ heard) ≡ granted heard = append-nil (granted heard) in
-    let all : given (told ∷ heard) ≡ given heard = append-nil (given heard) in
-    let had = w.had in
-    let len = ap length same in
-    let old : (i : ℕ) (grant : Permit) → slice_get (granted (told ∷ heard)) i ≡ Some grant
-    → slice_get (granted heard) i ≡ Some grant = λ i grant e. sym (ap (λ l. slice_get l i) same) ∙ e in
-    record {
-      once = w.once;
-      fits = λ i g e. w.fits i g (old i g e);
-      had = omega (arith, a, had, len);
-      drawn = λ i g e. drawn-more shape event past g (w.drawn i g (old i g e));
-      stood = λ i g e not_yet.
-          let here = old i g e in
-          let mine = w.fits i g here in
-          let theirs = w.fits (released heard) gone at in
-          let other : gone ≡ g → ⊥ = λ one. let place_is : i ≡ released heard =
-          w.once i (released heard) g.key mine.at_key (theirs.at_key ∙ ap (λ (p : Permit). Some p.key) one) in omega (arith, not_yet, c, place_is) in
-          stood-stepped shape place who request s told past n g (λ _ still _. absurd (not_both shut still))
-          (out-other g gone request s returns other) (w.stood i g here (omega (arith, not_yet, c)));
-      shut = inr (closed-more n event past shut);
-      ending = λ _. closed-more n event past shut;
-      going = λ asks. absurd (false≢true asks);
-      numbered = λ number e. number-more event past n number (w.numbered number e);
-      olds = λ i one e.
-          let here = sym (ap (λ l. slice_get l i) all) ∙ e in
-          old-more shape event past one late (w.drawn i one.permit (given-granted heard i one here)) (w.olds i one here);
-    }
+    writer-told shape event past n told heard writing refl refl late
+    (λ i g here not_yet.
+    let mine = w.fits i g here in
+    let theirs = w.fits (released heard) gone at in
+    let other : gone ≡ g → ⊥ = λ one. let place_is : i ≡ released heard =
+    w.once i (released heard) g.key mine.at_key (theirs.at_key ∙ ap (λ (p : Permit). Some p.key) one) in omega (arith, not_yet, c, place_is) in
+    stood-stepped shape place who request s told past n g (λ _ still _. absurd (not_both shut still))
+    (out-other g gone request s returns other) (w.stood i g here (omega (arith, not_yet, c))))
+    (inr (closed-more n event past shut)) (λ _. closed-more n event past shut) (λ number e. number-more event past n number (w.numbered number e)) w
 
 -- the session is told that it has committed
 pub writer-committed : (shape : Shape) (past : List Event) (who : Sid)
@@ -161,33 +142,13 @@ writer-committed shape past who request txn lent heard writing w =
     let told = reply.Committed number txn lent in
     let event = Called who request told in
     let commit : Commit = record { sid = who; txn = txn } in
-    let keeps : Keeps shape event past n = λ g _ h. stood-called shape who request told past n g h in
-    let more = writer-more shape event past n heard writing tt keeps w in
-    let a = count-cons is_had told heard in
     let c = count-cons is_release told heard in
-    let rel : released (told ∷ heard) ≡ released heard = omega (arith, c) in
-    let same : granted (told ∷ heard) ≡ granted heard = append-nil (granted heard) in
-    let all : given (told ∷ heard) ≡ given heard = append-nil (given heard) in
-    let had = w.had in
-    let len = ap length same in
     let last = slice-last (log_of past) commit in
     let shut : closed n (event ∷ past) ≡ true = or_inl (has_committed n (event ∷ past)) (was_ended n (event ∷ past))
     (any-at (λ (c : Commit). c.sid.number == n) (log_of past ++ commit ∷ []) (length (log_of past)) commit last (eq-eqb n n refl)) in
-    let old : (i : ℕ) (grant : Permit) → slice_get (granted (told ∷ heard)) i ≡ Some grant
-    → slice_get (granted heard) i ≡ Some grant = λ i grant e. sym (ap (λ l. slice_get l i) same) ∙ e in
-    record {
-      once = w.once;
-      fits = λ i g e. w.fits i g (old i g e);
-      had = omega (arith, a, had, len);
-      drawn = λ i g e. more.drawn i g (old i g e);
-      stood = λ i g e not_yet. more.stood i g (old i g e) (omega (arith, not_yet, rel));
-      shut = inr shut;
-      ending = λ _. shut;
-      going = λ asks. absurd (false≢true asks);
-      numbered = λ m e. let is : number ≡ m = some_same e in
-          record { place = length (log_of past); commit = commit; is = sym is; at = last; own = refl };
-      olds = λ i one e. more.olds i one (sym (ap (λ l. slice_get l i) all) ∙ e);
-    }
+    writer-told shape event past n told heard writing refl refl tt
+    (λ i g at not_yet. stood-called shape who request told past n g (w.stood i g at (omega (arith, not_yet, c)))) (inr shut) (λ _. shut)
+    (λ m e. let is : number ≡ m = some_same e in record { place = length (log_of past); commit = commit; is = sym is; at = last; own = refl }) w
   where
     some_same : {m k : ℕ} → Some m ≡ Some k → m ≡ k
     some_same e = cc

@@ -18,6 +18,7 @@ use Rattle.session_client.specs.declared.plans.Shape.{Shape}
 use Rattle.session_client.specs.declared.plans.Turn.{Turn}
 use Rattle.session_client.specs.declared.plans.Turn.TheVariants as turn
 use Rattle.session_client.specs.declared.sessions.Session.{Session}
+use Rattle.session_client.specs.Plans.{IsShape}
 use Rattle.session_client.specs.Follows.{plan_of, sid_of, IsReady, Follows}
 use Rattle.expiry_sweeper.specs.Follows.{shards_of, Follows as IsTold}
 use Rattle.expiry_sweeper.specs.declared.sweepers.Sweeper.{Sweeper}
@@ -26,16 +27,6 @@ use Rattle.core_history.specs.Freshness.{IsLawful, histories_of}
 use Rattle.core_history.specs.Lines.{is_fault}
 use Rattle.core_history.specs.Machine.{World, Move, world_of, HasPlans, terms_of, log_cap, out_of, is_open}
 use Rattle.core_history.specs.Truth.{IsTruePast}
-
--- the limits of a shape
-pub record IsShape (shape : Shape) : Type 0 where
-  pub some_members : 1 ≤ shape.members
-  pub few_members : shape.members ≤ 100000
-  pub some_shards : 1 ≤ shape.shards
-  pub few_shards : shape.shards ≤ 64
-  pub some_room : 1 ≤ shape.room
-  pub little_room : shape.room ≤ 65536
-  pub some_life : 1 ≤ shape.life
 
 -- what a core was made with: its shape, the rows that its keeper started with, and what
 -- was known of the keeper then, its rows, where it told them, and its count of faults

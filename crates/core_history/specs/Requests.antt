@@ -7,9 +7,11 @@ use Rattle.rows_model.specs.Placement.{shard_of}
 use Rattle.lease_table.specs.declared.records.Mode.{Mode}
 use Rattle.lease_table.specs.declared.records.Mode.TheVariants.{Invalidate, Refresh, Delta}
 use Rattle.key_shard.specs.Permit.{Permit}
+use Rattle.key_shard.specs.declared.steps.Step.{Step}
 use Rattle.key_shard.specs.declared.replies.How.{How}
 use Rattle.key_shard.specs.declared.replies.How.TheVariants as how
-use Rattle.key_shard.specs.Shards.{ShardView, is_out}
+use Rattle.key_shard.specs.Answers.{quarantine_step}
+use Rattle.key_shard.specs.Shards.{ShardView, past_of, is_out}
 use Rattle.sql_keeper.specs.Stores.{StoreView}
 use Rattle.session_client.specs.declared.plans.Shape.{Shape}
 use Rattle.session_client.specs.declared.replies.Reply.{Reply}
@@ -53,6 +55,10 @@ abbrev pub quarantined_as : Mode → QKey → ℤ → Wanted
 quarantined_as Invalidate key by = wanted.QaReg key
 quarantined_as Refresh key by = wanted.QaRead key
 quarantined_as Delta key by = wanted.Delta key by
+
+-- The step of a quarantine of this key on a shard, in this mode and to be shifted by this much.
+abbrev pub quarantine_of : ShardView → QKey → Sid → Mode → ℤ → ℕ → Step
+quarantine_of shard key who mode by now = quarantine_step shard.terms (past_of shard) key who mode by now
 
 -- The session of this number waits for its turn: it was told what came of its last request, and a grant that it wants to release is out.
 pub record IsWaiting (shards : List ShardView) (who : Sid) (session : Session) : Type 0 where

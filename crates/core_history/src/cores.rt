@@ -2,8 +2,8 @@ ghost use Rattle.std.specs.Prelude.{◌≡◌, ◌≢◌, ℕ, ◌+◌, ◌<◌,
 ghost use Rattle.std.specs.Option.{ForSome};
 ghost use Rattle.rows_model.specs.Rows.{start_tables};
 ghost use Rattle.session_client.specs.declared.plans.Turn.{Turn};
-ghost use Rattle.session_client.specs.Plans.{IsPlan, writes};
-ghost use Rattle.core_history.specs.Cores.{Origin, origin_of, IsShape, HasShards, HasKept, IsAt, IsSound, IsRunning, HasBegun, shards_in, histories_in};
+ghost use Rattle.session_client.specs.Plans.{IsPlan, IsShape, writes};
+ghost use Rattle.core_history.specs.Cores.{Origin, origin_of, HasShards, HasKept, IsAt, IsSound, IsRunning, HasBegun, shards_in, histories_in};
 ghost use Rattle.core_history.specs.Machine.{Said, Move, Begin, Take, world_of, turn_event, log_cap};
 ghost use Rattle.sql_keeper.specs.Faults.{Counts, has_failed};
 ghost use Rattle.sql_keeper.specs.Stores.{opened};

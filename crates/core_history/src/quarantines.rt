@@ -1,6 +1,6 @@
 // Quarantines, each on the shard of its key.
 ghost use Rattle.std.specs.Prelude.{◌≡◌, ◌<◌, ◌^◌, ◌-◌, IfOk, OnOk, OnErr};
-ghost use Rattle.key_shard.specs.Answers.{IsAtHome, FitsShift, quarantine_step};
+ghost use Rattle.key_shard.specs.Answers.{IsAtHome, FitsShift};
 ghost use Rattle.key_shard.specs.Past.{next_token};
 ghost use Rattle.key_shard.specs.Replies.{ShowsQuarantine};
 ghost use Rattle.key_shard.specs.Shards.{past_of, stepped, refusal, Refuses};
@@ -10,7 +10,7 @@ ghost use Rattle.session_client.specs.declared.plans.Shape.{Shape};
 ghost use Rattle.core_history.specs.Cores.{HasShards, HasHome};
 ghost use Rattle.core_history.specs.Events.{now_of};
 ghost use Rattle.core_history.specs.Machine.{World};
-ghost use Rattle.core_history.specs.Requests.{MakesStep, quarantined_as};
+ghost use Rattle.core_history.specs.Requests.{MakesStep, quarantined_as, quarantine_of};
 ghost use Rattle.session_client.specs.declared.replies.Wanted.TheVariants as wanted;
 
 use crate::homes::{home_of, memory_of};
@@ -57,12 +57,10 @@ fn quarantine_on(
     requires unspent { next_token shard.old.terms (past_of shard.old) < 2 ^ 64 - 1 }
     requires shift { FitsShift mode by }
     requires proper { IsProper (quarantined_as mode key by) }
-    ensures step { let step = quarantine_step shard.old.terms (past_of shard.old)
-        key who mode by now in
-        OnOk result (shard.new ≡ stepped shard.old step) }
-    ensures shows { let step = quarantine_step shard.old.terms (past_of shard.old)
-        key who mode by now in
-        IfOk result (ShowsQuarantine shard.old.terms (past_of shard.old) step) }
+    ensures step { OnOk result (shard.new ≡ stepped shard.old
+        (quarantine_of shard.old key who mode by now)) }
+    ensures shows { IfOk result (ShowsQuarantine shard.old.terms (past_of shard.old)
+        (quarantine_of shard.old key who mode by now)) }
     ensures err { OnErr result (shard.new ≡ shard.old) }
 {
     match quarantine_in_mode(shard, key, who, mode, by, now) {
@@ -82,15 +80,12 @@ fn quarantine_in_mode(
 ) -> Result<QAnswer, ShardFault>
     requires shift { FitsShift mode by }
     requires proper { IsProper (quarantined_as mode key by) }
-    ensures refusal { let step = quarantine_step shard.old.terms (past_of shard.old)
-        key who mode by now in
-        Refuses (refusal shard.old key step) result }
-    ensures step { let step = quarantine_step shard.old.terms (past_of shard.old)
-        key who mode by now in
-        OnOk result (shard.new ≡ stepped shard.old step) }
-    ensures shows { let step = quarantine_step shard.old.terms (past_of shard.old)
-        key who mode by now in
-        IfOk result (ShowsQuarantine shard.old.terms (past_of shard.old) step) }
+    ensures refusal { Refuses (refusal shard.old key
+        (quarantine_of shard.old key who mode by now)) result }
+    ensures step { OnOk result (shard.new ≡ stepped shard.old
+        (quarantine_of shard.old key who mode by now)) }
+    ensures shows { IfOk result (ShowsQuarantine shard.old.terms (past_of shard.old)
+        (quarantine_of shard.old key who mode by now)) }
     ensures err { OnErr result (shard.new ≡ shard.old) }
 {
     match mode {
@@ -109,15 +104,12 @@ fn delta_on(
     now: u64,
 ) -> Result<QAnswer, ShardFault>
     requires { IsProper (wanted.Delta key by) }
-    ensures refusal { let step = quarantine_step shard.old.terms (past_of shard.old)
-        key who Mode.Delta by now in
-        Refuses (refusal shard.old key step) result }
-    ensures step { let step = quarantine_step shard.old.terms (past_of shard.old)
-        key who Mode.Delta by now in
-        OnOk result (shard.new ≡ stepped shard.old step) }
-    ensures shows { let step = quarantine_step shard.old.terms (past_of shard.old)
-        key who Mode.Delta by now in
-        IfOk result (ShowsQuarantine shard.old.terms (past_of shard.old) step) }
+    ensures refusal { Refuses (refusal shard.old key
+        (quarantine_of shard.old key who Mode.Delta by now)) result }
+    ensures step { OnOk result (shard.new ≡ stepped shard.old
+        (quarantine_of shard.old key who Mode.Delta by now)) }
+    ensures shows { IfOk result (ShowsQuarantine shard.old.terms (past_of shard.old)
+        (quarantine_of shard.old key who Mode.Delta by now)) }
     ensures err { OnErr result (shard.new ≡ shard.old) }
 {
     match iq_delta(shard, key, who, by, now) {

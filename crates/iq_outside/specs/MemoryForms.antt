@@ -1,4 +1,4 @@
-use Rattle.std.specs.Prelude.{ℕ, List, Bool, Option, Some, None, All, cond}
+use Rattle.std.specs.Prelude.{ℕ, List, Bool, Option, Some, None, cond}
 use Rattle.iq_outside.specs.Outside.{IsFresh}
 
 -- a source in memory: the bytes left, the bytes given, the most that a call gives, the numbers of the calls that fail,

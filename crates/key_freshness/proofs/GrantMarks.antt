@@ -35,15 +35,18 @@ quarantined-granted key who (s ∷ past) e =
     record { token = found.token; mark = has-back (Granted who.number found.token) (marks_in key s) (marks_of key past) found.mark })
     (or_cases (quarantines key who s) (list_any (quarantines key who) past) e)
 
-none_in : (mark : Mark) (b : Bool) → Has mark (cond b [] []) → ⊥
+-- no mark is among none
+pub none_in : (mark : Mark) (b : Bool) → Has mark (cond b [] []) → ⊥
 none_in mark true h = h
 none_in mark false h = h
 
-one_in : (mark other : Mark) (b : Bool) → (other ≡ mark → ⊥) → Has mark (cond b (other ∷ []) []) → ⊥
+-- a mark is not among those of another alone
+pub one_in : (mark other : Mark) (b : Bool) → (other ≡ mark → ⊥) → Has mark (cond b (other ∷ []) []) → ⊥
 one_in mark other true apart h = ⊎_elim apart (λ f. f) h
 one_in mark other false apart h = h
 
-no_grant : (who token sid its : ℕ) (how : How) → Has (Granted who token) (writes_by how ++ Ended sid its ∷ []) → ⊥
+-- the end of a quarantine grants none
+pub no_grant : (who token sid its : ℕ) (how : How) → Has (Granted who token) (writes_by how ++ Ended sid its ∷ []) → ⊥
 no_grant who token sid its ended.Keep h = ⊎_elim (λ e. absurd cc) (λ f. f) h
 no_grant who token sid its ended.Drop h = ⊎_elim (λ e. absurd cc) (λ f. f) h
 no_grant who token sid its (ended.Put value stamp evicted) h = ⊎_elim (λ e. absurd cc) (λ k. ⊎_elim (λ e. absurd cc) (λ f. f) k) h

@@ -14,7 +14,7 @@ use Rattle.mc_text.specs.declared.commands.Role.TheVariants.{Read, Write}
 use Rattle.mc_text.specs.declared.commands.Command.{Command}
 use Rattle.mc_text.specs.declared.commands.Command.TheVariants.{Begin, IqGet, Ask, Stage, IqSet, QaReg, QaRead, IqDelta, Sql, Dar, Sar}
 use Rattle.mc_text.specs.declared.commands.Command.TheVariants.{IqCommit, IqAbort, Quit, Unknown}
-use Rattle.mc_text.specs.Words.{Names, IsKey, is_numeral, IsBelow, IsSid, IsBy}
+use Rattle.mc_text.specs.Words.{Names, IsKey, is_numeral, IsBelow, IsNumber, IsFlags, IsSid, IsBy}
 use Rattle.mc_text.specs.Commands.{Then, role_word, AreArgs, AreWords, block_of}
 use Rattle.mc_text.specs.Parsing.{number_of}
 use Rattle.mc_text.proofs.NumberLemmas.{numeral_parts}
@@ -74,99 +74,115 @@ both : (P Q : List ℕ → Type 0) (R S : List (List ℕ) → Type 0) (words : L
 both P Q R S [] h k = absurd h
 both P Q R S (word ∷ words) h k = record { word = word; rest = words; one = h.0; two = k.0; left = h.1; right = k.1 }
 
+-- a key and a session, with what stands behind them
+record Asked (key key' : Option QKey) (sid sid' : Sid) (R S : List (List ℕ) → Type 0) : Type 0 where
+  pub key_is : key ≡ key'
+  pub sid_is : sid ≡ sid'
+  pub rest : List (List ℕ)
+  pub left : R rest
+  pub right : S rest
+
+-- words say one key and one session
+asked_once : (key key' : Option QKey) (sid sid' : Sid) (R S : List (List ℕ) → Type 0) (words : List (List ℕ))
+    → Then (λ word. IsKey word key) (Then (λ word. IsSid word sid) R) words
+    → Then (λ word. IsKey word key') (Then (λ word. IsSid word sid') S) words
+    → Asked key key' sid sid' R S
+asked_once key key' sid sid' R S words h k =
+    let w0 = both _ _ _ _ words h k in
+    let w1 = both _ _ _ _ w0.rest w0.left w0.right in
+    record {
+      key_is = key_once w0.word key key' w0.one w0.two;
+      sid_is = sid_once w1.word sid sid' w1.one w1.two;
+      rest = w1.rest;
+      left = w1.left;
+      right = w1.right;
+    }
+
+-- a key, flags, a time and a length, with what stands behind them
+record Item (key key' : Option QKey) (flags flags' exptime exptime' bytes bytes' : ℕ) (R S : List (List ℕ) → Type 0) : Type 0 where
+  pub key_is : key ≡ key'
+  pub flags_is : flags ≡ flags'
+  pub exptime_is : exptime ≡ exptime'
+  pub bytes_is : bytes ≡ bytes'
+  pub rest : List (List ℕ)
+  pub left : R rest
+  pub right : S rest
+
+-- words say one item
+item_once : (key key' : Option QKey) (flags flags' exptime exptime' bytes bytes' : ℕ) (R S : List (List ℕ) → Type 0) (words : List (List ℕ))
+    → Then (λ word. IsKey word key) (Then (λ word. IsFlags word flags) (Then (λ word. IsNumber word exptime) (Then (λ word. IsNumber word bytes) R))) words
+    → Then (λ word. IsKey word key') (Then (λ word. IsFlags word flags') (Then (λ word. IsNumber word exptime') (Then (λ word. IsNumber word bytes') S))) words
+    → Item key key' flags flags' exptime exptime' bytes bytes' R S
+item_once key key' flags flags' exptime exptime' bytes bytes' R S words h k =
+    let w0 = both _ _ _ _ words h k in
+    let w1 = both _ _ _ _ w0.rest w0.left w0.right in
+    let w2 = both _ _ _ _ w1.rest w1.left w1.right in
+    let w3 = both _ _ _ _ w2.rest w2.left w2.right in
+    record {
+      key_is = key_once w0.word key key' w0.one w0.two;
+      flags_is = number_once w1.word flags flags' w1.one w1.two;
+      exptime_is = number_once w2.word exptime exptime' w2.one w2.two;
+      bytes_is = number_once w3.word bytes bytes' w3.one w3.two;
+      rest = w3.rest;
+      left = w3.left;
+      right = w3.right;
+    }
+
 -- the words behind a verb say one command of its row
 pub args_once : (a b : Command) (words : List (List ℕ)) → number_of a ≡ number_of b → block_of a ≡ block_of b → AreArgs a words → AreArgs b words → a ≡ b
 args_once (Begin role) (Begin role') words e f h k =
-    let w0 = both _ _ _ _ words h k in
-    let e_role = role_once w0.word role role' w0.one w0.two in
+    let w = both _ _ _ _ words h k in
+    let same = role_once w.word role role' w.one w.two in
     cc
 args_once (IqGet key sid floor) (IqGet key' sid' floor') words e f h k =
-    let w0 = both _ _ _ _ words h k in
-    let e_key = key_once w0.word key key' w0.one w0.two in
-    let w1 = both _ _ _ _ w0.rest w0.left w0.right in
-    let e_sid = sid_once w1.word sid sid' w1.one w1.two in
-    let w2 = both _ _ _ _ w1.rest w1.left w1.right in
-    let e_floor = number_once w2.word floor floor' w2.one w2.two in
-    cc
+    let w = asked_once key key' sid sid' _ _ words h k in
+    let last = both _ _ _ _ w.rest w.left w.right in
+    let e_floor = number_once last.word floor floor' last.one last.two in
+    cc (w.key_is, w.sid_is, e_floor)
 args_once (Ask key sid) (Ask key' sid') words e f h k =
-    let w0 = both _ _ _ _ words h k in
-    let e_key = key_once w0.word key key' w0.one w0.two in
-    let w1 = both _ _ _ _ w0.rest w0.left w0.right in
-    let e_sid = sid_once w1.word sid sid' w1.one w1.two in
-    cc
+    let w = asked_once key key' sid sid' _ _ words h k in
+    cc (w.key_is, w.sid_is)
 args_once (Stage key sid txn) (Stage key' sid' txn') words e f h k =
-    let w0 = both _ _ _ _ words h k in
-    let e_key = key_once w0.word key key' w0.one w0.two in
-    let w1 = both _ _ _ _ w0.rest w0.left w0.right in
-    let e_sid = sid_once w1.word sid sid' w1.one w1.two in
-    let e_txn = txn_once txn txn' w1.rest w1.left w1.right in
-    cc
+    let w = asked_once key key' sid sid' _ _ words h k in
+    let e_txn = txn_once txn txn' w.rest w.left w.right in
+    cc (w.key_is, w.sid_is, e_txn)
 args_once (IqSet key flags exptime bytes token stamp block) (IqSet key' flags' exptime' bytes' token' stamp' block') words e f h k =
-    let w0 = both _ _ _ _ words h k in
-    let e_key = key_once w0.word key key' w0.one w0.two in
-    let w1 = both _ _ _ _ w0.rest w0.left w0.right in
-    let e_flags = number_once w1.word flags flags' w1.one w1.two in
-    let w2 = both _ _ _ _ w1.rest w1.left w1.right in
-    let e_exptime = number_once w2.word exptime exptime' w2.one w2.two in
-    let w3 = both _ _ _ _ w2.rest w2.left w2.right in
-    let e_bytes = number_once w3.word bytes bytes' w3.one w3.two in
-    let w4 = both _ _ _ _ w3.rest w3.left w3.right in
-    let e_token = number_once w4.word token token' w4.one w4.two in
-    let w5 = both _ _ _ _ w4.rest w4.left w4.right in
-    let e_stamp = number_once w5.word stamp stamp' w5.one w5.two in
-    cc
+    let w = item_once key key' flags flags' exptime exptime' bytes bytes' _ _ words h k in
+    let next = both _ _ _ _ w.rest w.left w.right in
+    let e_token = number_once next.word token token' next.one next.two in
+    let last = both _ _ _ _ next.rest next.left next.right in
+    let e_stamp = number_once last.word stamp stamp' last.one last.two in
+    cc (w.key_is, w.flags_is, w.exptime_is, w.bytes_is, e_token, e_stamp, f)
 args_once (QaReg key sid) (QaReg key' sid') words e f h k =
-    let w0 = both _ _ _ _ words h k in
-    let e_key = key_once w0.word key key' w0.one w0.two in
-    let w1 = both _ _ _ _ w0.rest w0.left w0.right in
-    let e_sid = sid_once w1.word sid sid' w1.one w1.two in
-    cc
+    let w = asked_once key key' sid sid' _ _ words h k in
+    cc (w.key_is, w.sid_is)
 args_once (QaRead key sid) (QaRead key' sid') words e f h k =
-    let w0 = both _ _ _ _ words h k in
-    let e_key = key_once w0.word key key' w0.one w0.two in
-    let w1 = both _ _ _ _ w0.rest w0.left w0.right in
-    let e_sid = sid_once w1.word sid sid' w1.one w1.two in
-    cc
+    let w = asked_once key key' sid sid' _ _ words h k in
+    cc (w.key_is, w.sid_is)
 args_once (IqDelta key sid by) (IqDelta key' sid' by') words e f h k =
-    let w0 = both _ _ _ _ words h k in
-    let e_key = key_once w0.word key key' w0.one w0.two in
-    let w1 = both _ _ _ _ w0.rest w0.left w0.right in
-    let e_sid = sid_once w1.word sid sid' w1.one w1.two in
-    let w2 = both _ _ _ _ w1.rest w1.left w1.right in
-    let e_by = by_once w2.word by by' w2.one w2.two in
-    cc
+    let w = asked_once key key' sid sid' _ _ words h k in
+    let last = both _ _ _ _ w.rest w.left w.right in
+    let e_by = by_once last.word by by' last.one last.two in
+    cc (w.key_is, w.sid_is, e_by)
 args_once (Sql sid txn) (Sql sid' txn') words e f h k =
-    let w0 = both _ _ _ _ words h k in
-    let e_sid = sid_once w0.word sid sid' w0.one w0.two in
-    let e_txn = txn_once txn txn' w0.rest w0.left w0.right in
+    let w = both _ _ _ _ words h k in
+    let e_sid = sid_once w.word sid sid' w.one w.two in
+    let e_txn = txn_once txn txn' w.rest w.left w.right in
     cc
 args_once (Dar key sid) (Dar key' sid') words e f h k =
-    let w0 = both _ _ _ _ words h k in
-    let e_key = key_once w0.word key key' w0.one w0.two in
-    let w1 = both _ _ _ _ w0.rest w0.left w0.right in
-    let e_sid = sid_once w1.word sid sid' w1.one w1.two in
-    cc
+    let w = asked_once key key' sid sid' _ _ words h k in
+    cc (w.key_is, w.sid_is)
 args_once (Sar key flags exptime bytes sid block) (Sar key' flags' exptime' bytes' sid' block') words e f h k =
-    let w0 = both _ _ _ _ words h k in
-    let e_key = key_once w0.word key key' w0.one w0.two in
-    let w1 = both _ _ _ _ w0.rest w0.left w0.right in
-    let e_flags = number_once w1.word flags flags' w1.one w1.two in
-    let w2 = both _ _ _ _ w1.rest w1.left w1.right in
-    let e_exptime = number_once w2.word exptime exptime' w2.one w2.two in
-    let w3 = both _ _ _ _ w2.rest w2.left w2.right in
-    let e_bytes = number_once w3.word bytes bytes' w3.one w3.two in
-    let w4 = both _ _ _ _ w3.rest w3.left w3.right in
-    let e_sid = sid_once w4.word sid sid' w4.one w4.two in
-    cc
+    let w = item_once key key' flags flags' exptime exptime' bytes bytes' _ _ words h k in
+    let last = both _ _ _ _ w.rest w.left w.right in
+    let e_sid = sid_once last.word sid sid' last.one last.two in
+    cc (w.key_is, w.flags_is, w.exptime_is, w.bytes_is, e_sid, f)
 args_once (IqCommit key sid) (IqCommit key' sid') words e f h k =
-    let w0 = both _ _ _ _ words h k in
-    let e_key = key_once w0.word key key' w0.one w0.two in
-    let w1 = both _ _ _ _ w0.rest w0.left w0.right in
-    let e_sid = sid_once w1.word sid sid' w1.one w1.two in
-    cc
+    let w = asked_once key key' sid sid' _ _ words h k in
+    cc (w.key_is, w.sid_is)
 args_once (IqAbort sid) (IqAbort sid') words e f h k =
-    let w0 = both _ _ _ _ words h k in
-    let e_sid = sid_once w0.word sid sid' w0.one w0.two in
+    let w = both _ _ _ _ words h k in
+    let e_sid = sid_once w.word sid sid' w.one w.two in
     cc
 args_once Quit Quit words e f h k = refl
 args_once Unknown Unknown words e f h k = refl

@@ -25,9 +25,9 @@ filled_is text front zeros name e z =
       name = rw (take_at front (drop (length text) zeros) (length text) n, e) name;
     }
 
--- a letter `m` and a number are a name
-pub IsName-numbered : (n : ℕ) → n < 2 ^ 64 → IsName (109 ∷ decimal n)
-IsName-numbered n small =
+-- a printable byte and a number are a name
+pub IsName-numbered : (byte n : ℕ) → IsNameByte byte → n < 2 ^ 64 → IsName (byte ∷ decimal n)
+IsName-numbered byte n printable small =
     let all : AllDigits 10 (decimal n) = digits_decimal (numerals_by_value (AllDigits 10) tells_digits) n small in
     let digits : All IsNameByte (decimal n) =
     All-from_get_or IsNameByte (decimal n) 0 (λ i l. let d = digit_at (decimal n) i all l in (omega (arith, d.0), omega (arith, d.1))) in
@@ -35,13 +35,13 @@ IsName-numbered n small =
     record {
       some = omega arith;
       short = omega arith;
-      printable = All-cons IsNameByte 109 (decimal n) (omega arith, omega arith) digits;
+      printable = All-cons IsNameByte byte (decimal n) printable digits;
     }
 
 -- the same, as the front of a longer text
-pub IsName-front : (n : ℕ) (digits front rest : List ℕ) → n < 2 ^ 64
-    → digits ≡ decimal n → front ≡ digits → IsName (take (length digits + 1) (109 ∷ (front ++ rest)))
-IsName-front n digits front rest small d f =
-    let whole : take (length digits + 1) (109 ∷ (front ++ rest)) ≡ 109 ∷ decimal n =
-    rw add-one (ap (λ (xs : List ℕ). 109 ∷ xs) (take_at front rest (length digits) (ap length f) ∙ (f ∙ d))) in
-    rw whole (IsName-numbered n small)
+pub IsName-front : (byte n : ℕ) (digits front rest : List ℕ) → IsNameByte byte → n < 2 ^ 64
+    → digits ≡ decimal n → front ≡ digits → IsName (take (length digits + 1) (byte ∷ (front ++ rest)))
+IsName-front byte n digits front rest printable small d f =
+    let whole : take (length digits + 1) (byte ∷ (front ++ rest)) ≡ byte ∷ decimal n =
+    rw add-one (ap (λ (xs : List ℕ). byte ∷ xs) (take_at front rest (length digits) (ap length f) ∙ (f ∙ d))) in
+    rw whole (IsName-numbered byte n printable small)

@@ -26,7 +26,7 @@ Fit-start n few =
     let members = map start_member (range_with_len 1 n) in
     record {
       ids = λ k d l. let p = at_start n k d l in rw p.1 (omega arith, omega (arith, p.0));
-      names = λ k d l. let p = at_start n k d l in rw p.1 (IsName-numbered (1 + k) (omega (arith, p.0)));
+      names = λ k d l. let p = at_start n k d l in rw p.1 (IsName-numbered 109 (1 + k) (omega arith, omega arith) (omega (arith, p.0)));
       members_ascend = λ i j d low l.
           let p = at_start n i d (omega arith) in
           let q = at_start n j d l in

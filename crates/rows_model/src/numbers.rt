@@ -29,8 +29,8 @@ pub(crate) fn id_of(digits: &[u8]) -> Option<u32>
     text.parse().ok()
 }
 
-/// The number below 2^64 that the text is, with no sign and no leading zero.
-pub(crate) fn number_of(text: &[u8]) -> Option<u64>
+/// The number below 2^64 that the text is, with no sign and no leading zero; `None` where it is none.
+pub fn number_of(text: &[u8]) -> Option<u64>
     ensures { result ≡ number_in text.now }
 {
     let [first, ..] = text else {

@@ -2,15 +2,13 @@
 use Rattle.std.proofs.Common.{ℕ, zero, suc, ◌+◌, ◌^◌, ◌≤◌, ◌<◌, ◌≡◌, Bool, true, false, List, [], ◌∷◌, ◌++◌, length, decimal, All, refl}
 use Rattle.std.proofs.Common.{sym, ap, ◌∙◌, arith, zero-add, add-zero, suc-add, add-one, take, take_at}
 use Rattle.std.specs.Prelude.{nat_le, if◌then◌else◌, codes}
-use Rattle.std.proofs.lemmas.List.Elements.{All-cons, All-from_get_or}
-use Rattle.std.specs.Str.Parse.{AllDigits}
-use Rattle.std.proofs.lemmas.Str.Parse.{digit_at, numerals_by_value, tells_digits}
-use Rattle.std.proofs.lemmas.Fmt.{digits_decimal, length-decimal-le}
+use Rattle.std.proofs.lemmas.List.Elements.{All-cons}
 use Rattle.rand_pcg.specs.Lcg.{Lcg, started, next, increment_of, state_after, next_state}
 use Rattle.rand_pcg.specs.Pcg.{multiplier_64, pcg32}
-use Rattle.rows_model.specs.Name.{IsName, IsNameByte}
+use Rattle.rows_model.specs.Name.{IsName}
 use Rattle.rows_model.specs.Changes.{HasIds, IsTxn}
 use Rattle.rows_model.specs.declared.changes.Change.{Change}
+use Rattle.rows_model.proofs.NameLemmas.{IsName-numbered}
 use Rattle.session_client.specs.Plans.{IsPlan}
 use Rattle.run_inputs.specs.Loads.{generator_of, after_draws, draw_after, draws_after, change_drawn, plan_drawn}
 
@@ -75,25 +73,8 @@ four_drawn g g₁ g₂ g₃ g₄ roll first second manner e₁ e₂ e₃ e₄ =
     (cc (one.0, two.0, three.0, four.0), four.1)
 
 -- a letter `n` and a number are a name
-pub name_drawn : (n : ℕ) → n < 2 ^ 64 → IsName (codes "n" ++ decimal n)
-name_drawn n small =
-    let all : AllDigits 10 (decimal n) = digits_decimal (numerals_by_value (AllDigits 10) tells_digits) n small in
-    let digits : All IsNameByte (decimal n) =
-    All-from_get_or IsNameByte (decimal n) 0 (λ i l. let d = digit_at (decimal n) i all l in (omega (arith, d.0), omega (arith, d.1))) in
-    let short : length (decimal n) ≤ 20 = length-decimal-le 20 n (omega arith) (omega arith) small in
-    record {
-      some = omega arith;
-      short = omega arith;
-      printable = All-cons IsNameByte 110 (decimal n) (omega arith, omega arith) digits;
-    }
-
--- the same, as the front of a longer text
-pub name_front : (n : ℕ) (digits front rest : List ℕ) → n < 2 ^ 64
-    → digits ≡ decimal n → front ≡ digits → IsName (take (length digits + 1) (110 ∷ (front ++ rest)))
-name_front n digits front rest small d f =
-    let whole : take (length digits + 1) (110 ∷ (front ++ rest)) ≡ 110 ∷ decimal n =
-    rw add-one (ap (λ (xs : List ℕ). 110 ∷ xs) (take_at front rest (length digits) (ap length f) ∙ (f ∙ d))) in
-    rw whole (name_drawn n small)
+name_drawn : (n : ℕ) → n < 2 ^ 64 → IsName (codes "n" ++ decimal n)
+name_drawn n small = IsName-numbered 110 n (omega arith, omega arith) small
 
 -- by a test, one thing or another
 by_test : {X : Type 0} (P : X → Type 0) (b : Bool) (x y : X) → P x → P y → P (if b then x else y)

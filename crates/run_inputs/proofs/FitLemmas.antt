@@ -5,6 +5,7 @@ use Rattle.std.proofs.lemmas.Bool.{false≢true}
 use Rattle.std.proofs.lemmas.Bool.Decides.{nat_tests}
 use Rattle.std.proofs.lemmas.List.Sums.{sum_by-append}
 use Rattle.session_client.specs.declared.plans.Shape.{Shape}
+use Rattle.session_client.specs.Plans.{IsShape}
 use Rattle.run_inputs.specs.declared.lines.Part.TheVariants.{Members, Shards, Room, Life}
 use Rattle.run_inputs.specs.declared.lines.Verb.{Verb}
 use Rattle.run_inputs.specs.declared.lines.Verb.TheVariants as verb
@@ -19,7 +20,7 @@ use Rattle.run_inputs.specs.Texts.{words_in}
 use Rattle.run_inputs.specs.Lines.{AreArgs, AreWords, verb_of}
 use Rattle.run_inputs.specs.Script.{start, after, after_all, is_in_place, stage_after, shape_after, sessions_in, turns_in, acts_in}
 use Rattle.run_inputs.specs.Script.{is_numbered, has_key, fault_of, AreSound, IsScript}
-use Rattle.run_inputs.specs.Fit.{turns_of, AreFit, IsShape, IsPlayable}
+use Rattle.run_inputs.specs.Fit.{turns_of, AreFit, IsPlayable}
 use Rattle.run_inputs.proofs.ScriptLemmas.{Passes, passes, few_turns}
 
 -- a shape whose numbers are within their ranges; that of the members is told by the first line

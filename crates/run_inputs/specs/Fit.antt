@@ -3,7 +3,7 @@ use Rattle.std.specs.Prelude.{ℕ, ◌+◌, ◌≤◌, List, [], ◌∷◌, sum_
 use Rattle.session_client.specs.declared.plans.Shape.{Shape}
 use Rattle.session_client.specs.declared.plans.Turn.{Turn}
 use Rattle.session_client.specs.declared.plans.Turn.TheVariants.{Session, Tick, Sweep}
-use Rattle.session_client.specs.Plans.{IsPlan}
+use Rattle.session_client.specs.Plans.{IsShape, IsPlan}
 use Rattle.run_inputs.specs.declared.scripts.Act.{Act}
 use Rattle.run_inputs.specs.declared.scripts.Act.TheVariants.{Add, Run}
 
@@ -37,16 +37,6 @@ IsFit begun (Run turn count) = IsTurnOf begun turn
 abbrev pub AreFit : ℕ → List Act → Type 0
 AreFit begun [] = Unit {0}
 AreFit begun (act ∷ acts) = IsFit begun act × AreFit (begun + sessions_of act) acts
-
--- A core can be made of the shape.
-pub record IsShape (shape : Shape) : Type 0 where
-  pub some_members : 1 ≤ shape.members
-  pub few_members : shape.members ≤ 100000
-  pub some_shards : 1 ≤ shape.shards
-  pub few_shards : shape.shards ≤ 64
-  pub some_room : 1 ≤ shape.room
-  pub small_room : shape.room ≤ 65536
-  pub some_life : 1 ≤ shape.life
 
 -- The acts can be run in a core of the shape.
 pub record IsPlayable (shape : Shape) (acts : List Act) : Type 0 where

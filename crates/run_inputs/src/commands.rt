@@ -5,7 +5,7 @@ ghost use Rattle.run_inputs.specs.Words.{AreWork};
 ghost use Rattle.run_inputs.specs.Parsing.{AreNumbers, IsNumberWithin};
 
 use crate::loads::WorkSpec;
-use change_words::number_of;
+use rows_model::number_of;
 
 /// The load that the words ask for, or `None` exactly where they aren't the word `work` and five
 /// numbers in decimal, each within its range: members 1 to 100,000, sessions 0 to 500,000, workers

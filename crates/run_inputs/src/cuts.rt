@@ -7,7 +7,7 @@ ghost use Rattle.run_inputs.specs.Texts.{parts_at, lines_in};
 ghost use Rattle.run_inputs.specs.Lines.{IsSessionNumber, AreNumber, AreCount};
 ghost use Rattle.run_inputs.specs.Parsing.{parts_behind, words_behind};
 
-use change_words::number_of;
+use rows_model::number_of;
 
 // The most turns of one line.
 const MOST_AT_ONCE: u64 = 1_000;

@@ -1,5 +1,5 @@
 -- Which plans a session takes, and what it quarantines.
-use Rattle.std.specs.Prelude.{ℤ, pos, ◌≡◌, Bool, true, false, not, if◌then◌else◌, List, [], filter}
+use Rattle.std.specs.Prelude.{ℤ, pos, ◌≡◌, ◌≤◌, Bool, true, false, not, if◌then◌else◌, List, [], filter}
 use Rattle.rows_model.specs.declared.keys.QKey.{QKey}
 use Rattle.rows_model.specs.declared.changes.Change.{Change}
 use Rattle.lease_table.specs.declared.records.Mode.{Mode}
@@ -7,8 +7,19 @@ use Rattle.lease_table.specs.declared.records.Mode.TheVariants.{Invalidate, Refr
 use Rattle.rows_model.specs.Key.{same_key}
 use Rattle.rows_model.specs.Changes.{touches, footprint, IsTxn}
 use Rattle.rows_model.specs.Delta.{is_count, delta_of}
+use Rattle.session_client.specs.declared.plans.Shape.{Shape}
 use Rattle.session_client.specs.declared.plans.Plan.{Plan}
 use Rattle.session_client.specs.declared.plans.Plan.TheVariants.{Read, Write, Look, Quit, Skip}
+
+-- The limits of a shape.
+pub record IsShape (shape : Shape) : Type 0 where
+  pub some_members : 1 ≤ shape.members
+  pub few_members : shape.members ≤ 100000
+  pub some_shards : 1 ≤ shape.shards
+  pub few_shards : shape.shards ≤ 64
+  pub some_room : 1 ≤ shape.room
+  pub small_room : shape.room ≤ 65536
+  pub some_life : 1 ≤ shape.life
 
 -- A plan that a session takes: a key that it looks at or skips is one that its transaction touches.
 abbrev pub IsPlan : Plan → Type 0
