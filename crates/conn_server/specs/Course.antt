@@ -1,5 +1,5 @@
 -- What was done so far on a connection that is served.
-use Rattle.std.specs.Prelude.{ℕ, ◌-◌, ◌^◌, ◌≡◌, ◌<◌, ◌≤◌, ◌⊎◌, ⊤, min, Bool, true, List, [], ◌++◌, length, take, drop, Option, Result, Ok, Err}
+use Rattle.std.specs.Prelude.{ℕ, ◌+◌, ◌-◌, ◌^◌, ◌≡◌, ◌<◌, ◌≤◌, ◌⊎◌, ⊤, min, Bool, true, List, [], ◌++◌, length, take, drop, Option, Result, Ok, Err}
 use Rattle.iq_outside.specs.Outside.{Takes, Gains, Rose, ReadSide, WriteSide}
 use Rattle.mc_text.specs.Framing.{begun}
 use Rattle.mc_text.specs.Replies.{text_of}
@@ -71,6 +71,34 @@ pub record Ending (end : LineEnd) (start : Start) (reads : ReadSide) (writes : W
   pub ends : EndsSo end done.items done.size (drop done.size done.given) (done.sent ++ serving.out.items) done.told
   pub rose : RoseAt end start reads writes
   pub none_left : NoneLeft end reads.left
+
+-- a connection at a moment: what its line tells of reads and writes, the calls that the desk records, and what is served
+pub record Moment : Type 0 where
+  pub reads : ReadSide
+  pub writes : WriteSide
+  pub calls : Option (List Call)
+  pub serving : Serving
+
+abbrev pub moment : {Line Desk : Type 0} → (Line → ReadSide) → (Line → WriteSide) → (Desk → Option (List Call)) → Line → Desk → Serving → Moment
+moment reads writes calls line desk serving = record { reads = reads line; writes = writes line; calls = calls desk; serving = serving }
+
+-- a connection that went on until the one moment goes on until the other, without a read
+abbrev pub GoesOn : Moment → Moment → Type 0
+GoesOn old new = (start : Start) (rounds : ℕ) →
+    Course start rounds old.reads old.writes old.calls old.serving →
+    Course start rounds new.reads new.writes new.calls new.serving
+
+-- the same with one read
+abbrev pub ReadsOn : Moment → Moment → Type 0
+ReadsOn old new = (start : Start) (rounds : ℕ) →
+    Course start rounds old.reads old.writes old.calls old.serving →
+    Course start (rounds + 1) new.reads new.writes new.calls new.serving
+
+-- a connection that went on until the one moment ends so at the other
+abbrev pub EndsFrom : Moment → Moment → LineEnd → Type 0
+EndsFrom old new end = (start : Start) (rounds : ℕ) →
+    Course start rounds old.reads old.writes old.calls old.serving →
+    Ending end start new.reads new.writes new.calls new.serving
 
 -- a reply was counted and stands behind what is to be written, unless memory ran out for it; more is answered while the budget lasts
 abbrev pub Tells : Result Bool LineEnd → LineReply → Serving → Serving → Type 0

@@ -3,7 +3,7 @@ ghost use Rattle.iq_outside.specs.Outside.{Rose, ReadSide, WriteSide};
 ghost use Rattle.mc_text.specs.Streams.{IsOpen};
 ghost use Rattle.session_client.specs.Desks.{Call};
 ghost use Rattle.conn_server.specs.Answers.{GivenUp};
-ghost use Rattle.conn_server.specs.Course.{Start, Course, Ending, IsUnserved, Finishes, Flushes, Tells, Shuts};
+ghost use Rattle.conn_server.specs.Course.{Start, Course, Ending, moment, GoesOn, ReadsOn, EndsFrom, IsUnserved, Finishes, Flushes, Tells, Shuts};
 ghost use Rattle.conn_server.specs.Service.{IsServed};
 ghost use Rattle.conn_server.specs.declared.ends.LineEnd.TheVariants as ends;
 
@@ -109,16 +109,12 @@ impl Serving {
         requires within { self.old.count < 1000000 }
         requires room { 0 < length room.old }
         ensures within { OnOk result (self.new.count < 1000000) }
-        ensures goes_on { OnOk result ((start : Start) (rounds : ℕ) →
-            Course start rounds (L.read_side line.old) (L.write_side line.old)
-            (D.record_of desk.old) self.old →
-            Course start (rounds + 1) (L.read_side line.new) (L.write_side line.new)
-            (D.record_of desk.new) self.new) }
-        ensures ends { IfErr result (λ end. (start : Start) (rounds : ℕ) →
-            Course start rounds (L.read_side line.old) (L.write_side line.old)
-            (D.record_of desk.old) self.old →
-            Ending end start (L.read_side line.new) (L.write_side line.new)
-            (D.record_of desk.new) self.new) }
+        ensures goes_on { OnOk result (ReadsOn
+            (moment L.read_side L.write_side D.record_of line.old desk.old self.old)
+            (moment L.read_side L.write_side D.record_of line.new desk.new self.new)) }
+        ensures ends { IfErr result (EndsFrom
+            (moment L.read_side L.write_side D.record_of line.old desk.old self.old)
+            (moment L.read_side L.write_side D.record_of line.new desk.new self.new)) }
     {
         self.answer_all(line, desk)?;
         self.flush(line)?;
@@ -130,16 +126,12 @@ impl Serving {
         requires { self.old.count < 1000000 }
         ensures within { OnOk result (self.new.count < 1000000) }
         ensures stops { OnOk result (IsOpen self.new.framer.rest) }
-        ensures goes_on { OnOk result ((start : Start) (rounds : ℕ) →
-            Course start rounds (L.read_side line.old) (L.write_side line.old)
-            (D.record_of desk.old) self.old →
-            Course start rounds (L.read_side line.new) (L.write_side line.new)
-            (D.record_of desk.new) self.new) }
-        ensures ends { IfErr result (λ end. (start : Start) (rounds : ℕ) →
-            Course start rounds (L.read_side line.old) (L.write_side line.old)
-            (D.record_of desk.old) self.old →
-            Ending end start (L.read_side line.new) (L.write_side line.new)
-            (D.record_of desk.new) self.new) }
+        ensures goes_on { OnOk result (GoesOn
+            (moment L.read_side L.write_side D.record_of line.old desk.old self.old)
+            (moment L.read_side L.write_side D.record_of line.new desk.new self.new)) }
+        ensures ends { IfErr result (EndsFrom
+            (moment L.read_side L.write_side D.record_of line.old desk.old self.old)
+            (moment L.read_side L.write_side D.record_of line.new desk.new self.new)) }
     {
         loop {
             if !self.answer_next(desk)? {
