@@ -144,7 +144,7 @@ impl<K: Keeper, H: HubName> Hub<K, H> {
     {
         let place = shard_number(key, self.count);
         let kept = self.lock_at(rt, place);
-        if !kept.is_home(key) {
+        if kept.no() != place {
             wait_for_ever(rt);
         }
         kept

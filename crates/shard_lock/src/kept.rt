@@ -1,5 +1,5 @@
 // What lies under the locks: a shard and the store, each with what is named of it.
-ghost use Rattle.std.specs.Prelude.{◌≡◌, ◌↔◌, IfOk, OnOk, OnErr, IsTrue, length};
+ghost use Rattle.std.specs.Prelude.{◌≡◌, IfOk, OnOk, OnErr, length};
 ghost use Rattle.key_shard.specs.Answers.{IsAtHome, Legal, sweep_step};
 ghost use Rattle.key_shard.specs.Dues.{first_due};
 ghost use Rattle.key_shard.specs.Replies.{sweep_told};
@@ -66,16 +66,10 @@ impl<H: HubName> KeptShard<H> {
 
     /// The shard's number.
     pub fn no(&self) -> u32
-        ensures { result ≡ self.now.terms.no }
+        ensures number { result ≡ self.now.terms.no }
+        ensures named { IsNamed H.terms self.now }
     {
         self.shard.no()
-    }
-
-    /// Whether the key is the shard's.
-    pub fn is_home(&self, key: &QKey) -> bool
-        ensures { IsTrue result ↔ IsAtHome self.now.terms key.now }
-    {
-        self.shard.is_home(key)
     }
 
     /// Looks for the first quarantine, by key and then by token, whose deadline has come.
