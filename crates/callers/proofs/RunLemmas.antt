@@ -43,49 +43,25 @@ use Rattle.core_history.specs.Machine.{Move, terms_of}
 use Rattle.core_history.specs.Truth.{IsTruePast}
 use Rattle.top_run.specs.declared.runs.Status.{Status}
 use Rattle.top_run.specs.declared.runs.Status.TheVariants as status
-use Rattle.top_run.specs.Runs.{Prints, calls_of, AreMoves, AreFirstMoves, past_of, out, Held, Tells, Left, IsRead, IsOpened, Keeps, IsWhole}
+use Rattle.top_run.specs.Runs.{Prints, calls_of, AreMoves, AreFirstMoves, past_of, out, Held, Tells, Left, IsRead, IsOpened, Keeps, IsBegun, IsWhole}
 use Rattle.top_run.specs.Runs.{IsCutOff, IsNotStarted, Ended}
+use Rattle.top_run.proofs.KeepLemmas.{unreversed}
 use Rattle.callers.specs.Shards.{MeetsItsFloor, HitsMeetTheirFloors}
 use Rattle.callers.specs.Runs.{IsFreshRun, IsCleanLoad, IsDoneServer, HitsHoldCommits, AreAlike}
 
--- a run that began
+-- a run that began, and did the first part of its script or all of it
 pub record Began (held : Held) (before after : Tells) (left : Left) : Type 0 where
-  pub shape : Shape
-  pub acts : List Act
-  pub read : IsRead before.left after.left shape acts
-  pub opening : Tables
-  pub opening_is : left.opening ≡ Some opening
-  pub opened : IsOpened held shape opening after.rows
-  pub moves : List Move
+  pub begun : IsBegun held before after left
+  pub open begun use *
   pub made : AreFirstMoves acts moves
-  pub keeps : Keeps shape opening moves after.rows left.log left.histories
 
 began-whole : (held : Held) (before after : Tells) (left : Left) (written : ℕ) (turns : List ℕ)
     → IsWhole held before after left written turns → Began held before after left
-began-whole held before after left written turns h = record {
-  shape = h.shape;
-  acts = h.acts;
-  read = h.read;
-  opening = h.opening;
-  opening_is = h.opening_is;
-  opened = h.opened;
-  moves = h.moves;
-  made = ([], append-nil (map call_of (reverse h.moves)) ∙ h.made);
-  keeps = h.keeps;
-}
+began-whole held before after left written turns h =
+    record { begun = h.begun; made = ([], append-nil (map call_of (reverse h.moves)) ∙ h.made) }
 
 began-cut-off : (held : Held) (before after : Tells) (left : Left) (written : ℕ) → IsCutOff held before after left written → Began held before after left
-began-cut-off held before after left written h = record {
-  shape = h.shape;
-  acts = h.acts;
-  read = h.read;
-  opening = h.opening;
-  opening_is = h.opening_is;
-  opened = h.opened;
-  moves = h.moves;
-  made = h.made;
-  keeps = h.keeps;
-}
+began-cut-off held before after left written h = record { begun = h.begun; made = h.made }
 
 -- a run began or it didn't
 pub began-or-not : (s : Status) (held : Held) (before after : Tells) (left : Left) (written : ℕ)
@@ -259,18 +235,6 @@ one-text : (old old' new new' : Option (List ℕ)) (text text' rest : List ℕ)
     → old ≡ Some rest → old' ≡ old → Takes old new text → AtEnd new → Takes old' new' text' → AtEnd new' → text' ≡ text
 one-text old old' new new' text text' rest is same h k h' k' =
     all-read rest new' text' (sym (same ∙ is) ∙ h') k' ∙ sym (all-read rest new text (sym is ∙ h) k)
-
-backwards : (moves : List Move) → reverse (map call_of (reverse moves)) ≡ map call_of moves
-backwards [] = refl
-backwards (move ∷ moves) =
-    ap (λ (l : List Move). reverse (map call_of l)) (reverse-append (move ∷ []) moves)
-    ∙ ap reverse (map-append call_of (reverse moves) (move ∷ []))
-    ∙ reverse-append (map call_of (reverse moves)) (call_of move ∷ [])
-    ∙ ap (λ (l : List Call). call_of move ∷ l) (backwards moves)
-
--- two lists that do the same in reverse do the same
-unreversed : (moves others : List Move) → map call_of (reverse moves) ≡ map call_of (reverse others) → map call_of moves ≡ map call_of others
-unreversed moves others same = sym (backwards moves) ∙ ap reverse same ∙ backwards others
 
 gained : (old new : Option (List ℕ)) (printed : List ℕ) → old ≡ Some [] → Gains old new printed → new ≡ Some printed
 gained old new printed none h = h ∙ ap (option_map (λ taken. taken ++ printed)) none

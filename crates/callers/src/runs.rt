@@ -1,7 +1,7 @@
 // What whole runs tell who makes them.
 ghost use Rattle.std.specs.Prelude.{◌≡◌, ◌≢◌, ◌<◌, ◌-◌, ◌^◌, [], All, map, Some, None, IfSome, IsSome};
 ghost use Rattle.sql_keeper.specs.Fresh.{Covered};
-ghost use Rattle.top_run.specs.Runs.{Left, moment};
+ghost use Rattle.top_run.specs.Runs.{told_by, moment, seen, histories_at, left_at};
 ghost use Rattle.callers.specs.Shards.{MeetsItsFloor};
 ghost use Rattle.callers.specs.Runs.{IsFreshRun, IsCleanLoad, IsDoneServer, HitsHoldCommits, IsUnharmed, AreAlike};
 ghost use Rattle.run_inputs.specs.Words.{AreWork};
@@ -30,9 +30,9 @@ pub fn run_fresh<S: Source, W: Sink>(
     sink: &mut W,
     keeper: MapKeeper,
 ) -> RunEnd<MapKeeper>
-    ensures { let histories = map (λ history. history.items) result.histories.items in
-        IfSome result.opening (λ opening. IsFreshRun (S.left source.old) (S.left source.new)
-        opening result.keeper.rows result.log.items histories) }
+    ensures { IfSome result.opening (λ opening.
+        IsFreshRun (S.left source.old) (S.left source.new) opening result.keeper.rows
+        result.log.items (histories_at result)) }
 {
     replay(alloc, &Place::Fresh, source, sink, keeper)
 }
@@ -44,9 +44,8 @@ pub fn run_holding_commits<S: Source, W: Sink>(
     sink: &mut W,
     keeper: MapKeeper,
 ) -> RunEnd<MapKeeper>
-    ensures { let histories = map (λ history. history.items) result.histories.items in
-        IfSome result.opening (λ opening.
-        HitsHoldCommits opening result.log.items histories) }
+    ensures { IfSome result.opening (λ opening.
+        HitsHoldCommits opening result.log.items (histories_at result)) }
 {
     run_fresh(alloc, source, sink, keeper)
 }
@@ -61,9 +60,8 @@ pub fn run_serving_writes<S: Source, W: Sink>(
     sink: &mut W,
     keeper: MapKeeper,
 ) -> RunEnd<MapKeeper>
-    ensures { let histories = map (λ history. history.items) result.histories.items in
-        IfSome result.opening (λ opening.
-        HitsAfterWrites opening result.log.items histories) }
+    ensures { IfSome result.opening (λ opening.
+        HitsAfterWrites opening result.log.items (histories_at result)) }
 {
     replay(alloc, &Place::Fresh, source, sink, keeper)
 }
@@ -77,9 +75,8 @@ pub fn run_swept<S: Source, W: Sink, K: Keeper>(
     sink: &mut W,
     keeper: K,
 ) -> RunEnd<K>
-    ensures { let histories = map (λ history. history.items) result.histories.items in
-        IsSome result.opening →
-        IsSweptRun (S.left source.old) (S.left source.new) result.log.items histories }
+    ensures { IsSome result.opening →
+        IsSweptRun (S.left source.old) (S.left source.new) result.log.items (histories_at result) }
 {
     sweeps_are_final();
     replay(alloc, &Place::Fresh, source, sink, keeper)
@@ -92,8 +89,7 @@ pub fn run_above_floors<S: Source, W: Sink, K: Keeper>(
     sink: &mut W,
     keeper: K,
 ) -> RunEnd<K>
-    ensures { let histories = map (λ history. history.items) result.histories.items in
-        All (λ history. All MeetsItsFloor history) histories }
+    ensures { All (λ history. All MeetsItsFloor history) (histories_at result) }
 {
     hits_meet_their_floors();
     replay(alloc, &Place::Fresh, source, sink, keeper)
@@ -107,7 +103,7 @@ pub fn run_covered<S: Source, W: Sink, K: Keeper>(
     sink: &mut W,
     keeper: K,
 ) -> RunEnd<K>
-    ensures { Covered result.log.items (map (λ history. history.items) result.histories.items) }
+    ensures { Covered result.log.items (histories_at result) }
 {
     replay(alloc, &Place::Fresh, source, sink, keeper)
 }
@@ -132,11 +128,9 @@ pub fn run_refused<
     clock: &C,
     gate: &G,
 ) -> RunEnd<K>
-    ensures { let before = moment (S.left source.old) (S.faults source.old)
-        (W.taken sink.old) (W.faults sink.old) (K.rows keeper) (K.faults keeper) in
-        let after = moment (S.left source.new) (S.faults source.new)
-        (W.taken sink.new) (W.faults sink.new) (K.rows result.keeper) (K.faults result.keeper) in
-        result.status ≡ Status.Usage → after ≡ before }
+    ensures { result.status ≡ Status.Usage →
+        seen (told_by S.Source source.new) W.Sink K.Keeper sink.new result.keeper
+        ≡ seen (told_by S.Source source.old) W.Sink K.Keeper sink.old keeper }
 {
     run(rt, alloc, words, source, sink, keeper, door, clock, gate)
 }
@@ -163,17 +157,11 @@ pub fn run_load<
     clock: &C,
     gate: &G,
 ) -> RunEnd<K>
-    ensures { let before = moment (S.left source.old) (S.faults source.old)
-        (W.taken sink.old) (W.faults sink.old) (K.rows keeper) (K.faults keeper) in
-        let after = moment (S.left source.new) (S.faults source.new)
-        (W.taken sink.new) (W.faults sink.new) (K.rows result.keeper) (K.faults result.keeper) in
-        let left : Left = record {
-          opening = result.opening;
-          log = result.log.items;
-          histories = map (λ history. history.items) result.histories.items;
-        } in
-        (spec : WorkSpec) → AreWork (map (λ word. word.items) words.now) spec →
-        result.status ≡ Status.Done → IsCleanLoad spec before after left result.written }
+    ensures { (spec : WorkSpec) → AreWork (map (λ word. word.items) words.now) spec →
+        result.status ≡ Status.Done →
+        let before = seen (told_by S.Source source.old) W.Sink K.Keeper sink.old keeper in
+        let after = seen (told_by S.Source source.new) W.Sink K.Keeper sink.new result.keeper in
+        IsCleanLoad spec before after (left_at result) result.written }
 {
     run(rt, alloc, words, source, sink, keeper, door, clock, gate)
 }
@@ -198,10 +186,9 @@ pub fn run_server<
     clock: &C,
     gate: &G,
 ) -> RunEnd<K>
-    ensures { let histories = map (λ history. history.items) result.histories.items in
-        (spec : ServeSpec) → AreServe (map (λ word. word.items) words.now) spec →
+    ensures { (spec : ServeSpec) → AreServe (map (λ word. word.items) words.now) spec →
         result.status ≡ Status.Done → IsDoneServer spec (W.taken sink.old) (W.taken sink.new)
-        door.new.ended result.ends.items histories result.written }
+        door.new.ended result.ends.items (histories_at result) result.written }
 {
     run(rt, alloc, words, source, sink, keeper, door, clock, gate)
 }
@@ -220,22 +207,13 @@ pub fn run_twice<S: Source, T: Source, W: Sink, V: Sink>(
     requires one_text { T.left second.old ≡ S.left source.old }
     requires empty { W.taken sink.old ≡ Some [] }
     requires empty_too { V.taken other.old ≡ Some [] }
-    ensures { let after = moment (S.left source.new) (S.faults source.new) (W.taken sink.new)
-        (W.faults sink.new) result.0.keeper.rows result.0.keeper.faults in
-        let after_too = moment (T.left second.new) (T.faults second.new) (V.taken other.new)
-        (V.faults other.new) result.1.keeper.rows result.1.keeper.faults in
-        let left : Left = record {
-          opening = result.0.opening;
-          log = result.0.log.items;
-          histories = map (λ history. history.items) result.0.histories.items;
-        } in
-        let left_too : Left = record {
-          opening = result.1.opening;
-          log = result.1.log.items;
-          histories = map (λ history. history.items) result.1.histories.items;
-        } in
+    ensures { let after = moment (told_by S.Source source.new)
+        (W.taken sink.new) (W.faults sink.new) result.0.keeper.rows result.0.keeper.faults in
+        let after_too = moment (told_by T.Source second.new)
+        (V.taken other.new) (V.faults other.new) result.1.keeper.rows result.1.keeper.faults in
         result.0.status ≡ Status.Done → result.1.status ≡ Status.Done →
-        AreAlike after after_too left left_too result.0.written result.1.written }
+        AreAlike after after_too (left_at result.0) (left_at result.1)
+        result.0.written result.1.written }
 {
     texts_tell_scripts();
     runs_are_determined();

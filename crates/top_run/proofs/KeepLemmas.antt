@@ -115,7 +115,7 @@ opened_still held core origin moves rows kept told =
     opened_since held origin.shape origin.opening origin.told rows (λ some. kept.store.telling (subst (λ (r : Option Tables). IsSome r) told some))
 
 -- two lists that do the same in reverse do the same
-unreversed : (moves others : List Move) → map call_of (reverse moves) ≡ map call_of (reverse others) → map call_of moves ≡ map call_of others
+pub unreversed : (moves others : List Move) → map call_of (reverse moves) ≡ map call_of (reverse others) → map call_of moves ≡ map call_of others
 unreversed moves others same = sym (backwards moves) ∙ ap reverse same ∙ backwards others
   where
     backwards : (moves : List Move) → reverse (map call_of (reverse moves)) ≡ map call_of moves

@@ -90,15 +90,13 @@ pub lines_split : (past : List Event) → (last : List ℕ) × (lines_of past �
 lines_split [] = ([], sym (append-nil (lines_of [])))
 lines_split (event ∷ past) = (line_of event, lines_more event past)
 
--- a turn that wasn't told
-pub stopped_at_turn : (core new : CoreView) (origin : Origin) (calls : List Call) (turn : Turn) (taken_old taken_new : Option (List ℕ)) (tally : Tally)
-    → (h : Stands core origin calls taken_old taken_new tally)
-    → HasKept new origin h.moves ⊎ ((said : Said) × HasKept new origin (Take turn said ∷ h.moves))
-    → Stops new origin (calls ++ Turns turn ∷ []) taken_old taken_new tally
-stopped_at_turn core new origin calls turn taken_old taken_new tally h (inl kept) = record {
+-- what stops where it stood
+stops_kept : (core new : CoreView) (origin : Origin) (calls others : List Call) (taken_old taken_new : Option (List ℕ)) (tally : Tally)
+    → (h : Stands core origin calls taken_old taken_new tally) → HasKept new origin h.moves → Stops new origin (calls ++ others) taken_old taken_new tally
+stops_kept core new origin calls others taken_old taken_new tally h kept = record {
   moves = h.moves;
-  others = Turns turn ∷ [];
-  made = ap (λ (xs : List Call). xs ++ Turns turn ∷ []) h.made;
+  others = others;
+  made = ap (λ (xs : List Call). xs ++ others) h.made;
   kept = kept;
   printed = lines_of (past_of origin.shape h.moves);
   more = [];
@@ -107,6 +105,14 @@ stopped_at_turn core new origin calls turn taken_old taken_new tally h (inl kept
   prompt = (lines_split (past_of origin.shape h.moves)).1;
   prints = h.prints;
 }
+
+-- a turn that wasn't told
+pub stopped_at_turn : (core new : CoreView) (origin : Origin) (calls : List Call) (turn : Turn) (taken_old taken_new : Option (List ℕ)) (tally : Tally)
+    → (h : Stands core origin calls taken_old taken_new tally)
+    → HasKept new origin h.moves ⊎ ((said : Said) × HasKept new origin (Take turn said ∷ h.moves))
+    → Stops new origin (calls ++ Turns turn ∷ []) taken_old taken_new tally
+stopped_at_turn core new origin calls turn taken_old taken_new tally h (inl kept) =
+    stops_kept core new origin calls (Turns turn ∷ []) taken_old taken_new tally h kept
 stopped_at_turn core new origin calls turn taken_old taken_new tally h (inr kept) =
     let event = turn_event origin.shape (world_of origin.shape h.moves) turn kept.0 in
     record {
@@ -203,18 +209,7 @@ act_begun core new origin calls a plan taken_old taken_new tally is begins h =
 -- what stops where it stands
 pub stops_here : (core : CoreView) (origin : Origin) (calls others : List Call) (taken_old taken_new : Option (List ℕ)) (tally : Tally)
     → Stands core origin calls taken_old taken_new tally → Stops core origin (calls ++ others) taken_old taken_new tally
-stops_here core origin calls others taken_old taken_new tally h = record {
-  moves = h.moves;
-  others = others;
-  made = ap (λ (xs : List Call). xs ++ others) h.made;
-  kept = h.at.kept;
-  printed = lines_of (past_of origin.shape h.moves);
-  more = [];
-  parts = append-nil (lines_of (past_of origin.shape h.moves));
-  last = (lines_split (past_of origin.shape h.moves)).0;
-  prompt = (lines_split (past_of origin.shape h.moves)).1;
-  prints = h.prints;
-}
+stops_here core origin calls others taken_old taken_new tally h = stops_kept core core origin calls others taken_old taken_new tally h h.at.kept
 
 -- a core that stands somewhere has as many sessions as began there
 sessions_at : (core : CoreView) (origin : Origin) (moves : List Move)

@@ -8,7 +8,7 @@ use Rattle.session_client.specs.declared.plans.Shape.{Shape}
 use Rattle.run_inputs.specs.declared.scripts.Act.{Act}
 use Rattle.run_inputs.specs.Fit.{IsPlayable, turns_of}
 use Rattle.core_history.specs.Lines.{lines_of, end_line, fault_turns}
-use Rattle.core_history.specs.Cores.{CoreView, Origin, origin_of, IsAt, HasKept, IsSound, IsShape, histories_in}
+use Rattle.core_history.specs.Cores.{CoreView, Origin, origin_of, IsAt, HasKept, IsSound, histories_in}
 use Rattle.core_history.specs.Machine.{Move}
 use Rattle.top_run.specs.declared.plays.Stop.{Stop}
 use Rattle.top_run.specs.declared.plays.Stop.TheVariants as stop
@@ -16,7 +16,7 @@ use Rattle.top_run.specs.declared.plays.Tally.{Tally}
 use Rattle.top_run.specs.declared.runs.Status.{Status}
 use Rattle.top_run.specs.declared.runs.Status.TheVariants as status
 use Rattle.core_history.specs.Determined.{Call}
-use Rattle.top_run.specs.Runs.{calls_of, past_of, faults_in, earlier, Held, Prints, IsRead, Tells, Left, IsOpened, AreTold, IsWhole}
+use Rattle.top_run.specs.Runs.{calls_of, past_of, faults_in, earlier, Held, Prints, IsRead, Tells, Left, IsOpened, AreTold, IsBegun, IsWhole}
 use Rattle.top_run.specs.Runs.{IsCutOff, Keeps, Ended, is_read_fault, is_write_fault}
 use Rattle.top_run.specs.Plays.{CanPlay, Stands, Stops, IsNoted, IsNew, IsFinished, IsStopped, status_of, at_write}
 use Rattle.top_run.proofs.PrintLemmas.{lines_none}
@@ -51,19 +51,15 @@ can_start core shape acts taken tally playable h none =
     few_turns : (n : ℕ) → n ≤ 1000000 → 0 + n < 2 ^ 32
     few_turns n h = omega arith
 
--- a core can be made of a playable shape
-pub shape_of : (shape : Shape) (acts : List Act) → IsPlayable shape acts → IsShape shape
-shape_of shape acts h =
-    let fits = h.shape_fits in
-    record {
-      some_members = fits.some_members;
-      few_members = fits.few_members;
-      some_shards = fits.some_shards;
-      few_shards = fits.few_shards;
-      some_room = fits.some_room;
-      little_room = fits.small_room;
-      some_life = fits.some_life;
-    }
+-- where a script's acts were played on a new core, it stands after what they say
+pub stands_played : (core new : CoreView) (shape : Shape) (acts played : List Act) (taken taken_new : Option (List ℕ)) (tally tally_new : Tally)
+    → IsNew core shape → tally ≡ record { written = 0; faulted = false } → played ≡ acts
+    → ((origin : Origin) (calls : List Call) (taken_old : Option (List ℕ))
+    → Stands core origin calls taken_old taken tally → Stands new origin (calls ++ calls_of played) taken_old taken_new tally_new)
+    → Stands new (origin_of shape core) ([] ++ calls_of acts) taken taken_new tally_new
+stands_played core new shape acts played taken taken_new tally tally_new is_new none same on =
+    subst (λ (xs : List Act). Stands new (origin_of shape core) ([] ++ calls_of xs) taken taken_new tally_new) same
+    (on (origin_of shape core) [] taken (stands_new core shape taken tally is_new none))
 
 -- a stop among the turns
 pub stopped_at_act : (core : CoreView) (origin : Origin) (acts : List Act) (taken_old taken_new : Option (List ℕ)) (tally : Tally)
@@ -169,42 +165,38 @@ module _ (held : Held) (core new : CoreView) (shape : Shape)
         none = kept.store.quiet;
       }))
 
-  whole : (tally : Tally) (turns : List ℕ) → (done : IsFinished new (origin_of shape core) acts before.taken after.taken tally)
-      → turns ≡ fault_turns (past_of shape done.moves)
-      → IsWhole held before after (left_by new) tally.written turns
-  whole tally turns done are =
-      let keeps = kept_of done.moves done.kept in
-      record {
-        shape = shape;
-        acts = acts;
-        read = h.read;
-        opening = core.store.ledger.opening;
-        opening_is = ap (λ rows. Some rows) done.kept.store.opening;
-        opened = opened_still held new (origin_of shape core) done.moves after.rows done.kept h.rows h.opened;
-        moves = done.moves;
-        made = done.made;
-        turns_are = are;
-        prints = done.prints;
-        the_text = λ tables is. the_text_is shape acts core.store.ledger.opening turns done.moves done.made (keeps.truth tables is) are;
-        keeps = keeps;
-        told = told_of done.moves done.kept;
-      }
-
-  cut_off : (tally : Tally) → IsStopped new (origin_of shape core) acts before.taken after.taken tally → IsCutOff held before after (left_by new) tally.written
-  cut_off tally stopped = record {
+  abbrev begun : (moves : List Move) → HasKept new (origin_of shape core) moves → IsBegun held before after (left_by new)
+  begun moves kept = record {
     shape = shape;
     acts = acts;
     read = h.read;
     opening = core.store.ledger.opening;
-    opening_is = ap (λ rows. Some rows) stopped.kept.store.opening;
-    opened = opened_still held new (origin_of shape core) stopped.moves after.rows stopped.kept h.rows h.opened;
-    moves = stopped.moves;
+    opening_is = ap (λ rows. Some rows) kept.store.opening;
+    opened = opened_still held new (origin_of shape core) moves after.rows kept h.rows h.opened;
+    moves = moves;
+    keeps = kept_of moves kept;
+    told = told_of moves kept;
+  }
+
+  whole : (tally : Tally) (turns : List ℕ) → (done : IsFinished new (origin_of shape core) acts before.taken after.taken tally)
+      → turns ≡ fault_turns (past_of shape done.moves)
+      → IsWhole held before after (left_by new) tally.written turns
+  whole tally turns done are = record {
+    begun = begun done.moves done.kept;
+    made = done.made;
+    turns_are = are;
+    prints = done.prints;
+    the_text = λ tables is.
+        the_text_is shape acts core.store.ledger.opening turns done.moves done.made ((kept_of done.moves done.kept).truth tables is) are;
+  }
+
+  cut_off : (tally : Tally) → IsStopped new (origin_of shape core) acts before.taken after.taken tally → IsCutOff held before after (left_by new) tally.written
+  cut_off tally stopped = record {
+    begun = begun stopped.moves stopped.kept;
     made = stopped.made;
     printed = stopped.printed;
     part = stopped.part;
     prints = stopped.prints;
-    keeps = kept_of stopped.moves stopped.kept;
-    told = told_of stopped.moves stopped.kept;
   }
 
   done_is : (faulted : Bool) (tally : Tally) → (done : IsFinished new (origin_of shape core) acts before.taken after.taken tally)

@@ -1,14 +1,17 @@
 -- The ends of a server.
 use Rattle.std.proofs.Common.{ℕ, ◌≡◌, ◌≤◌, ◌++◌, ◌∷◌, List, [], length, decimal, append_assoc, arith, ap, sym, ◌∙◌, refl, subst, inl, inr}
-use Rattle.std.specs.Prelude.{◌⊎◌, true, false, codes, Option, None, Some}
+use Rattle.std.specs.Prelude.{◌⊎◌, true, false, codes, Option, None, Some, Vec}
+use Rattle.std.specs.Global.{Global}
+use Rattle.iq_outside.specs.declared.sinks.Sink.{Ghosts as Sinks}
 use Rattle.session_client.specs.declared.plans.Shape.{Shape}
 use Rattle.top_run.specs.declared.runs.Status.{Status}
 use Rattle.top_run.specs.declared.runs.Status.TheVariants as status
+use Rattle.top_run.specs.declared.serves.Served.{Served}
 use Rattle.conn_server.specs.declared.ends.LineEnd.{LineEnd}
 use Rattle.run_words.specs.declared.words.ServeSpec.{ServeSpec}
 use Rattle.top_run.specs.Runs.{Prints, is_read_fault}
 use Rattle.top_run.specs.Works.{IsKept}
-use Rattle.top_run.specs.Serves.{serve_shape, ready_line, served_line, serve_text, IsServedText, IsAttended, Course, IsServed, ServeEnded}
+use Rattle.top_run.specs.Serves.{serve_shape, ready_line, served_line, serve_text, IsServedText, IsAttended, HasServed, Course, IsServed, ServeEnded}
 use Rattle.door_workers.specs.Attending.{GivesBack}
 use Rattle.door_workers.specs.Told.{Told}
 use Rattle.top_run.proofs.PrintLemmas.{print_none}
@@ -53,11 +56,20 @@ unattended spec ended taken_old taken_new before after printed written same clos
 }
 
 -- where memory ran out before the door was bound
-pub unattended_short : (spec : ServeSpec) (taken : Option (List ℕ)) (door : Told) (ends : List LineEnd) → ends ≡ []
+unattended_short : (spec : ServeSpec) (taken : Option (List ℕ)) (door : Told) (ends : List LineEnd) → ends ≡ []
     → IsAttended spec status.Memory taken taken door door ends 0
 unattended_short spec taken door ends none =
     subst (λ (l : List LineEnd). IsAttended spec status.Memory taken taken door door l 0) (sym none)
     (unattended spec status.Memory taken taken door door [] 0 refl refl (λ is. cc) (inl (refl, refl)) (print_none taken))
+
+pub unserved_short : {W : Type 0} (sinks : Sinks W) (spec : ServeSpec) (sink : W) (door : Told) (ends : Vec LineEnd Global) (served : Served)
+    → served ≡ record { status = status.Memory; ends = ends; written = 0 } → ends.items ≡ [] → HasServed sinks spec served sink sink door door
+unserved_short sinks spec sink door ends served is none =
+    subst (λ (s : Served). HasServed sinks spec s sink sink door door) (sym is) (record {
+      attended = unattended_short spec (sinks.taken sink) door ends.items none;
+      writes = (refl, omega arith);
+      doors = (refl, omega arith);
+    })
 
 -- ---- which ends there are
 

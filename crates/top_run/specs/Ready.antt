@@ -1,6 +1,7 @@
 -- What is there before a run over a hub begins.
-use Rattle.std.specs.Prelude.{ℕ, ◌≡◌, ◌≤◌, [], length, All, vec_capacity}
+use Rattle.std.specs.Prelude.{ℕ, ◌≡◌, ◌≤◌, List, [], length, All, vec_capacity}
 use Rattle.key_shard.specs.Past.{Terms}
+use Rattle.key_shard.specs.Shards.{ShardView}
 use Rattle.session_client.specs.declared.plans.Shape.{Shape}
 use Rattle.session_client.specs.Plans.{IsPlan}
 use Rattle.shard_lock.specs.Names.{AreAll, AreLegal}
@@ -21,6 +22,15 @@ pub record AreParts (shape : Shape) (terms : ℕ → Terms) (parts : Parts) : Ty
   pub one_each : parts.ledger.parts ≡ shape.shards
   pub none : parts.histories.items ≡ []
   pub room : shape.shards ≤ vec_capacity parts.histories
+
+-- These make a hub: at most 64 shards with the terms that are named and legal histories, and a ledger that is named so, with
+-- a part for each shard.
+pub record MakeHub (terms : ℕ → Terms) (name parts : ℕ) (shards : List ShardView) (its_name its_parts : ℕ) : Type 0 where
+  pub all : AreAll terms shards
+  pub few : length shards ≤ 64
+  pub legal : AreLegal shards
+  pub is_named : (its_name ≡ name) × (its_parts ≡ parts)
+  pub one_each : its_parts ≡ length shards
 
 -- There are plans for each worker of a load, and the parts of its hub.
 pub record IsReady (spec : WorkSpec) (terms : ℕ → Terms) (ready : Ready) : Type 0 where

@@ -3,11 +3,14 @@ use Rattle.std.specs.Prelude.{ℕ, ◌≡◌, ◌≢◌, ◌+◌, ◌-◌, ◌^�
 use Rattle.std.specs.Prelude.{replicate, flat_map, count_by, Option, Some, None, slice_get, codes}
 use Rattle.std.specs.List.{AllByRecursion}
 use Rattle.std.specs.Option.{ForSome}
+use Rattle.iq_outside.specs.declared.sinks.Sink.{Ghosts as Sinks}
+use Rattle.iq_outside.specs.declared.sources.Source.{Ghosts as Sources}
 use Rattle.iq_outside.specs.Outside.{Rose, Takes, TakesAtMost, AtEnd, Gains}
 use Rattle.rows_model.specs.Rows.{Tables, start_tables}
 use Rattle.key_shard.specs.declared.steps.Step.{Step}
 use Rattle.key_shard.specs.Answers.{Legal}
 use Rattle.sql_keeper.specs.declared.stores.Commit.{Commit}
+use Rattle.sql_keeper.specs.declared.keepers.Keeper.{Ghosts as Keepers}
 use Rattle.sql_keeper.specs.declared.keepers.Place.{Place}
 use Rattle.sql_keeper.specs.declared.keepers.Place.TheVariants.{Fresh}
 use Rattle.sql_keeper.specs.Fresh.{Covered}
@@ -24,6 +27,7 @@ use Rattle.core_history.specs.Lines.{lines_of, end_line, is_fault, fault_turns}
 use Rattle.core_history.specs.Machine.{Move, world_of, terms_of}
 use Rattle.core_history.specs.Freshness.{histories_of, AreQuarantined, IsNumbered}
 use Rattle.core_history.specs.Truth.{IsTruePast}
+use Rattle.top_run.specs.declared.runs.RunEnd.{RunEnd}
 use Rattle.top_run.specs.declared.runs.Status.{Status}
 use Rattle.top_run.specs.declared.runs.Status.TheVariants as status
 
@@ -77,22 +81,42 @@ pub record Tells : Type 0 where
   pub rows : Option Tables
   pub keeps_failed : ℕ
 
+-- What a source tells: the bytes that it will give, and how often it failed.
+pub record Input : Type 0 where
+  pub left : Option (List ℕ)
+  pub faults : ℕ
+
+abbrev pub told_by : {S : Type 0} → Sources S → S → Input
+told_by sources source = record { left = sources.left source; faults = sources.faults source }
+
 -- The moment of which these are known.
-abbrev pub moment : Option (List ℕ) → ℕ → Option (List ℕ) → ℕ → Option Tables → ℕ → Tells
-moment left reads_failed taken writes_failed rows keeps_failed = record {
-  left = left;
-  reads_failed = reads_failed;
+abbrev pub moment : Input → Option (List ℕ) → ℕ → Option Tables → ℕ → Tells
+moment input taken writes_failed rows keeps_failed = record {
+  left = input.left;
+  reads_failed = input.faults;
   taken = taken;
   writes_failed = writes_failed;
   rows = rows;
   keeps_failed = keeps_failed;
 }
 
+-- The moment at which the source tells this, and sink and keeper are these.
+abbrev pub seen : {W K : Type 0} → Input → Sinks W → Keepers K → W → K → Tells
+seen input sinks keepers sink keeper =
+    moment input (sinks.taken sink) (sinks.faults sink) (keepers.rows keeper) (keepers.faults keeper)
+
 -- What a run leaves: the rows that it began with, its log and its histories.
 pub record Left : Type 0 where
   pub opening : Option Tables
   pub log : List Commit
   pub histories : List (List Step)
+
+-- What a run leaves that ended so.
+abbrev pub histories_at : {K : Type 0} → RunEnd K → List (List Step)
+histories_at end = map (λ history. history.items) end.histories.items
+
+abbrev pub left_at : {K : Type 0} → RunEnd K → Left
+left_at end = record { opening = end.opening; log = end.log.items; histories = histories_at end }
 
 -- The place of a run, and the rows that it holds where it is made with so many members, where that is told.
 pub record Held : Type 0 where
@@ -128,9 +152,17 @@ pub record Prints (taken_old taken_new : Option (List ℕ)) (printed : List ℕ)
   pub counted : written ≡ min (length printed) (2 ^ 64 - 1)
 
 -- A count of faults rose where it is said that this failed, and else it is as before.
-abbrev pub RoseWhere : Bool → ℕ → ℕ → Type 0
-RoseWhere true before after = Rose before after
-RoseWhere false before after = after ≡ before
+abbrev pub RoseIf : Bool → ℕ → ℕ → Type 0
+RoseIf true before after = Rose before after
+RoseIf false before after = after ≡ before
+
+-- So is the count of what was handed in as the one and is handed back as the other.
+abbrev pub RoseWhere : {T : Type 0} → (T → ℕ) → Bool → T → T → Type 0
+RoseWhere faults failed old new = RoseIf failed (faults old) (faults new)
+
+-- So it did, and it didn't fall.
+abbrev pub CountsWhere : {T : Type 0} → (T → ℕ) → Bool → T → T → Type 0
+CountsWhere faults failed old new = RoseWhere faults failed old new × (faults old ≤ faults new)
 
 -- There are no more FAULT lines than the keeper's count of faults rose by, unless it came to the end of its type.
 abbrev pub FewFaults : ℕ → ℕ → ℕ → Type 0
@@ -163,9 +195,9 @@ pub record Keeps (shape : Shape) (opening : Tables) (moves : List Move) (rows : 
   pub truth : ForSome rows (λ _. IsTruePast opening (past_of shape moves))
   pub fresh : ForSome rows (λ _. AreFresh opening log histories)
 
--- A script was read, and what it says was done to its end, with these turns answered FAULT: all is printed.
--- Where the keeper tells its rows, it is the one text of the script over the opening rows and these turns.
-pub record IsWhole (held : Held) (before after : Tells) (left : Left) (written : ℕ) (turns : List ℕ) : Type 0 where
+-- A script was read, and a run of it began, which came to these moves: it keeps the rows that it began with, which are those of
+-- the place, and the log and the histories after the moves, and the keeper's count of faults rose with them.
+pub record IsBegun (held : Held) (before after : Tells) (left : Left) : Type 0 where
   pub shape : Shape
   pub acts : List Act
   pub read : IsRead before.left after.left shape acts
@@ -173,12 +205,18 @@ pub record IsWhole (held : Held) (before after : Tells) (left : Left) (written :
   pub opening_is : left.opening ≡ Some opening
   pub opened : IsOpened held shape opening after.rows
   pub moves : List Move
+  pub keeps : Keeps shape opening moves after.rows left.log left.histories
+  pub told : AreTold shape moves before.keeps_failed after.keeps_failed
+
+-- A script was read, and what it says was done to its end, with these turns answered FAULT: all is printed.
+-- Where the keeper tells its rows, it is the one text of the script over the opening rows and these turns.
+pub record IsWhole (held : Held) (before after : Tells) (left : Left) (written : ℕ) (turns : List ℕ) : Type 0 where
+  pub begun : IsBegun held before after left
+  pub open begun use *
   pub made : AreMoves acts moves
   pub turns_are : turns ≡ fault_turns (past_of shape moves)
   pub prints : Prints before.taken after.taken (out shape moves) written
   pub the_text : ForSome after.rows (λ _. IsTheText shape acts opening turns (out shape moves))
-  pub keeps : Keeps shape opening moves after.rows left.log left.histories
-  pub told : AreTold shape moves before.keeps_failed after.keeps_failed
 
 -- The events but the latest.
 abbrev pub earlier : List Event → List Event
@@ -196,19 +234,12 @@ pub record IsFirstPart (shape : Shape) (acts : List Act) (moves : List Move) (pr
 -- A script was read, and what it says was done up to some point, where the run stopped at
 -- once: the first bytes of the lines so far are printed, and of the end line where all was done.
 pub record IsCutOff (held : Held) (before after : Tells) (left : Left) (written : ℕ) : Type 0 where
-  pub shape : Shape
-  pub acts : List Act
-  pub read : IsRead before.left after.left shape acts
-  pub opening : Tables
-  pub opening_is : left.opening ≡ Some opening
-  pub opened : IsOpened held shape opening after.rows
-  pub moves : List Move
+  pub begun : IsBegun held before after left
+  pub open begun use *
   pub made : AreFirstMoves acts moves
   pub printed : List ℕ
   pub part : IsFirstPart shape acts moves printed
   pub prints : Prints before.taken after.taken printed written
-  pub keeps : Keeps shape opening moves after.rows left.log left.histories
-  pub told : AreTold shape moves before.keeps_failed after.keeps_failed
 
 -- Nothing was run: the sink took nothing, and nothing is kept.
 pub record IsNotStarted (before after : Tells) (left : Left) (written : ℕ) : Type 0 where

@@ -1,14 +1,17 @@
 -- What a server prints and keeps, and how its lines ended.
 use Rattle.std.specs.Prelude.{ℕ, ◌≡◌, ◌≤◌, ◌⊎◌, true, List, [], ◌∷◌, ◌++◌, length, Option, codes, decimal}
+use Rattle.iq_outside.specs.declared.sinks.Sink.{Ghosts as Sinks}
 use Rattle.iq_outside.specs.Outside.{Rose}
 use Rattle.rows_model.specs.Rows.{Tables}
 use Rattle.session_client.specs.declared.plans.Shape.{Shape}
 use Rattle.core_history.specs.Lines.{line}
+use Rattle.top_run.specs.declared.runs.RunEnd.{RunEnd}
 use Rattle.top_run.specs.declared.runs.Status.{Status}
 use Rattle.top_run.specs.declared.runs.Status.TheVariants as status
+use Rattle.top_run.specs.declared.serves.Served.{Served}
 use Rattle.conn_server.specs.declared.ends.LineEnd.{LineEnd}
 use Rattle.run_words.specs.declared.words.ServeSpec.{ServeSpec}
-use Rattle.top_run.specs.Runs.{Held, Tells, Left, Prints, IsUnasked, IsNotStarted}
+use Rattle.top_run.specs.Runs.{Held, Tells, Left, left_at, Prints, CountsWhere, is_write_fault, is_door_fault, IsUnasked, IsNotStarted}
 use Rattle.door_workers.specs.Attending.{GivesBack, count_up_by}
 use Rattle.door_workers.specs.Told.{Told}
 use Rattle.top_run.specs.Works.{IsKept}
@@ -55,6 +58,13 @@ pub record IsAttended (spec : ServeSpec) (ended : Status) (taken_old taken_new :
   pub is_text : IsServedText ended (length ends) printed
   pub prints : Prints taken_old taken_new printed written
 
+-- The lines of a server were served so, from a door that told this before and this after, and with this sink handed in and back:
+-- what is so of sink, door and lines, and each count of faults rose exactly where that failed.
+pub record HasServed {W : Type 0} (sinks : Sinks W) (spec : ServeSpec) (served : Served) (old new : W) (before after : Told) : Type 0 where
+  pub attended : IsAttended spec served.status (sinks.taken old) (sinks.taken new) before after served.ends.items served.written
+  pub writes : CountsWhere sinks.faults (is_write_fault served.status) old new
+  pub doors : CountsWhere (λ (door : Told). door.faults) (is_door_fault served.status) before after
+
 -- How a run went: where it was made, what was known before and after it, of its door too, what it leaves, how many bytes were
 -- written, and how each line ended.
 pub record Course : Type 0 where
@@ -66,6 +76,19 @@ pub record Course : Type 0 where
   pub left : Left
   pub ends : List LineEnd
   pub written : ℕ
+
+-- The course of a run that ended so, of which these are known.
+abbrev pub course_of : {K : Type 0} → Held → Tells → Tells → Told → Told → RunEnd K → Course
+course_of held before after door_before door_after end = record {
+  held = held;
+  before = before;
+  after = after;
+  door_before = door_before;
+  door_after = door_after;
+  left = left_at end;
+  ends = end.ends.items;
+  written = end.written;
+}
 
 -- A server ended so that had begun. It leaves what a run over a hub leaves.
 pub record IsServed (spec : ServeSpec) (ended : Status) (course : Course) : Type 0 where

@@ -3,6 +3,7 @@ ghost use Rattle.std.specs.Prelude.{◌≡◌, ◌≤◌, ◌++◌, [], ℕ, Lis
 ghost use Rattle.core_history.specs.Cores.{Origin, HasKept, IsSound, shards_in, histories_in};
 ghost use Rattle.core_history.specs.Machine.{Move};
 ghost use Rattle.top_run.specs.Plays.{status_of, start_status};
+ghost use Rattle.top_run.specs.Runs.{histories_at};
 
 use crate::plays::{Stop, Tally};
 use crate::runs::{RunEnd, Status};
@@ -48,7 +49,7 @@ pub(crate) fn ended_run<K: Keeper>(
     ensures faults { K.faults result.keeper ≡ core.store.faults }
     ensures opening { result.opening ≡ Some core.store.ledger.opening }
     ensures log { result.log.items ≡ core.store.ledger.log }
-    ensures histories { map (λ history. history.items) result.histories.items ≡ histories_in core }
+    ensures histories { histories_at result ≡ histories_in core }
     ensures ends { result.ends.items ≡ [] }
     ensures written { result.written ≡ tally.written }
     ensures sound { (origin : Origin) (moves : List Move) →

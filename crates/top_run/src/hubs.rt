@@ -1,11 +1,12 @@
 // What runs over a hub have in common: the parts of which it is made, the desks, and the end.
-ghost use Rattle.std.specs.Prelude.{◌≡◌, ◌≤◌, [], List, Option, Some, IfOk, length, map, vec_capacity};
+ghost use Rattle.std.specs.Prelude.{◌≡◌, ◌≤◌, [], List, Option, Some, IfOk, length, vec_capacity};
 ghost use Rattle.std.specs.Option.{ForSome};
 ghost use Rattle.sql_keeper.specs.Faults.{FewFailed};
 ghost use Rattle.sql_keeper.specs.Stores.{rows_of};
 ghost use Rattle.core_history.specs.Machine.{terms_of};
 ghost use Rattle.run_audit.specs.Findings.{histories_in};
 ghost use Rattle.top_run.specs.Ready.{AreParts};
+ghost use Rattle.top_run.specs.Runs.{histories_at};
 
 use crate::endings::histories_of;
 use crate::runs::{RunEnd, Status};
@@ -85,8 +86,7 @@ pub(crate) fn ended_hub<K: Keeper, N: Start>(
     ensures opening { result.opening ≡ Some store.ledger.opening }
     ensures log { result.log.items ≡ store.ledger.log }
     ensures short { length store.ledger.log ≤ store.ledger.cap }
-    ensures histories { map (λ history. history.items) result.histories.items
-        ≡ histories_in shards.items }
+    ensures histories { histories_at result ≡ histories_in shards.items }
     ensures ends { result.ends ≡ ends }
     ensures written { result.written ≡ written }
     ensures told { ForSome store.told (λ told. told ≡ rows_of store.ledger) }

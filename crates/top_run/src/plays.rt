@@ -81,7 +81,7 @@ pub(crate) fn play<W: Sink, K: Keeper>(
         Stands core.old origin calls taken (W.taken sink.old) tally.old →
         OnErr result (Stops core.new origin (calls ++ calls_of acts.items) taken
         (W.taken sink.new) tally.new) }
-    ensures counts { RoseWhere (at_write result) (W.faults sink.old) (W.faults sink.new) }
+    ensures counts { RoseWhere W.faults (at_write result) sink.old sink.new }
     ensures never_falls { W.faults sink.old ≤ W.faults sink.new }
 {
     for act in acts {
@@ -106,7 +106,7 @@ fn play_act<W: Sink, K: Keeper>(
         Stands core.old origin calls taken (W.taken sink.old) tally.old →
         OnErr result (Stops core.new origin (calls ++ calls_in act) taken
         (W.taken sink.new) tally.new) }
-    ensures counts { RoseWhere (at_write result) (W.faults sink.old) (W.faults sink.new) }
+    ensures counts { RoseWhere W.faults (at_write result) sink.old sink.new }
     ensures never_falls { W.faults sink.old ≤ W.faults sink.new }
 {
     match act {
@@ -135,7 +135,7 @@ fn take_turns<W: Sink, K: Keeper>(
         Stands core.old origin calls taken (W.taken sink.old) tally.old →
         OnErr result (Stops core.new origin (calls ++ replicate count (Turns turn)) taken
         (W.taken sink.new) tally.new) }
-    ensures counts { RoseWhere (at_write result) (W.faults sink.old) (W.faults sink.new) }
+    ensures counts { RoseWhere W.faults (at_write result) sink.old sink.new }
     ensures never_falls { W.faults sink.old ≤ W.faults sink.new }
 {
     for _taken in 0..count {
@@ -161,7 +161,7 @@ fn take_turn<W: Sink, K: Keeper>(
         Stands core.old origin calls taken (W.taken sink.old) tally.old →
         OnErr result (Stops core.new origin (calls ++ Turns turn ∷ []) taken
         (W.taken sink.new) tally.new) }
-    ensures counts { RoseWhere (at_write result) (W.faults sink.old) (W.faults sink.new) }
+    ensures counts { RoseWhere W.faults (at_write result) sink.old sink.new }
     ensures never_falls { W.faults sink.old ≤ W.faults sink.new }
 {
     let told = core.step(turn)?;

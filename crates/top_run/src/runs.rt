@@ -1,12 +1,12 @@
-ghost use Rattle.std.specs.Prelude.{◌≡◌, ◌≢◌, false, ◌≤◌, ◌<◌, ◌-◌, ◌^◌, ◌↔◌, ◌∷◌, [], ℕ, List, Option, None, OnOk, IsTrue, IsSome, codes, map, IfOk, IfErr, OnErr, vec_capacity};
+ghost use Rattle.std.specs.Prelude.{◌≡◌, ◌≢◌, false, ◌≤◌, ◌<◌, ◌-◌, ◌^◌, ◌↔◌, ◌∷◌, [], Option, None, OnOk, IsTrue, IsSome, codes, map, IfOk, IfErr, OnErr, vec_capacity};
 ghost use Rattle.std.specs.Bool.{IsFalse};
 ghost use Rattle.rows_model.specs.Rows.{Tables};
 ghost use Rattle.run_inputs.specs.Fit.{IsPlayable};
 ghost use Rattle.core_history.specs.Cores.{shards_in, origin_of};
 ghost use Rattle.top_run.specs.declared.runs.Status.{Status};
-ghost use Rattle.top_run.specs.Runs.{AreReplay, Ended, Held, Left, held_at, moment, IsRead, IsOpened, RoseWhere, is_read_fault, is_write_fault, is_door_fault};
+ghost use Rattle.top_run.specs.Runs.{AreReplay, Ended, Held, Input, told_by, moment, seen, held_at, left_at, IsRead, IsOpened, RoseWhere, CountsWhere, is_read_fault, is_write_fault, is_door_fault};
 ghost use Rattle.top_run.specs.Commands.{AreNoCommand, CommandEnded};
-ghost use Rattle.top_run.specs.Serves.{Course};
+ghost use Rattle.top_run.specs.Serves.{course_of};
 ghost use Rattle.door_workers.specs.Attending.{told};
 ghost use Rattle.top_run.specs.Plays.{IsNew, IsFinished, IsStopped, IsUnread, at_write};
 
@@ -99,24 +99,14 @@ pub fn replay<S: Source, W: Sink, K: Keeper>(
 ) -> RunEnd<K>
     ensures is_command { result.status ≢ Status.Usage }
     ensures no_ends { result.ends.items ≡ [] }
-    ensures ended { let before = moment (S.left source.old) (S.faults source.old)
-        (W.taken sink.old) (W.faults sink.old) (K.rows keeper) (K.faults keeper) in
-        let after = moment (S.left source.new) (S.faults source.new)
-        (W.taken sink.new) (W.faults sink.new)
-        (K.rows result.keeper) (K.faults result.keeper) in
-        let left : Left = record {
-          opening = result.opening;
-          log = result.log.items;
-          histories = map (λ history. history.items) result.histories.items;
-        } in
-        Ended result.status (held_at place.now (K.holds keeper place.now)) before after left
-        result.written }
+    ensures ended { let held = held_at place.now (K.holds keeper place.now) in
+        let before = seen (told_by S.Source source.old) W.Sink K.Keeper sink.old keeper in
+        let after = seen (told_by S.Source source.new) W.Sink K.Keeper sink.new result.keeper in
+        Ended result.status held before after (left_at result) result.written }
     ensures started { IsSome result.opening → K.is_started result.keeper }
     ensures unstarted { result.opening ≡ None → K.is_started result.keeper → K.is_started keeper }
-    ensures reads { RoseWhere (is_read_fault result.status)
-        (S.faults source.old) (S.faults source.new) }
-    ensures writes { RoseWhere (is_write_fault result.status)
-        (W.faults sink.old) (W.faults sink.new) }
+    ensures reads { RoseWhere S.faults (is_read_fault result.status) source.old source.new }
+    ensures writes { RoseWhere W.faults (is_write_fault result.status) sink.old sink.new }
     ensures done { result.status ≡ Status.Done → K.faults result.keeper ≡ K.faults keeper }
     ensures faultless { K.faults result.keeper ≡ K.faults keeper → K.faults keeper < 2 ^ 64 - 1 →
         result.status ≢ Status.KeepFault }
@@ -170,32 +160,17 @@ pub fn run<
 ) -> RunEnd<K>
     ensures usage { result.status ≡ Status.Usage →
         AreNoCommand (map (λ word. word.items) words.now) }
-    ensures ended { let course : Course = record {
-      held = held_at Place.Fresh (K.holds keeper Place.Fresh);
-      before = moment (S.left source.old) (S.faults source.old)
-          (W.taken sink.old) (W.faults sink.old) (K.rows keeper) (K.faults keeper);
-      after = moment (S.left source.new) (S.faults source.new)
-          (W.taken sink.new) (W.faults sink.new)
-          (K.rows result.keeper) (K.faults result.keeper);
-      door_before = told D.lines D.faults D.ended D.closed door.old;
-      door_after = told D.lines D.faults D.ended D.closed door.new;
-      left = record {
-        opening = result.opening;
-        log = result.log.items;
-        histories = map (λ history. history.items) result.histories.items;
-      };
-      ends = result.ends.items;
-      written = result.written;
-    } in
-        CommandEnded (map (λ word. word.items) words.now) result.status course }
+    ensures ended { let held = held_at Place.Fresh (K.holds keeper Place.Fresh) in
+        let before = seen (told_by S.Source source.old) W.Sink K.Keeper sink.old keeper in
+        let after = seen (told_by S.Source source.new) W.Sink K.Keeper sink.new result.keeper in
+        let tells = told D.lines D.faults D.ended D.closed in
+        CommandEnded (map (λ word. word.items) words.now) result.status
+        (course_of held before after (tells door.old) (tells door.new) result) }
     ensures started { IsSome result.opening → K.is_started result.keeper }
     ensures unstarted { result.opening ≡ None → K.is_started result.keeper → K.is_started keeper }
-    ensures reads { RoseWhere (is_read_fault result.status)
-        (S.faults source.old) (S.faults source.new) }
-    ensures writes { RoseWhere (is_write_fault result.status)
-        (W.faults sink.old) (W.faults sink.new) }
-    ensures doors { RoseWhere (is_door_fault result.status)
-        (D.faults door.old) (D.faults door.new) }
+    ensures reads { RoseWhere S.faults (is_read_fault result.status) source.old source.new }
+    ensures writes { RoseWhere W.faults (is_write_fault result.status) sink.old sink.new }
+    ensures doors { RoseWhere D.faults (is_door_fault result.status) door.old door.new }
     ensures done { AreReplay (map (λ word. word.items) words.now) → result.status ≡ Status.Done →
         K.faults result.keeper ≡ K.faults keeper }
     ensures faultless { K.faults result.keeper ≡ K.faults keeper → K.faults keeper < 2 ^ 64 - 1 →
@@ -224,7 +199,7 @@ fn read_script<S: Source>(alloc: Global, source: &mut S) -> Result<Script, Statu
         IsUnread status (S.left source.old) (S.left source.new)) }
     ensures no_fault { OnOk result (S.faults source.new ≡ S.faults source.old) }
     ensures counts { IfErr result (λ status.
-        RoseWhere (is_read_fault status) (S.faults source.old) (S.faults source.new)) }
+        RoseWhere S.faults (is_read_fault status) source.old source.new) }
     ensures never_falls { S.faults source.old ≤ S.faults source.new }
 {
     let read = match read_up_to(alloc, source, LONGEST_TEXT + 1) {
@@ -249,28 +224,18 @@ fn replay_script<W: Sink, K: Keeper>(
     keeper: K,
 ) -> RunEnd<K>
     requires { IsPlayable script.shape script.acts }
-    ensures ended { (left_old left_new : Option (List ℕ)) (reads : ℕ) →
-        IsRead left_old left_new script.shape script.acts →
-        let before = moment left_old reads
-        (W.taken sink.old) (W.faults sink.old) (K.rows keeper) (K.faults keeper) in
-        let after = moment left_new reads
-        (W.taken sink.new) (W.faults sink.new)
-        (K.rows result.keeper) (K.faults result.keeper) in
-        let left : Left = record {
-          opening = result.opening;
-          log = result.log.items;
-          histories = map (λ history. history.items) result.histories.items;
-        } in
-        Ended result.status (held_at place.now (K.holds keeper place.now)) before after left
-        result.written }
+    ensures ended { (unread read : Input) →
+        IsRead unread.left read.left script.shape script.acts →
+        let before = seen unread W.Sink K.Keeper sink.old keeper in
+        let after = seen read W.Sink K.Keeper sink.new result.keeper in
+        Ended result.status (held_at place.now (K.holds keeper place.now)) before after
+        (left_at result) result.written }
     ensures other { result.status ≢ Status.Usage }
     ensures no_ends { result.ends.items ≡ [] }
     ensures no_read_fault { IsFalse (is_read_fault result.status) }
     ensures started { IsSome result.opening → K.is_started result.keeper }
     ensures unstarted { result.opening ≡ None → K.is_started result.keeper → K.is_started keeper }
-    ensures writes { RoseWhere (is_write_fault result.status)
-        (W.faults sink.old) (W.faults sink.new) }
-    ensures sink_never_falls { W.faults sink.old ≤ W.faults sink.new }
+    ensures writes { CountsWhere W.faults (is_write_fault result.status) sink.old sink.new }
     ensures keeper_never_falls { K.faults keeper ≤ K.faults result.keeper }
 {
     let Ok(histories) = Vec::with_capacity(alloc, script.shape().shards as usize) else {
@@ -294,29 +259,18 @@ fn play_on<W: Sink, K: Keeper>(
     requires new { IsNew core script.shape }
     requires none { histories.items ≡ [] }
     requires room { script.shape.shards ≤ vec_capacity histories }
-    ensures ended { (left_old left_new : Option (List ℕ)) (reads : ℕ) (rows : Option Tables)
-        (held : Held) →
-        IsRead left_old left_new script.shape script.acts →
+    ensures ended { (unread read : Input) (rows : Option Tables) (held : Held) →
+        IsRead unread.left read.left script.shape script.acts →
         IsOpened held script.shape core.store.ledger.opening core.store.told →
-        let before = moment left_old reads
-        (W.taken sink.old) (W.faults sink.old) rows core.store.faults in
-        let after = moment left_new reads
-        (W.taken sink.new) (W.faults sink.new)
-        (K.rows result.keeper) (K.faults result.keeper) in
-        let left : Left = record {
-          opening = result.opening;
-          log = result.log.items;
-          histories = map (λ history. history.items) result.histories.items;
-        } in
-        Ended result.status held before after left result.written }
+        let before = moment unread (W.taken sink.old) (W.faults sink.old) rows core.store.faults in
+        let after = seen read W.Sink K.Keeper sink.new result.keeper in
+        Ended result.status held before after (left_at result) result.written }
     ensures other { result.status ≢ Status.Usage }
     ensures no_ends { result.ends.items ≡ [] }
     ensures no_read_fault { IsFalse (is_read_fault result.status) }
     ensures started { K.is_started result.keeper }
     ensures began { IsSome result.opening }
-    ensures writes { RoseWhere (is_write_fault result.status)
-        (W.faults sink.old) (W.faults sink.new) }
-    ensures sink_never_falls { W.faults sink.old ≤ W.faults sink.new }
+    ensures writes { CountsWhere W.faults (is_write_fault result.status) sink.old sink.new }
     ensures keeper_never_falls { core.store.faults ≤ K.faults result.keeper }
 {
     let mut core = core;
@@ -345,7 +299,7 @@ fn play_whole<W: Sink, K: Keeper>(
     ensures some { OnErr result (IsStopped core.new
         (origin_of script.shape core.old) script.acts
         (W.taken sink.old) (W.taken sink.new) tally.new) }
-    ensures counts { RoseWhere (at_write result) (W.faults sink.old) (W.faults sink.new) }
+    ensures counts { RoseWhere W.faults (at_write result) sink.old sink.new }
     ensures never_falls { W.faults sink.old ≤ W.faults sink.new }
 {
     play(core, script.into_acts(), sink, tally)?;

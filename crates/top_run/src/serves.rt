@@ -1,13 +1,13 @@
 // A server: connections from a door, each served by a worker on a desk of its own over one hub.
-ghost use Rattle.std.specs.Prelude.{◌≡◌, ◌≢◌, ◌≤◌, ◌++◌, ℕ, [], List, Option, Some, None, IfOk, IfErr, OnOk, IsSome, length, map, vec_capacity};
+ghost use Rattle.std.specs.Prelude.{◌≡◌, ◌≢◌, ◌≤◌, ◌++◌, ℕ, [], List, Option, Some, None, IfOk, IfErr, OnOk, IsSome, length, vec_capacity};
 ghost use Rattle.std.specs.Bool.{IsFalse};
 ghost use Rattle.std.specs.Option.{ForSome};
 ghost use Rattle.rows_model.specs.Rows.{Tables};
 ghost use Rattle.core_history.specs.Machine.{terms_of, log_cap};
 ghost use Rattle.shard_lock.specs.Names.{AreAll, AreLegal, IsNamedStore};
-ghost use Rattle.top_run.specs.Ready.{IsServeReady};
-ghost use Rattle.top_run.specs.Runs.{Held, Left, Prints, held_at, moment, IsOpened, RoseWhere, is_read_fault, is_write_fault, is_door_fault};
-ghost use Rattle.top_run.specs.Serves.{serve_shape, ready_line, served_line, IsServedText, IsAttended, Course, ServeEnded};
+ghost use Rattle.top_run.specs.Ready.{IsServeReady, MakeHub};
+ghost use Rattle.top_run.specs.Runs.{Held, Input, Prints, moment, seen, held_at, IsOpened, RoseWhere, CountsWhere, is_read_fault, is_write_fault, is_door_fault};
+ghost use Rattle.top_run.specs.Serves.{serve_shape, ready_line, served_line, IsServedText, HasServed, course_of, ServeEnded};
 ghost use Rattle.run_words.specs.Words.{IsServe};
 ghost use Rattle.door_workers.specs.Attending.{told};
 ghost use Rattle.top_run.specs.Works.{IsNameOf};
@@ -57,32 +57,17 @@ pub(crate) fn serve<
     gate: &G,
 ) -> RunEnd<K>
     requires { IsServe spec.now }
-    ensures ended { (unread : Option (List ℕ)) (reads : ℕ) →
-        let course : Course = record {
-          held = held_at Place.Fresh (K.holds keeper Place.Fresh);
-          before = moment unread reads
-              (W.taken sink.old) (W.faults sink.old) (K.rows keeper) (K.faults keeper);
-          after = moment unread reads (W.taken sink.new) (W.faults sink.new)
-              (K.rows result.keeper) (K.faults result.keeper);
-          door_before = told D.lines D.faults D.ended D.closed door.old;
-          door_after = told D.lines D.faults D.ended D.closed door.new;
-          left = record {
-            opening = result.opening;
-            log = result.log.items;
-            histories = map (λ history. history.items) result.histories.items;
-          };
-          ends = result.ends.items;
-          written = result.written;
-        } in
-        ServeEnded result.status spec.now course }
+    ensures ended { (unread : Input) →
+        let held = held_at Place.Fresh (K.holds keeper Place.Fresh) in
+        let before = seen unread W.Sink K.Keeper sink.old keeper in
+        let after = seen unread W.Sink K.Keeper sink.new result.keeper in
+        let tells = told D.lines D.faults D.ended D.closed in
+        ServeEnded result.status spec.now
+        (course_of held before after (tells door.old) (tells door.new) result) }
     ensures started { IsSome result.opening → K.is_started result.keeper }
     ensures unstarted { result.opening ≡ None → K.is_started result.keeper → K.is_started keeper }
-    ensures writes { RoseWhere (is_write_fault result.status)
-        (W.faults sink.old) (W.faults sink.new) }
-    ensures doors { RoseWhere (is_door_fault result.status)
-        (D.faults door.old) (D.faults door.new) }
-    ensures sink_never_falls { W.faults sink.old ≤ W.faults sink.new }
-    ensures door_never_falls { D.faults door.old ≤ D.faults door.new }
+    ensures writes { CountsWhere W.faults (is_write_fault result.status) sink.old sink.new }
+    ensures doors { CountsWhere D.faults (is_door_fault result.status) door.old door.new }
     ensures command { result.status ≢ Status.Usage }
     ensures no_read_fault { IsFalse (is_read_fault result.status) }
     ensures keeper_never_falls { K.faults keeper ≤ K.faults result.keeper }
@@ -154,34 +139,17 @@ fn serve_on<
     requires new { store.ledger.failed ≡ 0 }
     requires ready { IsServeReady spec.now H.terms ready }
     requires ledger { (ready.parts.ledger.name ≡ H.name) × (ready.parts.ledger.parts ≡ H.parts) }
-    ensures ended { (unread : Option (List ℕ)) (reads : ℕ) (rows : Option Tables)
-        (held : Held) →
+    ensures ended { (unread : Input) (rows : Option Tables) (held : Held) →
         IsOpened held (serve_shape spec.now) store.ledger.opening store.told →
-        let course : Course = record {
-          held = held;
-          before = moment unread reads
-              (W.taken sink.old) (W.faults sink.old) rows store.faults;
-          after = moment unread reads (W.taken sink.new) (W.faults sink.new)
-              (K.rows result.keeper) (K.faults result.keeper);
-          door_before = told D.lines D.faults D.ended D.closed door.old;
-          door_after = told D.lines D.faults D.ended D.closed door.new;
-          left = record {
-            opening = result.opening;
-            log = result.log.items;
-            histories = map (λ history. history.items) result.histories.items;
-          };
-          ends = result.ends.items;
-          written = result.written;
-        } in
-        ServeEnded result.status spec.now course }
+        let before = moment unread (W.taken sink.old) (W.faults sink.old) rows store.faults in
+        let after = seen unread W.Sink K.Keeper sink.new result.keeper in
+        let tells = told D.lines D.faults D.ended D.closed in
+        ServeEnded result.status spec.now
+        (course_of held before after (tells door.old) (tells door.new) result) }
     ensures started { K.is_started result.keeper }
     ensures began { IsSome result.opening }
-    ensures writes { RoseWhere (is_write_fault result.status)
-        (W.faults sink.old) (W.faults sink.new) }
-    ensures doors { RoseWhere (is_door_fault result.status)
-        (D.faults door.old) (D.faults door.new) }
-    ensures sink_never_falls { W.faults sink.old ≤ W.faults sink.new }
-    ensures door_never_falls { D.faults door.old ≤ D.faults door.new }
+    ensures writes { CountsWhere W.faults (is_write_fault result.status) sink.old sink.new }
+    ensures doors { CountsWhere D.faults (is_door_fault result.status) door.old door.new }
     ensures command { result.status ≢ Status.Usage }
     ensures no_read_fault { IsFalse (is_read_fault result.status) }
     ensures keeper_never_falls { store.faults ≤ K.faults result.keeper }
@@ -257,28 +225,16 @@ fn serve_hub<
 ) -> Ran<K, H>
     requires serve { IsServe spec.now }
     requires store { IsNamedStore H.opening H.cap H.told H.start store }
-    requires shards { AreAll H.terms shards.items }
-    requires few { length shards.items ≤ 64 }
-    requires legal { AreLegal shards.items }
-    requires ledger { (ledger.name ≡ H.name) × (ledger.parts ≡ H.parts) }
-    requires one_each { ledger.parts ≡ length shards.items }
+    requires parts { MakeHub H.terms H.name H.parts shards.items ledger.name ledger.parts }
     requires none { ends.items ≡ [] }
     requires room { spec.now.conns ≤ vec_capacity ends }
     ensures store { IsNamedStore H.opening H.cap H.told H.start result.store }
     ensures as_many { length result.shards.items ≡ length shards.items }
     ensures all { AreAll H.terms result.shards.items }
     ensures legal { AreLegal result.shards.items }
-    ensures attended { IsAttended spec.now result.served.status
-        (W.taken sink.old) (W.taken sink.new)
-        (told D.lines D.faults D.ended D.closed door.old)
-        (told D.lines D.faults D.ended D.closed door.new)
-        result.served.ends.items result.served.written }
-    ensures writes { RoseWhere (is_write_fault result.served.status)
-        (W.faults sink.old) (W.faults sink.new) }
-    ensures doors { RoseWhere (is_door_fault result.served.status)
-        (D.faults door.old) (D.faults door.new) }
-    ensures sink_never_falls { W.faults sink.old ≤ W.faults sink.new }
-    ensures door_never_falls { D.faults door.old ≤ D.faults door.new }
+    ensures served { let tells = told D.lines D.faults D.ended D.closed in
+        HasServed W.Sink spec.now result.served sink.old sink.new
+        (tells door.old) (tells door.new) }
 {
     match Hub::new(alloc, store, shards, ledger) {
         Ok(hub) => {
@@ -332,16 +288,8 @@ fn serve_over<
     requires serve { IsServe spec.now }
     requires none { ends.items ≡ [] }
     requires room { spec.now.conns ≤ vec_capacity ends }
-    ensures attended { IsAttended spec.now result.status (W.taken sink.old) (W.taken sink.new)
-        (told D.lines D.faults D.ended D.closed door.old)
-        (told D.lines D.faults D.ended D.closed door.new)
-        result.ends.items result.written }
-    ensures writes { RoseWhere (is_write_fault result.status)
-        (W.faults sink.old) (W.faults sink.new) }
-    ensures doors { RoseWhere (is_door_fault result.status)
-        (D.faults door.old) (D.faults door.new) }
-    ensures sink_never_falls { W.faults sink.old ≤ W.faults sink.new }
-    ensures door_never_falls { D.faults door.old ≤ D.faults door.new }
+    ensures { let tells = told D.lines D.faults D.ended D.closed in
+        HasServed W.Sink spec.now result sink.old sink.new (tells door.old) (tells door.new) }
 {
     match desks_over(rt, alloc, hub, spec.workers, clock, gate) {
         Ok(mut desks) => serve_with(rt, alloc, spec, sink, desks.as_mut_slice(), door, ends),
@@ -362,16 +310,8 @@ fn serve_with<W: Sink, K: Desk + Send, D: Door, R: Threads + Wait + Sync>(
     requires some { 1 ≤ length desks.old }
     requires none { ends.items ≡ [] }
     requires room { spec.now.conns ≤ vec_capacity ends }
-    ensures attended { IsAttended spec.now result.status (W.taken sink.old) (W.taken sink.new)
-        (told D.lines D.faults D.ended D.closed door.old)
-        (told D.lines D.faults D.ended D.closed door.new)
-        result.ends.items result.written }
-    ensures writes { RoseWhere (is_write_fault result.status)
-        (W.faults sink.old) (W.faults sink.new) }
-    ensures doors { RoseWhere (is_door_fault result.status)
-        (D.faults door.old) (D.faults door.new) }
-    ensures sink_never_falls { W.faults sink.old ≤ W.faults sink.new }
-    ensures door_never_falls { D.faults door.old ≤ D.faults door.new }
+    ensures { let tells = told D.lines D.faults D.ended D.closed in
+        HasServed W.Sink spec.now result sink.old sink.new (tells door.old) (tells door.new) }
 {
     let mut written = 0;
     if let Err(status) = open_up(spec.addr.as_slice(), sink, door, &mut written) {
@@ -413,10 +353,10 @@ fn open_up<W: Sink, D: Door>(
     ensures keeps_closed { D.closed door.new ≡ D.closed door.old }
     ensures ok_writes { OnOk result (W.faults sink.new ≡ W.faults sink.old) }
     ensures ok_doors { OnOk result (D.faults door.new ≡ D.faults door.old) }
-    ensures writes { IfErr result (λ status. RoseWhere (is_write_fault status)
-        (W.faults sink.old) (W.faults sink.new)) }
-    ensures doors { IfErr result (λ status. RoseWhere (is_door_fault status)
-        (D.faults door.old) (D.faults door.new)) }
+    ensures writes { IfErr result (λ status.
+        RoseWhere W.faults (is_write_fault status) sink.old sink.new) }
+    ensures doors { IfErr result (λ status.
+        RoseWhere D.faults (is_door_fault status) door.old door.new) }
     ensures unfinished { IfErr result (λ status. status ≢ Status.Done) }
     ensures sink_never_falls { W.faults sink.old ≤ W.faults sink.new }
     ensures door_never_falls { D.faults door.old ≤ D.faults door.new }
@@ -436,7 +376,7 @@ fn close_up<W: Sink>(alloc: Global, sink: &mut W, written: &mut u64, lines: usiz
         Prints taken (W.taken sink.old) ready_line written.old →
         (printed : List ℕ) × IsServedText result lines printed ×
         Prints taken (W.taken sink.new) printed written.new }
-    ensures writes { RoseWhere (is_write_fault result) (W.faults sink.old) (W.faults sink.new) }
+    ensures writes { RoseWhere W.faults (is_write_fault result) sink.old sink.new }
     ensures no_door_fault { IsFalse (is_door_fault result) }
     ensures sink_never_falls { W.faults sink.old ≤ W.faults sink.new }
 {

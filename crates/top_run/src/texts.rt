@@ -1,8 +1,8 @@
 // A text that the words ask for.
-ghost use Rattle.std.specs.Prelude.{◌≡◌, ◌≢◌, ◌≤◌, ℕ, [], List, Option, None, map};
+ghost use Rattle.std.specs.Prelude.{◌≡◌, ◌≢◌, ◌≤◌, ℕ, [], List, Option, None};
 ghost use Rattle.std.specs.Bool.{IsFalse};
 ghost use Rattle.top_run.specs.Commands.{IsTextPart, IsTextTold};
-ghost use Rattle.top_run.specs.Runs.{Left, Prints, moment, RoseWhere, is_read_fault, is_write_fault, is_door_fault};
+ghost use Rattle.top_run.specs.Runs.{Input, Prints, seen, left_at, RoseWhere, CountsWhere, is_read_fault, is_write_fault, is_door_fault};
 ghost use Rattle.top_run.specs.declared.runs.Status.{Status};
 
 use crate::endings::not_started;
@@ -19,23 +19,14 @@ pub(crate) fn tell<W: Sink, K: Keeper>(
     sink: &mut W,
     keeper: K,
 ) -> RunEnd<K>
-    ensures told { (unread : Option (List ℕ)) (reads : ℕ) →
-        let before = moment unread reads
-        (W.taken sink.old) (W.faults sink.old) (K.rows keeper) (K.faults keeper) in
-        let after = moment unread reads
-        (W.taken sink.new) (W.faults sink.new) (K.rows result.keeper) (K.faults result.keeper) in
-        let left : Left = record {
-          opening = result.opening;
-          log = result.log.items;
-          histories = map (λ history. history.items) result.histories.items;
-        } in
-        IsTextTold text.now result.status before after left result.written }
+    ensures told { (unread : Input) →
+        let before = seen unread W.Sink K.Keeper sink.old keeper in
+        let after = seen unread W.Sink K.Keeper sink.new result.keeper in
+        IsTextTold text.now result.status before after (left_at result) result.written }
     ensures keeper { result.keeper ≡ keeper }
     ensures opening { result.opening ≡ None }
     ensures no_ends { result.ends.items ≡ [] }
-    ensures writes { RoseWhere (is_write_fault result.status)
-        (W.faults sink.old) (W.faults sink.new) }
-    ensures sink_never_falls { W.faults sink.old ≤ W.faults sink.new }
+    ensures writes { CountsWhere W.faults (is_write_fault result.status) sink.old sink.new }
     ensures no_read_fault { IsFalse (is_read_fault result.status) }
     ensures no_door_fault { IsFalse (is_door_fault result.status) }
     ensures no_keep_fault { result.status ≢ Status.KeepFault }
@@ -53,7 +44,7 @@ fn say<W: Sink>(sink: &mut W, written: &mut u64, text: &[u8]) -> Status
         Prints taken (W.taken sink.old) [] written.old →
         (printed : List ℕ) × IsTextPart result text.now printed ×
         Prints taken (W.taken sink.new) printed written.new }
-    ensures writes { RoseWhere (is_write_fault result) (W.faults sink.old) (W.faults sink.new) }
+    ensures writes { RoseWhere W.faults (is_write_fault result) sink.old sink.new }
     ensures no_read_fault { IsFalse (is_read_fault result) }
     ensures no_door_fault { IsFalse (is_door_fault result) }
     ensures no_keep_fault { result ≢ Status.KeepFault }

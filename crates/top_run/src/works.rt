@@ -1,6 +1,6 @@
 // The run of a load: its sessions over a hub, each worker in a thread of its own, and then the audit and
 // the summary.
-ghost use Rattle.std.specs.Prelude.{◌≡◌, ◌≢◌, ◌≤◌, ◌<◌, ℕ, [], List, Option, Some, None, All, IfOk, IfErr, IfSome, IsSome, count_by, length, map, position, vec_capacity, nat_lt};
+ghost use Rattle.std.specs.Prelude.{◌≡◌, ◌≢◌, ◌≤◌, ◌<◌, [], List, Option, Some, None, All, IfOk, IfErr, IfSome, IsSome, count_by, length, position, vec_capacity, nat_lt};
 ghost use Rattle.std.specs.Bool.{IsFalse};
 ghost use Rattle.std.specs.Option.{ForSome};
 ghost use Rattle.rows_model.specs.Rows.{Tables};
@@ -15,9 +15,9 @@ ghost use Rattle.core_history.specs.Machine.{terms_of, log_cap};
 ghost use Rattle.shard_lock.specs.Names.{AreAll, AreLegal, IsNamedStore};
 ghost use Rattle.run_audit.specs.Findings.{histories_in, AreNumbered};
 ghost use Rattle.run_inputs.specs.Loads.{IsWork};
-ghost use Rattle.top_run.specs.Runs.{Held, Left, held_at, moment, IsOpened, RoseWhere, is_read_fault, is_write_fault};
+ghost use Rattle.top_run.specs.Runs.{Held, Input, moment, seen, held_at, histories_at, left_at, IsOpened, RoseWhere, CountsWhere, is_read_fault, is_write_fault};
 ghost use Rattle.top_run.specs.Works.{work_shape, has_spent, first_spent, work_status, end_status, at_write_told, IsNameOf, IsSummary, IsTold, IsHalted, WorkEnded};
-ghost use Rattle.top_run.specs.Ready.{IsReady};
+ghost use Rattle.top_run.specs.Ready.{IsReady, MakeHub};
 
 use crate::endings::{not_started, start_status};
 use crate::hubs::{CAP, LIFE, Parts, desks_over, ended_hub, parts_for};
@@ -55,23 +55,14 @@ pub(crate) fn work<W: Sink, K: Keeper + Send, C: Clock, G: Gate, R: Threads + Wa
     gate: &G,
 ) -> RunEnd<K>
     requires { IsWork spec.now }
-    ensures ended { (unread : Option (List ℕ)) (reads : ℕ) →
-        let before = moment unread reads
-        (W.taken sink.old) (W.faults sink.old) (K.rows keeper) (K.faults keeper) in
-        let after = moment unread reads
-        (W.taken sink.new) (W.faults sink.new) (K.rows result.keeper) (K.faults result.keeper) in
-        let left : Left = record {
-          opening = result.opening;
-          log = result.log.items;
-          histories = map (λ history. history.items) result.histories.items;
-        } in
+    ensures ended { (unread : Input) →
+        let before = seen unread W.Sink K.Keeper sink.old keeper in
+        let after = seen unread W.Sink K.Keeper sink.new result.keeper in
         WorkEnded result.status spec.now (held_at Place.Fresh (K.holds keeper Place.Fresh))
-        before after left result.written }
+        before after (left_at result) result.written }
     ensures started { IsSome result.opening → K.is_started result.keeper }
     ensures unstarted { result.opening ≡ None → K.is_started result.keeper → K.is_started keeper }
-    ensures writes { RoseWhere (is_write_fault result.status)
-        (W.faults sink.old) (W.faults sink.new) }
-    ensures sink_never_falls { W.faults sink.old ≤ W.faults sink.new }
+    ensures writes { CountsWhere W.faults (is_write_fault result.status) sink.old sink.new }
     ensures command { result.status ≢ Status.Usage }
     ensures no_ends { result.ends.items ≡ [] }
     ensures no_read_fault { IsFalse (is_read_fault result.status) }
@@ -141,24 +132,14 @@ fn work_on<
     requires new { store.ledger.failed ≡ 0 }
     requires ready { IsReady spec.now H.terms ready }
     requires ledger { (ready.parts.ledger.name ≡ H.name) × (ready.parts.ledger.parts ≡ H.parts) }
-    ensures ended { (unread : Option (List ℕ)) (reads : ℕ) (rows : Option Tables)
-        (held : Held) →
+    ensures ended { (unread : Input) (rows : Option Tables) (held : Held) →
         IsOpened held (work_shape spec.now) store.ledger.opening store.told →
-        let before = moment unread reads
-        (W.taken sink.old) (W.faults sink.old) rows store.faults in
-        let after = moment unread reads
-        (W.taken sink.new) (W.faults sink.new) (K.rows result.keeper) (K.faults result.keeper) in
-        let left : Left = record {
-          opening = result.opening;
-          log = result.log.items;
-          histories = map (λ history. history.items) result.histories.items;
-        } in
-        WorkEnded result.status spec.now held before after left result.written }
+        let before = moment unread (W.taken sink.old) (W.faults sink.old) rows store.faults in
+        let after = seen unread W.Sink K.Keeper sink.new result.keeper in
+        WorkEnded result.status spec.now held before after (left_at result) result.written }
     ensures started { K.is_started result.keeper }
     ensures began { IsSome result.opening }
-    ensures writes { RoseWhere (is_write_fault result.status)
-        (W.faults sink.old) (W.faults sink.new) }
-    ensures sink_never_falls { W.faults sink.old ≤ W.faults sink.new }
+    ensures writes { CountsWhere W.faults (is_write_fault result.status) sink.old sink.new }
     ensures command { result.status ≢ Status.Usage }
     ensures no_ends { result.ends.items ≡ [] }
     ensures no_read_fault { IsFalse (is_read_fault result.status) }
@@ -223,11 +204,7 @@ fn run_plans<
     gate: &G,
 ) -> Ran<K, H>
     requires store { IsNamedStore H.opening H.cap H.told H.start store }
-    requires shards { AreAll H.terms shards.items }
-    requires few { length shards.items ≤ 64 }
-    requires legal { AreLegal shards.items }
-    requires ledger { (ledger.name ≡ H.name) × (ledger.parts ≡ H.parts) }
-    requires one_each { ledger.parts ≡ length shards.items }
+    requires parts { MakeHub H.terms H.name H.parts shards.items ledger.name ledger.parts }
     requires plans { All (λ list. All IsPlan list.items) plans.now }
     requires few_workers { length plans.now ≤ 64 }
     ensures store { IsNamedStore H.opening H.cap H.told H.start result.store }
@@ -322,7 +299,7 @@ fn tell<W: Sink>(
         IfOk made (λ one. IsSummary spec opening log histories one.finding one.text.items) →
         IfErr result (IsHalted spec opening log histories (W.taken sink.old) (W.taken sink.new)
         written.new) }
-    ensures counts { RoseWhere (at_write_told result) (W.faults sink.old) (W.faults sink.new) }
+    ensures counts { RoseWhere W.faults (at_write_told result) sink.old sink.new }
     ensures never_falls { W.faults sink.old ≤ W.faults sink.new }
 {
     let Ok(made) = made else {
@@ -353,8 +330,7 @@ fn ended_work<K: Keeper, N: Start>(
     ensures faults { K.faults result.keeper ≡ store.faults }
     ensures opening { result.opening ≡ Some store.ledger.opening }
     ensures log { result.log.items ≡ store.ledger.log }
-    ensures histories { map (λ history. history.items) result.histories.items
-        ≡ histories_in shards.items }
+    ensures histories { histories_at result ≡ histories_in shards.items }
     ensures written { result.written ≡ written }
     ensures no_ends { result.ends.items ≡ [] }
     ensures told { ForSome store.told (λ told. told ≡ rows_of store.ledger) }

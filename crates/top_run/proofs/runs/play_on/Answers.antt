@@ -11,13 +11,13 @@ ended_run-requires-clause-room g c =
     c.play_whole-ended.ensures.all c.play_whole-ended.ensures.some c.requires.room
 
 pub returns-clause-ended : goal.returns-clause-ended
-returns-clause-ended g c = λ left_old left_new reads rows held read opened.
+returns-clause-ended g c = λ unread read rows held is_read opened.
     rw (c.ended_run.ensures.status, c.ended_run.ensures.opening, c.ended_run.ensures.log, c.ended_run.ensures.histories, c.ended_run.ensures.written)
     (ended_is held c.args.core c.play_whole-ended.new.core c.args.script.shape c.args.script.acts _ _
     (record {
       is_new = c.requires.new;
       sound = c.ended_run.ensures.sound;
-      read = read;
+      read = is_read;
       opened = opened;
       start = refl;
       rows = c.ended_run.ensures.rows;
@@ -35,8 +35,10 @@ returns-clause-no_read_fault g c =
 
 pub returns-clause-writes : goal.returns-clause-writes
 returns-clause-writes g c =
-    let is = ap is_write_fault c.ended_run.ensures.status ∙ write_end c.play_whole-ended.result c.play_whole-ended.new.tally.faulted in
-    subst (λ (b : Bool). RoseWhere b (g.W.Sink.faults c.args.sink.now) (g.W.Sink.faults c.play_whole-ended.new.sink)) (sym is) c.play_whole-ended.ensures.counts
+    let is = ap is_write_fault c.ended_run.ensures.status ∙ write_end c.play_whole-ended.result c.play_whole-ended.new.tally.faulted in (
+      subst (λ (b : Bool). RoseWhere g.W.Sink.faults b c.args.sink.now c.play_whole-ended.new.sink) (sym is) c.play_whole-ended.ensures.counts,
+      c.play_whole-ended.ensures.never_falls,
+    )
 
 pub returns-clause-keeper_never_falls : goal.returns-clause-keeper_never_falls
 returns-clause-keeper_never_falls g c =

@@ -2,9 +2,9 @@ use Rattle.std.proofs.Common.{List, [], ◌++◌, subst, refl, ◌∙◌}
 use Rattle.run_inputs.specs.declared.scripts.Act.{Act}
 use Rattle.top_run.specs.Runs.{calls_of}
 use Rattle.core_history.specs.Cores.{origin_of}
-use Rattle.top_run.specs.Plays.{Stands, Stops, IsStopped}
+use Rattle.top_run.specs.Plays.{Stops, IsStopped}
 use Rattle.top_run.proofs.PlayLemmas.{on_err}
-use Rattle.top_run.proofs.RunLemmas.{can_start, stands_new, stopped_at_act, stopped_before_end, stopped_at_end, finished, few_shards}
+use Rattle.top_run.proofs.RunLemmas.{can_start, stands_new, stands_played, stopped_at_act, stopped_before_end, stopped_at_end, finished, few_shards}
 use Rattle.top_run.proofs.runs.play_whole.Goals as goal
 
 pub play-requires : goal.play-requires
@@ -25,20 +25,17 @@ returns-in_err-play-clause-some g c =
 
 pub last_line-requires : goal.last_line-requires
 last_line-requires g c =
-    let taken = g.W.Sink.taken c.args.sink.now in
-    let origin = origin_of c.args.script.shape c.args.core.now in
-    let new = stands_new c.args.core.now c.args.script.shape taken c.args.tally.now c.requires.new c.requires.nothing in
-    few_shards c.play.new.core origin ([] ++ calls_of c.into_acts.result.items) c.args.script.acts taken
-    (g.W.Sink.taken c.play.new.sink) c.play.new.tally (c.in_ok-play.ensures.all origin [] taken new) c.requires.playable
+    let stands = stands_played c.args.core.now c.play.new.core c.args.script.shape c.args.script.acts _ _ _ c.args.tally.now c.play.new.tally
+    c.requires.new c.requires.nothing c.into_acts.ensures c.in_ok-play.ensures.all in
+    few_shards c.play.new.core _ _ c.args.script.acts _ _ c.play.new.tally stands c.requires.playable
 
 pub returns-in_err-line-clause-some : goal.returns-in_err-line-clause-some
 returns-in_err-line-clause-some g c =
     let taken = g.W.Sink.taken c.args.sink.now in
     let taken' = g.W.Sink.taken c.play.new.sink in
+    let stands = stands_played c.args.core.now c.play.new.core c.args.script.shape c.args.script.acts _ taken taken' c.args.tally.now c.play.new.tally
+    c.requires.new c.requires.nothing c.into_acts.ensures c.in_ok-play.ensures.all in
     let origin = origin_of c.args.script.shape c.args.core.now in
-    let new = stands_new c.args.core.now c.args.script.shape taken c.args.tally.now c.requires.new c.requires.nothing in
-    let stands = subst (λ (acts : List Act). Stands c.play.new.core origin ([] ++ calls_of acts) taken taken' c.play.new.tally) c.into_acts.ensures
-    (c.in_ok-play.ensures.all origin [] taken new) in
     on_err {P = IsStopped c.play.new.core origin c.args.script.acts taken taken' c.play.new.tally} c.from_residual-in_err-line.result
     (stopped_before_end c.play.new.core origin c.args.script.acts taken taken' c.play.new.tally stands)
 
@@ -48,9 +45,8 @@ returns-in_err-print-clause-some g c =
     let taken' = g.W.Sink.taken c.play.new.sink in
     let taken'' = g.W.Sink.taken c.print.new.sink in
     let origin = origin_of c.args.script.shape c.args.core.now in
-    let new = stands_new c.args.core.now c.args.script.shape taken c.args.tally.now c.requires.new c.requires.nothing in
-    let stands = subst (λ (acts : List Act). Stands c.play.new.core origin ([] ++ calls_of acts) taken taken' c.play.new.tally) c.into_acts.ensures
-    (c.in_ok-play.ensures.all origin [] taken new) in
+    let stands = stands_played c.args.core.now c.play.new.core c.args.script.shape c.args.script.acts _ taken taken' c.args.tally.now c.play.new.tally
+    c.requires.new c.requires.nothing c.into_acts.ensures c.in_ok-play.ensures.all in
     let cut = c.in_err-print.ensures.some taken _ stands.prints in
     on_err {P = IsStopped c.play.new.core origin c.args.script.acts taken taken''
     (record { written = c.print.new.written; faulted = c.play.new.tally.faulted })} c.from_residual-in_err-print.result
@@ -62,10 +58,8 @@ pub returns-clause-all : goal.returns-clause-all
 returns-clause-all g c =
     let taken = g.W.Sink.taken c.args.sink.now in
     let taken' = g.W.Sink.taken c.play.new.sink in
-    let origin = origin_of c.args.script.shape c.args.core.now in
-    let new = stands_new c.args.core.now c.args.script.shape taken c.args.tally.now c.requires.new c.requires.nothing in
-    let stands = subst (λ (acts : List Act). Stands c.play.new.core origin ([] ++ calls_of acts) taken taken' c.play.new.tally) c.into_acts.ensures
-    (c.in_ok-play.ensures.all origin [] taken new) in
-    finished c.play.new.core origin c.args.script.acts taken taken' (g.W.Sink.taken c.print.new.sink) c.play.new.tally
+    let stands = stands_played c.args.core.now c.play.new.core c.args.script.shape c.args.script.acts _ taken taken' c.args.tally.now c.play.new.tally
+    c.requires.new c.requires.nothing c.into_acts.ensures c.in_ok-play.ensures.all in
+    finished c.play.new.core _ c.args.script.acts taken taken' (g.W.Sink.taken c.print.new.sink) c.play.new.tally
     (record { written = c.print.new.written; faulted = c.play.new.tally.faulted }) c.as_slice.result.now stands
     (c.as_slice.ensures.value ∙ c.in_ok-line.ensures) (c.in_ok-print.ensures.all taken _ stands.prints) refl

@@ -1,7 +1,7 @@
 use Rattle.std.proofs.Common.{Bool, refl, sym, subst}
 use Rattle.run_words.specs.declared.words.Words.TheVariants as words
 use Rattle.run_words.specs.declared.words.WordsFault.TheVariants as fault
-use Rattle.top_run.specs.Runs.{RoseWhere}
+use Rattle.top_run.specs.Runs.{told_by, RoseWhere}
 use Rattle.top_run.proofs.PrintLemmas.{print_none}
 use Rattle.top_run.proofs.CommandLemmas.{command_ok, command_err, load_not_failed, load_no_door, load_no_replay, no_command, server_not_failed, server_no_replay}
 use Rattle.top_run.proofs.runs.run.Goals as goal
@@ -17,21 +17,20 @@ returns-in-Ok-Work-clause-ended g c =
     command_ok _ c.read_words.result _ _ c.read_words.ensures.accepts c.read_words.ensures.read c.read_words.ensures.usage
     c.in-Ok-Work.field-0 (words.Work c.in-Ok-Work.spec) c.in-Ok-Work.is c.in-Ok-Work.field-0-is (
       record { left = refl; count = refl },
-      c.work.ensures.ended (g.S.Source.left c.args.source.now) (g.S.Source.faults c.args.source.now),
+      c.work.ensures.ended (told_by g.S.Source c.args.source.now),
       record { no_ends = c.work.ensures.no_ends; door = refl },
     )
 
 pub returns-in-Ok-Work-clause-doors : goal.returns-in-Ok-Work-clause-doors
 returns-in-Ok-Work-clause-doors g c =
-    let faults = g.D.Door.faults c.args.door.now in
-    subst (λ (b : Bool). RoseWhere b faults faults)
+    subst (λ (b : Bool). RoseWhere g.D.Door.faults b c.args.door.now c.args.door.now)
     (sym (load_no_door c.work.result.status c.in-Ok-Work.spec _ _ _ _ c.work.result.written
-    (c.work.ensures.ended (g.S.Source.left c.args.source.now) (g.S.Source.faults c.args.source.now)))) refl
+    (c.work.ensures.ended (told_by g.S.Source c.args.source.now)))) refl
 
 pub returns-in-Ok-Work-clause-faultless : goal.returns-in-Ok-Work-clause-faultless
 returns-in-Ok-Work-clause-faultless g c =
     load_not_failed c.work.result.status c.in-Ok-Work.spec _ _ _ _ c.work.result.written
-    (c.work.ensures.ended (g.S.Source.left c.args.source.now) (g.S.Source.faults c.args.source.now))
+    (c.work.ensures.ended (told_by g.S.Source c.args.source.now))
 
 pub returns-in-Ok-Work-clause-done : goal.returns-in-Ok-Work-clause-done
 returns-in-Ok-Work-clause-done g c = λ are done.
@@ -43,13 +42,13 @@ returns-in-Ok-Serve-clause-ended g c =
     command_ok _ c.read_words.result _ _ c.read_words.ensures.accepts c.read_words.ensures.read c.read_words.ensures.usage
     c.in-Ok-Serve.field-0 (words.Serve c.in-Ok-Serve.spec) c.in-Ok-Serve.is c.in-Ok-Serve.field-0-is (
       record { left = refl; count = refl },
-      c.serve.ensures.ended (g.S.Source.left c.args.source.now) (g.S.Source.faults c.args.source.now),
+      c.serve.ensures.ended (told_by g.S.Source c.args.source.now),
     )
 
 pub returns-in-Ok-Serve-clause-faultless : goal.returns-in-Ok-Serve-clause-faultless
 returns-in-Ok-Serve-clause-faultless g c =
     server_not_failed c.serve.result.status c.in-Ok-Serve.spec _
-    (c.serve.ensures.ended (g.S.Source.left c.args.source.now) (g.S.Source.faults c.args.source.now))
+    (c.serve.ensures.ended (told_by g.S.Source c.args.source.now))
 
 pub returns-in-Ok-Serve-clause-done : goal.returns-in-Ok-Serve-clause-done
 returns-in-Ok-Serve-clause-done g c = λ are done.
@@ -62,7 +61,7 @@ returns-in-Ok-Told-clause-ended g c =
     c.in-Ok-Told.field-0 (words.Told c.in-Ok-Told.text) c.in-Ok-Told.is c.in-Ok-Told.field-0-is (
       record { left = refl; count = refl },
       rw c.as_slice.ensures.value at
-          (c.tell.ensures.told (g.S.Source.left c.args.source.now) (g.S.Source.faults c.args.source.now)),
+          (c.tell.ensures.told (told_by g.S.Source c.args.source.now)),
       record { no_ends = c.tell.ensures.no_ends; door = refl },
     )
 

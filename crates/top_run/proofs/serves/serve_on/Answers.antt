@@ -5,20 +5,25 @@ use Rattle.top_run.specs.Runs.{moment, IsOpened, is_read_fault}
 use Rattle.top_run.specs.Serves.{serve_shape, Course}
 use Rattle.door_workers.specs.Attending.{told}
 use Rattle.top_run.proofs.KeepLemmas.{opened_since}
+use Rattle.top_run.proofs.ReadyLemmas.{make_hub}
 use Rattle.top_run.proofs.WorkLemmas.{left_of, kept_of}
 use Rattle.top_run.proofs.ServeLemmas.{served_ended, no_usage, no_read}
 use Rattle.top_run.proofs.serves.serve_on.Goals as goal
 
+pub serve_hub-store-requires-clause-parts : goal.serve_hub-store-requires-clause-parts
+serve_hub-store-requires-clause-parts g c =
+    λ κs outlives. make_hub (serve_shape c.args.spec.now) g.H.HubName.terms _ _ c.args.ready.parts c.requires.ready.parts c.requires.serve.few_shards c.requires.ledger
+
 pub returns-clause-ended : goal.returns-clause-ended
-returns-clause-ended g c = λ unread reads rows held opens.
+returns-clause-ended g c = λ unread rows held opens.
     let store = c.serve_hub-store.result.store in
     let shards = c.serve_hub-store.result.shards.items in
     let served = c.serve_hub-store.result.served in
     let spec = c.args.spec.now in
     let shape = serve_shape spec in
     let tells = told g.D.Door.lines g.D.Door.faults g.D.Door.ended g.D.Door.closed in
-    let before = moment unread reads (g.W.Sink.taken c.args.sink.now) (g.W.Sink.faults c.args.sink.now) rows c.args.store.faults in
-    let after = moment unread reads (g.W.Sink.taken c.serve_hub-store.new.sink) (g.W.Sink.faults c.serve_hub-store.new.sink) store.told store.faults in
+    let before = moment unread (g.W.Sink.taken c.args.sink.now) (g.W.Sink.faults c.args.sink.now) rows c.args.store.faults in
+    let after = moment unread (g.W.Sink.taken c.serve_hub-store.new.sink) (g.W.Sink.faults c.serve_hub-store.new.sink) store.told store.faults in
     let named = c.serve_hub-store.ensures.store in
     let before_now : IsSome store.told → IsSome c.args.store.told = λ some.
     subst (λ (r : Option Tables). IsSome r) c.requires.named.told_is (named.told_before some) in
@@ -49,16 +54,22 @@ returns-clause-ended g c = λ unread reads rows held opens.
       c.ended_hub.ensures.faults,
     )
     (served_ended served.status spec course
-    (record { opening = store.ledger.opening; failed = store.ledger.failed; kept = kept; attended = c.serve_hub-store.ensures.attended }))
+    (record { opening = store.ledger.opening; failed = store.ledger.failed; kept = kept; attended = c.serve_hub-store.ensures.served.attended }))
+
+pub returns-clause-writes : goal.returns-clause-writes
+returns-clause-writes g c = rw c.ended_hub.ensures.status c.serve_hub-store.ensures.served.writes
+
+pub returns-clause-doors : goal.returns-clause-doors
+returns-clause-doors g c = rw c.ended_hub.ensures.status c.serve_hub-store.ensures.served.doors
 
 pub returns-clause-command : goal.returns-clause-command
 returns-clause-command g c = λ is.
-    let attended = c.serve_hub-store.ensures.attended in
+    let attended = c.serve_hub-store.ensures.served.attended in
     no_usage c.serve_hub-store.result.served.status _ attended.printed attended.is_text (sym c.ended_hub.ensures.status ∙ is)
 
 pub returns-clause-no_read_fault : goal.returns-clause-no_read_fault
 returns-clause-no_read_fault g c =
-    let attended = c.serve_hub-store.ensures.attended in
+    let attended = c.serve_hub-store.ensures.served.attended in
     ap is_read_fault c.ended_hub.ensures.status
     ∙ no_read c.serve_hub-store.result.served.status _ attended.printed attended.is_text
 

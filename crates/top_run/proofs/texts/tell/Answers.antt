@@ -3,7 +3,7 @@ use Rattle.top_run.proofs.PrintLemmas.{print_none}
 use Rattle.top_run.proofs.texts.tell.Goals as goal
 
 pub returns-clause-told : goal.returns-clause-told
-returns-clause-told g c = λ unread reads.
+returns-clause-told g c = λ unread.
     let taken = g.W.Sink.taken c.args.sink.now in
     let said = c.say-status.ensures.said taken (print_none taken) in
     rw (

@@ -5,8 +5,13 @@ use Rattle.rows_model.specs.Rows.{Tables}
 use Rattle.top_run.specs.Runs.{moment, IsOpened, RoseWhere, is_read_fault, is_write_fault}
 use Rattle.top_run.specs.Works.{first_spent, work_shape}
 use Rattle.top_run.proofs.KeepLemmas.{opened_since}
+use Rattle.top_run.proofs.ReadyLemmas.{make_hub}
 use Rattle.top_run.proofs.WorkLemmas.{numbered_of, left_of, kept_of, work_ended, no_usage, no_read, at_write_end}
 use Rattle.top_run.proofs.works.work_on.Goals as goal
+
+pub run_plans-store-requires-clause-parts : goal.run_plans-store-requires-clause-parts
+run_plans-store-requires-clause-parts g c =
+    λ κs outlives. make_hub (work_shape c.args.spec.now) g.H.HubName.terms _ _ c.args.ready.parts c.requires.ready.parts c.requires.work.few_shards c.requires.ledger
 
 pub summed_up-made-requires-clause-numbered : goal.summed_up-made-requires-clause-numbered
 summed_up-made-requires-clause-numbered g c =
@@ -15,14 +20,14 @@ summed_up-made-requires-clause-numbered g c =
     rw c.as_slice-2.ensures.value (numbered_of g.H.HubName.terms shards c.run_plans-store.ensures.all (omega (arith, many, c.requires.work.few_shards)))
 
 pub returns-clause-ended : goal.returns-clause-ended
-returns-clause-ended g c = λ unread reads rows held opens.
+returns-clause-ended g c = λ unread rows held opens.
     let store = c.run_plans-store.result.store in
     let shards = c.run_plans-store.result.shards.items in
     let spec = c.args.spec.now in
     let short = (rw c.log.ensures.items at c.log.ensures.few) in
     let made = (rw (c.opening.ensures, c.log.ensures.items, c.as_slice-2.ensures.value) at c.summed_up-made.ensures) in
-    let before = moment unread reads (g.W.Sink.taken c.args.sink.now) (g.W.Sink.faults c.args.sink.now) rows c.args.store.faults in
-    let after = moment unread reads (g.W.Sink.taken c.tell-told.new.sink) (g.W.Sink.faults c.tell-told.new.sink) store.told store.faults in
+    let before = moment unread (g.W.Sink.taken c.args.sink.now) (g.W.Sink.faults c.args.sink.now) rows c.args.store.faults in
+    let after = moment unread (g.W.Sink.taken c.tell-told.new.sink) (g.W.Sink.faults c.tell-told.new.sink) store.told store.faults in
     let named = c.run_plans-store.ensures.store in
     let before_now : IsSome store.told → IsSome c.args.store.told = λ some.
     subst (λ (r : Option Tables). IsSome r) c.requires.named.told_is (named.told_before some) in
@@ -59,8 +64,10 @@ pub returns-clause-writes : goal.returns-clause-writes
 returns-clause-writes g c =
     let is = ap is_write_fault c.ended_work.ensures.status
     ∙ at_write_end (nat_lt 0 c.run_plans-store.result.store.ledger.failed)
-    (first_spent (histories_in c.run_plans-store.result.shards.items)) c.tell-told.result in
-    subst (λ (b : Bool). RoseWhere b (g.W.Sink.faults c.args.sink.now) (g.W.Sink.faults c.tell-told.new.sink)) (sym is) c.tell-told.ensures.counts
+    (first_spent (histories_in c.run_plans-store.result.shards.items)) c.tell-told.result in (
+      subst (λ (b : Bool). RoseWhere g.W.Sink.faults b c.args.sink.now c.tell-told.new.sink) (sym is) c.tell-told.ensures.counts,
+      c.tell-told.ensures.never_falls,
+    )
 
 pub returns-clause-keeper_never_falls : goal.returns-clause-keeper_never_falls
 returns-clause-keeper_never_falls g c =
