@@ -7,5 +7,3 @@ pub mod quits;
 pub mod runs;
 pub mod shards;
 pub mod stores;
-#[cfg(test)]
-mod tests;

@@ -8,6 +8,4 @@ mod attending;
 mod kept;
 mod names;
 mod progress;
-#[cfg(test)]
-mod tests;
 mod workers;

@@ -3,8 +3,4 @@
 
 pub use table::Entries;
 
-#[cfg(test)]
-mod list_table;
 pub mod table;
-#[cfg(test)]
-mod tests;

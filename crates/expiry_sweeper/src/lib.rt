@@ -7,5 +7,3 @@ pub use sweepers::Sweeper;
 pub mod laws;
 pub mod replies;
 pub mod sweepers;
-#[cfg(test)]
-mod tests;

@@ -33,5 +33,3 @@ pub mod memory_lines;
 pub mod sinks;
 pub mod sources;
 pub mod tcp;
-#[cfg(test)]
-mod tests;

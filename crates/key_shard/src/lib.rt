@@ -20,5 +20,3 @@ mod sets;
 pub mod shards;
 pub mod steps;
 mod sweeps;
-#[cfg(test)]
-mod tests;

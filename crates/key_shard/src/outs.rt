@@ -96,6 +96,3 @@ impl Outs {
         self.by_token.remove(&grant.token());
     }
 }
-
-#[cfg(test)]
-mod tests;

@@ -15,7 +15,5 @@ pub mod laws;
 mod lines;
 mod numbers;
 pub mod replies;
-#[cfg(test)]
-mod tests;
 mod txns;
 mod words;

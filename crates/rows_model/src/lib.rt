@@ -8,6 +8,7 @@ pub use footprints::{
 };
 pub use keys::{Kind, QKey, Sid, texts_tell_keys};
 pub use names::Name;
+pub use numbers::number_of;
 pub use placement::shard_number;
 pub use queries::{answers_ascend, ask};
 pub use refreshing::{refresh, refresh_is_answer};
@@ -17,23 +18,17 @@ pub use shifts::{numbers_are_decimal, shift};
 pub use values::Value;
 
 pub mod changes;
-#[cfg(test)]
-mod delta_tests;
 pub mod deltas;
 pub mod footprints;
 mod judging;
 pub mod keys;
 pub mod names;
 mod near;
-mod numbers;
+pub mod numbers;
 pub mod placement;
 pub mod queries;
-#[cfg(test)]
-mod refresh_tests;
 pub mod refreshing;
 pub mod refusals;
 pub mod rows;
 pub mod shifts;
-#[cfg(test)]
-mod tests;
 pub mod values;

@@ -30,26 +30,3 @@ fn hashed(hash: u64, bytes: &[u8]) -> u64
     }
     hash
 }
-
-#[cfg(test)]
-mod tests {
-    use super::*;
-    use crate::keys::Kind;
-
-    #[test]
-    fn hashes_known_texts(rt: HostRuntime) {
-        assert_eq!(rt; hashed(BASIS, b""), 0xcbf2_9ce4_8422_2325);
-        assert_eq!(rt; hashed(BASIS, b"a"), 0xaf63_dc4c_8601_ec8c);
-    }
-
-    #[test]
-    fn places_keys(rt: HostRuntime) {
-        for (id, shard) in [(2, 0), (1, 1)] {
-            let key = QKey {
-                kind: Kind::Profile,
-                id,
-            };
-            assert_eq!(rt; shard_number(&key, 2), shard, "profile:{id}");
-        }
-    }
-}

@@ -122,26 +122,3 @@ pub(crate) fn number(alloc: Global, number: u64) -> Result<Value, Memory>
 pub fn answers_ascend()
     ensures { AnswersAscend }
 {}
-
-#[cfg(test)]
-mod tests {
-    use super::*;
-    use std::test::Fail;
-
-    #[test]
-    fn lists_ids_with_commas(rt: HostRuntime) -> Result<(), Fail> {
-        for (ids, want) in [
-            ([].as_slice(), ""),
-            ([7].as_slice(), "7"),
-            ([0, 9].as_slice(), "0,9"),
-            (
-                [1, 20, 100_000, u32::MAX].as_slice(),
-                "1,20,100000,4294967295",
-            ),
-        ] {
-            let value = id_list(rt.alloc(), ids)?;
-            assert_eq!(rt; value.bytes(), want.as_bytes());
-        }
-        Ok(())
-    }
-}

@@ -15,5 +15,3 @@ mod holds;
 mod notes;
 mod numbers;
 mod stales;
-#[cfg(test)]
-mod tests;

@@ -14,10 +14,6 @@ pub mod faults;
 mod jobs;
 pub mod laws;
 mod lines;
-#[cfg(test)]
-mod load_tests;
 pub mod loads;
 pub mod scripts;
 mod stages;
-#[cfg(test)]
-mod tests;

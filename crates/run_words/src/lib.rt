@@ -6,6 +6,4 @@ pub use words::{ServeSpec, Words, WordsFault};
 
 mod program;
 pub mod reading;
-#[cfg(test)]
-mod tests;
 pub mod words;

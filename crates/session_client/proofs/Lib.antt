@@ -1,4 +1,3 @@
-pub mod DeskLemmas
 pub mod QuarantineLemmas
 pub mod HandLemmas
 pub mod HeardLemmas

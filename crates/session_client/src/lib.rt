@@ -12,10 +12,6 @@ pub mod desks;
 pub mod grant_lists;
 mod hands;
 mod looks;
-#[cfg(test)]
-mod memory_desk;
-#[cfg(test)]
-mod mode_tests;
 mod notes;
 pub mod plans;
 mod quarantines;
@@ -24,6 +20,4 @@ mod releases;
 pub mod replies;
 pub mod sessions;
 mod stages;
-#[cfg(test)]
-mod tests;
 mod writers;

@@ -16,5 +16,3 @@ pub mod making;
 pub mod names;
 pub mod shards;
 pub mod stores;
-#[cfg(test)]
-mod tests;

@@ -15,5 +15,3 @@ mod requests;
 mod sessions;
 pub mod store;
 pub mod stores;
-#[cfg(test)]
-mod tests;

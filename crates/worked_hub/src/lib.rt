@@ -5,6 +5,8 @@
 #[cfg(test)]
 mod gate_tests;
 #[cfg(test)]
+mod hub_tests;
+#[cfg(test)]
 mod kept_desks;
 #[cfg(test)]
 mod load_tests;
@@ -12,6 +14,8 @@ mod load_tests;
 mod runs;
 #[cfg(test)]
 mod seen;
+#[cfg(test)]
+mod session_tests;
 #[cfg(test)]
 mod telling_desks;
 #[cfg(test)]

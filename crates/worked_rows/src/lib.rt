@@ -2,6 +2,8 @@
 #![tactic(auto)]
 
 #[cfg(test)]
+mod conclusions;
+#[cfg(test)]
 mod loads;
 #[cfg(test)]
 mod servers;

@@ -1,5 +1,6 @@
 // Loads that are run through the top call, over a clock that stands still.
-use iq_outside::{ListClock, ListDoor, MemSink, MemSource, OpenGate};
+use crate::tests::run_alone;
+use iq_outside::{MemSink, MemSource};
 use key_shard::Step;
 use sql_keeper::MapKeeper;
 use std::alloc::Global;
@@ -7,37 +8,20 @@ use std::process::Abort;
 use std::sync::Wait;
 use std::test::Fail;
 use std::thread::Threads;
-use top_run::{RunEnd, Status, run};
+use top_run::{RunEnd, Status};
 
 /// Runs a load, with these calls of the sink and the keeper failing, and gives its end and what it
 /// printed. It reads nothing.
 fn work<R: Threads + Wait + Abort + Sync>(
     rt: &R,
     alloc: Global,
-    load: &[&str],
+    words: &[&str],
     writes_fail: &[u64],
     keeps_fail: &[u64],
 ) -> Result<(RunEnd<MapKeeper>, Vec<u8>), Fail> {
-    let mut words = vec![in alloc; Vec::from_slice(alloc, b"work")?]?;
-    for word in load {
-        words.push(Vec::from_slice(alloc, word.as_bytes())?)?;
-    }
     let mut source = MemSource::new(Vec::from_slice(alloc, b"x")?, 1, vec![in alloc; 1]?);
     let mut sink = MemSink::new(alloc, 4096, 60, Vec::from_slice(alloc, writes_fail)?)?;
-    let keeper = MapKeeper::new(Vec::from_slice(alloc, keeps_fail)?);
-    let mut door = ListDoor::new(alloc, Vec::new(alloc), Vec::new(alloc))?;
-    let clock = ListClock::new(vec![in alloc; 0]?);
-    let end = run(
-        rt,
-        alloc,
-        words.as_slice(),
-        &mut source,
-        &mut sink,
-        keeper,
-        &mut door,
-        &clock,
-        &OpenGate,
-    );
+    let end = run_alone(rt, alloc, words, &mut source, &mut sink, keeps_fail)?;
     let printed = Vec::from_slice(alloc, sink.taken())?;
     assert_eq!(rt; end.written, printed.len() as u64);
     Ok((end, printed))
@@ -76,7 +60,13 @@ fn totals_in(alloc: Global, printed: &[u8]) -> Result<Vec<u64>, Fail> {
 
 #[test]
 fn a_load_with_no_session_writes_zeros(rt: HostRuntime) -> Result<(), Fail> {
-    let (end, printed) = work(&rt, rt.alloc(), &["3", "0", "1", "1", "1"], &[], &[])?;
+    let (end, printed) = work(
+        &rt,
+        rt.alloc(),
+        &["work", "3", "0", "1", "1", "1"],
+        &[],
+        &[],
+    )?;
     assert_eq!(rt; end.status, Status::Done);
     assert_eq!(rt;
         printed.as_slice(),
@@ -93,7 +83,7 @@ fn a_load_with_no_session_writes_zeros(rt: HostRuntime) -> Result<(), Fail> {
 // that are counted anew in what is kept.
 #[test]
 fn the_totals_of_a_load_are_those_of_what_it_keeps(rt: HostRuntime) -> Result<(), Fail> {
-    let load = ["1000", "20000", "4", "8", "1"];
+    let load = ["work", "1000", "20000", "4", "8", "1"];
     let (end, printed) = work(&rt, rt.alloc(), &load, &[], &[])?;
     assert_eq!(rt; end.status, Status::Done);
     assert_eq!(rt; end.histories.len(), 8);
@@ -134,7 +124,7 @@ fn the_totals_of_a_load_are_those_of_what_it_keeps(rt: HostRuntime) -> Result<()
 #[test]
 fn one_worker_writes_the_same_each_time(rt: HostRuntime) -> Result<(), Fail> {
     for _ in 0..2 {
-        let load = ["1000", "20000", "1", "8", "1"];
+        let load = ["work", "1000", "20000", "1", "8", "1"];
         let (end, printed) = work(&rt, rt.alloc(), &load, &[], &[])?;
         assert_eq!(rt; end.status, Status::Done);
         assert_eq!(rt;
@@ -147,7 +137,7 @@ fn one_worker_writes_the_same_each_time(rt: HostRuntime) -> Result<(), Fail> {
 
 #[test]
 fn one_worker_writes_a_large_load_the_same_twice(rt: HostRuntime) -> Result<(), Fail> {
-    let load = ["100000", "200000", "1", "8", "7"];
+    let load = ["work", "100000", "200000", "1", "8", "7"];
     let (end, first) = work(&rt, rt.alloc(), &load, &[], &[])?;
     assert_eq!(rt; end.status, Status::Done);
     drop(end);
@@ -160,7 +150,7 @@ fn one_worker_writes_a_large_load_the_same_twice(rt: HostRuntime) -> Result<(), 
 
 #[test]
 fn a_write_that_fails_cuts_the_summary(rt: HostRuntime) -> Result<(), Fail> {
-    let load = ["3", "0", "1", "1", "1"];
+    let load = ["work", "3", "0", "1", "1", "1"];
     let (end, printed) = work(&rt, rt.alloc(), &load, &[2], &[])?;
     assert_eq!(rt; end.status, Status::WriteFault);
     assert_eq!(rt;
@@ -173,7 +163,7 @@ fn a_write_that_fails_cuts_the_summary(rt: HostRuntime) -> Result<(), Fail> {
 
 #[test]
 fn a_keeper_that_does_not_start_ends_a_load_before_it_begins(rt: HostRuntime) -> Result<(), Fail> {
-    let load = ["3", "5", "2", "2", "1"];
+    let load = ["work", "3", "5", "2", "2", "1"];
     let (end, printed) = work(&rt, rt.alloc(), &load, &[], &[1])?;
     assert_eq!(rt; end.status, Status::KeepFault);
     assert_eq!(rt;
@@ -186,7 +176,7 @@ fn a_keeper_that_does_not_start_ends_a_load_before_it_begins(rt: HostRuntime) ->
 
 #[test]
 fn a_keepers_fault_in_a_session_is_told_behind_the_summary(rt: HostRuntime) -> Result<(), Fail> {
-    let load = ["3", "1", "1", "1", "1"];
+    let load = ["work", "3", "1", "1", "1", "1"];
     let (end, printed) = work(&rt, rt.alloc(), &load, &[], &[2])?;
     assert_eq!(rt; end.status, Status::KeepFault);
     assert!(rt; printed.as_slice().ends_with(b"\naudit clean\n"));

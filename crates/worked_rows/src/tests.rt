@@ -6,7 +6,7 @@ use std::process::Abort;
 use std::sync::Wait;
 use std::test::Fail;
 use std::thread::Threads;
-use top_run::{Status, run};
+use top_run::{RunEnd, Status, run};
 
 /// What each script prints.
 const PRINTS: [(&str, &[u8], &[u8]); 17] = [
@@ -241,6 +241,37 @@ struct Ran {
     unread: usize,
 }
 
+/// Runs a command over a keeper in memory, with these of its calls failing, at a door with no connection and
+/// over a clock that stands still.
+pub(crate) fn run_alone<R: Threads + Wait + Sync>(
+    rt: &R,
+    alloc: Global,
+    words: &[&str],
+    source: &mut MemSource,
+    sink: &mut MemSink,
+    keeps_fail: &[u64],
+) -> Result<RunEnd<MapKeeper>, Fail> {
+    let mut said = Vec::new(alloc);
+    for word in words {
+        said.push(Vec::from_slice(alloc, word.as_bytes())?)?;
+    }
+    let keeper = MapKeeper::new(Vec::from_slice(alloc, keeps_fail)?);
+    let mut door = ListDoor::new(alloc, Vec::new(alloc), Vec::new(alloc))?;
+    let clock = ListClock::new(vec![in alloc; 0]?);
+    let end = run(
+        rt,
+        alloc,
+        said.as_slice(),
+        source,
+        sink,
+        keeper,
+        &mut door,
+        &clock,
+        &OpenGate,
+    );
+    Ok(end)
+}
+
 /// Runs a text of which so many bytes are read or taken at a call, with these calls of the source, the
 /// sink and the keeper failing.
 fn run_over<R: Threads + Wait + Sync>(
@@ -254,10 +285,6 @@ fn run_over<R: Threads + Wait + Sync>(
     keeps_fail: &[u64],
     room: usize,
 ) -> Result<Ran, Fail> {
-    let mut said = Vec::new(alloc);
-    for word in words {
-        said.push(Vec::from_slice(alloc, word.as_bytes())?)?;
-    }
     let text = Vec::from_slice(alloc, text)?;
     let mut source = MemSource::new(text, piece.max(1), Vec::from_slice(alloc, reads_fail)?);
     let mut sink = MemSink::new(
@@ -266,20 +293,7 @@ fn run_over<R: Threads + Wait + Sync>(
         piece.max(1),
         Vec::from_slice(alloc, writes_fail)?,
     )?;
-    let keeper = MapKeeper::new(Vec::from_slice(alloc, keeps_fail)?);
-    let mut door = ListDoor::new(alloc, Vec::new(alloc), Vec::new(alloc))?;
-    let clock = ListClock::new(vec![in alloc; 0]?);
-    let end = run(
-        rt,
-        alloc,
-        said.as_slice(),
-        &mut source,
-        &mut sink,
-        keeper,
-        &mut door,
-        &clock,
-        &OpenGate,
-    );
+    let end = run_alone(rt, alloc, words, &mut source, &mut sink, keeps_fail)?;
     let unread = read_up_to(alloc, &mut source, usize::MAX)?.text.len();
     Ok(Ran {
         status: end.status,

@@ -6,9 +6,5 @@ pub use invalidate::{abort, dar, qa_reg};
 pub use refresh::{qa_read, sar};
 
 pub mod delta;
-#[cfg(test)]
-mod delta_tests;
 pub mod invalidate;
 pub mod refresh;
-#[cfg(test)]
-mod tests;
