@@ -4,7 +4,7 @@ ghost use Rattle.case_tables.specs.Compatibility.{Holding, Request, verdict, is_
 use std::marker::Model;
 
 /// The answer to a request for a lease.
-#[derive(Clone, Copy, Debug, PartialEq, Eq)]
+#[derive(Clone, Copy)]
 pub enum Verdict {
     /// The lease is given, and nothing stood in its way.
     Give,

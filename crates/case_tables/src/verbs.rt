@@ -5,7 +5,7 @@ use crate::words::Word;
 use std::marker::Model;
 
 /// What a table says of one verb.
-#[derive(Clone, Copy, Debug, PartialEq, Eq)]
+#[derive(Clone, Copy, PartialEq, Eq)]
 pub struct VerbRow {
     /// The word that stands first in the line of such a command.
     pub verb: &'static [u8],

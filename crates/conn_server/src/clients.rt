@@ -8,7 +8,7 @@ use std::alloc::Global;
 use std::marker::Model;
 
 /// What a session may do next.
-#[derive(Clone, Copy, Debug, PartialEq, Eq)]
+#[derive(Clone, Copy, PartialEq, Eq)]
 pub enum Stage {
     /// It reads, and never writes.
     Reading,
@@ -21,7 +21,7 @@ pub enum Stage {
 }
 
 /// The session that a connection has at present.
-#[derive(Clone, Copy, Debug, PartialEq, Eq)]
+#[derive(Clone, Copy)]
 pub struct Present {
     pub sid: Sid,
     pub stage: Stage,
@@ -32,7 +32,6 @@ pub(crate) const MOST_GRANTS: usize = 64;
 
 /// What the server knows of the client of a connection: its present session, if it has one, and the
 /// grants that this session holds.
-#[derive(Debug)]
 pub struct Client {
     pub(crate) present: Option<Present>,
     /// There is always room for as many as a session may hold.

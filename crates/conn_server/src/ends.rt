@@ -1,7 +1,7 @@
 use mc_text::FrameFault;
 
 /// How a connection ended.
-#[derive(Clone, Copy, Debug, PartialEq, Eq)]
+#[derive(Clone, Copy, PartialEq, Eq)]
 pub enum LineEnd {
     /// The client said `quit`.
     Quit,

@@ -9,12 +9,6 @@ mod answers;
 pub mod clients;
 mod closing;
 pub mod ends;
-#[cfg(test)]
-mod line_tests;
 mod refusals;
 pub mod serving;
 mod tellings;
-#[cfg(test)]
-mod test_desk;
-#[cfg(test)]
-mod tests;

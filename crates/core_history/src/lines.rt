@@ -14,7 +14,7 @@ use sql_keeper::{AfterFault, CommitFault};
 use std::alloc::Global;
 
 /// What a request asks for, as its line says it. It stays when the request is made.
-#[derive(Clone, Copy, Debug, PartialEq, Eq)]
+#[derive(Clone, Copy)]
 pub enum Asked {
     Get { key: QKey },
     Ask { key: QKey },

@@ -2,7 +2,7 @@ ghost use Rattle.std.specs.Prelude.{◌≡◌};
 ghost use Rattle.core_history.specs.Told.{line_in, fault_in};
 
 /// What a turn prints.
-#[derive(Debug, Drop)]
+#[derive(Drop)]
 pub struct Told {
     pub(crate) line: Vec<u8>,
     pub(crate) fault: bool,

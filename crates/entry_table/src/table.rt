@@ -10,7 +10,7 @@ use std::marker::Model;
 use std::mem;
 use std::num::NonZeroUsize;
 
-#[derive(Debug, Drop)]
+#[derive(Drop)]
 struct Held {
     value: Value,
     stamp: u64,
@@ -19,7 +19,7 @@ struct Held {
 /// Values by key, each with its stamp, in order of recency, and no more of them than there is room
 /// for. Contracts see that room, and the list of (key, bytes of the value, stamp), most recent
 /// first. A call looks at one key, which it finds by a hash with a fixed seed.
-#[derive(Debug, Drop)]
+#[derive(Drop)]
 pub struct Entries {
     cache: LruCache<QKey, Held>,
 }

@@ -3,7 +3,7 @@ use lease_table::Due;
 use rows_model::{QKey, Sid};
 
 /// What a sweeper wants next.
-#[derive(Clone, Copy, Debug, PartialEq, Eq)]
+#[derive(Clone, Copy, PartialEq, Eq)]
 pub enum SweepWanted {
     /// To look for a quarantine of this shard that is past its deadline.
     Scan { shard: u32 },
@@ -14,7 +14,7 @@ pub enum SweepWanted {
 }
 
 /// What a sweeper is told.
-#[derive(Clone, Copy, Debug, PartialEq, Eq)]
+#[derive(Clone, Copy)]
 pub enum SweepReply {
     /// This quarantine is past its deadline.
     Found { due: Due },

@@ -4,7 +4,7 @@ use crate::replies::{SweepReply, SweepWanted};
 use lease_table::Due;
 
 /// Where a sweeper stands.
-#[derive(Clone, Copy, Debug, PartialEq, Eq)]
+#[derive(Clone, Copy)]
 enum Stage {
     /// It looks for a quarantine that is past its deadline.
     Scanning,
@@ -17,7 +17,7 @@ enum Stage {
 /// A sweeper goes round the shards for ever. It looks for a quarantine that is past its deadline, ends
 /// the session that holds it, and then drops the key; where a shard has none, it goes on to the next.
 /// It says what it wants next, and is told what came of it.
-#[derive(Clone, Copy, Debug, PartialEq, Eq)]
+#[derive(Clone, Copy)]
 pub struct Sweeper {
     shards: u32,
     /// The shard that is being swept.

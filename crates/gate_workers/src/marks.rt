@@ -6,7 +6,7 @@ use sql_keeper::{AfterFault, CommitFault};
 
 /// A request in its bare form: without its value, its transaction and its list of grants. Of a grant
 /// that is released the key and the token are left.
-#[derive(Clone, Copy, Debug, PartialEq, Eq)]
+#[derive(Clone, Copy, PartialEq, Eq)]
 pub enum Request {
     /// The key's entry, with a stamp of at least the floor.
     Get { key: QKey, floor: u64 },
@@ -97,7 +97,7 @@ impl Request {
 
 /// A reply in its bare form: without values, the transaction and grants. Of a grant that is given the
 /// token is left.
-#[derive(Clone, Copy, Debug, PartialEq, Eq)]
+#[derive(Clone, Copy, PartialEq, Eq)]
 pub enum Response {
     /// The key's entry has this stamp.
     Hit { stamp: u64 },
@@ -220,7 +220,7 @@ fn of_quarantine(told: &QAnswer) -> Response
 }
 
 /// A request of a session and its reply, in their bare forms.
-#[derive(Clone, Copy, Debug, PartialEq, Eq)]
+#[derive(Clone, Copy, PartialEq, Eq)]
 pub struct Mark {
     pub asked: Request,
     pub told: Response,

@@ -7,7 +7,7 @@ use session_client::Outcome;
 use sql_keeper::CommitFault;
 
 /// What is counted in a transcript.
-#[derive(Clone, Copy, Debug, PartialEq, Eq)]
+#[derive(Clone, Copy, PartialEq, Eq)]
 pub struct Tally {
     /// How many readers got an entry.
     pub hits: u64,

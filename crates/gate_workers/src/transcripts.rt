@@ -7,7 +7,7 @@ use std::alloc::Global;
 use std::marker::Model;
 
 /// What became of one session: its number, how it ended, and the mark of each request that it made.
-#[derive(Debug, Drop)]
+#[derive(Drop)]
 pub struct Row {
     sid: Sid,
     outcome: Outcome,
@@ -57,7 +57,7 @@ impl Row {
 }
 
 /// What a worker's sessions did. Contracts see the list of its rows, one for each plan in their order.
-#[derive(Debug, Drop)]
+#[derive(Drop)]
 pub struct Transcript {
     rows: Vec<Row>,
 }

@@ -11,7 +11,7 @@ use std::alloc::Global;
 const PIECE: usize = 4096;
 
 /// What was read of a source.
-#[derive(Debug, Drop)]
+#[derive(Drop)]
 pub struct TextRead {
     /// The bytes, in order.
     pub text: Vec<u8>,

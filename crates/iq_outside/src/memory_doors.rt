@@ -11,7 +11,7 @@ use std::marker::Model;
 
 /// A door in memory, which gives its lines in turn and keeps those that are closed. It fails at the
 /// calls that it was told to fail at; a call that fails gives no line.
-#[derive(Debug, Drop)]
+#[derive(Drop)]
 pub struct ListDoor {
     // The lines that it has yet to give, the next one last.
     waiting: Vec<MemLine>,

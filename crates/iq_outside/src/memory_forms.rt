@@ -10,7 +10,7 @@ use std::marker::Model;
 
 /// A source over bytes in memory. It gives few bytes at a time, and fails at the calls that it was
 /// told to fail at.
-#[derive(Debug, Drop)]
+#[derive(Drop)]
 pub struct MemSource {
     text: Vec<u8>,
     // How many bytes of the text were given.
@@ -110,7 +110,7 @@ impl Source for MemSource {
 
 /// A sink in memory. It takes few bytes at a time and so many in all, and fails at the calls that it
 /// was told to fail at.
-#[derive(Debug, Drop)]
+#[derive(Drop)]
 pub struct MemSink {
     taken: Vec<u8>,
     room: usize,

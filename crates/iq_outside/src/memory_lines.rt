@@ -10,7 +10,7 @@ use std::marker::Model;
 
 /// A line in memory: what its peer sends is that of a source in memory, and what is sent to the peer
 /// goes to a sink in memory.
-#[derive(Debug, Drop)]
+#[derive(Drop)]
 pub struct MemLine {
     source: MemSource,
     sink: MemSink,

@@ -13,7 +13,7 @@ use lease_table::Leases;
 use rows_model::{Memory, QKey, shard_number};
 
 /// What a shard is made of.
-#[derive(Debug, Drop)]
+#[derive(Drop)]
 pub struct Body {
     pub no: u32,
     pub count: u32,

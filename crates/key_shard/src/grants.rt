@@ -7,7 +7,6 @@ use std::marker::Model;
 
 /// The proof that a shard has granted a quarantine. Only a shard makes one, none can be copied, and
 /// it is spent by its release.
-#[derive(Debug)]
 pub struct Grant {
     shard: u32,
     key: QKey,

@@ -10,7 +10,7 @@ use rows_model::{QKey, Sid};
 const OWN_ROWS: usize = 5;
 
 /// What a get finds.
-#[derive(Clone, Copy, Debug, PartialEq, Eq)]
+#[derive(Clone, Copy)]
 pub enum Look {
     /// The asker's own quarantine.
     Own,

@@ -11,7 +11,7 @@ use std::collections::BTreeMap;
 use std::marker::Model;
 
 /// A grant that is out.
-#[derive(Clone, Copy, Debug)]
+#[derive(Clone, Copy)]
 pub struct Out {
     pub key: QKey,
     pub sid: Sid,
@@ -20,7 +20,7 @@ pub struct Out {
 }
 
 /// The grants that are out, each at its token. Contracts see their list, in order of token.
-#[derive(Debug, Drop)]
+#[derive(Drop)]
 pub struct Outs {
     by_token: BTreeMap<u64, Out>,
 }

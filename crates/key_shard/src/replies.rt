@@ -4,7 +4,7 @@ use lease_table::Mode;
 use rows_model::{Memory, QKey, Sid, Value};
 
 /// The answer to a get.
-#[derive(Debug, Drop)]
+#[derive(Drop)]
 pub enum Got {
     /// The entry's value and stamp.
     Hit { value: Value, stamp: u64 },
@@ -17,7 +17,7 @@ pub enum Got {
 }
 
 /// The answer to a set.
-#[derive(Clone, Copy, Debug, PartialEq, Eq)]
+#[derive(Clone, Copy, PartialEq, Eq)]
 pub enum SetAnswer {
     /// The value stands. The key that had to make room is named.
     Stored { evicted: Option<QKey> },
@@ -26,7 +26,6 @@ pub enum SetAnswer {
 }
 
 /// The answer to a quarantine.
-#[derive(Debug)]
 pub enum QAnswer {
     /// The quarantine is granted. In mode Refresh the key's entry, value and stamp, comes along.
     Granted {
@@ -43,7 +42,7 @@ pub enum QAnswer {
 }
 
 /// How a grant is to be released.
-#[derive(Clone, Copy, Debug, PartialEq, Eq)]
+#[derive(Clone, Copy, PartialEq, Eq)]
 pub enum How {
     /// The entry stays as it is.
     Keep,
@@ -54,7 +53,7 @@ pub enum How {
 }
 
 /// The answer to a release.
-#[derive(Clone, Copy, Debug, PartialEq, Eq)]
+#[derive(Clone, Copy, PartialEq, Eq)]
 pub enum Rel {
     /// The quarantine ended. The key that had to make room for a new value is named.
     Released { evicted: Option<QKey> },
@@ -63,7 +62,6 @@ pub enum Rel {
 }
 
 /// What a replace hands back for want of memory.
-#[derive(Debug)]
 pub struct Back {
     pub grant: Grant,
     pub value: Value,

@@ -20,7 +20,7 @@ use std::marker::Model;
 
 /// One shard of the cache. Contracts see what it is made with, its history, and its grants that are
 /// out.
-#[derive(Debug, Drop)]
+#[derive(Drop)]
 pub struct Shard {
     body: Body,
 }

@@ -11,7 +11,7 @@ pub enum Stands {
 }
 
 /// How a quarantine ended.
-#[derive(Debug, Drop)]
+#[derive(Drop)]
 pub enum Ended {
     /// The entry stays as it is.
     Keep,
@@ -31,7 +31,7 @@ pub enum Ended {
 }
 
 /// One step of a shard: a request on one key, and what came of it. A history is a list of these.
-#[derive(Debug, Drop)]
+#[derive(Drop)]
 pub enum Step {
     /// A get found an entry with a stamp of at least the floor.
     Hit {

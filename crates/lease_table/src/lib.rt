@@ -6,8 +6,6 @@ pub use table::Leases;
 
 mod dues;
 mod edits;
-#[cfg(test)]
-mod list_table;
 mod lookups;
 pub mod records;
 pub mod table;

@@ -31,7 +31,7 @@ impl Mode {
 }
 
 /// A quarantine lease on a key: nobody else stores a value there while it stands.
-#[derive(Clone, Copy, Debug, PartialEq, Eq)]
+#[derive(Clone, Copy, PartialEq, Eq)]
 pub struct Quar {
     pub sid: Sid,
     pub mode: Mode,
@@ -43,7 +43,7 @@ pub struct Quar {
 }
 
 /// A lease to read a key: its session asks the store and may then store the answer by the token.
-#[derive(Clone, Copy, Debug, PartialEq, Eq)]
+#[derive(Clone, Copy)]
 pub struct ReadLease {
     pub sid: Sid,
     pub token: u64,
@@ -52,21 +52,21 @@ pub struct ReadLease {
 }
 
 /// What a lease is, as contracts see it.
-#[derive(Clone, Copy, Debug, PartialEq, Eq)]
+#[derive(Clone, Copy)]
 pub enum Held {
     Read(ReadLease),
     Quarantine(Quar),
 }
 
 /// A lease that is recorded on a key, as contracts see it.
-#[derive(Clone, Copy, Debug, PartialEq, Eq)]
+#[derive(Clone, Copy)]
 pub struct Lease {
     pub key: QKey,
     pub held: Held,
 }
 
 /// The leases of one key.
-#[derive(Debug, Drop)]
+#[derive(Drop)]
 pub enum KeyLeases {
     /// One to read.
     Read(ReadLease),
@@ -78,7 +78,7 @@ pub enum KeyLeases {
 pub type LeaseMap = BTreeMap<QKey, KeyLeases>;
 
 /// A quarantine that is past its deadline.
-#[derive(Clone, Copy, Debug, PartialEq, Eq)]
+#[derive(Clone, Copy, PartialEq, Eq)]
 pub struct Due {
     pub key: QKey,
     pub sid: Sid,

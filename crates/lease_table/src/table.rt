@@ -1,5 +1,5 @@
-ghost use Rattle.std.specs.Prelude.{◌≡◌, ◌<◌, ◌≤◌, [], ◌∷◌, ◌++◌, Some, None, not, filter, find, MatchBool, IfOk, IfSome, IfNone, IsTrue, OnSome, OnErr};
-ghost use Rattle.std.specs.List.{All, AllPairs};
+ghost use Rattle.std.specs.Prelude.{◌≡◌, ◌<◌, ◌≤◌, [], ◌∷◌, ◌++◌, Some, None, not, filter, find, MatchBool, IfOk, IfSome, IfNone, IsTrue, OnSome, OnErr, nat_lt};
+ghost use Rattle.std.specs.List.{All, AllPairs, list_all};
 ghost use Rattle.case_tables.specs.Compatibility.{verdict, is_given, row_of, read, quarantine};
 ghost use Rattle.lease_table.specs.Expiry.{NoneDue, NoneDueBefore, quars_in, StandsDue};
 ghost use Rattle.lease_table.specs.Leases.{quars, recorded, own_quar, holder_in, has_token, is_current, way_of, holding, IsTable, Leaves, StandBeside};
@@ -17,7 +17,7 @@ use std::marker::Model;
 
 /// The leases of each key: at most one lease to read, or quarantines in order of token. Contracts see
 /// the list of their records.
-#[derive(Debug, Drop)]
+#[derive(Drop)]
 pub struct Leases {
     leases: LeaseMap,
     terms: TermMap,
@@ -101,6 +101,16 @@ impl Leases {
             }
         }
         Ok(verdict)
+    }
+
+    /// Whether the token is above that of each quarantine on the key, as `ask_q` requires it of its own.
+    pub fn is_above(&self, key: &QKey, token: u64) -> bool
+        ensures { result ≡ list_all (λ other. nat_lt other.token token) (quars key.now self.now) }
+    {
+        self.on_key(key)
+            .quars
+            .iter()
+            .all(|other| other.token < token)
     }
 
     /// Asks for a quarantine of the key, and answers the grid's verdict. `Give`, `Void` and `Join` add it
@@ -200,8 +210,3 @@ impl Leases {
         first_due(&self.terms, now)
     }
 }
-
-#[cfg(test)]
-mod draws;
-#[cfg(test)]
-mod tests;

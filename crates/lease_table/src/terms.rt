@@ -6,7 +6,7 @@ use rows_model::{Memory, QKey, Sid};
 use std::collections::BTreeMap;
 
 /// When a quarantine is due, and which it is. Terms are in order of their deadlines.
-#[derive(Clone, Copy, Debug, PartialEq, Eq, PartialOrd, Ord)]
+#[derive(Clone, Copy, PartialEq, Eq, PartialOrd, Ord)]
 pub struct Term {
     pub deadline: u64,
     pub key: QKey,

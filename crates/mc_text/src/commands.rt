@@ -5,7 +5,7 @@ ghost use Rattle.mc_text.specs.Commands.{announced};
 use rows_model::{QKey, Sid, Txn, Value};
 
 /// What a session is begun for.
-#[derive(Clone, Copy, Debug, PartialEq, Eq)]
+#[derive(Clone, Copy, Debug)]
 pub enum Role {
     Read,
     Write,
@@ -13,7 +13,7 @@ pub enum Role {
 
 /// A command, with the words behind its verb and its block in their order. A key is `None` where the
 /// word may be a key, 1 to 250 bytes, and is no key of the cache.
-#[derive(Debug, Drop)]
+#[derive(Drop)]
 pub enum Command {
     /// Begins a session of the connection.
     Begin {

@@ -11,7 +11,7 @@ use std::marker::Model;
 /// The commands of a stream of bytes that comes in pieces. Contracts see the place in the stream at
 /// which the next command begins, and the bytes that were fed from there on. What is answered depends
 /// on these bytes, and not on the pieces in which they came.
-#[derive(Debug, Drop)]
+#[derive(Drop)]
 pub struct Framer {
     alloc: Global,
     // What was fed, the last bytes of it, and how many of those are taken.

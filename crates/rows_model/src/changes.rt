@@ -8,7 +8,7 @@ use std::alloc::Global;
 use std::marker::Model;
 
 /// A change of the rows.
-#[derive(Clone, Copy, Debug, PartialEq, Eq)]
+#[derive(Clone, Copy, PartialEq, Eq)]
 pub enum Change {
     /// `a` invites `b`.
     Invite { a: u32, b: u32 },
@@ -23,7 +23,7 @@ pub enum Change {
 }
 
 /// A transaction: 1 to 8 changes, which are made all or not at all. Contracts see the list.
-#[derive(Debug, Drop)]
+#[derive(Drop)]
 pub struct Txn {
     changes: Vec<Change>,
 }

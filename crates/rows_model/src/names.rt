@@ -7,7 +7,7 @@ use std::marker::Model;
 const LONGEST: usize = 40;
 
 /// A member's name: 1 to 40 printable ASCII bytes, none of them a space. Contracts see its bytes.
-#[derive(Clone, Copy, Debug, PartialEq, Eq)]
+#[derive(Clone, Copy, PartialEq, Eq)]
 pub struct Name {
     // The name, and zeros behind it.
     bytes: [u8; 40],

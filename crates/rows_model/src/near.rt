@@ -11,7 +11,7 @@ use crate::rows::{Link, Member};
 use std::alloc::{AllocError, Global};
 
 // A member's id, and the links of which it is an end, by their two ids.
-#[derive(Debug, Drop)]
+#[derive(Drop)]
 pub(crate) struct Near {
     pub(crate) id: u32,
     pub(crate) links: Vec<Link>,

@@ -50,7 +50,7 @@ impl From<AllocError> for TxnFault {
 }
 
 /// Why a transaction isn't applied. The rows are as before.
-#[derive(Clone, Copy, Debug, PartialEq, Eq)]
+#[derive(Clone, Copy, PartialEq, Eq)]
 pub enum ApplyFault {
     /// The change at this place, from 0, is the first that doesn't apply.
     Rejected { index: u32 },

@@ -15,7 +15,7 @@ use std::alloc::Global;
 use std::marker::Model;
 
 /// A member of the store.
-#[derive(Clone, Copy, Debug, PartialEq, Eq)]
+#[derive(Clone, Copy)]
 pub struct Member {
     /// From 1 to 100,000.
     pub id: u32,
@@ -23,7 +23,7 @@ pub struct Member {
 }
 
 /// How two members are linked.
-#[derive(Clone, Copy, Debug, PartialEq, Eq)]
+#[derive(Clone, Copy)]
 pub enum LinkState {
     /// `a` has invited `b`, who hasn't answered.
     Pending,
@@ -32,7 +32,7 @@ pub enum LinkState {
 }
 
 /// A link between two different members.
-#[derive(Clone, Copy, Debug, PartialEq, Eq)]
+#[derive(Clone, Copy)]
 pub struct Link {
     pub a: u32,
     pub b: u32,
@@ -119,7 +119,7 @@ impl Link {
 ///
 /// The links are kept twice, in the lists of their two members, so that an answer about a member walks
 /// its links alone.
-#[derive(Debug, Drop)]
+#[derive(Drop)]
 pub struct Rows {
     members: Vec<Member>,
     near: Vec<Near>,

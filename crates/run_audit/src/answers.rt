@@ -12,7 +12,7 @@ use std::alloc::Global;
 use std::collections::BTreeMap;
 
 /// What a key was answered from so many commits on, until its next version.
-#[derive(Debug, Drop)]
+#[derive(Drop)]
 pub struct Version {
     pub from: u64,
     pub value: Value,

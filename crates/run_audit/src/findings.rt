@@ -1,7 +1,7 @@
 use rows_model::QKey;
 
 /// What an audit finds.
-#[derive(Clone, Copy, Debug, PartialEq, Eq)]
+#[derive(Clone, Copy, PartialEq, Eq)]
 pub enum Finding {
     /// Each commit is covered, and each hit is fresh.
     Clean,

@@ -16,7 +16,7 @@ use std::collections::BTreeMap;
 
 /// What an audit knows of a log: the answers of keys after each of its commits, the number of each
 /// session's last commit on each key, and how many commits there are.
-#[derive(Debug, Drop)]
+#[derive(Drop)]
 pub struct Notes {
     pub answers: Answers,
     pub numbers: Numbers,

@@ -4,7 +4,7 @@ ghost use Rattle.run_inputs.specs.Script.{kind_word};
 use rows_model::Memory;
 
 /// What is wrong with a line of a text, or with the text as a whole.
-#[derive(Clone, Copy, Debug, PartialEq, Eq)]
+#[derive(Clone, Copy, PartialEq, Eq)]
 pub enum ScriptKind {
     /// The text has more than 16,777,216 bytes. The line is then 0.
     LongText,
@@ -27,7 +27,7 @@ pub enum ScriptKind {
 }
 
 /// Why a text was not read as a script.
-#[derive(Clone, Copy, Debug, PartialEq, Eq)]
+#[derive(Clone, Copy, PartialEq, Eq)]
 pub enum ScriptFault {
     /// This line, from 1, is the first that has a fault, and this is the first kind of fault that
     /// it has.

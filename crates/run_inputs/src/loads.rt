@@ -15,7 +15,7 @@ use std::alloc::Global;
 const STREAM: u64 = 1;
 
 /// What a load is drawn from, and on how many workers and shards it is run.
-#[derive(Clone, Copy, Debug, PartialEq, Eq)]
+#[derive(Clone, Copy, PartialEq, Eq)]
 pub struct WorkSpec {
     /// How many members there are, from 1 to 100,000.
     pub members: u32,

@@ -17,7 +17,7 @@ use std::marker::Model;
 const LONGEST_TEXT: usize = 16_777_216;
 
 /// A step of a script.
-#[derive(Debug, Drop)]
+#[derive(Drop)]
 pub enum Act {
     /// A session of this plan begins.
     Add { plan: Plan },
@@ -26,7 +26,7 @@ pub enum Act {
 }
 
 /// What a text says. Contracts see the shape and the list of acts.
-#[derive(Debug, Drop)]
+#[derive(Drop)]
 pub struct Script {
     shape: Shape,
     acts: Vec<Act>,

@@ -4,7 +4,7 @@ use run_inputs::WorkSpec;
 use std::alloc::{AllocError, AllocFailed};
 
 /// Where and how connections are served.
-#[derive(Debug, Drop)]
+#[derive(Drop)]
 pub struct ServeSpec {
     /// Where they come in: UTF-8 text that isn't empty and doesn't begin with `-`.
     pub addr: Vec<u8>,
@@ -19,7 +19,7 @@ pub struct ServeSpec {
 }
 
 /// What the words ask for.
-#[derive(Debug, Drop)]
+#[derive(Drop)]
 pub enum Words {
     /// To run the script on standard input.
     Replay,
@@ -32,7 +32,7 @@ pub enum Words {
 }
 
 /// Why words were not read.
-#[derive(Clone, Copy, Debug, PartialEq, Eq)]
+#[derive(Clone, Copy)]
 pub enum WordsFault {
     /// They are no command's, or say something out of its range.
     Usage,

@@ -9,7 +9,6 @@ use std::mem;
 
 /// The grants of a session, in the order in which they were given. There is room for so many, taken
 /// when the list is made.
-#[derive(Debug)]
 pub struct Grants {
     items: Vec<Grant>,
     room: u32,

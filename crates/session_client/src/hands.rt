@@ -17,7 +17,6 @@ use std::mem;
 /// What a writer was given: notes of all its grants, the grants in its hands, and beside each of these
 /// the value that belongs to it: the old one that came along, and after the commit the new one. There
 /// is room for so many grants, taken when it is made.
-#[derive(Debug)]
 pub struct Hand {
     room: u32,
     notes: Vec<Note>,

@@ -6,7 +6,7 @@ use rows_model::{QKey, Sid};
 use std::marker::Model;
 
 /// What a grant says, kept while the grant is lent.
-#[derive(Clone, Copy, Debug)]
+#[derive(Clone, Copy)]
 pub struct Note {
     shard: u32,
     key: QKey,

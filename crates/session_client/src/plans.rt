@@ -5,7 +5,7 @@ use lease_table::Mode;
 use rows_model::{Change, Memory, QKey, Sid, Txn};
 
 /// What a session is to do.
-#[derive(Debug, Drop)]
+#[derive(Drop)]
 pub enum Plan {
     /// Read a key. An entry whose stamp is below the floor is not good enough.
     Read { key: QKey, floor: u64 },
@@ -83,7 +83,7 @@ impl Plan {
 }
 
 /// One turn of the core.
-#[derive(Clone, Copy, Debug, PartialEq, Eq)]
+#[derive(Clone, Copy)]
 pub enum Turn {
     /// The session makes the next request that its plan wants.
     Session { sid: Sid },
@@ -94,7 +94,7 @@ pub enum Turn {
 }
 
 /// What a run is made with.
-#[derive(Clone, Copy, Debug, PartialEq, Eq)]
+#[derive(Clone, Copy, PartialEq, Eq)]
 pub struct Shape {
     /// How many members there are at the start, from 1 to 100,000.
     pub members: u32,

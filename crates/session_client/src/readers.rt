@@ -15,7 +15,7 @@ use std::mem;
 const PATIENCE: u32 = 16;
 
 /// Where a reader stands.
-#[derive(Debug, Drop)]
+#[derive(Drop)]
 pub enum ReadStage {
     /// It wants its key, and was told so often to try again.
     Getting { agains: u32 },
@@ -30,7 +30,7 @@ pub enum ReadStage {
 }
 
 /// A session that reads one key.
-#[derive(Debug, Drop)]
+#[derive(Drop)]
 pub struct Reader {
     key: QKey,
     floor: u64,

@@ -6,7 +6,6 @@ use sql_keeper::{AfterFault, Answer, CommitFault};
 
 /// What a session wants next. A request hands its grants over, and the reply brings back those that
 /// it doesn't spend.
-#[derive(Debug)]
 pub enum Wanted {
     /// The key's entry, with a stamp of at least the floor.
     Get {
@@ -142,7 +141,6 @@ impl Fault {
 }
 
 /// What a session is told.
-#[derive(Debug)]
 pub enum Reply {
     /// The answer to a get.
     Got {
@@ -237,7 +235,7 @@ impl Reply {
 }
 
 /// How a session ended.
-#[derive(Clone, Copy, Debug, PartialEq, Eq)]
+#[derive(Clone, Copy, PartialEq, Eq)]
 pub enum Outcome {
     /// A reader got an entry.
     Hit,

@@ -14,14 +14,12 @@ use rows_model::{Memory, QKey, Sid, Txn, footprint};
 use std::alloc::Global;
 
 /// What a session does: it reads a key, or it writes.
-#[derive(Debug)]
 pub enum Course {
     Read(Reader),
     Write(Writer),
 }
 
 /// A session on its way through its plan. It says what it wants next, and is told what came of it.
-#[derive(Debug)]
 pub struct Session {
     sid: Sid,
     plan: Plan,

@@ -3,7 +3,7 @@ use crate::replies::Outcome;
 use rows_model::{QKey, Txn};
 
 /// What a writer does once its keys are quarantined.
-#[derive(Clone, Copy, Debug)]
+#[derive(Clone, Copy)]
 pub enum Next {
     /// It commits.
     Commit,
@@ -14,7 +14,7 @@ pub enum Next {
 }
 
 /// How a writer releases its grants.
-#[derive(Clone, Copy, Debug)]
+#[derive(Clone, Copy)]
 pub enum Release {
     /// Each value stays.
     Keep,
@@ -25,7 +25,7 @@ pub enum Release {
 }
 
 /// Where a writer stands.
-#[derive(Debug, Drop)]
+#[derive(Drop)]
 pub enum WriteStage {
     /// So many keys are quarantined, and it wants the next one.
     Quarantining {

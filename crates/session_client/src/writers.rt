@@ -24,7 +24,6 @@ use std::mem;
 
 /// A session that quarantines keys, commits a transaction and releases its grants. Contracts see its
 /// mode, the keys, what it does once they are quarantined, what it was given, and where it stands.
-#[derive(Debug)]
 pub struct Writer {
     alloc: Global,
     mode: Mode,

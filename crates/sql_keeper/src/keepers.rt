@@ -10,7 +10,7 @@ use rows_model::{QKey, Rows, Txn, Value};
 use std::alloc::Global;
 
 /// Where the rows of a store lie.
-#[derive(Debug, Drop)]
+#[derive(Drop)]
 pub enum Place {
     /// In memory, made afresh at each start.
     Fresh,

@@ -16,7 +16,7 @@ use std::marker::Model;
 
 /// A keeper in memory. It tells its rows once it was started, takes a file as a fresh place, and fails
 /// at the calls that it was told to fail at.
-#[derive(Debug, Drop)]
+#[derive(Drop)]
 pub struct MapKeeper {
     rows: Option<Rows>,
     fails: Vec<u64>,

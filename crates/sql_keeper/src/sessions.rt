@@ -7,7 +7,7 @@ use std::alloc::Global;
 use std::marker::Model;
 
 /// Where each session that began stands, by number. Contracts see the list.
-#[derive(Debug, Drop)]
+#[derive(Drop)]
 pub struct Sessions {
     phases: Vec<Phase>,
 }

@@ -1,7 +1,7 @@
 use rows_model::{QKey, Sid, Txn, Value};
 
 /// What the store answered for a key, after as many commits as the stamp says.
-#[derive(Debug, Drop)]
+#[derive(Drop)]
 pub struct Answer {
     pub key: QKey,
     pub value: Value,
@@ -9,14 +9,14 @@ pub struct Answer {
 }
 
 /// A transaction that was committed, and the session that committed it.
-#[derive(Debug, Drop)]
+#[derive(Drop)]
 pub struct Commit {
     pub sid: Sid,
     pub txn: Txn,
 }
 
 /// Where a session stands with the store.
-#[derive(Clone, Copy, Debug, PartialEq, Eq)]
+#[derive(Clone, Copy)]
 pub enum Phase {
     /// It began to read, and never commits.
     Reads,

@@ -32,7 +32,7 @@ use std::thread::Threads;
 const LONGEST_TEXT: usize = 16_777_216;
 
 /// How a run ended.
-#[derive(Clone, Copy, Debug, PartialEq, Eq)]
+#[derive(Clone, Copy, PartialEq, Eq)]
 pub enum Status {
     /// All was read, run and printed, and no line said FAULT.
     Done,
@@ -64,7 +64,7 @@ pub enum Status {
 }
 
 /// How a run ended, and what it leaves.
-#[derive(Debug, Drop)]
+#[derive(Drop)]
 pub struct RunEnd<K> {
     pub status: Status,
     /// The keeper of the store.

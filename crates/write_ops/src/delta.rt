@@ -10,7 +10,7 @@ use lease_table::Mode;
 use rows_model::{QKey, Sid};
 
 /// Why a key isn't quarantined to be shifted.
-#[derive(Clone, Copy, Debug, PartialEq, Eq)]
+#[derive(Clone, Copy, Debug)]
 pub enum DeltaFault {
     /// The answer to the key is no count.
     NotCount,
