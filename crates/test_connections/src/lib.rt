@@ -1,0 +1,16 @@
+//! Commands that come over a connection, in whatever pieces, are answered in their order, and each line
+//! of a door is served.
+#![tactic(auto)]
+
+#[cfg(test)]
+mod commands;
+#[cfg(test)]
+mod doors;
+#[cfg(test)]
+mod lines;
+#[cfg(test)]
+mod outside;
+#[cfg(test)]
+mod talks;
+#[cfg(test)]
+mod test_desk;

@@ -1,0 +1,16 @@
+use Rattle.std.proofs.Common.{Some}
+use Rattle.shard_lock.specs.Names.{terms_at}
+use Rattle.test_hubs.proofs.runs.run_plans.Given as goal
+
+-- what the shards are made with, and the store as it is handed in
+abbrev pub ghosts-run_on-H-HubName : goal.ghosts-run_on-H-HubName
+ghosts-run_on-H-HubName g a = record {
+  terms = terms_at a.shape.now.shards a.shape.now.room a.shape.now.life;
+  opening = a.store.ledger.opening;
+  cap = a.store.ledger.cap;
+  told = a.store.told;
+  start = Some a.store.faults;
+}
+
+abbrev pub ghosts-run_on-H-Ledger : goal.ghosts-run_on-H-Ledger
+ghosts-run_on-H-Ledger g a = record { name = a.ledger.name; parts = a.ledger.parts }

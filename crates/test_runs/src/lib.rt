@@ -1,0 +1,11 @@
+//! Tests what files can't hold of whole runs: loads on many threads, a server over TCP, and what callers conclude.
+#![tactic(auto)]
+
+#[cfg(test)]
+mod conclusions;
+#[cfg(test)]
+mod loads;
+#[cfg(test)]
+mod outsides;
+#[cfg(test)]
+mod servers;

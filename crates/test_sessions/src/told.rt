@@ -1,0 +1,143 @@
+// What a test tells of keys, transactions, plans and requests, as text.
+use rows_model::{Change, Memory, QKey, Txn};
+use session_client::{Grants, Plan, Wanted};
+use std::alloc::{AllocError, Global};
+
+fn change_told(alloc: Global, change: &Change) -> Result<String, AllocError> {
+    match *change {
+        Change::Invite { a, b } => format!(in alloc; "invite {a} {b}"),
+        Change::Accept { a, b } => format!(in alloc; "accept {a} {b}"),
+        Change::Reject { a, b } => format!(in alloc; "reject {a} {b}"),
+        Change::Thaw { a, b } => format!(in alloc; "thaw {a} {b}"),
+        Change::Rename { a, name } => {
+            format!(in alloc;
+                "rename {a} {}",
+                String::from_utf8_lossy(alloc, name.bytes())?
+            )
+        }
+    }
+}
+
+fn txn_told(alloc: Global, txn: &Txn) -> Result<String, AllocError> {
+    let mut told = String::new(alloc);
+    for change in txn.changes() {
+        told.push_str(" + ")?;
+        told.push_str(change_told(alloc, change)?.as_str())?;
+    }
+    Ok(told)
+}
+
+fn key_told(alloc: Global, key: &QKey) -> Result<String, AllocError> {
+    format!(in alloc; "{:?}:{}", key.kind, key.id)
+}
+
+pub fn plan_told(alloc: Global, plan: &Plan) -> Result<String, AllocError> {
+    match plan {
+        Plan::Read { key, floor } => {
+            format!(in alloc; "read {} floor {floor}", key_told(alloc, key)?)
+        }
+        Plan::Write { mode, txn } => format!(in alloc; "write {mode:?}{}", txn_told(alloc, txn)?),
+        Plan::Look { mode, key, txn } => {
+            format!(in alloc;
+                "look {mode:?} {}{}",
+                key_told(alloc, key)?,
+                txn_told(alloc, txn)?
+            )
+        }
+        Plan::Quit { mode, txn } => format!(in alloc; "quit {mode:?}{}", txn_told(alloc, txn)?),
+        Plan::Skip { key, txn } => {
+            format!(in alloc; "skip {}{}", key_told(alloc, key)?, txn_told(alloc, txn)?)
+        }
+    }
+}
+
+/// The word of a request.
+fn verb_of(wanted: &Wanted) -> &'static str {
+    match wanted {
+        Wanted::Get { .. } => "get",
+        Wanted::Ask { .. } => "ask",
+        Wanted::Staged { .. } => "stage",
+        Wanted::Set { .. } => "set",
+        Wanted::QaReg { .. } => "qareg",
+        Wanted::QaRead { .. } => "qaread",
+        Wanted::Delta { .. } => "delta",
+        Wanted::Commit { .. } => "commit",
+        Wanted::End => "end",
+        Wanted::Dar { .. } => "dar",
+        Wanted::Sar { .. } => "sar",
+        Wanted::Apply { .. } => "apply",
+        Wanted::Abort { .. } => "abort",
+        Wanted::Nothing => "nothing",
+    }
+}
+
+/// The key of a request, if it is about one.
+fn key_of(wanted: &Wanted) -> Option<QKey> {
+    match wanted {
+        Wanted::Get { key, .. }
+        | Wanted::Ask { key }
+        | Wanted::Staged { key, .. }
+        | Wanted::Set { key, .. }
+        | Wanted::QaReg { key }
+        | Wanted::QaRead { key }
+        | Wanted::Delta { key, .. } => Some(*key),
+        Wanted::Dar { grant }
+        | Wanted::Sar { grant, .. }
+        | Wanted::Apply { grant, .. }
+        | Wanted::Abort { grant } => Some(grant.key()),
+        Wanted::Commit { .. } | Wanted::End | Wanted::Nothing => None,
+    }
+}
+
+/// The floor, token, stamp or shift of a request.
+fn number_of(wanted: &Wanted) -> Option<i128> {
+    match wanted {
+        Wanted::Get { floor, .. } => Some(i128::from(*floor)),
+        Wanted::Set { token, .. } => Some(i128::from(*token)),
+        Wanted::Sar { stamp, .. } | Wanted::Apply { stamp, .. } => Some(i128::from(*stamp)),
+        Wanted::Delta { by, .. } => Some(i128::from(*by)),
+        _ => None,
+    }
+}
+
+/// The tokens of grants.
+fn tokens_told(alloc: Global, grants: &Grants) -> Result<String, AllocError> {
+    let mut told = String::new(alloc);
+    for grant in grants.items() {
+        told.push_str(format!(in alloc; " {}", grant.token())?.as_str())?;
+    }
+    Ok(told)
+}
+
+/// What stands behind the key and the number of a request.
+fn rest_told(alloc: Global, wanted: &Wanted) -> Result<String, AllocError> {
+    match wanted {
+        Wanted::Set { value, stamp, .. } => {
+            format!(in alloc;
+                " {stamp} [{}]",
+                String::from_utf8_lossy(alloc, value.bytes())?
+            )
+        }
+        Wanted::Sar {
+            value: Some(value),
+            ..
+        } => format!(in alloc; " [{}]", String::from_utf8_lossy(alloc, value.bytes())?),
+        Wanted::Sar { value: None, .. } => String::from_str(alloc, " none"),
+        Wanted::Commit { grants, .. } => tokens_told(alloc, grants),
+        _ => Ok(String::new(alloc)),
+    }
+}
+
+/// A request: its word, its key and its numbers, and its value in brackets or the tokens of its grants.
+pub fn wanted_told(alloc: Global, wanted: &Wanted) -> Result<String, Memory> {
+    let mut told = String::from_str(alloc, verb_of(wanted))?;
+    if let Some(key) = key_of(wanted) {
+        told.push_str(" ")?;
+        told.push_str(String::from_utf8_lossy(alloc, key.text(alloc)?.bytes())?.as_str())?;
+    }
+    if let Some(number) = number_of(wanted) {
+        told.push_str(format!(in alloc; " {number}")?.as_str())?;
+    }
+    told.push_str(rest_told(alloc, wanted)?.as_str())?;
+    Ok(told)
+}

@@ -1,0 +1,179 @@
+use run_words::{Words, WordsFault, read_words};
+use std::alloc::{AllocError, Global};
+use std::process::Abort;
+use std::test::Fail;
+
+/// The words of a line, between single spaces.
+pub fn words_of(alloc: Global, line: &str) -> Result<Vec<Vec<u8>>, AllocError> {
+    let mut words = Vec::new(alloc);
+    for word in line.split(' ') {
+        words.push(Vec::from_slice(alloc, word.as_bytes())?)?;
+    }
+    Ok(words)
+}
+
+// What is read of words, as one line: the command and its numbers, the first line of a text, or the
+// fault.
+fn told(alloc: Global, words: &[Vec<u8>]) -> Result<String, AllocError> {
+    match read_words(alloc, words) {
+        Ok(Words::Replay) => format!(in alloc; "replay"),
+        Ok(Words::Work { spec }) => format!(in alloc;
+            "work {} {} {} {} {}",
+            spec.members, spec.sessions, spec.workers, spec.shards, spec.seed
+        ),
+        Ok(Words::Serve { spec }) => format!(in alloc;
+            "serve {} {} {} {} {}",
+            String::from_utf8_lossy(alloc, spec.addr.as_slice())?,
+            spec.conns,
+            spec.workers,
+            spec.shards,
+            spec.members
+        ),
+        Ok(Words::Told { text }) => format!(in alloc;
+            "told {}",
+            String::from_utf8_lossy(alloc, text.as_slice())?
+        ),
+        Err(WordsFault::Usage) => format!(in alloc; "usage"),
+        Err(WordsFault::Memory) => format!(in alloc; "memory"),
+    }
+}
+
+/// What is read of the words of a line.
+fn line_told(rt: &impl Abort, alloc: Global, line: &str) -> String {
+    let words = words_of(alloc, line).expect(rt, "memory");
+    told(alloc, &words).expect(rt, "memory")
+}
+
+/// This is read of the words of a line.
+fn reads(rt: &impl Abort, alloc: Global, line: &str, want: &str) {
+    let told = line_told(rt, alloc, line);
+    assert!(rt; told.as_str() == want, "at {line:?}");
+}
+
+/// Lines that are read as they stand.
+const COMMANDS: [&str; 8] = [
+    "replay",
+    "work 1 0 1 1 0",
+    "work 100000 500000 64 64 18446744073709551615",
+    "work 1000 20000 4 8 1",
+    "serve 127.0.0.1:0 1 1 1 1",
+    "serve localhost:11211 1000000 64 64 100000",
+    "serve é 7 6 5 4",
+    "serve help 1 2 3 4",
+];
+
+#[test]
+fn commands_are_read_as_they_stand(rt: HostRuntime) {
+    for line in COMMANDS.iter() {
+        reads(&rt, rt.alloc(), line, line);
+    }
+}
+
+/// Lines that are no command's.
+const NONE: [&str; 40] = [
+    "",
+    "play",
+    "Replay",
+    "replay x",
+    "replay --fast",
+    "work",
+    "work 3 10 2 1",
+    "work 3 10 2 1 7 1",
+    "work 0 10 2 1 7",
+    "work 100001 10 2 1 7",
+    "work 3 500001 2 1 7",
+    "work 3 10 0 1 7",
+    "work 3 10 65 1 7",
+    "work 3 10 2 0 7",
+    "work 3 10 2 65 7",
+    "work 3 10 2 1 18446744073709551616",
+    "work 03 10 2 1 7",
+    "work +3 10 2 1 7",
+    "work 3 10 2 1 -7",
+    "work a:1 3 10 2 1",
+    "serve",
+    "serve a:1 1 1 1",
+    "serve a:1 1 1 1 1 1",
+    "serve  1 1 1 1",
+    "serve -a 1 1 1 1",
+    "serve -- -a 1 1 1 1",
+    "serve a:1 0 1 1 1",
+    "serve a:1 1000001 1 1 1",
+    "serve a:1 1 0 1 1",
+    "serve a:1 1 65 1 1",
+    "serve a:1 1 1 0 1",
+    "serve a:1 1 1 65 1",
+    "serve a:1 1 1 1 0",
+    "serve a:1 1 1 1 100001",
+    "serve a:1 01 1 1 1",
+    "serve a:1 +1 1 1 1",
+    "serve a:1 1 1 1 4294967297",
+    "-- replay",
+    "work --version",
+    "help me",
+];
+
+#[test]
+fn other_lines_are_no_commands(rt: HostRuntime) {
+    for line in NONE.iter() {
+        reads(&rt, rt.alloc(), line, "usage");
+    }
+}
+
+/// Words of which one isn't UTF-8.
+const BYTES: [&[u8]; 6] = [b"serve", b"\xff", b"1", b"1", b"1", b"1"];
+
+#[test]
+fn other_words_are_no_commands(rt: HostRuntime) -> Result<(), Fail> {
+    let mut words = Vec::new(rt.alloc());
+    assert!(rt; told(rt.alloc(), &words)?.as_str() == "usage");
+    for word in BYTES.iter() {
+        words.push(Vec::from_slice(rt.alloc(), word)?)?;
+    }
+    assert!(rt; told(rt.alloc(), &words)?.as_str() == "usage");
+    Ok(())
+}
+
+/// Lines with two hyphens, and what is read of them.
+const HYPHENS: [(&str, &str); 4] = [
+    ("replay --", "replay"),
+    ("work -- 3 10 2 1 7", "work 3 10 2 1 7"),
+    ("work 3 10 -- 2 1 7", "work 3 10 2 1 7"),
+    ("serve a:1 1 2 3 4 --", "serve a:1 1 2 3 4"),
+];
+
+#[test]
+fn two_hyphens_are_passed_over(rt: HostRuntime) {
+    for (line, want) in HYPHENS.iter() {
+        reads(&rt, rt.alloc(), line, want);
+    }
+}
+
+/// Lines that ask for a text, and what stands in it.
+const TEXTS: [(&str, &str); 5] = [
+    ("--help", "Usage: iq <COMMAND>"),
+    ("-h", "Usage: iq <COMMAND>"),
+    ("help", "Usage: iq <COMMAND>"),
+    (
+        "work --help",
+        "<members> <sessions> <workers> <shards> <seed>",
+    ),
+    ("help serve", "<addr> <conns> <workers> <shards> <members>"),
+];
+
+/// A text is told, and this stands in it.
+fn tells(rt: &impl Abort, alloc: Global, line: &str, want: &str) {
+    let text = line_told(rt, alloc, line);
+    assert!(rt; text.as_str().starts_with("told "), "at {line:?}");
+    assert!(rt; text.as_str().contains(want), "at {line:?}: {text}");
+}
+
+#[test]
+fn texts_are_told(rt: HostRuntime) {
+    for line in ["--version", "-V"].iter() {
+        reads(&rt, rt.alloc(), line, "told iq 0.1.0\n");
+    }
+    for (line, want) in TEXTS.iter() {
+        tells(&rt, rt.alloc(), line, want);
+    }
+}

@@ -1,0 +1,26 @@
+//! Numbers drawn from a seed.
+ghost use Rattle.std.specs.Prelude.{◌<◌};
+
+/// A small linear congruential generator.
+#[derive(Drop)]
+pub struct Draws {
+    state: u64,
+}
+
+impl Draws {
+    pub fn new(seed: u64) -> Draws {
+        Draws { state: seed }
+    }
+
+    /// A number below the bound.
+    pub fn below(&mut self, bound: u64) -> u64
+        requires { 0 < bound }
+        ensures { result < bound }
+    {
+        self.state = self
+            .state
+            .wrapping_mul(6_364_136_223_846_793_005)
+            .wrapping_add(1_442_695_040_888_963_407);
+        (self.state >> 33) % bound
+    }
+}

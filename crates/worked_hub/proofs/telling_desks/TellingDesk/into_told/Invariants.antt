@@ -1,5 +1,0 @@
-use Rattle.std.proofs.Common.{length}
-use Rattle.worked_hub.proofs.telling_desks.TellingDesk.into_told.Given as goal
-
-abbrev pub decreases-loop-call : goal.decreases-loop-call
-decreases-loop-call g l = length l.calls.items
