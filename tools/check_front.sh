@@ -1,7 +1,8 @@
 #!/bin/sh
-# Checks the front door: what ./iq prints and how it ends, with no proof and, where a proved program stands,
-# with it, on the examples and on those of docs/script.md; and the pictures of the examples. The last line is 'N passed, M failed', and the status is 1 where
-# one failed. Takes three runs of `rt try`, some 20 seconds each on a free machine.
+# Checks the front door: what ./iq prints and how it ends, by the program of dist/ and, where a source was changed,
+# with no proof, on the examples and on those of docs/script.md; what it says of a program that was spoilt; and the
+# pictures of the examples. The last line is 'N passed, M failed', and the status is 1 where one failed. Takes
+# three runs of `rt try`, a minute or two each.
 top=$(cd "$(dirname "$0")/.." && pwd) || exit 1
 cd "$top" || exit 1
 work=$(mktemp -d) || exit 1
@@ -67,7 +68,7 @@ check_cases() {
     done
     add_case faulty_script "$work/faulty" /dev/null 2 ""
     add_case further_word "$work/faulty" /dev/null 1 more
-    (cd "$work/fresh/crates/iq" && rt try --cases "$work/cases" -- replay) >"$work/said" 2>&1
+    (cd "$work/changed/crates/iq" && rt try --cases "$work/cases" -- replay) >"$work/said" 2>&1
     while read -r name wanted; do
         grep -q "^case=$name run=ended status=$wanted .*output=expected" "$work/said"
         count "$name, with no proof" $?
@@ -76,24 +77,52 @@ check_cases() {
 }
 
 check_unproved() {
-    run_iq "$work/fresh" examples/stale_refill.iq replay
+    run_iq "$work/changed" examples/stale_refill.iq replay
     ended 0 examples/stale_refill.out "" && says_unproved
-    count "./iq replay, with no proof" $?
-    run_iq "$work/fresh" /dev/null
+    count "./iq replay, a source being changed" $?
+    run_iq "$work/changed" /dev/null
     ended 1 /dev/null 'usage\n' && says_unproved
-    count "./iq without words, with no proof" $?
+    count "./iq without words, a source being changed" $?
+}
+
+# A clone as it comes runs the program of dist/ at once.
+check_clone() {
+    began=$(date +%s)
+    run_iq "$work/clone" examples/stale_refill.iq replay
+    ended 0 examples/stale_refill.out "" && [ $(($(date +%s) - began)) -le 5 ] && ! says_unproved
+    count "./iq replay in a new clone, within 5 seconds" $?
+    rm -rf "$work/clone/out"
+    began=$(date +%s)
+    "$work/clone/iq" serve 127.0.0.1:0 1 1 1 3 >"$work/out" 2>"$work/err" &
+    server=$!
+    until grep -q '^ready$' "$work/out" || [ $(($(date +%s) - began)) -gt 5 ]; do
+        sleep 0.1
+    done
+    grep -q '^ready$' "$work/out"
+    count "./iq serve in a new clone says ready within 5 seconds" $?
+    kill "$server" 2>/dev/null
+}
+
+# Whether ./iq refuses the program of dist/ in one line, and runs nothing.
+refuses() {
+    run_iq "$work/clone" examples/stale_refill.iq replay
+    [ "$status" = 70 ] && [ ! -s "$work/out" ] && [ "$(grep -c '^iq: dist/' "$work/err")" = 1 ] && [ "$(wc -l <"$work/err")" = 1 ]
+    count "./iq, the program of dist/ being $1" $?
+    ! (cd "$work/clone" && tools/ship --check) >"$work/said" && grep -q 'NOT SO: dist/iq-x86_64-linux.gz is cut' "$work/said"
+    count "tools/ship --check, the program of dist/ being $1" $?
+}
+
+check_spoilt() {
+    shipped=$work/clone/dist/iq-x86_64-linux.gz
+    cp "$shipped" "$work/whole.gz"
+    rm -rf "$work/clone/out"
+    head -c 1000 "$work/whole.gz" >"$shipped"
+    refuses "cut"
+    gzip -dc "$work/whole.gz" | sed 's/profile/profits/' | gzip -n >"$shipped"
+    refuses "of other bytes"
 }
 
 check_proved() {
-    if [ ! -x crates/iq/out/iq ]; then
-        echo "front: no proved program stands here, so none is run"
-        return
-    fi
-    run_iq "$top" examples/stale_refill.iq replay
-    if says_unproved; then
-        echo "front: a source is newer than the proved program, so it isn't run"
-        return
-    fi
     for script in examples/*.iq; do
         run_iq "$top" "$script" replay
         ended 0 "${script%.iq}.out" ""
@@ -120,7 +149,7 @@ check_served() {
         return
     fi
     for check in $(python3 tools/play_clients.py --list); do
-        python3 tools/play_clients.py crates/iq/out/iq docs/protocol.md "$check"
+        python3 tools/play_clients.py out/iq docs/protocol.md "$check"
         count "served: $check" $?
     done
 }
@@ -157,9 +186,13 @@ if command -v python3 >/dev/null; then
 else
     echo "front: no python3 here, so the examples of docs/script.md aren't run"
 fi
-# A copy of the sources, in which no proved program stands.
-mkdir "$work/fresh"
-tar --exclude=out -cf - iq crates.txt crates | (cd "$work/fresh" && tar -xf -)
+# The clone as it comes, and one of which a byte was changed.
+mkdir "$work/clone" "$work/changed"
+tar --exclude=out -cf - iq crates.txt crates tools dist HANDLES | (cd "$work/clone" && tar -xf -)
+tar --exclude=out -cf - iq crates.txt crates tools dist HANDLES | (cd "$work/changed" && tar -xf -)
+printf '\n' >>"$work/changed/crates/iq/src/main.rt"
+check_clone
+check_spoilt
 check_cases
 check_unproved
 check_proved

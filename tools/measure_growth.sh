@@ -13,9 +13,8 @@ top=$(cd "$(dirname "$0")/.." && pwd) || exit 1
 . "$top/tools/measuring.sh"
 few=${FEW:-6000}
 tries=${TRIES:-3}
-iq=${1:-$(proved_program iq "./iq --prove" '*')} || exit 1
-below="case_tables rows_model lease_table entry_table key_shard"
-growth=${2:-$(proved_program growth "cd crates/growth && rt run -- try && touch out/growth" $below growth)} || exit 1
+iq=${1:-$(proved_iq)} || exit 1
+growth=${2:-$(proved_growth)} || exit 1
 work=$(mktemp -d) || exit 1
 trap 'rm -rf "$work"' EXIT
 trap 'exit 130' HUP INT TERM

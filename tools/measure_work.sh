@@ -22,7 +22,7 @@ top=$(cd "$(dirname "$0")/.." && pwd) || exit 1
 members=100000
 sessions=${SESSIONS:-500000}
 tries=${TRIES:-3}
-program=${1:-$(proved_program iq "./iq --prove" '*')} || exit 1
+program=${1:-$(proved_iq)} || exit 1
 [ -x "$program" ] || fail "$program isn't a program"
 
 # Microseconds.

@@ -1,20 +1,22 @@
 # What the measuring scripts share. It is read by bash, with $top the top of the repository.
 
+. "$top/tools/program.sh"
+
 fail() {
     echo "$(basename "$0"): $1" >&2
     exit 1
 }
 
-# The proved program of a crate: it has to stand, and no source of these crates may be newer. The words behind
-# its name say what builds it, and which crates it stands on (a star for all).
-proved_program() {
-    local program=$top/crates/$1/out/$1 builds=$2 crate newer sources=()
-    shift 2
-    [ -x "$program" ] || fail "no proved program stands at $program; $builds builds it"
-    for crate in "$@"; do
-        sources+=("$top"/crates/$crate/{src,specs,proofs})
-    done
-    newer=$(find "${sources[@]}" -newer "$program" 2>/dev/null | head -n 1)
+# The proved program of these sources.
+proved_iq() {
+    ready_program || fail "no proved program of these sources is here; ./iq --prove builds it"
+}
+
+# The proved program that measures growth, which has to be newer than its sources and those below.
+proved_growth() {
+    local program=$top/crates/growth/out/growth builds="(cd crates/growth && rt run -- try && touch out/growth)" newer
+    [ -x "$program" ] || fail "no proved program is at $program; $builds builds it"
+    newer=$(find "$top"/crates/{growth,key_shard,lease_table,entry_table,case_tables,rows_model}/{src,specs,proofs} -newer "$program" 2>/dev/null | head -n 1)
     [ -z "$newer" ] || fail "$newer is newer than the proved program; $builds builds it"
     echo "$program"
 }
