@@ -1,0 +1,151 @@
+"""The commands of the protocol: for each, the bytes that are sent and the replies that may come back."""
+
+from __future__ import annotations
+
+from dataclasses import dataclass
+from enum import Enum
+from typing import Generic, Optional, Tuple, TypeVar, Union
+
+from .changes import Txn
+from .errors import InvalidInputError
+from .keys import Key
+from .replies import (
+    Again,
+    Begun,
+    Committed,
+    Deleted,
+    Ended,
+    Granted,
+    Held,
+    Lease,
+    NotFound,
+    NotStored,
+    Own,
+    Refused,
+    Rejected,
+    Released,
+    Reply,
+    Staged,
+    Stored,
+    Uncovered,
+    Value,
+)
+
+BIGGEST_BLOCK = 1_048_576
+"""So many bytes a value has at most that a client sends."""
+
+_R = TypeVar("_R", covariant=True)
+
+
+class Role(Enum):
+    """What a session is begun for."""
+
+    READ = "read"
+    WRITE = "write"
+
+
+@dataclass(frozen=True)
+class Command(Generic[_R]):
+    """A command.
+
+    Attributes:
+        data: the bytes to send.
+        replies: the types of its replies, besides `Failure`.
+        key: the key of a value that it is told.
+        with_old: whether a value, or `END` alone, follows behind `GRANTED`.
+        begins: what it begins a session for, if it begins one.
+    """
+
+    data: bytes
+    replies: Tuple[type, ...]
+    key: Optional[Key] = None
+    with_old: bool = False
+    begins: Optional[Role] = None
+
+    def accepts(self, reply: Reply) -> bool:
+        """Whether this is a reply to it, and tells no other key's value."""
+        told = reply.old if isinstance(reply, Granted) else reply
+        if isinstance(told, (Value, Staged)) and told.key != str(self.key):
+            return False
+        return isinstance(reply, self.replies)
+
+
+def _line(*words: object) -> bytes:
+    return " ".join(map(str, words)).encode("ascii") + b"\r\n"
+
+
+def _block(data: bytes) -> bytes:
+    if len(data) > BIGGEST_BLOCK:
+        raise InvalidInputError(f"a value of {len(data)} bytes, above {BIGGEST_BLOCK}")
+    return data + b"\r\n"
+
+
+def begin(role: Role) -> Command[Begun]:
+    """Begins a session in place of the present one of the connection."""
+    return Command(_line("begin", role.value), (Begun,), begins=role)
+
+
+def iqget(key: Key, sid: int, floor: int) -> Command[Union[Value, Lease, Again, Own]]:
+    """Gets a value whose stamp is at least the floor."""
+    return Command(_line("iqget", key, sid, floor), (Value, Lease, Again, Own), key)
+
+
+def ask(key: Key, sid: int) -> Command[Value]:
+    """Asks the store for its answer now."""
+    return Command(_line("ask", key, sid), (Value,), key)
+
+
+def iqset(key: Key, data: bytes, token: int, stamp: int) -> Command[Union[Stored, NotStored]]:
+    """Stores under a lease what the store answered, with the stamp that it told."""
+    line = _line("iqset", key, 0, 0, len(data), token, stamp)
+    return Command(line + _block(data), (Stored, NotStored))
+
+
+def qareg(key: Key, sid: int) -> Command[Union[Granted, Held, Refused]]:
+    """Quarantines a key, to drop its value."""
+    return Command(_line("qareg", key, sid), (Granted, Held, Refused))
+
+
+def qaread(key: Key, sid: int) -> Command[Union[Granted, Held, Refused]]:
+    """Quarantines a key and reads what the cache has, to put a new value in its place."""
+    return Command(_line("qaread", key, sid), (Granted, Held, Refused), key, with_old=True)
+
+
+def iqdelta(key: Key, sid: int, by: int) -> Command[Union[Granted, Held, Refused]]:
+    """Quarantines a count, to shift it."""
+    return Command(_line("iqdelta", key, sid, by), (Granted, Held, Refused))
+
+
+def stage(key: Key, sid: int, txn: Txn) -> Command[Union[Staged, Rejected]]:
+    """Asks the store what its answer would be behind the transaction."""
+    return Command(_line("stage", key, sid, txn), (Staged, Rejected), key)
+
+
+def sql(sid: int, txn: Txn) -> Command[Union[Committed, Ended, Uncovered, Rejected]]:
+    """Commits a transaction."""
+    return Command(_line("sql", sid, txn), (Committed, Ended, Uncovered, Rejected))
+
+
+def dar(key: Key, sid: int) -> Command[Union[Deleted, NotFound]]:
+    """Drops a value and ends its quarantine."""
+    return Command(_line("dar", key, sid), (Deleted, NotFound))
+
+
+def sar(key: Key, data: bytes, sid: int) -> Command[Union[Stored, NotFound]]:
+    """Puts a new value in place of the old one, and ends its quarantine."""
+    line = _line("sar", key, 0, 0, len(data), sid)
+    return Command(line + _block(data), (Stored, NotFound))
+
+
+def iqcommit(key: Key, sid: int) -> Command[Union[Stored, NotFound]]:
+    """Shifts a count, and ends its quarantine."""
+    return Command(_line("iqcommit", key, sid), (Stored, NotFound))
+
+
+def iqabort(sid: int) -> Command[Released]:
+    """Gives a session up, or ends what it still holds behind its commit."""
+    return Command(_line("iqabort", sid), (Released,))
+
+
+QUIT = b"quit\r\n"
+"""Ends the connection. There is no reply."""
