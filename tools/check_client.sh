@@ -1,7 +1,8 @@
 #!/bin/sh
 # Runs the tests of clients/python against the program that ./iq has ready, or against the one that $IQ names.
 # The last line is 'N passed, M failed', and the status is 1 where one failed. Takes 15 to 25 seconds; IQ_SECONDS in
-# the environment says for how many of them eight threads read and write. Without python3 nothing is tried.
+# the environment says for how many of them eight threads read and write. Without python3 nothing is tried,
+# and there are no counts.
 top=$(cd "$(dirname "$0")/.." && pwd) || exit 1
 . "$top/tools/program.sh"
 
@@ -14,7 +15,6 @@ give_up() {
 
 if ! command -v python3 >/dev/null; then
     echo "client: no python3 here, so the client isn't tried"
-    echo "0 passed, 0 failed"
     exit 0
 fi
 if [ -z "$IQ" ]; then
