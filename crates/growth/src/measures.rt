@@ -9,7 +9,7 @@ use std::alloc::Global;
 use std::time::CpuClock;
 
 /// How much there is of each thing.
-#[derive(Clone, Copy, Debug)]
+#[derive(Clone, Copy)]
 pub struct Scale {
     /// How many requests are made at first, and then ten times as many.
     pub few: u32,
@@ -41,7 +41,7 @@ pub const SMALL: Scale = Scale {
 const ROOM: u32 = 1024;
 
 /// A kind of requests, with what stands beside them.
-#[derive(Clone, Copy, Debug, PartialEq, Eq)]
+#[derive(Clone, Copy)]
 pub enum Measure {
     Readers,
     Quarantines,

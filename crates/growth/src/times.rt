@@ -4,7 +4,7 @@ use std::time::CpuClock;
 use std::{fmt, io};
 
 /// Memory ran out, the clock or the output failed, or a request was answered otherwise than it must be.
-#[derive(Clone, Copy, Debug, PartialEq, Eq)]
+#[derive(Clone, Copy)]
 pub struct Unmeasured;
 
 impl From<Memory> for Unmeasured {
@@ -38,7 +38,7 @@ impl From<io::Error> for Unmeasured {
 }
 
 /// How many times one time is another, which is printed with two places behind the point.
-#[derive(Clone, Copy, Debug, PartialEq, Eq)]
+#[derive(Clone, Copy)]
 pub struct Ratio {
     hundredths: u64,
 }

@@ -1,5 +1,3 @@
-ghost use Rattle.std.specs.Prelude.{◌≤◌};
-
 use crate::test_desk::TestDesk;
 use conn_server::LineEnd;
 use door_workers::{Attended, serve_all};

@@ -1,4 +1,4 @@
-ghost use Rattle.std.specs.Prelude.{◌≤◌, ◌<◌, None, length, refl};
+ghost use Rattle.std.specs.Prelude.{◌≤◌, ◌<◌, None, refl};
 
 use crate::test_desk::TestDesk;
 use conn_server::{LineEnd, serve_line};

@@ -1,5 +1,5 @@
-ghost use Rattle.std.specs.Prelude.{◌≡◌, ◌≤◌, List, ℕ, OnOk, OnErr};
-ghost use Rattle.iq_outside.specs.Outside.{Rose, Takes, Gains};
+ghost use Rattle.std.specs.Prelude.{◌≡◌, ◌≤◌, List, ℕ, OnOk};
+ghost use Rattle.iq_outside.specs.Outside.{Takes, Gains};
 
 use iq_outside::{
     Clock, Door, Failed, Line, ListClock, ListDoor, MemLine, MemSink, MemSource, ReadStop,

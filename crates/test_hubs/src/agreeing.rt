@@ -1,5 +1,4 @@
 // Whether a call at a desk tells what a step of a shard's history says.
-ghost use Rattle.std.specs.Prelude.{◌≤◌};
 
 use crate::kept_desks::Call;
 use gate_workers::{Mark, Request, Response};
