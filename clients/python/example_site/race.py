@@ -21,7 +21,7 @@ from concurrent.futures import ThreadPoolExecutor
 from contextlib import contextmanager
 from dataclasses import dataclass
 from pathlib import Path
-from typing import Any, Dict, Iterator, Union
+from typing import Any, Dict, Iterator, Tuple, Union
 
 sys.path.insert(0, str(Path(__file__).resolve().parents[1]))
 
@@ -35,6 +35,8 @@ SECONDS = 5.0
 GAP = 0.001
 READERS, WRITERS = 6, 2
 MEMBERS = range(11, 31)
+
+Way = Union[Aside, ByLeases]
 
 
 def gap(*_: object) -> None:
@@ -119,7 +121,7 @@ class Counts:
 class Load:
     """Readers and writers on some members' profiles."""
 
-    def __init__(self, way: Union[Aside, ByLeases]) -> None:
+    def __init__(self, way: Way) -> None:
         self._way = way
         self._lock = threading.Lock()
         self._over: Dict[Key, int] = {}  # The last commit on each key whose write is over.
@@ -159,7 +161,7 @@ class Load:
             time.sleep(0.002)
 
 
-def left_stale(pool: Pool, way: Union[Aside, ByLeases]) -> int:
+def left_stale(pool: Pool, way: Way) -> int:
     """How many profiles are still cached with an old value, now that nobody writes any more."""
     keys = [Key(Kind.PROFILE, member) for member in MEMBERS]
     return sum(way.read(key).data != pool.ask(key).data for key in keys)
@@ -175,7 +177,8 @@ def main(address: str) -> int:
         print(f"{READERS} readers and {WRITERS} writers on {len(MEMBERS)} profiles, {SECONDS:g} seconds each way.")
         print(f"Behind the store's answer a reader takes {GAP * 1000:g} ms to reach the cache.")
         found = {}
-        for way in (Aside(pool, between=gap), ByLeases(slow)):
+        ways: Tuple[Way, ...] = (Aside(pool, between=gap), ByLeases(slow))
+        for way in ways:
             counts = Load(way).run()
             left = left_stale(pool, way)
             found[way.name] = (counts.stale, left)

@@ -8,7 +8,7 @@ from __future__ import annotations
 
 from abc import ABC, abstractmethod
 from dataclasses import dataclass, replace
-from typing import Dict, Iterable, List, Optional, Tuple, Type, Union
+from typing import Callable, Dict, Iterable, List, Optional, Tuple, Union
 
 from .errors import InvalidInputError
 from .keys import Key, Kind, check_id, id_of
@@ -138,7 +138,7 @@ class Rename(Change):
         return (Named(self.a, self.name),)
 
 
-_OF_TWO: Dict[str, Type[_OfTwo]] = {
+_OF_TWO: Dict[str, Callable[[int, int], Change]] = {
     kind.__name__.lower(): kind for kind in (Invite, Accept, Reject, Thaw)
 }
 
