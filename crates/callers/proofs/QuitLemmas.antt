@@ -29,7 +29,7 @@ use Rattle.key_shard.specs.Permit.{Permit}
 use Rattle.key_shard.specs.Past.{Terms, seen_by, holder_of, entry}
 use Rattle.key_shard.specs.Answers.{granted_step, refused_step, quarantine_by, quarantine_step}
 use Rattle.key_shard.specs.Replies.{ShowsQuarantine, old_value}
-use Rattle.key_shard.specs.Shards.{ShardView, past_of, is_out, stepped}
+use Rattle.key_shard.specs.Shards.{ShardView, past_of, is_out, rolled, stepped}
 use Rattle.write_ops.specs.Releases.{LeavesValue}
 use Rattle.session_client.specs.declared.plans.Plan.{Plan}
 use Rattle.session_client.specs.declared.plans.Plan.TheVariants.{Quit}
@@ -277,7 +277,7 @@ asked-step old (step.Held on sid mode) told shows key = refl
 asked-step old (step.Refused on sid mode holder held) told shows key = refl
 asked-step old other told shows key = absurd shows
 
-pub asked-same : {E : Type 0} (result : Result QAnswer E) (old new : ShardView) (s : Step) → OnOk result (new ≡ stepped old s)
+pub asked-same : {E : Type 0} (result : Result QAnswer E) (old new : ShardView) (s : Step) → OnOk result (new ≡ stepped (rolled old) s)
     → IfOk result (ShowsQuarantine old.terms (past_of old) s) → OnErr result (new ≡ old) → HasSameEntries (past_of old) (past_of new)
 asked-same (Err fault) old new s made shows same = same-shard old new same
 asked-same (Ok told) old new s made shows same = λ key.

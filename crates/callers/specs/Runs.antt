@@ -23,8 +23,8 @@ use Rattle.core_history.specs.Machine.{terms_of}
 use Rattle.conn_server.specs.declared.ends.LineEnd.{LineEnd}
 use Rattle.run_words.specs.declared.words.ServeSpec.{ServeSpec}
 use Rattle.top_run.specs.Runs.{IsRead, Prints, Tells, Left}
-use Rattle.top_run.specs.Serves.{serve_shape, serve_text}
-use Rattle.top_run.specs.Works.{IsTold}
+use Rattle.top_run.specs.Serves.{serve_shape, serve_keep, serve_text}
+use Rattle.top_run.specs.Works.{IsLeft, IsTold}
 
 -- A run over a keeper in memory, which began with these rows and has those at its end: it began with the rows of as many
 -- members as its script says, no hit is stale, each commit is covered, and the rows at the end are those after the log.
@@ -50,13 +50,13 @@ pub record IsCleanLoad (spec : WorkSpec) (before after : Tells) (left : Left) (w
   pub told : IsTold spec opening left.log left.histories before.taken after.taken written finding.Clean
 
 -- A server ended Done: so many connections were served as were asked for, or the door said that no more come; the
--- sink took all that a server writes, with that number; and there is a legal history of each shard.
+-- sink took all that a server writes, with that number; and of each shard there are the last steps of a legal history.
 pub record IsDoneServer (spec : ServeSpec) (taken_old taken_new : Option (List ℕ)) (ended : Bool)
     (ends : List LineEnd) (histories : List (List Step)) (written : ℕ) : Type 0 where
   pub served : (length ends ≡ spec.conns) ⊎ (ended ≡ true)
   pub prints : Prints taken_old taken_new (serve_text (length ends)) written
   pub as_many : length histories ≡ spec.shards
-  pub legal : (place : ℕ) (history : List Step) → slice_get histories place ≡ Some history → Legal (terms_of (serve_shape spec) place) history
+  pub legal : (place : ℕ) (history : List Step) → slice_get histories place ≡ Some history → IsLeft (serve_shape spec) serve_keep place history
 
 -- A hit behind a release of the key, in a history that has the earliest step first: between them and around them are any steps.
 pub record IsHitBehind (history : List Step) (key : QKey) (writer : Sid) (value : List ℕ) (stamp : ℕ) : Type 0 where

@@ -30,7 +30,7 @@ use Rattle.expiry_sweeper.specs.declared.replies.SweepWanted.TheVariants as swee
 use Rattle.expiry_sweeper.specs.declared.sweepers.Sweeper.{Sweeper}
 use Rattle.sql_keeper.specs.Stores.{StoreView}
 use Rattle.core_history.specs.declared.told.Told.{Told}
-use Rattle.core_history.specs.Cores.{Origin, CoreView, HasShards, HasHomes, AreFollowing, HasKept, HasSessions, HasSweeper, IsAt, IsRunning, HasBegun}
+use Rattle.core_history.specs.Cores.{Origin, CoreView, HasShards, HasHomes, KeepAll, AreFollowing, HasKept, HasSessions, HasSweeper, IsAt, IsRunning, HasBegun}
 use Rattle.core_history.specs.Events.{Event, Ticked, told_in, told_to, swept_in, sweeps_of, now_of, reply_in}
 use Rattle.core_history.specs.Machine.{World, wanted_by, wanted_of, event_of, sweep_of, swept_next, later, turn_event, out_of, Said, Failed}
 use Rattle.core_history.specs.Machine.{Move, Take, world_of}
@@ -41,7 +41,8 @@ use Rattle.core_history.proofs.FoundLemmas.{ends_numbered}
 use Rattle.core_history.proofs.GrantLemmas.{grant_facts}
 use Rattle.core_history.proofs.GrantFacts.{GrantFacts, IsReleaseOf}
 use Rattle.core_history.proofs.OpenLemmas.{phases_same}
-use Rattle.core_history.proofs.ShardsLemmas.{slice_get_push, slice_get_pushed, slice_get-set_same, slice_get-set_other, homes_of, shard_found, shards_ticked}
+use Rattle.core_history.proofs.ShardsLemmas.{slice_get_push, slice_get_pushed, slice_get-set_same, slice_get-set_other}
+use Rattle.core_history.proofs.ShardsLemmas.{homes_of, whole_shards, shard_found, shards_ticked}
 use Rattle.core_history.proofs.StoreEvents.{store_quiet, quiet_tick}
 use Rattle.core_history.proofs.TellLemmas.{event_turn}
 
@@ -231,6 +232,13 @@ pub event_taken : (new : CoreView) (origin : Origin) (moves : List Move) (turn :
     → TakesStep origin moves turn new result
 event_taken new origin moves turn said (Ok told) at line = (said, at, line)
 event_taken new origin moves turn said (Err memory) at line = inr (said, at.kept)
+
+-- and whose shards are whole, though memory ran out
+pub whole_taken : (new : CoreView) (origin : Origin) (moves : List Move) (turn : Turn) (result : Result Told Memory)
+    → TakesStep origin moves turn new result → KeepAll new.shards
+whole_taken new origin moves turn (Ok told) taken = whole_shards new.shards origin.shape _ taken.1.kept.shards
+whole_taken new origin moves turn (Err memory) (inl kept) = whole_shards new.shards origin.shape _ kept.shards
+whole_taken new origin moves turn (Err memory) (inr made) = whole_shards new.shards origin.shape _ made.1.shards
 
 -- the sweeper and the clock after an event that is none of theirs
 sweeper_same : (sweeper : Sweeper) (shape : Shape) (past : List Event) (event : Event) → swept_in event ≡ [] → HasSweeper sweeper shape past

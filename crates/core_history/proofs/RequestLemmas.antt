@@ -18,7 +18,7 @@ use Rattle.key_shard.specs.declared.replies.How.TheVariants as how
 use Rattle.key_shard.specs.Past.{Terms}
 use Rattle.key_shard.specs.Answers.{FitsShift, get_step, set_step, quarantine_step, release_step}
 use Rattle.key_shard.specs.Replies.{ShowsGot, ShowsSet, ShowsQuarantine, ShowsRelease}
-use Rattle.key_shard.specs.Shards.{ShardView, past_of, stepped, returned}
+use Rattle.key_shard.specs.Shards.{ShardView, past_of, rolled, stepped, returned}
 use Rattle.session_client.specs.Belongs.{Belongs}
 use Rattle.session_client.proofs.QuarantineLemmas.{quarantine_belongs as quarantine_answers}
 use Rattle.session_client.specs.declared.plans.Shape.{Shape}
@@ -30,7 +30,7 @@ use Rattle.core_history.specs.Cores.{HasShards}
 use Rattle.core_history.specs.Events.{Event, steps_of, now_of, reply_in}
 use Rattle.core_history.specs.Machine.{World, Failed, event_of, stepped_on, terms_of, shown, put_step}
 use Rattle.core_history.specs.Requests.{MakesStep, quarantined_as, quarantine_of, released_as}
-use Rattle.core_history.proofs.ShardsLemmas.{IsShardOf, grown, shards_made}
+use Rattle.core_history.proofs.ShardsLemmas.{IsShardOf, grown, unrolled, shards_made}
 
 tells_got : (terms : Terms) (past : List Step) (s : Step) (answer : Got) → ShowsGot s answer → reply.Got answer ≡ shown terms past s
 tells_got terms past (step.Hit key sid floor value stamp) answer h = ap reply.Got h
@@ -93,6 +93,11 @@ shown_is shape past key place shard g is =
     ap (λ (v : ShardView). g v.terms (past_of v)) is.same
     ∙ ap (λ (steps : List Step). g (terms_of shape (shard_of key shape.shards)) steps) (reverse-reverse (steps_of (shard_of key shape.shards) past))
 
+-- a step of a shard that is whole
+stepped_whole : (shape : Shape) (past : List Event) (key : QKey) (place : ℕ) (shard new : ShardView) (s : Step) → IsShardOf shape past key place shard
+    → new ≡ stepped (rolled shard) s → new ≡ stepped shard s
+stepped_whole shape past key place shard new s is grew = grew ∙ ap (λ (v : ShardView). stepped v s) (unrolled shape past key place shard is)
+
 -- the shard of the key made the step, and told what it shows
 step_made : (shape : Shape) (world : World) (who : Sid) (request : Wanted)
     (key : QKey) (f : Terms → List Step → Step) (shards : List ShardView) (place : ℕ) (shard new : ShardView) (told : Reply) →
@@ -111,24 +116,25 @@ step_made shape world who request key f shards place shard new told event has is
 pub got_made : (shape : Shape) (world : World) (who : Sid) (key : QKey) (floor now : ℕ) (shards : List ShardView)
     (place : ℕ) (shard new : ShardView) (answer : Got) → now ≡ now_of world.past
     → HasShards shards shape world.past → IsShardOf shape world.past key place shard →
-    new ≡ stepped shard (get_step shard.terms (past_of shard) key who floor now) → ShowsGot (get_step shard.terms (past_of shard) key who floor now) answer
+    new ≡ stepped (rolled shard) (get_step shard.terms (past_of shard) key who floor now)
+    → ShowsGot (get_step shard.terms (past_of shard) key who floor now) answer
     → MakesStep shape world who (wanted.Get key floor) (set shards place new) (Ok (reply.Got answer))
 got_made shape world who key floor now shards place shard new answer time has is grew shows =
     let f : ℕ → Terms → List Step → Step = λ n terms steps. get_step terms steps key who floor n in
     step_made shape world who (wanted.Get key floor) key (f now) shards place shard new
-    (reply.Got answer) (ap (λ (n : ℕ). stepped_on shape world.past who (wanted.Get key floor) key (f n)) (sym time)) has is grew
-    (tells_got shard.terms (past_of shard) _ answer shows)
+    (reply.Got answer) (ap (λ (n : ℕ). stepped_on shape world.past who (wanted.Get key floor) key (f n)) (sym time)) has is
+    (stepped_whole shape world.past key place shard new _ is grew) (tells_got shard.terms (past_of shard) _ answer shows)
 
 pub set_made : (shape : Shape) (world : World) (who : Sid) (key : QKey) (token : ℕ) (value : List ℕ) (stamp now : ℕ) (shards : List ShardView) (place : ℕ)
     (shard new : ShardView) (answer : SetAnswer) → now ≡ now_of world.past → HasShards shards shape world.past → IsShardOf shape world.past key place shard →
-    new ≡ stepped shard (set_step shard.terms (past_of shard) key token value stamp now)
+    new ≡ stepped (rolled shard) (set_step shard.terms (past_of shard) key token value stamp now)
     → ShowsSet (set_step shard.terms (past_of shard) key token value stamp now) answer
     → MakesStep shape world who (wanted.Set key token value stamp) (set shards place new) (Ok (reply.Set answer))
 set_made shape world who key token value stamp now shards place shard new answer time has is grew shows =
     let f : ℕ → Terms → List Step → Step = λ n terms steps. set_step terms steps key token value stamp n in
     step_made shape world who (wanted.Set key token value stamp) key (f now) shards place shard new
-    (reply.Set answer) (ap (λ (n : ℕ). stepped_on shape world.past who (wanted.Set key token value stamp) key (f n)) (sym time)) has is grew
-    (tells_set shard.terms (past_of shard) _ answer shows)
+    (reply.Set answer) (ap (λ (n : ℕ). stepped_on shape world.past who (wanted.Set key token value stamp) key (f n)) (sym time)) has is
+    (stepped_whole shape world.past key place shard new _ is grew) (tells_set shard.terms (past_of shard) _ answer shows)
 
 -- a quarantine is the event of its mode, and its grant is out afterwards
 quarantine_in : (shape : Shape) (world : World) (who : Sid) (key : QKey) (mode : Mode) (by : ℤ) (now : ℕ) (shards : List ShardView) (place : ℕ)
@@ -154,12 +160,13 @@ quarantine_in shape world who key Delta by now shards place shard new told fits 
 pub quarantine_made : (shape : Shape) (world : World) (who : Sid) (key : QKey) (mode : Mode) (by : ℤ) (now : ℕ) (shards : List ShardView) (place : ℕ)
     (shard new : ShardView) (answer : QAnswer) → FitsShift mode by
     → now ≡ now_of world.past → HasShards shards shape world.past → IsShardOf shape world.past key place shard →
-    new ≡ stepped shard (quarantine_of shard key who mode by now)
+    new ≡ stepped (rolled shard) (quarantine_of shard key who mode by now)
     → ShowsQuarantine shard.terms (past_of shard) (quarantine_of shard key who mode by now) answer
     → MakesStep shape world who (quarantined_as mode key by) (set shards place new) (Ok (reply.Quar answer))
 quarantine_made shape world who key mode by now shards place shard new answer fits time has is grew shows =
     quarantine_in shape world who key mode by now shards place shard new
-    (reply.Quar answer) fits time has is grew (tells_quarantine shard.terms (past_of shard) _ answer shows)
+    (reply.Quar answer) fits time has is (stepped_whole shape world.past key place shard new _ is grew)
+    (tells_quarantine shard.terms (past_of shard) _ answer shows)
 
 -- a release is the event of how it is made, and its grant is out no more
 release_in : (shape : Shape) (world : World) (who : Sid) (grant : Permit) (way : How) (shards : List ShardView)

@@ -5,7 +5,7 @@ use Rattle.std.proofs.Common.{⊎_elim, ◌⊎◌, length-append, arith, rules, 
 use Rattle.std.proofs.lemmas.Bool.{eqb-true, cases_Bool, cases_lt, false≢true}
 use Rattle.std.proofs.lemmas.List.{reverse-reverse, reverse-append}
 use Rattle.std.proofs.lemmas.List.Sums.{count_by-le-length}
-use Rattle.std.proofs.lemmas.Option.{slice_get_read}
+use Rattle.std.proofs.lemmas.Option.{slice_get_read, slice_get_within}
 use Rattle.std.proofs.Math.ListN.{length-set}
 use Rattle.rows_model.specs.declared.keys.QKey.{QKey}
 use Rattle.rows_model.specs.declared.keys.Sid.{Sid}
@@ -19,7 +19,7 @@ use Rattle.key_shard.specs.declared.replies.ShardFault.{ShardFault}
 use Rattle.key_shard.specs.declared.replies.ShardFault.TheVariants as faults
 use Rattle.key_shard.specs.Past.{Terms, draws, quar_of, next_token}
 use Rattle.key_shard.specs.Answers.{IsAtHome, sweep_step}
-use Rattle.key_shard.specs.Shards.{ShardView, past_of, swept, refusal, spent_at, Refuses}
+use Rattle.key_shard.specs.Shards.{ShardView, past_of, rolled, swept, refusal, spent_at, Refuses}
 use Rattle.key_shard.proofs.SweepLemmas.{sweep_by}
 use Rattle.expiry_sweeper.specs.declared.replies.SweepReply.{SweepReply}
 use Rattle.expiry_sweeper.specs.declared.replies.SweepWanted.{SweepWanted}
@@ -28,7 +28,7 @@ use Rattle.session_client.specs.declared.replies.Reply.{Reply}
 use Rattle.session_client.specs.declared.replies.Wanted.{Wanted}
 use Rattle.core_history.specs.Events.{Event, Stepped, Called, Ticked, Swept, steps_of, steps_in}
 use Rattle.core_history.specs.Machine.{stepped_on, terms_of, out_of, out_by}
-use Rattle.core_history.specs.Cores.{HasShards, HasHomes, shard_after}
+use Rattle.core_history.specs.Cores.{HasShards, HasHomes, KeepAll, shard_after}
 
 -- a step at home that draws no last token isn't refused
 never_spent : (draw : Bool) (next : ℕ) → next < 2 ^ 64 - 1 → cond (draw && (next == 2 ^ 64 - 1)) (Some (faults.Spent next)) None ≡ None
@@ -67,7 +67,7 @@ slice_get-set_other (y ∷ xs) (suc place) (suc other) x h = slice_get-set_other
 -- a shard after the step of a request
 abbrev pub grown : ShardView → Wanted → Step → ShardView
 grown shard request made =
-    record { terms = shard.terms; history = shard.history ++ made ∷ []; out = out_by shard.terms request made shard.out }
+    record { terms = shard.terms; history = shard.history ++ made ∷ []; out = out_by shard.terms request made shard.out; gone = shard.gone }
 
 -- the shards after an event that changes one of them alone
 pub shards_after : (shape : Shape) (past : List Event) (event : Event) (home : ℕ) (new : ShardView) (shards : List ShardView) → HasShards shards shape past
@@ -111,7 +111,7 @@ shards_after_step shape past who request made told home shards has within =
     (λ place apart. ap (after place) apart)
   where
     H : List Step → ShardView
-    H history = record { terms = terms_of shape home; history = history; out = out_by (terms_of shape home) request made (out_of shape home past) }
+    H history = record { terms = terms_of shape home; history = history; out = out_by (terms_of shape home) request made (out_of shape home past); gone = 0 }
 
     after : ℕ → Bool → ShardView
     after place b =
@@ -119,6 +119,7 @@ shards_after_step shape past who request made told home shards has within =
           terms = terms_of shape place;
           history = reverse (cond b (made ∷ []) [] ++ steps_of place past);
           out = cond b (out_by (terms_of shape place) request made (out_of shape place past)) (out_of shape place past);
+          gone = 0;
         }
 
 -- a step of the sweeper's that makes none on a shard leaves the shards
@@ -126,7 +127,7 @@ pub shards_looked : (shards : List ShardView) (shape : Shape) (past : List Event
     → HasShards shards shape past → HasShards shards shape (Swept place request None told ∷ past)
 shards_looked shards shape past place request told has =
     shards_same shards shape past (Swept place request None told) has
-    (λ at. ap (λ (steps : List Step). record { terms = terms_of shape at; history = reverse steps; out = out_of shape at past })
+    (λ at. ap (λ (steps : List Step). record { terms = terms_of shape at; history = reverse steps; out = out_of shape at past; gone = 0 })
     (none (place == at) (steps_of at past)))
   where
     none : (b : Bool) (steps : List Step) → cond b [] [] ++ steps ≡ steps
@@ -146,12 +147,17 @@ shards_swept shape past request key token told home shards has within =
   where
     after : ℕ → Option Step → Bool → ShardView
     after place made b =
-        record { terms = terms_of shape place; history = reverse (cond b (option_to_list made) [] ++ steps_of place past); out = out_of shape place past }
+        record {
+          terms = terms_of shape place;
+          history = reverse (cond b (option_to_list made) [] ++ steps_of place past);
+          out = out_of shape place past;
+          gone = 0;
+        }
 
     by : (found : Option Quar) → swept (shard_after shape past home) (sweep_by key token found) ≡ after home (sweep_by key token found) true
     by None = refl
     by (Some quar) =
-        ap (λ (history : List Step). record { terms = terms_of shape home; history = history; out = out_of shape home past })
+        ap (λ (history : List Step). record { terms = terms_of shape home; history = history; out = out_of shape home past; gone = 0 })
         (turned (steps_of home past) (Released key quar.sid token Drop))
 
 -- an event at the store leaves the shards, and so does a tick
@@ -185,6 +191,12 @@ length-steps_of place (event ∷ past) =
 
 some_is : (a b : ShardView) → Some a ≡ Some b → a ≡ b
 some_is a b e = cc
+
+-- the shards after these events are whole
+pub whole_shards : (shards : List ShardView) (shape : Shape) (past : List Event) → HasShards shards shape past → KeepAll shards
+whole_shards shards shape past has place shard found =
+    let below : place < shape.shards = omega (arith, has.count, slice_get_within shards place shard found) in
+    ap (λ (v : ShardView). v.terms.keep) (some_is shard (shard_after shape past place) (sym found ∙ has.each place below))
 
 -- after fewer than 2^32 events each key's shard is there, with tokens left
 pub homes_of : (shards : List ShardView) (shape : Shape) (past : List Event) → HasShards shards shape past → length past < 2 ^ 32 → HasHomes shards
@@ -221,6 +233,10 @@ shard_found shape past key shards place shard has at found =
     let within = shard_below key shape.shards has.fit.some_shards in
     let there : slice_get shards (shard_of key shape.shards) ≡ Some shard = ap (λ (n : ℕ). slice_get shards (shard_of key n)) (sym has.count) ∙ found in
     record { here = here; within = within; same = some_is shard _ (sym there ∙ has.each (shard_of key shape.shards) within) }
+
+-- it is whole: it gives up no step
+pub unrolled : (shape : Shape) (past : List Event) (key : QKey) (place : ℕ) (shard : ShardView) → IsShardOf shape past key place shard → rolled shard ≡ shard
+unrolled shape past key place shard is = ap rolled is.same ∙ sym is.same
 
 -- what follows the shard's own past follows the steps on it
 pub step_is : (shape : Shape) (past : List Event) (key : QKey) (place : ℕ) (shard : ShardView) (f : Terms → List Step → Step)

@@ -1,5 +1,5 @@
 -- After which moves a core stands.
-use Rattle.std.specs.Prelude.{ℕ, false, min, ◌≡◌, ◌+◌, ◌-◌, ◌^◌, ◌≤◌, ◌<◌, ◌⊎◌, List, [], length, map, reverse, count_by, Some, slice_get, IsSome, Option}
+use Rattle.std.specs.Prelude.{ℕ, false, min, ◌≡◌, ◌+◌, ◌-◌, ◌^◌, ◌≤◌, ◌<◌, ◌⊎◌, List, [], length, map, reverse, count_by, Some, None, slice_get, IsSome, Option}
 use Rattle.std.specs.Option.{ForSome}
 use Rattle.rows_model.specs.declared.keys.QKey.{QKey}
 use Rattle.rows_model.specs.declared.keys.Sid.{Sid}
@@ -52,13 +52,17 @@ origin_of shape core =
 -- the shard of this number after these events
 abbrev pub shard_after : Shape → List Event → ℕ → ShardView
 shard_after shape past place =
-    record { terms = terms_of shape place; history = reverse (steps_of place past); out = out_of shape place past }
+    record { terms = terms_of shape place; history = reverse (steps_of place past); out = out_of shape place past; gone = 0 }
 
 -- the shards are those of the shape, after these events
 pub record HasShards (shards : List ShardView) (shape : Shape) (past : List Event) : Type 0 where
   pub fit : IsShape shape
   pub count : length shards ≡ shape.shards
   pub each : (place : ℕ) → place < shape.shards → slice_get shards place ≡ Some (shard_after shape past place)
+
+-- each shard has all its steps in memory
+abbrev pub KeepAll : List ShardView → Type 0
+KeepAll shards = (place : ℕ) (shard : ShardView) → slice_get shards place ≡ Some shard → shard.terms.keep ≡ None
 
 -- a count of faults rose by at least so many, or it stands at the end of its type, where it may have begun
 abbrev pub RoseBy : ℕ → ℕ → ℕ → Type 0

@@ -44,10 +44,10 @@ use Rattle.session_client.specs.Plans.{IsPlan, writes}
 use Rattle.session_client.specs.Wants.{wants}
 use Rattle.core_history.specs.Events.{Event, Stepped, Called, Ticked, Swept, steps_of, told_to, sweeps_of, now_of, log_of, was_ended, has_committed}
 
--- What a shard of this shape is made with. Its tokens begin at 1.
+-- What a shard of this shape is made with. Its tokens begin at 1, and it is whole.
 abbrev pub terms_of : Shape → ℕ → Terms
 terms_of shape place =
-    record { no = place; count = shape.shards; room = shape.room; life = shape.life; first = 1 }
+    record { no = place; count = shape.shards; room = shape.room; life = shape.life; first = 1; keep = None }
 
 -- How many commits a log holds at most.
 abbrev pub log_cap : ℕ

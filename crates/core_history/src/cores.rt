@@ -36,7 +36,7 @@ pub struct Core<K: Keeper> {
 }
 
 impl<K: Keeper> Model for Core<K> {
-    ghost use Rattle.core_history.specs.Cores.{CoreView};
+    ghost use Rattle.core_history.specs.Cores.{CoreView, KeepAll};
 
     ghost Value = { CoreView };
 
@@ -47,6 +47,8 @@ impl<K: Keeper> Model for Core<K> {
       sweeper = core.sweeper;
       clock = core.clock;
     } };
+
+    ghost invariant = { λ core. KeepAll core.shards.items };
 }
 
 impl<K: Keeper> Core<K> {

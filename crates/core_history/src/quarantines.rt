@@ -3,7 +3,7 @@ ghost use Rattle.std.specs.Prelude.{◌≡◌, ◌<◌, ◌^◌, ◌-◌, IfOk, 
 ghost use Rattle.key_shard.specs.Answers.{IsAtHome, FitsShift};
 ghost use Rattle.key_shard.specs.Past.{next_token};
 ghost use Rattle.key_shard.specs.Replies.{ShowsQuarantine};
-ghost use Rattle.key_shard.specs.Shards.{past_of, stepped, refusal, Refuses};
+ghost use Rattle.key_shard.specs.Shards.{past_of, rolled, stepped, refusal, Refuses};
 ghost use Rattle.session_client.specs.Belongs.{Belongs};
 ghost use Rattle.session_client.specs.Desks.{IsProper};
 ghost use Rattle.session_client.specs.declared.plans.Shape.{Shape};
@@ -57,7 +57,7 @@ fn quarantine_on(
     requires unspent { next_token shard.old.terms (past_of shard.old) < 2 ^ 64 - 1 }
     requires shift { FitsShift mode by }
     requires proper { IsProper (quarantined_as mode key by) }
-    ensures step { OnOk result (shard.new ≡ stepped shard.old
+    ensures step { OnOk result (shard.new ≡ stepped (rolled shard.old)
         (quarantine_of shard.old key who mode by now)) }
     ensures shows { IfOk result (ShowsQuarantine shard.old.terms (past_of shard.old)
         (quarantine_of shard.old key who mode by now)) }
@@ -82,7 +82,7 @@ fn quarantine_in_mode(
     requires proper { IsProper (quarantined_as mode key by) }
     ensures refusal { Refuses (refusal shard.old key
         (quarantine_of shard.old key who mode by now)) result }
-    ensures step { OnOk result (shard.new ≡ stepped shard.old
+    ensures step { OnOk result (shard.new ≡ stepped (rolled shard.old)
         (quarantine_of shard.old key who mode by now)) }
     ensures shows { IfOk result (ShowsQuarantine shard.old.terms (past_of shard.old)
         (quarantine_of shard.old key who mode by now)) }
@@ -106,7 +106,7 @@ fn delta_on(
     requires { IsProper (wanted.Delta key by) }
     ensures refusal { Refuses (refusal shard.old key
         (quarantine_of shard.old key who Mode.Delta by now)) result }
-    ensures step { OnOk result (shard.new ≡ stepped shard.old
+    ensures step { OnOk result (shard.new ≡ stepped (rolled shard.old)
         (quarantine_of shard.old key who Mode.Delta by now)) }
     ensures shows { IfOk result (ShowsQuarantine shard.old.terms (past_of shard.old)
         (quarantine_of shard.old key who Mode.Delta by now)) }

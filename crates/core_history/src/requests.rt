@@ -3,7 +3,7 @@ ghost use Rattle.std.specs.Prelude.{◌≡◌, ◌≤◌, ◌<◌, ◌^◌, ◌-
 ghost use Rattle.key_shard.specs.Past.{next_token};
 ghost use Rattle.key_shard.specs.Answers.{IsAtHome, get_step, set_step};
 ghost use Rattle.key_shard.specs.Replies.{ShowsGot, ShowsSet};
-ghost use Rattle.key_shard.specs.Shards.{past_of, stepped};
+ghost use Rattle.key_shard.specs.Shards.{past_of, rolled, stepped};
 ghost use Rattle.session_client.specs.Belongs.{Belongs};
 ghost use Rattle.session_client.specs.Desks.{IsProper};
 ghost use Rattle.session_client.specs.declared.plans.Shape.{Shape};
@@ -204,7 +204,7 @@ fn get_from(shard: &mut Shard, key: QKey, who: Sid, floor: u64, now: u64) -> Res
     requires home { IsAtHome shard.old.terms key }
     requires unspent { next_token shard.old.terms (past_of shard.old) < 2 ^ 64 - 1 }
     ensures step { let step = get_step shard.old.terms (past_of shard.old) key who floor now in
-        OnOk result (shard.new ≡ stepped shard.old step) }
+        OnOk result (shard.new ≡ stepped (rolled shard.old) step) }
     ensures shows { let step = get_step shard.old.terms (past_of shard.old) key who floor now in
         IfOk result (ShowsGot step) }
     ensures err { OnErr result (shard.new ≡ shard.old) }
@@ -228,7 +228,7 @@ fn set_on(
     requires unspent { next_token shard.old.terms (past_of shard.old) < 2 ^ 64 - 1 }
     ensures step { let step = set_step shard.old.terms
         (past_of shard.old) key token value stamp now in
-        OnOk result (shard.new ≡ stepped shard.old step) }
+        OnOk result (shard.new ≡ stepped (rolled shard.old) step) }
     ensures shows { let step = set_step shard.old.terms
         (past_of shard.old) key token value stamp now in
         IfOk result (ShowsSet step) }

@@ -81,6 +81,18 @@ impl Entries {
         Some((&held.value, held.stamp))
     }
 
+    /// A copy of the list of entries, each as key, value and stamp, most recent first. It takes
+    /// memory for that copy alone; where it is refused, `Memory` comes. The table stays as it is.
+    pub fn list(&self) -> Result<Vec<(QKey, Value, u64)>, Memory>
+        ensures { IfOk result (λ copy. copy.items ≡ self.now.list) }
+    {
+        let mut copy = Vec::with_capacity(*self.cache.allocator(), self.cache.len())?;
+        for (key, held) in self.cache.iter() {
+            copy.push((*key, held.value.copy()?, held.stamp))?;
+        }
+        Ok(copy)
+    }
+
     /// Puts an entry in front. It takes the place of the key's own, which wants no memory; a new key in
     /// a full table drops the last entry, which is returned. A new key may want memory, also in a full
     /// table. Where that is refused, the value comes back and nothing changes.

@@ -1,7 +1,6 @@
 -- A shard keeps what it keeps through a step.
 use Rattle.std.proofs.Common.{◌≡◌, ◌<◌, ◌≤◌, ◌+◌, ◌==◌, ◌||◌, ℕ, Bool, true, false, cond, find, List, [], ◌∷◌, ◌++◌, reverse, Some, refl}
-use Rattle.std.proofs.Common.{sym, ap, subst, ◌∙◌, arith, vec_len}
-use Rattle.std.specs.Prelude.{vec_capacity}
+use Rattle.std.proofs.Common.{sym, ap, subst, ◌∙◌, arith}
 use Rattle.std.specs.List.{All, count_by, list_any}
 use Rattle.std.specs.Option.{option_or}
 use Rattle.std.proofs.lemmas.List.Folds.{find-append, list_any-append}
@@ -21,7 +20,8 @@ use Rattle.rows_model.specs.declared.keys.QKey.{QKey}
 use Rattle.rows_model.specs.declared.keys.Sid.{Sid}
 use Rattle.key_shard.specs.declared.steps.Step.{Step}
 use Rattle.key_shard.specs.declared.steps.Step.TheVariants.{Hit, Granted}
-use Rattle.key_shard.specs.Shards.{ShardView, stepped, out_after}
+use Rattle.key_shard.specs.Histories.{gone_after}
+use Rattle.key_shard.specs.Shards.{ShardView, rolled, stepped, out_after}
 use Rattle.key_shard.specs.Past.{Terms, standing, quar_of, draws, next_token}
 use Rattle.key_shard.specs.Permit.{Permit}
 use Rattle.key_shard.specs.Answers.{IsAtHome, IsOf}
@@ -86,19 +86,21 @@ held-granted past outs out shift now deadline held key token quar e =
     by false apart f = before f
 
 -- what callers see behind a step
-pub view-after : (old new : ShardView) (step : Step) → new.terms ≡ old.terms
-    → new.history ≡ old.history ++ step ∷ [] → new.out ≡ old.out → out_after old.terms step old.out ≡ old.out → new ≡ stepped old step
-view-after old new step terms history out quiet =
-    let made : Terms → List Step → List Permit → ShardView = λ t h o. record { terms = t; history = h; out = o } in
-    ap (λ t. made t new.history new.out) terms ∙ ap (λ h. made old.terms h new.out) history ∙ ap (made old.terms (old.history ++ step ∷ [])) (out ∙ sym quiet)
+pub view-after : (old new : ShardView) (step : Step) → new.terms ≡ old.terms → new.history ≡ old.history ++ step ∷ [] → new.out ≡ old.out
+    → new.gone ≡ gone_after old.terms.keep old.gone old.history → out_after old.terms step old.out ≡ old.out → new ≡ stepped (rolled old) step
+view-after old new step terms history out gone quiet =
+    let made : Terms → List Step → List Permit → ℕ → ShardView = λ t h o g. record { terms = t; history = h; out = o; gone = g } in
+    ap (λ t. made t new.history new.out new.gone) terms ∙ ap (λ h. made old.terms h new.out new.gone) history
+    ∙ ap (λ o. made old.terms (old.history ++ step ∷ []) o new.gone) (out ∙ sym quiet)
+    ∙ ap (made old.terms (old.history ++ step ∷ []) (out_after old.terms step old.out)) gone
 
 -- what a shard keeps after a step
-pub IsKept-after : (old new : Body) (step : Step) → new.history.items ≡ old.history.items ++ step ∷ [] → terms_of new ≡ terms_of old
+pub IsKept-after : (old new : Body) (step : Step) → new.history.steps ≡ old.history.steps ++ step ∷ [] → terms_of new ≡ terms_of old
     → Ties (terms_of old) (step ∷ steps_of old) new.entries.list new.leases new.next → new.no < new.count
     → All (IsOut (terms_of old) (step ∷ steps_of old)) new.out → AreHeld (step ∷ steps_of old) new.out
-    → places_of (step ∷ steps_of old) new.out ≤ new.promised → vec_len new.history + new.promised ≤ vec_capacity new.history → IsKept new
+    → places_of (step ∷ steps_of old) new.out ≤ new.promised → new.history.used + new.promised ≤ new.history.room → IsKept new
 IsKept-after old new step pushed same ties one outs held promises reserved =
-    let past : steps_of new ≡ step ∷ steps_of old = steps-pushed old.history.items new.history.items step pushed in
+    let past : steps_of new ≡ step ∷ steps_of old = steps-pushed old.history.steps new.history.steps step pushed in
     record {
       one_of = one;
       ties = subst (λ p. Ties (terms_of new) p new.entries.list new.leases new.next)
@@ -110,10 +112,10 @@ IsKept-after old new step pushed same ties one outs held promises reserved =
     }
 
 -- a step that makes no grant
-pub IsKept-step : (old new : Body) (step : Step) → AddsNone (steps_of old) step → IsKept old → new.history.items ≡ old.history.items ++ step ∷ []
+pub IsKept-step : (old new : Body) (step : Step) → AddsNone (steps_of old) step → IsKept old → new.history.steps ≡ old.history.steps ++ step ∷ []
     → terms_of new ≡ terms_of old → Ties (terms_of old) (step ∷ steps_of old) new.entries.list new.leases new.next → new.no < new.count
     → All (IsOut (terms_of old) (steps_of old)) new.out → AreHeld (steps_of old) new.out
-    → places_of (steps_of old) new.out ≤ new.promised → vec_len new.history + new.promised ≤ vec_capacity new.history → IsKept new
+    → places_of (steps_of old) new.out ≤ new.promised → new.history.used + new.promised ≤ new.history.room → IsKept new
 IsKept-step old new step none kept pushed same ties one outs held promises reserved =
     let stood = stood-still (terms_of old) (steps_of old) step none in
     let kept_places = places-kept (terms_of old) (steps_of old) step stood new.out outs in
@@ -121,9 +123,9 @@ IsKept-step old new step none kept pushed same ties one outs held promises reser
     (held-later (steps_of old) step none new.out held) (omega (arith, kept_places, promises)) reserved
 
 -- what a shard keeps where all stays but the room of its lists
-pub IsKept-still : (old new : Body) → IsKept old → terms_of new ≡ terms_of old → new.history.items ≡ old.history.items → new.entries.list ≡ old.entries.list
+pub IsKept-still : (old new : Body) → IsKept old → terms_of new ≡ terms_of old → new.history.steps ≡ old.history.steps → new.entries.list ≡ old.entries.list
     → new.leases ≡ old.leases → new.next ≡ old.next → new.out ≡ old.out
-    → new.no < new.count → places_of (steps_of old) old.out ≤ new.promised → vec_len new.history + new.promised ≤ vec_capacity new.history → IsKept new
+    → new.no < new.count → places_of (steps_of old) old.out ≤ new.promised → new.history.used + new.promised ≤ new.history.room → IsKept new
 IsKept-still old new kept same history list table next out one promises reserved =
     let past : steps_of new ≡ steps_of old = ap reverse history in
     let ties : Ties (terms_of old) (steps_of old) new.entries.list new.leases new.next =
@@ -169,14 +171,14 @@ IsOut-granted terms past out shift now deadline home next below = record {
 
 -- the terms, of a body with another table of as much room
 abbrev terms_with : Body → ℕ → Terms
-terms_with body room = record { no = body.no; count = body.count; room = room; life = body.life; first = body.first }
+terms_with body room = record { no = body.no; count = body.count; room = room; life = body.life; first = body.first; keep = body.keep }
 
 pub terms-kept : (body : Body) (room : ℕ) → room ≡ body.entries.room → terms_with body room ≡ terms_of body
 terms-kept body room e = ap (terms_with body) e
 
 -- what a new shard keeps
 pub IsKept-new : (body : Body) → body.no < body.count → 1 ≤ body.entries.room → body.entries.list ≡ []
-    → body.leases ≡ [] → body.out ≡ [] → body.history.items ≡ [] → body.next ≡ body.first → body.promised ≡ 0 → vec_len body.history ≡ 0 → IsKept body
+    → body.leases ≡ [] → body.out ≡ [] → body.history.steps ≡ [] → body.next ≡ body.first → body.promised ≡ 0 → body.history.used ≡ 0 → IsKept body
 IsKept-new body one roomy entries leases out history next promised empty =
     let start : Ties (terms_of body) [] [] [] body.next = record {
       entries = λ k. lookup-nil k;

@@ -1,3 +1,5 @@
+pub mod BaseLemmas
+pub mod BaseLaws
 pub mod CaseLemmas
 pub mod DueLemmas
 pub mod EndLemmas
@@ -11,6 +13,7 @@ pub mod OutLemmas
 pub mod PlaceLemmas
 pub mod PutLemmas
 pub mod QuarantineLemmas
+pub mod SightLemmas
 pub mod SweepLemmas
 pub mod TiesLemmas
 pub mod TokenLemmas

@@ -1,7 +1,6 @@
 -- The grants that are out, less one, and what of it follows.
 use Rattle.std.proofs.Common.{◌≡◌, ◌<◌, ◌≤◌, ◌+◌, ◌&&◌, ◌||◌, ◌==◌, ℕ, Bool, true, false, not, cond, List, [], ◌∷◌, ◌++◌, Option, Some}
-use Rattle.std.proofs.Common.{None, find, map, filter, refl, sym, ap, subst, ◌∙◌, inl, inr, arith, vec_len}
-use Rattle.std.specs.Prelude.{vec_capacity}
+use Rattle.std.proofs.Common.{None, find, map, filter, refl, sym, ap, subst, ◌∙◌, inl, inr, arith}
 use Rattle.std.specs.List.{All, list_any}
 use Rattle.std.proofs.lemmas.Bool.{cases_Bool, and_parts, eqb-true, false≢true}
 use Rattle.std.proofs.lemmas.Map.Views.{any-filter_same}
@@ -161,9 +160,9 @@ held-less number past grant outs gone held key token quar e =
 -- a step that takes a grant from those that are out, and gives back so many places
 pub IsKept-returned : (old new : Body) (step : Step) (grant : Permit) (n : ℕ) → MayTake old grant n → AddsNone (steps_of old) step
     → quar_of grant.key grant.token (step ∷ steps_of old) ≡ None → IsKept old → is_out (shown old) grant ≡ true
-    → new.out ≡ filter (λ out. not (same_permit grant (permit_of old.no out))) old.out → new.history.items ≡ old.history.items ++ step ∷ []
+    → new.out ≡ filter (λ out. not (same_permit grant (permit_of old.no out))) old.out → new.history.steps ≡ old.history.steps ++ step ∷ []
     → terms_of new ≡ terms_of old → Ties (terms_of old) (step ∷ steps_of old) new.entries.list new.leases new.next
-    → new.no < new.count → new.promised + n ≡ old.promised → vec_len new.history + new.promised ≤ vec_capacity new.history → IsKept new
+    → new.no < new.count → new.promised + n ≡ old.promised → new.history.used + new.promised ≤ new.history.room → IsKept new
 IsKept-returned old new step grant n may none gone kept out less pushed same ties one promised reserved =
     let stood = stood-still (terms_of old) (steps_of old) step none in
     let left : List Out = filter (λ o. not (same_permit grant (permit_of old.no o))) old.out in
@@ -177,15 +176,17 @@ IsKept-returned old new step grant n may none gone kept out less pushed same tie
     (subst (AreHeld (step ∷ steps_of old)) (sym less) held) (subst (λ os. places_of (step ∷ steps_of old) os ≤ new.promised) (sym less) fits) reserved
 
 -- what callers see behind it
-pub view-returned : (old : Body) (terms : Terms) (history : List Step) (outs : List Out) (step : Step) (grant : Permit) → terms ≡ terms_of old
-    → history ≡ old.history.items ++ step ∷ [] → outs ≡ filter (λ out. not (same_permit grant (permit_of old.no out))) old.out
-    → record { terms = terms; history = history; out = map (permit_of old.no) outs } ≡ returned (shown old) grant step
-view-returned old terms history outs step grant same pushed less =
-    let made : Terms → List Step → List Permit → ShardView = λ t h o. record { terms = t; history = h; out = o } in
+pub view-returned : (old : Body) (terms : Terms) (history : List Step) (outs : List Out) (gone : ℕ) (step : Step) (grant : Permit) → terms ≡ terms_of old
+    → history ≡ old.history.steps ++ step ∷ [] → outs ≡ filter (λ out. not (same_permit grant (permit_of old.no out))) old.out
+    → gone ≡ old.history.gone → record { terms = terms; history = history; out = map (permit_of old.no) outs; gone = gone } ≡ returned (shown old) grant step
+view-returned old terms history outs gone step grant same pushed less stays =
+    let made : Terms → List Step → List Permit → ℕ → ShardView = λ t h o g. record { terms = t; history = h; out = o; gone = g } in
     let out : map (permit_of old.no) outs ≡ without_permit grant (map (permit_of old.no) old.out) =
     ap (map (permit_of old.no)) less ∙ map-filter (λ g. not (same_permit grant g)) (permit_of old.no) old.out in
-    ap (λ t. made t history (map (permit_of old.no) outs)) same ∙ ap (λ h. made (terms_of old) h (map (permit_of old.no) outs)) pushed
-    ∙ ap (made (terms_of old) (old.history.items ++ step ∷ [])) out
+    ap (made terms history (map (permit_of old.no) outs)) stays
+    ∙ ap (λ t. made t history (map (permit_of old.no) outs) old.history.gone) same
+    ∙ ap (λ h. made (terms_of old) h (map (permit_of old.no) outs) old.history.gone) pushed
+    ∙ ap (λ o. made (terms_of old) (old.history.steps ++ step ∷ []) o old.history.gone) out
 
 -- the quarantine of a token, as the table of leases tells it
 pub stands-told : {terms : Terms} {past : List Step} {list : List Item} {table : List Lease} {next : ℕ} → Ties terms past list table next

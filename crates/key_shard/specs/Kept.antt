@@ -1,6 +1,6 @@
 -- What a shard keeps: entries, leases and the next token are those that its past tells.
 use Rattle.std.specs.Prelude.{ℕ, ◌≡◌, ◌<◌, ◌≤◌, ◌+◌, ◌==◌, ◌&&◌, IsTrue, [], ◌∷◌, Bool, false, not, nat_lt, nat_le, if◌then◌else◌, List}
-use Rattle.std.specs.Prelude.{map, filter, length, reverse, Option, Some, None, is_some, vec_len, vec_capacity}
+use Rattle.std.specs.Prelude.{map, filter, length, reverse, Option, Some, None, is_some}
 use Rattle.std.specs.List.{All, list_any, sum_by}
 use Rattle.rows_model.specs.declared.keys.QKey.{QKey}
 use Rattle.rows_model.specs.declared.keys.Sid.{Sid}
@@ -27,11 +27,11 @@ use Rattle.key_shard.specs.Shards.{ShardView}
 
 -- what a shard is made with
 abbrev pub terms_of : Body → Terms
-terms_of body = record { no = body.no; count = body.count; room = body.entries.room; life = body.life; first = body.first }
+terms_of body = record { no = body.no; count = body.count; room = body.entries.room; life = body.life; first = body.first; keep = body.keep }
 
 -- its steps, the latest first
 abbrev pub steps_of : Body → List Step
-steps_of body = reverse body.history.items
+steps_of body = reverse body.history.steps
 
 -- what a grant that is out at a shard says
 abbrev pub permit_of : ℕ → Out → Permit
@@ -39,7 +39,12 @@ permit_of number out = record { shard = number; key = out.key; sid = out.sid; mo
 
 -- the shard as callers see it
 abbrev pub shown : Body → ShardView
-shown body = record { terms = terms_of body; history = body.history.items; out = map (permit_of body.no) body.out }
+shown body = record {
+  terms = terms_of body;
+  history = body.history.steps;
+  out = map (permit_of body.no) body.out;
+  gone = body.history.gone;
+}
 
 -- entries, leases and the next token are those of a past, and that past is legal
 pub record Ties (terms : Terms) (past : List Step) (list : List Item) (table : List Lease) (next : ℕ) : Type 0 where
@@ -83,7 +88,7 @@ pub record IsKept (body : Body) : Type 0 where
   pub outs : All (IsOut (terms_of body) (steps_of body)) body.out
   pub held : AreHeld (steps_of body) body.out
   pub promises : places_of (steps_of body) body.out ≤ body.promised
-  pub reserved : vec_len body.history + body.promised ≤ vec_capacity body.history
+  pub reserved : body.history.used + body.promised ≤ body.history.room
 
 -- a step that changes no entry, order or lease
 abbrev pub IsQuiet : Step → Type 0

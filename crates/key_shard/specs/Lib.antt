@@ -1,3 +1,4 @@
+pub mod Histories
 pub use Rattle.rows_model.specs.Key
 pub use Rattle.rows_model.specs.Placement
 pub use Rattle.rows_model.specs.Shift
@@ -11,6 +12,9 @@ pub mod LegalStands
 pub mod OneStep
 pub mod Outs
 pub mod Modes
+pub mod Sights
 pub mod Shards
 pub mod Replies
 pub mod Kept
+pub mod Base
+pub mod Seen

@@ -15,13 +15,15 @@ use Rattle.key_shard.specs.declared.steps.Ended.TheVariants.{Keep, Drop, Put, Sh
 use Rattle.key_shard.specs.declared.steps.Step.{Step}
 use Rattle.key_shard.specs.declared.steps.Step.TheVariants.{Hit, Lease, Again, Stored, Granted, Released}
 
--- What a shard is made with: its number of so many, how many entries it has room for, how long a lease lives, its first token.
+-- What a shard is made with: its number of so many, how many entries it has room for, how long a lease lives, its first token; and at
+-- how many steps in memory these are given up, where it rolls.
 pub record Terms : Type 0 where
   pub no : ℕ
   pub count : ℕ
   pub room : ℕ
   pub life : ℕ
   pub first : ℕ
+  pub keep : Option ℕ
 
 -- The quarantines that stand on a key, in order of token: those granted, less those released since.
 abbrev pub standing : QKey → List Step → List Quar

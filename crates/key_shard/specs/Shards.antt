@@ -1,5 +1,5 @@
 -- What contracts see of a shard, what becomes of it, and when it refuses.
-use Rattle.std.specs.Prelude.{ℕ, ◌≡◌, ◌-◌, ◌^◌, Bool, not, ◌==◌, ◌&&◌, if◌then◌else◌, List, [], ◌∷◌, ◌++◌, filter, reverse, Option, Some, None, Result, Ok, Err}
+use Rattle.std.specs.Prelude.{ℕ, ◌≡◌, ◌≤◌, ◌-◌, ◌^◌, Bool, not, ◌==◌, ◌&&◌, if◌then◌else◌, List, [], ◌∷◌, ◌++◌, drop, length, filter, reverse, Option, Some, None, Result, Ok, Err}
 use Rattle.std.specs.List.{list_any}
 use Rattle.rows_model.specs.declared.keys.QKey.{QKey}
 use Rattle.rows_model.specs.Placement.{shard_of}
@@ -9,16 +9,32 @@ use Rattle.key_shard.specs.declared.steps.Step.TheVariants.{Granted}
 use Rattle.key_shard.specs.declared.replies.ShardFault.{ShardFault}
 use Rattle.key_shard.specs.declared.replies.ShardFault.TheVariants as faults
 use Rattle.key_shard.specs.Past.{Terms, draws, next_token}
+use Rattle.key_shard.specs.Histories.{gone_after}
 
--- a shard: what it is made with, its history, the earliest step first, and the grants that are out
+-- a shard: what it is made with, its history, the earliest step first, the grants that are out, and how many of its
+-- steps were given up
 pub record ShardView : Type 0 where
   pub terms : Terms
   pub history : List Step
   pub out : List Permit
+  pub gone : ℕ
 
 -- its past: its steps, the latest first
 abbrev pub past_of : ShardView → List Step
 past_of shard = reverse shard.history
+
+-- its steps in memory, the earliest first
+abbrev pub kept_of : ShardView → List Step
+kept_of shard = drop shard.gone shard.history
+
+-- the shard once its steps in memory are given up, where that is due
+abbrev pub rolled : ShardView → ShardView
+rolled shard = record {
+  terms = shard.terms;
+  history = shard.history;
+  out = shard.out;
+  gone = gone_after shard.terms.keep shard.gone shard.history;
+}
 
 -- whether a grant is out
 abbrev pub is_out : ShardView → Permit → Bool
@@ -40,6 +56,7 @@ stepped shard step = record {
   terms = shard.terms;
   history = shard.history ++ step ∷ [];
   out = out_after shard.terms step shard.out;
+  gone = shard.gone;
 }
 
 -- the shard after the step that ends a grant
@@ -48,6 +65,7 @@ returned shard permit step = record {
   terms = shard.terms;
   history = shard.history ++ step ∷ [];
   out = without_permit permit shard.out;
+  gone = shard.gone;
 }
 
 -- The shard after a sweep: after its step, where it has one.
@@ -71,3 +89,9 @@ Refuses None (Ok answer) = Unit {0}
 Refuses None (Err faults.Memory) = Unit {0}
 Refuses None (Err (faults.Stranger shard)) = ⊥
 Refuses None (Err (faults.Spent next)) = ⊥
+
+-- Where a shard rolls at this number of steps in memory, it has no more of them behind a call that may give them up.
+abbrev pub RollsShort : Type 0
+RollsShort =
+    (shard : ShardView) (step : Step) (keep : ℕ) → shard.terms.keep ≡ Some keep → 1 ≤ keep
+    → shard.gone ≤ length shard.history → length (kept_of (stepped (rolled shard) step)) ≤ keep

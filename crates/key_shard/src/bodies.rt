@@ -1,10 +1,11 @@
-ghost use Rattle.std.specs.Prelude.{◌≡◌, ◌≢◌, ◌<◌, ◌≤◌, ◌+◌, OnOk, OnErr, IfErr, vec_len, vec_capacity};
+ghost use Rattle.std.specs.Prelude.{◌≡◌, ◌≢◌, OnOk, OnErr, IfErr};
 ghost use Rattle.rows_model.specs.Placement.{shard_of};
 ghost use Rattle.key_shard.specs.Answers.{Answers};
 ghost use Rattle.key_shard.specs.Kept.{IsKept, IsQuiet, shown, steps_of, terms_of};
 ghost use Rattle.key_shard.specs.Past.{deadline_at};
-ghost use Rattle.key_shard.specs.Shards.{stepped};
+ghost use Rattle.key_shard.specs.Shards.{rolled, stepped};
 
+use crate::histories::History;
 use crate::outs::Outs;
 use crate::replies::ShardFault;
 use crate::steps::Step;
@@ -20,6 +21,8 @@ pub struct Body {
     /// How long a lease lives, in ticks of the clock that is handed in.
     pub life: u64,
     pub first: u64,
+    /// At how many steps in memory the next one makes them be given up, where the shard rolls.
+    pub keep: Option<u32>,
     /// The next token.
     pub next: u64,
     pub entries: Entries,
@@ -27,19 +30,7 @@ pub struct Body {
     pub out: Outs,
     /// How many places of the history are kept free for the grants that are out.
     pub promised: usize,
-    pub history: Vec<Step>,
-}
-
-/// Keeps so many places of the history free, beside those that are promised.
-pub fn make_room(history: &mut Vec<Step>, promised: usize, places: usize) -> Result<(), Memory>
-    requires few { places ≤ 3 }
-    requires kept { vec_len history.old + promised ≤ vec_capacity history.old }
-    ensures items { history.new.items ≡ history.old.items }
-    ensures kept { vec_len history.new + promised ≤ vec_capacity history.new }
-    ensures ok { OnOk result (vec_len history.new + promised + places ≤ vec_capacity history.new) }
-{
-    history.reserve(promised + places)?;
-    Ok(())
+    pub history: History,
 }
 
 impl Body {
@@ -71,11 +62,11 @@ impl Body {
         requires quiet { IsQuiet step }
         requires answers { Answers (terms_of self.old) (steps_of self.old) step }
         ensures kept { IsKept self.new }
-        ensures ok { OnOk result (shown self.new ≡ stepped (shown self.old) step) }
+        ensures ok { OnOk result (shown self.new ≡ stepped (rolled (shown self.old)) step) }
         ensures err { OnErr result (shown self.new ≡ shown self.old) }
     {
-        make_room(&mut self.history, self.promised, 1)?;
-        self.history.push_reserved(step);
+        self.history.make_room(self.promised, 1)?;
+        self.history.push(self.keep, step);
         Ok(())
     }
 }

@@ -4,10 +4,10 @@ ghost use Rattle.key_shard.specs.Answers.{Answers, get_step};
 ghost use Rattle.key_shard.specs.Kept.{IsKept, shown, steps_of, terms_of};
 ghost use Rattle.key_shard.specs.Past.{deadline_at, entry, next_token, seen_by};
 ghost use Rattle.key_shard.specs.Replies.{ShowsGot};
-ghost use Rattle.key_shard.specs.Shards.{Refuses, refusal, spent_at, stepped};
+ghost use Rattle.key_shard.specs.Shards.{Refuses, refusal, spent_at, rolled, stepped};
 ghost use Rattle.case_tables.specs.declared.grids.Verdict.TheVariants as verdicts;
 
-use crate::bodies::{Body, make_room};
+use crate::bodies::Body;
 use crate::lookups::Look;
 use crate::replies::{Got, ShardFault};
 use crate::steps::{Stands, Step};
@@ -23,7 +23,7 @@ impl Body {
             Refuses (refusal (shown self.old) key step) result }
         ensures step { let step = get_step (terms_of self.old)
             (steps_of self.old) key who floor now in
-            OnOk result (shown self.new ≡ stepped (shown self.old) step) }
+            OnOk result (shown self.new ≡ stepped (rolled (shown self.old)) step) }
         ensures shows { let step = get_step (terms_of self.old)
             (steps_of self.old) key who floor now in IfOk result (ShowsGot step) }
         ensures err { OnErr result (shown self.new ≡ shown self.old) }
@@ -42,7 +42,7 @@ impl Body {
         requires kept { IsKept self.old }
         requires answers { Answers (terms_of self.old) (steps_of self.old) (Step.Own key who) }
         ensures kept { IsKept self.new }
-        ensures step { OnOk result (shown self.new ≡ stepped (shown self.old) (Step.Own key who)) }
+        ensures step { OnOk result (shown self.new ≡ stepped (rolled (shown self.old)) (Step.Own key who)) }
         ensures shows { IfOk result (λ got. got ≡ Got.Own) }
         ensures err { OnErr result (shown self.new ≡ shown self.old) }
     {
@@ -57,7 +57,7 @@ impl Body {
             × Answers (terms_of self.old) (steps_of self.old) (Step.Hit key who floor found.0 found.1) }
         ensures kept { IsKept self.new }
         ensures step { (found : List ℕ × ℕ) → entry key (steps_of self.old) ≡ Some found →
-            OnOk result (shown self.new ≡ stepped (shown self.old)
+            OnOk result (shown self.new ≡ stepped (rolled (shown self.old))
             (Step.Hit key who floor found.0 found.1)) }
         ensures shows { (found : List ℕ × ℕ) → entry key (steps_of self.old) ≡ Some found →
             IfOk result (λ got. got ≡ Got.Hit found.0 found.1) }
@@ -66,15 +66,18 @@ impl Body {
         let (value, stamp) = self.entries.peek(&key).unwrap();
         let told = value.copy()?;
         let value = value.copy()?;
-        make_room(&mut self.history, self.promised, 1)?;
+        self.history.make_room(self.promised, 1)?;
         let _ = self.entries.find(&key);
-        self.history.push_reserved(Step::Hit {
-            key,
-            sid: who,
-            floor,
-            value,
-            stamp,
-        });
+        self.history.push(
+            self.keep,
+            Step::Hit {
+                key,
+                sid: who,
+                floor,
+                value,
+                stamp,
+            },
+        );
         Ok(Got::Hit { value: told, stamp })
     }
 
@@ -91,20 +94,23 @@ impl Body {
         requires answers { Answers (terms_of self.old) (steps_of self.old)
             (Step.Again key who floor now standing) }
         ensures kept { IsKept self.new }
-        ensures step { OnOk result (shown self.new ≡ stepped (shown self.old)
+        ensures step { OnOk result (shown self.new ≡ stepped (rolled (shown self.old))
             (Step.Again key who floor now standing)) }
         ensures shows { IfOk result (λ got. got ≡ Got.Again standing) }
         ensures err { OnErr result (shown self.new ≡ shown self.old) }
     {
-        make_room(&mut self.history, self.promised, 1)?;
+        self.history.make_room(self.promised, 1)?;
         let _ = self.entries.drop_key(&key);
-        self.history.push_reserved(Step::Again {
-            key,
-            sid: who,
-            floor,
-            now,
-            standing,
-        });
+        self.history.push(
+            self.keep,
+            Step::Again {
+                key,
+                sid: who,
+                floor,
+                now,
+                standing,
+            },
+        );
         Ok(Got::Again { standing })
     }
 
@@ -119,7 +125,7 @@ impl Body {
         ensures refusal { Refuses (spent_at (next_token (terms_of self.old) (steps_of self.old))
             (Step.Lease key who floor now (next_token (terms_of self.old) (steps_of self.old))
             (deadline_at (terms_of self.old) now))) result }
-        ensures step { OnOk result (shown self.new ≡ stepped (shown self.old)
+        ensures step { OnOk result (shown self.new ≡ stepped (rolled (shown self.old))
             (Step.Lease key who floor now (next_token (terms_of self.old) (steps_of self.old))
             (deadline_at (terms_of self.old) now))) }
         ensures shows { IfOk result (λ got. got ≡ Got.Lease
@@ -131,18 +137,21 @@ impl Body {
             return Err(ShardFault::Spent { next: token });
         }
         let deadline = self.deadline(now);
-        make_room(&mut self.history, self.promised, 1)?;
+        self.history.make_room(self.promised, 1)?;
         let _ = self.leases.ask_i(key, who, token, deadline, now)?;
         let _ = self.entries.drop_key(&key);
         self.next = token + 1;
-        self.history.push_reserved(Step::Lease {
-            key,
-            sid: who,
-            floor,
-            now,
-            token,
-            deadline,
-        });
+        self.history.push(
+            self.keep,
+            Step::Lease {
+                key,
+                sid: who,
+                floor,
+                now,
+                token,
+                deadline,
+            },
+        );
         Ok(Got::Lease { token })
     }
 }

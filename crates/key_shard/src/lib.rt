@@ -1,14 +1,17 @@
 //! One shard of the cache: entries and leases under one `&mut self`, and the history of its steps.
 #![tactic(auto)]
 
+pub use bases::Base;
 pub use grants::Grant;
 pub use replies::{Back, Got, How, QAnswer, Rel, SetAnswer, ShardFault};
 pub use shards::Shard;
 pub use steps::{Ended, Stands, Step};
 
+pub mod bases;
 mod bodies;
 mod gets;
 pub mod grants;
+mod histories;
 pub mod laws;
 mod lookups;
 mod outs;

@@ -1,6 +1,8 @@
 // Laws of a shard's past, each the clause of a function that does nothing.
+ghost use Rattle.key_shard.specs.Base.{BaseLaw, BaseLawBack};
 ghost use Rattle.key_shard.specs.LegalStands.{LegalStandsWell};
 ghost use Rattle.key_shard.specs.OneStep.{ReadersByOneStep};
+ghost use Rattle.key_shard.specs.Sights.{StepBySight};
 
 /// On each key of a legal past stand quarantines beside one another, of tokens that were drawn, or a
 /// lease to read is recorded, and never both.
@@ -12,4 +14,17 @@ pub fn legal_pasts_stand_well()
 /// next token is what that step makes of what the past showed.
 pub fn readers_by_one_step()
     ensures { ReadersByOneStep }
+{}
+
+/// The step of a request rests on what the past shows of the request's key, on the order of the entries
+/// and on the next token, and on nothing else of the past.
+pub fn steps_rest_on_one_key()
+    ensures { StepBySight }
+{}
+
+/// So a past may be given up for a base that tells these: what is legal behind it is judged from the
+/// base, and what is legal from the base is legal behind the past.
+pub fn bases_stand_for_pasts()
+    ensures forth { BaseLaw }
+    ensures back { BaseLawBack }
 {}

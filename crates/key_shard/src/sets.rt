@@ -5,9 +5,9 @@ ghost use Rattle.key_shard.specs.Answers.{Answers, set_step};
 ghost use Rattle.key_shard.specs.Kept.{IsKept, Puts, shown, steps_of, terms_of};
 ghost use Rattle.key_shard.specs.Past.{evicts, recorded};
 ghost use Rattle.key_shard.specs.Replies.{ShowsSet};
-ghost use Rattle.key_shard.specs.Shards.{Refuses, refusal, stepped};
+ghost use Rattle.key_shard.specs.Shards.{Refuses, refusal, rolled, stepped};
 
-use crate::bodies::{Body, make_room};
+use crate::bodies::Body;
 use crate::replies::{SetAnswer, ShardFault};
 use crate::steps::Step;
 use entry_table::Entries;
@@ -49,7 +49,7 @@ impl Body {
             Refuses (refusal (shown self.old) key step) result }
         ensures step { let step = set_step (terms_of self.old)
             (steps_of self.old) key token value stamp now in
-            OnOk result (shown self.new ≡ stepped (shown self.old) step) }
+            OnOk result (shown self.new ≡ stepped (rolled (shown self.old)) step) }
         ensures shows { let step = set_step (terms_of self.old)
             (steps_of self.old) key token value stamp now in IfOk result (ShowsSet step) }
         ensures err { OnErr result (shown self.new ≡ shown self.old) }
@@ -78,7 +78,7 @@ impl Body {
             (Step.Stored key token now value stamp (evicts (terms_of self.old) key
             (steps_of self.old))) }
         ensures kept { IsKept self.new }
-        ensures step { OnOk result (shown self.new ≡ stepped (shown self.old)
+        ensures step { OnOk result (shown self.new ≡ stepped (rolled (shown self.old))
             (Step.Stored key token now value stamp (evicts (terms_of self.old) key
             (steps_of self.old)))) }
         ensures shows { IfOk result (λ answer. answer ≡ SetAnswer.Stored
@@ -86,19 +86,22 @@ impl Body {
         ensures err { OnErr result (shown self.new ≡ shown self.old) }
     {
         let copy = value.copy()?;
-        make_room(&mut self.history, self.promised, 1)?;
+        self.history.make_room(self.promised, 1)?;
         let Ok(evicted) = put_in_front(&mut self.entries, key, copy, stamp) else {
             return Err(Memory);
         };
         let _ = self.leases.take_i(&key, token, now);
-        self.history.push_reserved(Step::Stored {
-            key,
-            token,
-            now,
-            value,
-            stamp,
-            evicted,
-        });
+        self.history.push(
+            self.keep,
+            Step::Stored {
+                key,
+                token,
+                now,
+                value,
+                stamp,
+                evicted,
+            },
+        );
         Ok(SetAnswer::Stored { evicted })
     }
 }

@@ -1,14 +1,19 @@
-ghost use Rattle.std.specs.Prelude.{◌≡◌, ◌≢◌, ◌↔◌, ◌≤◌, ◌<◌, ◌∷◌, ◌++◌, [], reverse, IfOk, OnOk, OnErr, IfErr, IfSome, IfNone, IsTrue, None};
+ghost use Rattle.std.specs.Prelude.{◌≡◌, ◌≢◌, ◌↔◌, ◌≤◌, ◌<◌, ◌∷◌, ◌++◌, [], reverse, IfOk, OnOk, OnErr, IfErr, IfSome, IfNone, IsTrue, Some, None, option_map, is_some, min, length, ◌^◌, ◌-◌};
 ghost use Rattle.std.specs.Bool.{IsFalse};
 ghost use Rattle.lease_table.specs.Expiry.{NoneDue, NoneDueBefore, StandsDue};
 ghost use Rattle.key_shard.specs.Dues.{first_due};
 ghost use Rattle.key_shard.specs.Answers.{get_step, set_step, quarantine_step, release_step, replace_step, sweep_step, FitsMode, FitsShift, IsAtHome, Legal};
-ghost use Rattle.key_shard.specs.Past.{entry, quar_of, standing};
+ghost use Rattle.entry_table.specs.Entries.{keys, lookup};
+ghost use Rattle.key_shard.specs.Past.{entry, order, quar_of, standing};
 ghost use Rattle.key_shard.specs.Replies.{ShowsGot, ShowsSet, ShowsQuarantine, ShowsRelease, sweep_told};
-ghost use Rattle.key_shard.specs.Shards.{past_of, is_out, stepped, returned, swept, refusal, Refuses};
+ghost use Rattle.key_shard.specs.Base.{IsBase, IsRolled, LegalFrom};
+ghost use Rattle.key_shard.specs.Histories.{is_due};
+ghost use Rattle.key_shard.specs.Shards.{kept_of, past_of, is_out, stepped, rolled, returned, swept, refusal, Refuses};
 
+use crate::bases::Base;
 use crate::bodies::Body;
 use crate::grants::Grant;
+use crate::histories::History;
 use crate::outs::Outs;
 use crate::replies::{Back, Got, How, QAnswer, Rel, SetAnswer, ShardFault};
 use crate::steps::Step;
@@ -20,9 +25,15 @@ use std::marker::Model;
 
 /// One shard of the cache. Contracts see what it is made with, its history, and its grants that are
 /// out.
+///
+/// A whole shard has all steps of its history in memory. One that rolls gives up those that it has
+/// each time that they are so many, and contracts see them all the same: what it answers rests on its
+/// whole history, as if all of it was there.
 #[derive(Drop)]
 pub struct Shard {
     body: Body,
+    /// What was there before the first step in memory.
+    base: Base,
 }
 
 impl Model for Shard {
@@ -30,16 +41,17 @@ impl Model for Shard {
 
     ghost Value = { ShardView };
 
+    ghost use Rattle.key_shard.specs.Base.{IsRolled};
     ghost use Rattle.key_shard.specs.Kept.{IsKept, shown};
 
     ghost view = { λ shard. shown shard.body };
 
-    ghost invariant = { λ shard. IsKept shard.body };
+    ghost invariant = { λ shard. IsKept shard.body × IsRolled (shown shard.body) shard.base };
 }
 
 impl Shard {
-    /// Shard `no` of `count`, with room for so many entries, leases that live so long, and this first
-    /// token. Its history is empty.
+    /// A whole shard, `no` of `count`, with room for so many entries, leases that live so long, and this
+    /// first token. Its history is empty.
     pub fn new(
         alloc: Global,
         no: u32,
@@ -53,25 +65,116 @@ impl Shard {
         requires lively { 1 ≤ life }
         requires tokens { 1 ≤ first }
         ensures { IfOk result (λ shard. shard ≡ record {
-          terms = record { no = no; count = count; room = room; life = life; first = first };
+          terms = record {
+            no = no;
+            count = count;
+            room = room;
+            life = life;
+            first = first;
+            keep = None;
+          };
           history = [];
           out = [];
+          gone = 0;
         }) }
     {
+        Shard::with(alloc, no, count, room, life, first, None)
+    }
+
+    /// A shard that rolls: as `new`, but a `get`, a `set` or a `quarantine` that isn't refused, and that
+    /// finds at least `keep` steps in memory, gives these up.
+    pub fn rolling(
+        alloc: Global,
+        no: u32,
+        count: u32,
+        room: u32,
+        life: u64,
+        first: u64,
+        keep: u32,
+    ) -> Result<Shard, Memory>
+        requires one_of { no < count }
+        requires roomy { 1 ≤ room }
+        requires lively { 1 ≤ life }
+        requires tokens { 1 ≤ first }
+        requires keeps { 1 ≤ keep }
+        ensures { IfOk result (λ shard. shard ≡ record {
+          terms = record {
+            no = no;
+            count = count;
+            room = room;
+            life = life;
+            first = first;
+            keep = Some keep;
+          };
+          history = [];
+          out = [];
+          gone = 0;
+        }) }
+    {
+        Shard::with(alloc, no, count, room, life, first, Some(keep))
+    }
+
+    /// An empty shard.
+    fn with(
+        alloc: Global,
+        no: u32,
+        count: u32,
+        room: u32,
+        life: u64,
+        first: u64,
+        keep: Option<u32>,
+    ) -> Result<Shard, Memory>
+        requires one_of { no < count }
+        requires roomy { 1 ≤ room }
+        ensures { IfOk result (λ shard. shard ≡ record {
+          terms = record {
+            no = no;
+            count = count;
+            room = room;
+            life = life;
+            first = first;
+            keep = keep;
+          };
+          history = [];
+          out = [];
+          gone = 0;
+        }) }
+    {
+        let (entries, leases) = (Entries::new(alloc, room)?, Leases::new(alloc));
         Ok(Shard {
+            base: Base::of(0, first, &entries, &leases),
             body: Body {
                 no,
                 count,
                 life,
                 first,
+                keep,
                 next: first,
-                entries: Entries::new(alloc, room)?,
-                leases: Leases::new(alloc),
+                entries,
+                leases,
                 out: Outs::new(alloc),
                 promised: 0,
-                history: Vec::new(alloc),
+                history: History::new(alloc),
             },
         })
+    }
+
+    /// The base that the next step makes, where it makes the steps in memory be given up.
+    fn next_base(&self) -> Option<Base>
+        ensures due { is_some result ≡ is_due self.now.terms.keep self.now.gone self.now.history }
+        ensures base { IfSome result (λ base. IsBase self.now.terms (past_of self.now) base) }
+        ensures counted { IfSome result (λ base. base.dropped
+            ≡ min (length self.now.history) (2 ^ 64 - 1)) }
+    {
+        let body = &self.body;
+        if !body.history.is_due(body.keep) {
+            return None;
+        }
+        let dropped = self
+            .base
+            .dropped()
+            .saturating_add(body.history.used() as u64);
+        Some(Base::of(dropped, body.next, &body.entries, &body.leases))
     }
 
     /// Gets a key for a session. The answer is Own exactly where the session has quarantined the key.
@@ -86,12 +189,17 @@ impl Shard {
         ensures refusal { let step = get_step self.old.terms (past_of self.old) key who floor now in
             Refuses (refusal self.old key step) result }
         ensures step { let step = get_step self.old.terms (past_of self.old) key who floor now in
-            OnOk result (self.new ≡ stepped self.old step) }
+            OnOk result (self.new ≡ stepped (rolled self.old) step) }
         ensures shows { let step = get_step self.old.terms (past_of self.old) key who floor now in
             IfOk result (ShowsGot step) }
         ensures err { OnErr result (self.new ≡ self.old) }
     {
-        self.body.get(key, who, floor, now)
+        let base = self.next_base();
+        let got = self.body.get(key, who, floor, now)?;
+        if let Some(base) = base {
+            self.base = base;
+        }
+        Ok(got)
     }
 
     /// Stores a value under an I lease, and ends the lease: the entry stands in front, and in a full
@@ -110,12 +218,17 @@ impl Shard {
             Refuses (refusal self.old key step) result }
         ensures step { let step = set_step self.old.terms
             (past_of self.old) key token value stamp now in
-            OnOk result (self.new ≡ stepped self.old step) }
+            OnOk result (self.new ≡ stepped (rolled self.old) step) }
         ensures shows { let step = set_step self.old.terms
             (past_of self.old) key token value stamp now in IfOk result (ShowsSet step) }
         ensures err { OnErr result (self.new ≡ self.old) }
     {
-        self.body.set(key, token, value, stamp, now)
+        let base = self.next_base();
+        let answer = self.body.set(key, token, value, stamp, now)?;
+        if let Some(base) = base {
+            self.base = base;
+        }
+        Ok(answer)
     }
 
     /// Asks for a quarantine of the key, by the rules of compatibility. One that is granted ends the
@@ -135,13 +248,18 @@ impl Shard {
             Refuses (refusal self.old key step) result }
         ensures step { let step = quarantine_step self.old.terms
             (past_of self.old) key sid mode shift now in
-            OnOk result (self.new ≡ stepped self.old step) }
+            OnOk result (self.new ≡ stepped (rolled self.old) step) }
         ensures shows { let step = quarantine_step self.old.terms
             (past_of self.old) key sid mode shift now in
             IfOk result (ShowsQuarantine self.old.terms (past_of self.old) step) }
         ensures err { OnErr result (self.new ≡ self.old) }
     {
-        self.body.quarantine(key, sid, mode, shift, now)
+        let base = self.next_base();
+        let answer = self.body.quarantine(key, sid, mode, shift, now)?;
+        if let Some(base) = base {
+            self.base = base;
+        }
+        Ok(answer)
     }
 
     /// Releases a grant. Where its quarantine stands, it ends: with Keep the entry stays, with Drop it
@@ -217,19 +335,56 @@ impl Shard {
         self.body.sweep_drop(key, token)
     }
 
-    /// The steps so far, the earliest first.
+    /// The steps in memory, the earliest first: of a whole shard all steps so far.
     pub fn history(&self) -> &[Step]
-        ensures steps { result.now ≡ self.now.history }
+        ensures steps { result.now ≡ kept_of self.now }
+        ensures whole { self.now.terms.keep ≡ None → result.now ≡ self.now.history }
         ensures legal { Legal self.now.terms self.now.history }
     {
         self.body.history.as_slice()
     }
 
-    /// The steps, the earliest first.
+    /// The steps in memory, the earliest first: of a whole shard all its steps.
     pub fn take_history(self) -> Vec<Step>
-        ensures steps { result.items ≡ self.history }
+        ensures steps { result.items ≡ kept_of self }
+        ensures whole { self.terms.keep ≡ None → result.items ≡ self.history }
         ensures legal { Legal self.terms self.history }
     {
-        self.body.history
+        self.body.history.into_steps()
+    }
+
+    /// What was there before the first step in memory: behind the steps that were given up, or at the
+    /// start. It takes no memory.
+    pub fn base(&self) -> &Base
+        ensures rolled { IsRolled self.now result.now }
+        ensures legal { LegalFrom self.now.terms result.now (kept_of self.now) }
+    {
+        &self.base
+    }
+
+    /// How many shards there are beside it and itself. It takes no memory.
+    pub fn count(&self) -> u32
+        ensures { result ≡ self.now.terms.count }
+    {
+        self.body.count
+    }
+
+    /// A copy of its entries, each as key, value and stamp, the most recent first. It takes memory for
+    /// that copy alone. No step of the history comes of it, and nothing changes.
+    pub fn entries(&self) -> Result<Vec<(QKey, Value, u64)>, Memory>
+        ensures entries { IfOk result (λ copy. (key : QKey) →
+            lookup key copy.items ≡ entry key (past_of self.now)) }
+        ensures order { IfOk result (λ copy. keys copy.items ≡ order (past_of self.now)) }
+    {
+        self.body.entries.list()
+    }
+
+    /// The value and the stamp of the key's entry, if it has one. It leaves the order, and no step of the
+    /// history comes of it. It takes no memory.
+    pub fn peek(&self, key: &QKey) -> Option<(&Value, u64)>
+        ensures { option_map (λ found. (found.0.now, found.1)) result
+            ≡ entry key.now (past_of self.now) }
+    {
+        self.body.entries.peek(key)
     }
 }

@@ -1,4 +1,5 @@
 pub mod ChangeLemmas
+pub mod CopyLemmas
 pub mod DueLemmas
 pub mod IndexLemmas
 pub mod KeyLemmas

@@ -66,7 +66,7 @@ pub struct Lease {
 }
 
 /// The leases of one key.
-#[derive(Drop)]
+#[derive(Clone, Drop)]
 pub enum KeyLeases {
     /// One to read.
     Read(ReadLease),

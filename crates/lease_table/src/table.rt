@@ -48,6 +48,20 @@ impl Leases {
         }
     }
 
+    /// Another table with the same leases, in memory of its own. Where that is refused, `Memory`
+    /// comes. This table stays as it is.
+    pub fn copy(&self) -> Result<Leases, Memory>
+        ensures { IfOk result (λ copy. copy ≡ self.now) }
+    {
+        let leases = self.leases.clone()?;
+        let terms = self.terms.clone()?;
+        Ok(Leases {
+            leases,
+            terms,
+            alloc: self.alloc,
+        })
+    }
+
     // What stands on the key.
     fn on_key(&self, key: &QKey) -> OnKey<'_>
         ensures reader { result.reader ≡ recorded key.now self.now }

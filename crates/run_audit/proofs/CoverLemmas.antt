@@ -20,9 +20,17 @@ use Rattle.key_shard.proofs.CaseLemmas.{got_cases, set_cases, quarantine_cases, 
 use Rattle.sql_keeper.specs.declared.stores.Commit.{Commit}
 use Rattle.sql_keeper.specs.Fresh.{quarantines, Covered}
 use Rattle.run_audit.specs.declared.holds.Hold.{Hold}
-use Rattle.run_audit.specs.Findings.{histories_in, AreNumbered, IsGranted, IsFirstUncovered}
+use Rattle.run_audit.specs.Findings.{histories_in, AreNumbered, AreWhole, IsGranted, IsFirstUncovered}
 use Rattle.run_audit.specs.Grants.{holds, grants_it, AddsGrants, HasGrants, AreCovered, IsFirstGap}
 use Rattle.run_audit.proofs.ListLemmas.{clash, or_comm, and_elim, place-of, any-at, any-push}
+
+-- ---- which shards are whole
+
+pub whole-at : (shards : List ShardView) (i : ℕ) (shard : ShardView) → i < length shards → shard ≡ get_or shards i shard
+    → AreWhole shards → shard.terms.keep ≡ None
+whole-at shards i shard in' is whole =
+    subst (λ (one : ShardView). one.terms.keep ≡ None) (sym is)
+    (All-get_or (λ (one : ShardView). one.terms.keep ≡ None) shards i shard in' whole)
 
 -- ---- what is granted, with one history more
 

@@ -3,7 +3,7 @@ ghost use Rattle.std.specs.Option.{option_copied};
 ghost use Rattle.rows_model.specs.declared.keys.QKey.{QKey};
 ghost use Rattle.rows_model.specs.Key.{same_key};
 ghost use Rattle.rows_model.specs.Changes.{has_key};
-ghost use Rattle.run_audit.specs.Findings.{histories_in};
+ghost use Rattle.run_audit.specs.Findings.{histories_in, AreWhole};
 ghost use Rattle.run_audit.specs.Answers.{noted, pushed, renewed, value_at, AreOpening, Keeps, Knows, InOrder, InTurn};
 
 use key_shard::{Shard, Step};
@@ -23,6 +23,7 @@ pub type Answers = BTreeMap<QKey, Vec<Version>>;
 
 /// The opening answers of the keys that are hit in these shards.
 pub fn opening_answers(alloc: Global, opening: &Rows, shards: &[Shard]) -> Result<Answers, Memory>
+    requires { AreWhole shards.now }
     ensures opening { IfOk result (λ answers. AreOpening opening.now answers) }
     ensures knows { IfOk result (λ answers.
         All (λ history. All (λ step. Knows answers step) history) (histories_in shards.now)) }

@@ -4,7 +4,7 @@ ghost use Rattle.sql_keeper.specs.declared.stores.Commit.{Commit};
 ghost use Rattle.sql_keeper.specs.Fresh.{Fresh, Covered};
 ghost use Rattle.run_audit.specs.Answers.{Knows};
 ghost use Rattle.run_audit.specs.Notes.{AreNotes};
-ghost use Rattle.run_audit.specs.Findings.{histories_in, AreNumbered, IsFinding, IsFoundIn};
+ghost use Rattle.run_audit.specs.Findings.{histories_in, AreNumbered, AreWhole, IsFinding, IsFoundIn};
 
 use crate::covers::first_gap;
 use crate::findings::Finding;
@@ -18,7 +18,8 @@ use std::alloc::Global;
 
 /// Audits a run by the rows that it began with, its log and its shards. `Clean` comes exactly where
 /// each commit is covered and each hit is fresh; else the finding is the first commit that isn't
-/// covered, or where all are, the first hit that isn't fresh.
+/// covered, or where all are, the first hit that isn't fresh. Each shard is whole, so that its history is
+/// there to be read.
 pub fn audit(
     alloc: Global,
     opening: &Rows,
@@ -27,6 +28,7 @@ pub fn audit(
 ) -> Result<Finding, Memory>
     requires some { 1 ≤ length shards.now }
     requires numbered { AreNumbered shards.now }
+    requires whole { AreWhole shards.now }
     ensures clean { IfOk result (λ finding. finding ≡ Finding.Clean ↔
         Covered log.now (histories_in shards.now)
         × Fresh opening.now log.now (histories_in shards.now)) }
@@ -46,6 +48,7 @@ pub fn audit(
 /// The first hit of these shards that isn't fresh, or that each is.
 fn stale_or_clean(alloc: Global, notes: &Notes, shards: &[Shard]) -> Result<Finding, Memory>
     requires numbered { AreNumbered shards.now }
+    requires whole { AreWhole shards.now }
     requires knows { All (λ history. All (λ step. Knows notes.now.answers step) history)
         (histories_in shards.now) }
     ensures { (opening : Tables) (log : List Commit) → AreNotes opening log notes.now

@@ -2,7 +2,7 @@ ghost use Rattle.std.specs.Prelude.{◌≡◌, ◌||◌, OnOk, IfOk, All};
 ghost use Rattle.key_shard.specs.Answers.{Legal};
 ghost use Rattle.sql_keeper.specs.Fresh.{quarantines};
 ghost use Rattle.run_audit.specs.declared.holds.Hold.{Hold};
-ghost use Rattle.run_audit.specs.Findings.{histories_in};
+ghost use Rattle.run_audit.specs.Findings.{histories_in, AreWhole};
 ghost use Rattle.run_audit.specs.Grants.{has_hold, HasGrants, AddsGrants};
 
 use crate::holds::Hold;
@@ -16,6 +16,7 @@ pub type Grants = BTreeSet<Hold>;
 
 /// What was granted in the histories of these shards, each of which is legal.
 pub fn grants_in(alloc: Global, shards: &[Shard]) -> Result<Grants, Memory>
+    requires { AreWhole shards.now }
     ensures grants { IfOk result (λ grants. HasGrants (histories_in shards.now) grants) }
     ensures legal { OnOk result (All (λ shard. Legal shard.terms shard.history) shards.now) }
 {

@@ -2,7 +2,7 @@ ghost use Rattle.std.specs.Prelude.{◌≡◌, ◌^◌, ◌<◌, ◌+◌, ◌++�
 ghost use Rattle.rows_model.specs.Rows.{Tables};
 ghost use Rattle.sql_keeper.specs.declared.stores.Commit.{Commit};
 ghost use Rattle.sql_keeper.specs.Log.{rows_after};
-ghost use Rattle.run_audit.specs.Findings.{histories_in};
+ghost use Rattle.run_audit.specs.Findings.{histories_in, AreWhole};
 ghost use Rattle.run_audit.specs.Answers.{Knows, KnowsTheSame};
 ghost use Rattle.run_audit.specs.Notes.{AreNotes, IsLed};
 
@@ -30,6 +30,7 @@ pub fn notes_of(
     log: &[Commit],
     shards: &[Shard],
 ) -> Result<Notes, Memory>
+    requires { AreWhole shards.now }
     ensures notes { IfOk result (λ notes. AreNotes opening.now log.now notes) }
     ensures knows { IfOk result (λ notes.
         All (λ history. All (λ step. Knows notes.answers step) history) (histories_in shards.now)) }

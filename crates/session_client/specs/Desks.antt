@@ -1,10 +1,14 @@
 -- What a desk tells: lists that only grow, by one member at a time. The latest member is in front.
-use Rattle.std.specs.Prelude.{ℕ, zero, suc, ◌≡◌, ◌≢◌, Bool, true, List, [], ◌∷◌, All, Option, Some, None}
+use Rattle.std.specs.Prelude.{ℕ, zero, suc, ◌≡◌, ◌≢◌, ◌==◌, ◌⊎◌, Bool, true, IsTrue, List, [], ◌∷◌, All, Option, Some, None}
+use Rattle.std.specs.List.{list_any}
 use Rattle.std.specs.Option.{ForSome}
 use Rattle.rows_model.specs.declared.keys.Sid.{Sid}
 use Rattle.rows_model.specs.Delta.{is_count}
 use Rattle.lease_table.specs.declared.records.Mode.TheVariants as mode
+use Rattle.session_client.specs.declared.replies.Fault.{Fault}
+use Rattle.session_client.specs.declared.replies.Fault.TheVariants as fault
 use Rattle.session_client.specs.declared.replies.Reply.{Reply}
+use Rattle.session_client.specs.declared.replies.Reply.TheVariants as reply
 use Rattle.session_client.specs.declared.replies.Wanted.{Wanted}
 use Rattle.session_client.specs.declared.replies.Wanted.TheVariants as wanted
 
@@ -33,3 +37,30 @@ IsProper other = Unit {0}
 pub data Call : Type 0 where
   Began : (writes : Bool) (who : Sid) → Call
   Asked : (who : Sid) (request : Wanted) (told : Reply) → Call
+
+-- The session is in the list, which is told.
+abbrev pub IsIn : Sid → Option (List Sid) → Type 0
+IsIn who (Some told) = IsTrue (list_any (λ other. other.number == who.number) told)
+IsIn who None = ⊥
+
+-- Each session of the first list, where that is told, is in the second.
+abbrev pub AreIn : Option (List Sid) → Option (List Sid) → Type 0
+AreIn some others = ForSome some (λ sids. All (λ who. IsIn who others) sids)
+
+-- A desk that tells whose steps it has seen tells which session it began last, and whether that may write.
+abbrev pub IsLatest : Sid → Bool → Option (List Sid) → Option (Sid × Bool) → Type 0
+IsLatest who writes seen latest = ForSome seen (λ _. latest ≡ Some (who, writes))
+
+-- A request that a session may begin with: a get, or a quarantine of one that may write.
+abbrev pub IsFirst : Bool → Wanted → Type 0
+IsFirst writes (wanted.Get key floor) = Unit {0}
+IsFirst true (wanted.QaReg key) = Unit {0}
+IsFirst true (wanted.QaRead key) = Unit {0}
+IsFirst true (wanted.Delta key by) = Unit {0}
+IsFirst writes other = ⊥
+
+-- Such a request of the session that the desk began last doesn't fail at the keeper; and a step has named the session
+-- afterwards, unless it was answered with a fault.
+abbrev pub BeginsSeen : Option (Sid × Bool) → Sid → Wanted → Reply → Option (List Sid) → Type 0
+BeginsSeen latest who request told seen = ForSome latest (λ first. first.0 ≡ who → IsFirst first.1 request
+    → (told ≢ reply.Fault fault.Keep) × (((cause : Fault) × (told ≡ reply.Fault cause)) ⊎ IsIn who seen))

@@ -1,7 +1,10 @@
-ghost use Rattle.std.specs.Prelude.{◌≡◌, List, Option, None, IfOk, OnErr};
+ghost use Rattle.std.specs.Prelude.{◌≡◌, Bool, true, List, Option, None, IfOk, OnErr};
 ghost use Rattle.rows_model.specs.declared.keys.Sid.{Sid};
+ghost use Rattle.session_client.specs.declared.replies.Fault.TheVariants as fault;
+ghost use Rattle.session_client.specs.declared.replies.Reply.TheVariants as reply;
 ghost use Rattle.session_client.specs.Belongs.{Belongs};
 ghost use Rattle.session_client.specs.Desks.{IsNew, IsProper, Call, Began, Asked, with_member};
+ghost use Rattle.session_client.specs.Desks.{AreIn, IsLatest, BeginsSeen};
 
 use crate::replies::{Reply, Wanted};
 use rows_model::{Memory, Sid};
@@ -11,10 +14,21 @@ use rows_model::{Memory, Sid};
 /// Contracts see `begun`, the sessions that the desk began, and `record`, the calls that it answered,
 /// each the latest first, or `None` where it doesn't tell them. Whether it tells them never changes,
 /// and nothing leaves the lists. A begin that is refused and the sweep aren't in the record.
+///
+/// A desk may also tell `seen`, the sessions among these that a step of a shard names. Then it tells
+/// `latest`, the session that it began last, and whether that may write. No session leaves `seen`.
+/// `is_spent` says that some shard may have no more tokens. It stays so, and is so from the start where
+/// the desk tells nothing of it.
 pub trait Desk {
     ghost begun: { Self → Option (List Sid) };
 
     ghost record_of: { Self → Option (List Call) } = { λ desk. None };
+
+    ghost seen: { Self → Option (List Sid) } = { λ desk. None };
+
+    ghost latest: { Self → Option (Sid × Bool) } = { λ desk. None };
+
+    ghost is_spent: { Self → Bool } = { λ desk. true };
 
     /// Begins a session and gives its number, which no session had that the desk began before. One
     /// that writes may commit once; another never does. For want of memory no session begins.
@@ -24,7 +38,11 @@ pub trait Desk {
         ensures recorded { IfOk result (λ sid.
             record_of self.new ≡ with_member (Began writes sid) (record_of self.old)) }
         ensures err { OnErr result (begun self.new ≡ begun self.old) }
-        ensures err_recorded { OnErr result (record_of self.new ≡ record_of self.old) };
+        ensures err_recorded { OnErr result (record_of self.new ≡ record_of self.old) }
+        ensures latest { IfOk result (λ sid. IsLatest sid writes (seen self.new) (latest self.new)) }
+        ensures seen_kept { AreIn (seen self.old) (seen self.new) }
+        ensures seen_begun { AreIn (seen self.new) (begun self.new) }
+        ensures spent_kept { is_spent self.old ≡ true → is_spent self.new ≡ true };
 
     /// Makes a request of a session. The reply is one that belongs to it.
     fn call(&mut self, sid: Sid, wanted: Wanted) -> Reply
@@ -32,10 +50,18 @@ pub trait Desk {
         ensures belongs { Belongs sid wanted result }
         ensures begun { begun self.new ≡ begun self.old }
         ensures recorded { record_of self.new
-            ≡ with_member (Asked sid wanted result) (record_of self.old) };
+            ≡ with_member (Asked sid wanted result) (record_of self.old) }
+        ensures first { BeginsSeen (latest self.old) sid wanted result (seen self.new) }
+        ensures seen_kept { AreIn (seen self.old) (seen self.new) }
+        ensures seen_begun { AreIn (seen self.new) (begun self.new) }
+        ensures spent { result ≡ reply.Fault fault.Spent → is_spent self.new ≡ true }
+        ensures spent_kept { is_spent self.old ≡ true → is_spent self.new ≡ true };
 
     /// Takes one step of the desk's own sweep for leases that are due to be ended.
     fn tend(&mut self)
         ensures begun { begun self.new ≡ begun self.old }
-        ensures recorded { record_of self.new ≡ record_of self.old };
+        ensures recorded { record_of self.new ≡ record_of self.old }
+        ensures seen_kept { AreIn (seen self.old) (seen self.new) }
+        ensures seen_begun { AreIn (seen self.new) (begun self.new) }
+        ensures spent_kept { is_spent self.old ≡ true → is_spent self.new ≡ true };
 }

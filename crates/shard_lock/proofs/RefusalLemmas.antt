@@ -8,7 +8,7 @@ use Rattle.rows_model.specs.Placement.{shard_of}
 use Rattle.key_shard.specs.Answers.{IsAtHome}
 use Rattle.key_shard.specs.Past.{next_token}
 use Rattle.key_shard.specs.Replies.{ShowsQuarantine}
-use Rattle.key_shard.specs.Shards.{ShardView, past_of, stepped, refusal, Refuses}
+use Rattle.key_shard.specs.Shards.{ShardView, past_of, rolled, stepped, refusal, Refuses}
 use Rattle.key_shard.specs.declared.replies.QAnswer.{QAnswer}
 use Rattle.key_shard.specs.declared.replies.ShardFault.TheVariants as causes
 use Rattle.key_shard.specs.declared.steps.Step.{Step}
@@ -24,7 +24,7 @@ unspent false spent next other told at refuses = absurd (false≢true at)
 
 -- an answer to a quarantine of a key of the shard itself is told, and a token was left
 pub tells_quarantine : (old new : ShardView) (key : QKey) (step : Step) (told : QAnswer) → IsAtHome old.terms key
-    → Refuses (refusal old key step) (Ok told) → new ≡ stepped old step → ShowsQuarantine old.terms (past_of old) step told
+    → Refuses (refusal old key step) (Ok told) → new ≡ stepped (rolled old) step → ShowsQuarantine old.terms (past_of old) step told
     → TellsQuarantine old step new (reply.Quar told)
 tells_quarantine old new key step told home refuses is shows = (
   is,

@@ -48,6 +48,14 @@ pub record AreAll (terms : ℕ → Terms) (shards : List ShardView) : Type 0 whe
   pub counted : All (λ shard. shard.terms.count ≡ length shards) shards
   pub placed : ArePlaced shards
 
--- What the shard of this number is made with, one of so many with this room, whose leases live so long. The first token is 1.
-abbrev pub terms_at : ℕ → ℕ → ℕ → ℕ → Terms
-terms_at count room life place = record { no = place; count = count; room = room; life = life; first = 1 }
+-- What the shard of this number is made with, one of so many with this room, whose leases live so long, and that is whole or
+-- rolls. The first token is 1.
+abbrev pub terms_at : ℕ → ℕ → ℕ → Option ℕ → ℕ → Terms
+terms_at count room life keep place = record {
+  no = place;
+  count = count;
+  room = room;
+  life = life;
+  first = 1;
+  keep = keep;
+}

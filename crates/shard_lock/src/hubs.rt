@@ -5,7 +5,7 @@ ghost use Rattle.key_shard.specs.Answers.{IsAtHome};
 ghost use Rattle.shard_lock.specs.Names.{AreAll, AreLegal, ArePlaced, AreTokens, IsNamed, IsNamedStore, IsTokenOf};
 
 use crate::hub_desks::HubDesk;
-use crate::kept::{KeptShard, KeptStore};
+use crate::kept::{KeptRoom, KeptShard, KeptStore};
 use crate::names::{HubName, StartOf};
 use expiry_sweeper::Sweeper;
 use iq_outside::{Clock, Gate};
@@ -21,21 +21,21 @@ use std::sync::{Mutex, MutexGuard, Wait};
 /// how many shards there are.
 ///
 /// Each time the lock of a shard is free, there is a shard under it with what is named for its number,
-/// whose history is legal. Each time the store's lock is free, there is a store under it with the
-/// opening rows and the cap that are named.
+/// whose history is legal. So a hub's shards are whole, or roll, as they were handed in. Each time the
+/// store's lock is free, there is a store under it with the opening rows and the cap that are named.
 #[derive(Drop)]
 pub struct Hub<K: Keeper, H: HubName> {
     shards: Vec<Mutex<KeptShard<H>>>,
     store: Mutex<KeptStore<K, H>>,
     count: u32,
-    /// No shards, and room for all.
-    room: Vec<Shard>,
+    /// Room for the shards, once they are taken from under their locks.
+    room: Mutex<KeptRoom<H>>,
     /// What the tokens of all shards have. They take no bytes.
     tokens: Total<H>,
 }
 
 impl<K: Keeper, H: HubName> Model for Hub<K, H> {
-    ghost use Rattle.std.specs.Prelude.{ℕ, ◌≡◌, ◌≤◌, vec_len, vec_capacity};
+    ghost use Rattle.std.specs.Prelude.{ℕ, ◌≡◌, ◌≤◌, vec_len};
     ghost use Rattle.shard_lock.specs.Names.{AreTokens, HaveCount};
 
     ghost Value = { ℕ };
@@ -43,7 +43,7 @@ impl<K: Keeper, H: HubName> Model for Hub<K, H> {
     ghost view = { λ hub. hub.count };
 
     ghost invariant = { λ hub. (1 ≤ hub.count) × (vec_len hub.shards ≡ hub.count)
-        × (vec_len hub.room ≡ 0) × (hub.count ≤ vec_capacity hub.room)
+        × (H.parts ≡ hub.count)
         × HaveCount H.terms hub.count × AreTokens hub.count hub.tokens.parts hub.tokens.amount };
 }
 
@@ -74,7 +74,7 @@ impl<K: Keeper, H: HubName> Hub<K, H> {
             shards: locks,
             store: Mutex::new(KeptStore::new(store)),
             count,
-            room,
+            room: Mutex::new(KeptRoom::new(room)),
             tokens,
         })
     }
@@ -121,7 +121,7 @@ impl<K: Keeper, H: HubName> Hub<K, H> {
         } = self;
         (
             store.into_inner().into_store(),
-            unlocked(shards, room, &tokens),
+            unlocked(shards, room.into_inner().into_shards(), &tokens),
         )
     }
 

@@ -1,5 +1,5 @@
-// What lies under the locks: a shard and the store, each with what is named of it.
-ghost use Rattle.std.specs.Prelude.{◌≡◌, IfOk, OnOk, OnErr, length};
+// What lies under the locks: a shard, room for all, and the store, each with what is named of it.
+ghost use Rattle.std.specs.Prelude.{◌≡◌, ◌≤◌, IfOk, OnOk, OnErr, length, vec_len, vec_capacity};
 ghost use Rattle.key_shard.specs.Answers.{IsAtHome, Legal, sweep_step};
 ghost use Rattle.key_shard.specs.Dues.{first_due};
 ghost use Rattle.key_shard.specs.Replies.{sweep_told};
@@ -20,7 +20,7 @@ use key_shard::{Rel, Shard};
 use rows_model::{Memory, QKey, Sid};
 use session_client::{Reply, Wanted};
 use sql_keeper::{Keeper, Store};
-use std::marker::Model;
+use std::marker::{Model, PhantomData};
 use std::sync::ledger::Share;
 
 /// A shard of a hub, with what is named for its number. Contracts see the shard.
@@ -101,6 +101,44 @@ impl<H: HubName> KeptShard<H> {
         let KeptShard { shard, token } = self;
         let _legal = shard.history();
         (shard, token)
+    }
+}
+
+/// Room for all shards of a hub, in which there is none. It is under a lock as they are: one thread at
+/// a time may have a shard, but no two may look at one.
+#[derive(Drop)]
+pub struct KeptRoom<H: HubName> {
+    shards: Vec<Shard>,
+    of: PhantomData<H>,
+}
+
+impl<H: HubName> Model for KeptRoom<H> {
+    ghost use Rattle.std.specs.Prelude.{◌≡◌, ◌≤◌, vec_len, vec_capacity};
+
+    ghost Value = { Unit {0} };
+
+    ghost view = { λ kept. tt };
+
+    ghost invariant = { λ kept. (vec_len kept.shards ≡ 0) × (H.parts ≤ vec_capacity kept.shards) };
+}
+
+impl<H: HubName> KeptRoom<H> {
+    pub fn new(shards: Vec<Shard>) -> KeptRoom<H>
+        requires none { vec_len shards ≡ 0 }
+        requires room { H.parts ≤ vec_capacity shards }
+    {
+        KeptRoom {
+            shards,
+            of: PhantomData,
+        }
+    }
+
+    /// No shards, and room for all.
+    pub fn into_shards(self) -> Vec<Shard>
+        ensures none { vec_len result ≡ 0 }
+        ensures room { H.parts ≤ vec_capacity result }
+    {
+        self.shards
     }
 }
 

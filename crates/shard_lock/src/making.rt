@@ -1,5 +1,5 @@
 // The shards of a new hub.
-ghost use Rattle.std.specs.Prelude.{ℕ, ◌≡◌, ◌≤◌, All, IfOk, [], length};
+ghost use Rattle.std.specs.Prelude.{ℕ, ◌≡◌, ◌<◌, ◌≤◌, All, IfOk, IfSome, [], length};
 ghost use Rattle.key_shard.specs.Past.{Terms};
 ghost use Rattle.shard_lock.specs.Names.{AreAll, terms_at};
 
@@ -8,18 +8,48 @@ use rows_model::Memory;
 use std::alloc::Global;
 
 /// So many new shards, each with its place for its number, room for so many entries and leases that live
-/// so long. Their first token is 1.
-pub fn new_shards(alloc: Global, count: u32, room: u32, life: u64) -> Result<Vec<Shard>, Memory>
+/// so long. Their first token is 1. They are whole, or where `keep` is a number they roll, and each gives
+/// up its steps in memory when they are so many.
+pub fn new_shards(
+    alloc: Global,
+    count: u32,
+    room: u32,
+    life: u64,
+    keep: Option<u32>,
+) -> Result<Vec<Shard>, Memory>
     requires some { 1 ≤ count }
     requires roomy { 1 ≤ room }
     requires lively { 1 ≤ life }
-    ensures all { IfOk result (λ shards. AreAll (terms_at count room life) shards.items) }
+    requires keeps { IfSome keep (λ steps. 1 ≤ steps) }
+    ensures all { IfOk result (λ shards. AreAll (terms_at count room life keep) shards.items) }
     ensures as_many { IfOk result (λ shards. length shards.items ≡ count) }
     ensures new { IfOk result (λ shards. All (λ shard. shard.history ≡ []) shards.items) }
 {
     let mut shards = Vec::with_capacity(alloc, count as usize)?;
     for no in 0..count {
-        shards.push_reserved(Shard::new(alloc, no, count, room, life, 1)?);
+        shards.push_reserved(new_shard(alloc, no, count, room, life, keep)?);
     }
     Ok(shards)
+}
+
+/// The shard of this number.
+fn new_shard(
+    alloc: Global,
+    no: u32,
+    count: u32,
+    room: u32,
+    life: u64,
+    keep: Option<u32>,
+) -> Result<Shard, Memory>
+    requires one_of { no < count }
+    requires roomy { 1 ≤ room }
+    requires lively { 1 ≤ life }
+    requires keeps { IfSome keep (λ steps. 1 ≤ steps) }
+    ensures terms { IfOk result (λ shard. shard.terms ≡ terms_at count room life keep no) }
+    ensures new { IfOk result (λ shard. shard.history ≡ []) }
+{
+    match keep {
+        None => Shard::new(alloc, no, count, room, life, 1),
+        Some(keep) => Shard::rolling(alloc, no, count, room, life, 1, keep),
+    }
 }

@@ -8,8 +8,8 @@ use std::sync::ledger::Ledger;
 
 /// Names what the locks of a hub keep: for each shard's number what it was made with, the store's
 /// opening rows and cap, the rows that its keeper told when the store was handed in, if it told any, and
-/// the count of faults at which that keeper stood when it was started. It names a ledger too, which has a
-/// part for each shard.
+/// the count of faults at which that keeper stood when it was started. What a shard was made with says
+/// whether it is whole or rolls. It also names a ledger, which has a part for each shard.
 ///
 /// The name is picked where a caller that is generic in it is called, at the type `Brand`.
 pub trait HubName: Ledger {
@@ -27,7 +27,7 @@ pub trait HubName: Ledger {
 impl HubName for Brand {
     ghost use Rattle.std.specs.Prelude.{[], None};
 
-    ghost terms = { λ no. record { no = no; count = 1; room = 1; life = 1; first = 1 } };
+    ghost terms = { λ no. record { no = no; count = 1; room = 1; life = 1; first = 1; keep = None } };
 
     ghost opening = { record { members = []; links = [] } };
 

@@ -3,7 +3,7 @@ ghost use Rattle.std.specs.Prelude.{ℕ, ◌≡◌, ◌≢◌, Some, None, IsTru
 ghost use Rattle.rows_model.specs.Delta.{is_count};
 ghost use Rattle.key_shard.specs.Answers.{IsAtHome, get_step, set_step};
 ghost use Rattle.key_shard.specs.Replies.{ShowsQuarantine};
-ghost use Rattle.key_shard.specs.Shards.{past_of, stepped, refusal, Refuses};
+ghost use Rattle.key_shard.specs.Shards.{past_of, rolled, stepped, refusal, Refuses};
 ghost use Rattle.session_client.specs.Belongs.{Belongs, IsShardFault};
 ghost use Rattle.session_client.specs.Desks.{IsProper};
 ghost use Rattle.session_client.specs.declared.replies.Reply.TheVariants as reply;
@@ -18,7 +18,8 @@ use session_client::{Fault, Reply, Wanted};
 use write_ops::{DeltaFault, abort, commit_delta, dar, iq_delta, qa_read, qa_reg, sar};
 
 /// Makes a session's request on the shard of its key, at this time: one step of its history, and the
-/// reply shows it. Where no token is left it is a `Fault` with `Spent`. For want of memory it is a
+/// reply shows it. Of a shard that rolls a get, a set or a quarantine gives up the steps in memory first,
+/// where that is due. Where no token is left it is a `Fault` with `Spent`. For want of memory it is a
 /// `Fault` with `Memory`, or the reply that hands the grant back. After either the shard is as before;
 /// so it is where a grant isn't out, which is Gone.
 pub fn on_shard(shard: &mut Shard, who: Sid, request: Wanted, now: u64) -> Reply
@@ -130,7 +131,8 @@ fn delta_on(
 ) -> Result<QAnswer, ShardFault>
     requires { IsTrue (is_count key) }
     ensures refusal { Refuses (refusal shard.old key (delta_step shard.old key who by now)) result }
-    ensures step { OnOk result (shard.new ≡ stepped shard.old (delta_step shard.old key who by now)) }
+    ensures step { OnOk result (shard.new
+        ≡ stepped (rolled shard.old) (delta_step shard.old key who by now)) }
     ensures shows { IfOk result (ShowsQuarantine shard.old.terms (past_of shard.old)
         (delta_step shard.old key who by now)) }
     ensures err { OnErr result (shard.new ≡ shard.old) }

@@ -1,6 +1,6 @@
 -- What a store tells after a commit, and which sessions are open.
 use Rattle.std.proofs.Common.{◌≡◌, ◌≢◌, ℕ, ◌+◌, ◌-◌, ◌^◌, ◌≤◌, ◌⊎◌, inl, inr, Bool, true, false, List, [], ◌∷◌, ◌++◌, length, Option, Some}
-use Rattle.std.proofs.Common.{None, IsSome, Ok, slice_get, slice_set, slice_index_or, if◌then◌else◌, ◌==◌, zero, suc, refl, sym, ap, ◌∙◌}
+use Rattle.std.proofs.Common.{◌<◌, map, take, drop, None, IsSome, Ok, slice_get, slice_set, slice_index_or, if◌then◌else◌, ◌==◌, zero, suc, refl, sym, ap, ◌∙◌}
 use Rattle.std.proofs.Common.{arith}
 use Rattle.std.proofs.lemmas.List.Sums.{fold-append}
 use Rattle.std.proofs.lemmas.List.Elements.{All-push, All-weaker}
@@ -18,7 +18,7 @@ use Rattle.sql_keeper.specs.declared.stores.Commit.{Commit}
 use Rattle.sql_keeper.specs.declared.stores.Phase.{Phase}
 use Rattle.sql_keeper.specs.declared.stores.Phase.TheVariants.{Reads, Open, Committed, Ended}
 use Rattle.sql_keeper.specs.Log.{rows_after, after_commit, led_to}
-use Rattle.sql_keeper.specs.Sessions.{phase_of, may_commit, is_open, with_phase}
+use Rattle.sql_keeper.specs.Sessions.{phase_of, may_commit, is_open, closed, with_phase}
 use Rattle.sql_keeper.specs.Stores.{Ledger, IsLedger, with_commit}
 
 -- rows that are told are some rows
@@ -54,6 +54,14 @@ get-set_same : (xs : List Phase) (i : ℕ) (x y : Phase) → slice_get xs i ≡ 
 get-set_same [] i x y h = grind (arith, h)
 get-set_same (z ∷ zs) zero x y h = refl
 get-set_same (z ∷ zs) (suc i) x y h = get-set_same zs i x y h
+
+-- sessions of which the first are closed, once the next one is too
+pub closed-next : (sessions : List Phase) (i : ℕ) (other : Phase) → i < length sessions
+    → slice_set (map closed (take i sessions) ++ drop i sessions) i (closed (slice_index_or (map closed (take i sessions) ++ drop i sessions) i other))
+    ≡ map closed (take (suc i) sessions) ++ drop (suc i) sessions
+closed-next [] i other h = absurd (omega (arith, h))
+closed-next (x ∷ xs) zero other h = refl
+closed-next (x ∷ xs) (suc i) other h = ap (λ (l : List Phase). closed x ∷ l) (closed-next xs i other (omega (arith, h)))
 
 -- a session that has begun has a number from 1, and stands in its place
 begun-place : (number : ℕ) (sessions : List Phase) (phase : Phase) → (if number == 0 then None else slice_get sessions (number - 1)) ≡ Some phase

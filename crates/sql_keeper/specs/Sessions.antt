@@ -20,6 +20,18 @@ may_commit (Some Ended) = false
 abbrev pub is_open : Sid → List Phase → Bool
 is_open who sessions = may_commit (phase_of who sessions)
 
+-- whether it is there that a session committed
+abbrev pub did_commit : Option Phase → Bool
+did_commit None = false
+did_commit (Some Reads) = false
+did_commit (Some Open) = false
+did_commit (Some Committed) = true
+did_commit (Some Ended) = false
+
+-- whether the session has committed
+abbrev pub has_committed : Sid → List Phase → Bool
+has_committed who sessions = did_commit (phase_of who sessions)
+
 -- where a session stands when it begins
 abbrev pub first_phase : Bool → Phase
 first_phase true = Open
@@ -36,3 +48,10 @@ with_phase who phase sessions = slice_set sessions (who.number - 1) phase
 -- the sessions after one was ended, where it was open
 abbrev pub ended : Sid → List Phase → List Phase
 ended who sessions = if is_open who sessions then with_phase who Ended sessions else sessions
+
+-- where a session stands once it was ended, if it was open
+abbrev pub closed : Phase → Phase
+closed Reads = Reads
+closed Open = Ended
+closed Committed = Committed
+closed Ended = Ended

@@ -1,5 +1,5 @@
 -- What contracts see of a store, and what becomes of it.
-use Rattle.std.specs.Prelude.{ℕ, ◌≡◌, ◌≢◌, ◌≤◌, Bool, true, false, List, [], ◌∷◌, ◌++◌, length, All, AllPairs, Option, Some, None, Err}
+use Rattle.std.specs.Prelude.{ℕ, ◌≡◌, ◌≢◌, ◌≤◌, Bool, true, false, List, [], ◌∷◌, ◌++◌, length, map, All, AllPairs, Option, Some, None, Err}
 use Rattle.iq_outside.specs.Outside.{count_up}
 use Rattle.rows_model.specs.declared.keys.Sid.{Sid}
 use Rattle.rows_model.specs.declared.changes.Change.{Change}
@@ -12,7 +12,7 @@ use Rattle.sql_keeper.specs.declared.stores.Phase.{Phase}
 use Rattle.sql_keeper.specs.declared.stores.Phase.TheVariants.{Committed}
 use Rattle.key_shard.specs.Permit.{Permit}
 use Rattle.sql_keeper.specs.Log.{rows_after}
-use Rattle.sql_keeper.specs.Sessions.{phase_of, is_open, begun, ended, with_phase}
+use Rattle.sql_keeper.specs.Sessions.{phase_of, is_open, begun, ended, closed, with_phase}
 use Rattle.sql_keeper.specs.Commits.{commit_fault}
 
 -- what a store itself knows: the rows that its keeper started with, the commits so far, where
@@ -73,6 +73,11 @@ abbrev pub with_call : Bool → Ledger → Ledger
 with_call true ledger =
     record { opening = ledger.opening; log = ledger.log; sessions = ledger.sessions; cap = ledger.cap; failed = count_up ledger.failed }
 with_call false ledger = ledger
+
+-- the ledger of a store that is made anew over the rows after the log: no commit is in its log, and no session is open
+abbrev pub rebased : Ledger → Ledger
+rebased ledger =
+    record { opening = rows_of ledger; log = []; sessions = map closed ledger.sessions; cap = ledger.cap; failed = ledger.failed }
 
 -- A commit is refused for this fault: for the first that is found before the keeper is asked; where
 -- there is none, for one of the keeper's. Memory may run out instead, but for a session that isn't open.

@@ -10,6 +10,7 @@ pub use stores::{Answer, Commit, Phase};
 pub mod faults;
 pub mod keepers;
 pub mod laws;
+mod logs;
 pub mod map_keeper;
 mod requests;
 mod sessions;

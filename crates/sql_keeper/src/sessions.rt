@@ -1,5 +1,5 @@
-ghost use Rattle.std.specs.Prelude.{◌≡◌, [], length, IsTrue, IfOk, OnOk, OnErr};
-ghost use Rattle.sql_keeper.specs.Sessions.{is_open, begun, ended, with_phase};
+ghost use Rattle.std.specs.Prelude.{◌≡◌, [], length, map, IsTrue, IfOk, OnOk, OnErr};
+ghost use Rattle.sql_keeper.specs.Sessions.{is_open, has_committed, begun, ended, closed, with_phase};
 
 use crate::stores::Phase;
 use rows_model::{Memory, Sid};
@@ -49,6 +49,26 @@ impl Sessions {
         ensures { result ≡ is_open sid self.now }
     {
         sid.number > 0 && matches!(self.phases.get(sid.number as usize - 1), Some(Phase::Open))
+    }
+
+    /// Whether the session has committed.
+    pub fn has_committed(&self, sid: Sid) -> bool
+        ensures { result ≡ has_committed sid self.now }
+    {
+        sid.number > 0
+            && matches!(
+                self.phases.get(sid.number as usize - 1),
+                Some(Phase::Committed)
+            )
+    }
+
+    /// Ends each session that is open.
+    pub fn end_all(&mut self)
+        ensures { self.new ≡ map closed self.old }
+    {
+        for phase in self.phases.iter_mut() {
+            *phase = phase.closed();
+        }
     }
 
     /// Ends the session, if it is open, and tells whether it was.

@@ -1,16 +1,17 @@
-ghost use Rattle.std.specs.Prelude.{◌≡◌, ◌≢◌, ◌+◌, ◌≤◌, ℕ, Option, Some, None, Ok, All, AllPairs, length, MatchResult, IfOk, IfErr, OnOk, OnErr, IsSome};
+ghost use Rattle.std.specs.Prelude.{◌≡◌, ◌≢◌, ◌+◌, ◌≤◌, ℕ, Option, Some, None, Ok, All, AllPairs, length, MatchResult, IfOk, IfErr, OnOk, OnErr, IsSome, IsTrue};
 ghost use Rattle.std.specs.Bool.{IsFalse};
 ghost use Rattle.std.specs.Option.{ForSome};
 ghost use Rattle.rows_model.specs.Rows.{Tables};
 ghost use Rattle.rows_model.specs.Query.{answer};
 ghost use Rattle.rows_model.specs.Changes.{apply_all};
 ghost use Rattle.sql_keeper.specs.Keepers.{AreHeld, HoldsFresh, AnswersAfter};
-ghost use Rattle.sql_keeper.specs.Sessions.{is_open};
+ghost use Rattle.sql_keeper.specs.Sessions.{is_open, has_committed};
 ghost use Rattle.sql_keeper.specs.Faults.{has_failed, keep_failed, staged_failed, is_failure, Counts, FewFailed};
-ghost use Rattle.sql_keeper.specs.Stores.{rows_of, first_fault, opened, with_session, with_end, with_commit, with_call, IsRefusal, IsTrueFault};
+ghost use Rattle.sql_keeper.specs.Stores.{rows_of, first_fault, opened, with_session, with_end, with_commit, with_call, rebased, IsRefusal, IsTrueFault};
 
 use crate::faults::{AfterFault, CommitFault, KeepFault};
 use crate::keepers::{Keeper, Place};
+use crate::logs::rows_after;
 use crate::requests::admit;
 use crate::sessions::Sessions;
 use crate::stores::{Answer, Commit, Phase};
@@ -290,6 +291,15 @@ impl<K: Keeper, N: Start> Store<K, N> {
         self.sessions.is_open(sid)
     }
 
+    /// Whether the session has committed. Each session of the log has. It takes no memory.
+    pub fn has_committed(&self, sid: Sid) -> bool
+        ensures was { result ≡ has_committed sid self.now.ledger.sessions }
+        ensures logged { All (λ commit. IsTrue (has_committed commit.sid self.now.ledger.sessions))
+            self.now.ledger.log }
+    {
+        self.sessions.has_committed(sid)
+    }
+
     /// The rows that the keeper started with.
     pub fn opening(&self) -> &Rows
         ensures { result.now ≡ self.now.ledger.opening }
@@ -317,6 +327,42 @@ impl<K: Keeper, N: Start> Store<K, N> {
         ensures few { FewFailed N.count result self.now.faults }
     {
         self.failed
+    }
+
+    /// The store made anew over the rows after its log: these are its opening rows, its log is empty, and
+    /// each session that was open is ended. Keeper, cap, sessions and the count of failed calls go on. The
+    /// old opening rows and the old log come along. For want of memory the store comes back as it was.
+    pub fn rebase(self) -> Result<(Store<K, N>, Rows, Vec<Commit>), Store<K, N>>
+        ensures ledger { IfOk result (λ made. made.0.ledger ≡ rebased self.ledger) }
+        ensures keeper { IfOk result (λ made.
+            (made.0.told ≡ self.told) × (made.0.faults ≡ self.faults)) }
+        ensures opening { IfOk result (λ made. made.1 ≡ self.ledger.opening) }
+        ensures log { IfOk result (λ made. made.2.items ≡ self.ledger.log) }
+        ensures err { IfErr result (λ back. back ≡ self) }
+    {
+        let Ok(rows) = rows_after(&self.opening, &self.log) else {
+            return Err(self);
+        };
+        let Store {
+            keeper,
+            opening,
+            log,
+            mut sessions,
+            cap,
+            failed,
+            start: _,
+        } = self;
+        sessions.end_all();
+        let made = Store {
+            keeper,
+            opening: rows,
+            log: Vec::new(*log.allocator()),
+            sessions,
+            cap,
+            failed,
+            start: PhantomData,
+        };
+        Ok((made, opening, log))
     }
 
     /// The keeper, the opening rows and the log.

@@ -1,3 +1,5 @@
+ghost use Rattle.sql_keeper.specs.Sessions.{closed};
+
 use rows_model::{QKey, Sid, Txn, Value};
 
 /// What the store answered for a key, after as many commits as the stamp says.
@@ -26,4 +28,18 @@ pub enum Phase {
     Committed,
     /// It was ended before it committed, and never will.
     Ended,
+}
+
+impl Phase {
+    ghost use Rattle.std.specs.Prelude.{◌≡◌};
+
+    /// Where the session stands once it was ended, if it was open.
+    pub(crate) fn closed(self) -> Phase
+        ensures { result ≡ closed self }
+    {
+        match self {
+            Phase::Open => Phase::Ended,
+            other => other,
+        }
+    }
 }

@@ -1,5 +1,5 @@
 // Runs of plans on the desks of a hub.
-ghost use Rattle.std.specs.Prelude.{◌≡◌, ◌≤◌, Some, All};
+ghost use Rattle.std.specs.Prelude.{◌≡◌, ◌≤◌, Some, None, All};
 ghost use Rattle.session_client.specs.Plans.{IsPlan, IsShape};
 ghost use Rattle.shard_lock.specs.Names.{IsNamedStore, terms_at};
 
@@ -117,11 +117,11 @@ fn run_on<'x, H: HubName + Send + Sync, G: Gate, R: Threads + Wait + Abort + Syn
     requires new { store.ledger.failed ≡ 0 }
     requires ledger { (ledger.name ≡ H.name) × (ledger.parts ≡ H.parts) }
     requires one_each { ledger.parts ≡ shape.now.shards }
-    requires terms { H.terms ≡ terms_at shape.now.shards shape.now.room shape.now.life }
+    requires terms { H.terms ≡ terms_at shape.now.shards shape.now.room shape.now.life None }
     requires shape { IsShape shape.now }
     requires plans { All (λ list. All IsPlan list.items) plans.now }
 {
-    let shards = new_shards(alloc, shape.shards, shape.room, shape.life)?;
+    let shards = new_shards(alloc, shape.shards, shape.room, shape.life, None)?;
     let store = store.named::<StartOf<H>>();
     let hub: Hub<MapKeeper, H> = match Hub::new(alloc, store, shards, ledger) {
         Ok(hub) => hub,

@@ -1,5 +1,5 @@
 //! What the audit finds of logs and of shards.
-ghost use Rattle.std.specs.Prelude.{◌≡◌, ◌∷◌, ◌++◌, ◌<◌, []};
+ghost use Rattle.std.specs.Prelude.{◌≡◌, ◌∷◌, ◌++◌, ◌<◌, [], None};
 ghost use Rattle.key_shard.specs.Shards.{ShardView};
 ghost use Rattle.run_audit.specs.Findings.{IsNumbered};
 
@@ -84,7 +84,8 @@ fn happens(rt: &impl Abort, alloc: Global, shard: &mut Shard, event: Event)
 /// A shard of this number, of so many, after these events.
 fn shard_after(rt: &impl Abort, alloc: Global, no: u32, count: u32, events: &[Event]) -> Shard
     requires { no < count }
-    ensures { IsNumbered no count result }
+    ensures numbered { IsNumbered no count result }
+    ensures whole { result.terms.keep ≡ None }
 {
     let Ok(mut shard) = Shard::new(alloc, no, count, 4, 100, 1) else {
         panic!(rt; "no memory");
@@ -249,7 +250,8 @@ fn goes_by_the_last_commit_of_a_session(rt: HostRuntime) {
 /// Compares what is found of two shards.
 fn found_of_two(rt: &impl Abort, alloc: Global, log: &[Commit], shards: &[Shard], want: Finding)
     requires { (first : ShardView) × (second : ShardView) × (shards.now ≡ first ∷ second ∷ [])
-        × IsNumbered 0 2 first × IsNumbered 1 2 second }
+        × IsNumbered 0 2 first × IsNumbered 1 2 second
+        × (first.terms.keep ≡ None) × (second.terms.keep ≡ None) }
 {
     match audit(alloc, &opening(rt, alloc), log, shards) {
         Ok(finding) => assert!(rt; finding == want),

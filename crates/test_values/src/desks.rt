@@ -26,6 +26,18 @@ impl Desk {
         }
     }
 
+    /// A desk over a new shard that rolls, with room for so many entries.
+    pub fn rolling(rt: &impl Abort, alloc: Global, room: u32, first: u64, keep: u32) -> Desk
+        requires roomy { 1 ≤ room }
+        requires tokens { 1 ≤ first }
+        requires keeps { 1 ≤ keep }
+    {
+        match Shard::rolling(alloc, 0, 1, room, 100, first, keep) {
+            Ok(shard) => Desk { shard, held: None },
+            Err(_) => panic!(rt; "no memory"),
+        }
+    }
+
     /// Takes the grant, which is to be there.
     pub fn take(&mut self, rt: &impl Abort) -> Grant {
         match mem::replace(&mut self.held, None) {

@@ -4,6 +4,8 @@
 #[cfg(test)]
 mod audits;
 #[cfg(test)]
+mod copies;
+#[cfg(test)]
 mod count_shifts;
 #[cfg(test)]
 mod deltas;
@@ -32,9 +34,15 @@ mod places;
 #[cfg(test)]
 mod refreshes;
 #[cfg(test)]
+mod roll_draws;
+#[cfg(test)]
+mod rolls;
+#[cfg(test)]
 mod rows;
 #[cfg(test)]
 mod shards;
+#[cfg(test)]
+mod step_kinds;
 #[cfg(test)]
 mod stores;
 #[cfg(test)]

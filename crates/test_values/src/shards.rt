@@ -4,7 +4,7 @@ ghost use Rattle.key_shard.specs.Answers.{FitsShift};
 
 use crate::desks::{Desk, fault_told, got_told, rel_told, set_told};
 use crate::txns::value_of;
-use key_shard::{Back, How, Rel};
+use key_shard::{Back, Base, How, Rel};
 use lease_table::{Due, Mode};
 use rows_model::{Kind, QKey, Sid};
 use std::alloc::{AllocError, Global};
@@ -13,7 +13,7 @@ use std::process::Abort;
 
 /// A call of the shard, on the profile of the member with the id that comes first.
 #[derive(Clone, Copy)]
-enum Call {
+pub enum Call {
     /// For a session, with a floor, at a time.
     Get(u32, u64, u64, u64),
     /// Under a token, with a value and a stamp, at a time.
@@ -37,8 +37,10 @@ enum Call {
     Due(u64),
     /// Ends the quarantine of a token.
     Sweep(u32, u64),
-    /// How many steps the history has.
+    /// How many steps are in memory.
     Steps,
+    /// How many steps were given up, and the token that was next then.
+    Base,
 }
 
 fn profile(id: u32) -> QKey {
@@ -128,6 +130,10 @@ fn sweep(rt: &impl Abort, desk: &mut Desk, id: u32, token: u64) -> Rel {
     desk.shard.sweep_drop(key, token)
 }
 
+fn base_told(alloc: Global, base: &Base) -> Result<String, AllocError> {
+    format!(in alloc; "{} {}", base.dropped(), base.next())
+}
+
 fn due_told(alloc: Global, due: Option<Due>) -> Result<String, AllocError> {
     match due {
         Some(Due { key, sid, token }) if key.kind == Kind::Profile => {
@@ -139,7 +145,12 @@ fn due_told(alloc: Global, due: Option<Due>) -> Result<String, AllocError> {
 }
 
 /// Makes the call, and tells its answer.
-fn told(rt: &impl Abort, alloc: Global, desk: &mut Desk, call: Call) -> Result<String, AllocError> {
+pub fn told(
+    rt: &impl Abort,
+    alloc: Global,
+    desk: &mut Desk,
+    call: Call,
+) -> Result<String, AllocError> {
     match call {
         Call::Get(id, who, floor, now) => {
             let who = Sid { number: who };
@@ -158,11 +169,12 @@ fn told(rt: &impl Abort, alloc: Global, desk: &mut Desk, call: Call) -> Result<S
         Call::Due(now) => due_told(alloc, desk.shard.expired(now)),
         Call::Sweep(id, token) => rel_told(alloc, sweep(rt, desk, id, token)),
         Call::Steps => format!(in alloc; "{}", desk.shard.history().len()),
+        Call::Base => base_told(alloc, desk.shard.base()),
     }
 }
 
 /// Makes the calls in turn, and compares the answers.
-fn play(rt: &impl Abort, alloc: Global, desk: &mut Desk, calls: &[(Call, &str)]) {
+pub fn play(rt: &impl Abort, alloc: Global, desk: &mut Desk, calls: &[(Call, &str)]) {
     for (call, want) in calls.iter() {
         match told(rt, alloc, desk, *call) {
             Ok(told) => assert!(rt; told.as_str() == *want, "{told} and not {want}"),

@@ -5,7 +5,7 @@ ghost use Rattle.sql_keeper.specs.Faults.{FewFailed};
 use crate::txns::txn_of;
 use key_shard::{Grant, How, QAnswer, Shard};
 use lease_table::Mode;
-use rows_model::{Kind, QKey, Sid};
+use rows_model::{Kind, QKey, Rows, Sid};
 use sql_keeper::{AfterFault, CommitFault, KeepFault, MapKeeper, Place, Start, Store};
 use std::alloc::Global;
 use std::marker::Brand;
@@ -183,6 +183,39 @@ fn commits_until_the_log_is_full(rt: HostRuntime) {
     asked(&rt, &mut store, 1, "m1 0 0", 1);
     assert!(rt; store.log().len() == 1);
     assert!(rt; store.opening().members().len() == 3);
+}
+
+/// Compares the name of member 2.
+fn is_named(rt: &impl Abort, rows: &Rows, want: &str) {
+    match rows.members().get(1) {
+        Some(member) => assert!(rt; member.name.bytes() == want.as_bytes()),
+        None => panic!(rt; "no member"),
+    }
+}
+
+/// The store made anew, in which member 2 has another name by the one commit so far.
+fn made_anew(rt: &impl Abort, store: Store<MapKeeper>) -> Store<MapKeeper> {
+    match store.rebase() {
+        Ok((store, opening, log)) => {
+            is_named(rt, &opening, "m2");
+            is_named(rt, store.opening(), "bob");
+            assert!(rt; log.len() == 1 && store.log().is_empty());
+            store
+        }
+        Err(_) => panic!(rt; "no memory"),
+    }
+}
+
+#[test]
+fn begins_anew_over_the_rows_after_its_log(rt: HostRuntime) {
+    let mut store = opened(&rt, rt.alloc(), &[], 1);
+    let (one, two) = (begun(&rt, &mut store, true), begun(&rt, &mut store, true));
+    commits_under_two(&rt, rt.alloc(), &mut store, one, two);
+    assert!(rt; store.has_committed(one) && !store.has_committed(two) && store.is_open(two));
+    let mut store = made_anew(&rt, store);
+    assert!(rt; store.has_committed(one) && !store.has_committed(two) && !store.is_open(two));
+    asked(&rt, &mut store, 2, "bob 0 0", 0);
+    assert!(rt; begun(&rt, &mut store, true).number == 3);
 }
 
 /// The number of a session, and whether it was open.

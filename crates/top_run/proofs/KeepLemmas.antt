@@ -18,8 +18,9 @@ use Rattle.session_client.specs.declared.plans.Shape.{Shape}
 use Rattle.run_inputs.specs.declared.scripts.Act.{Act}
 use Rattle.core_history.specs.Events.{Event, steps_of, log_of}
 use Rattle.core_history.specs.Lines.{lines_of, end_line, is_fault, fault_turns}
-use Rattle.core_history.specs.Cores.{CoreView, Origin, HasShards, HasKept, IsSound, RoseBy, histories_in}
+use Rattle.core_history.specs.Cores.{CoreView, Origin, shard_after, HasShards, HasKept, IsSound, RoseBy, histories_in}
 use Rattle.core_history.specs.Freshness.{IsNumbered, histories_of}
+use Rattle.run_audit.specs.Findings.{AreWhole}
 use Rattle.core_history.specs.Machine.{Move, terms_of}
 use Rattle.core_history.specs.Determined.{Call, call_of}
 use Rattle.core_history.specs.Truth.{IsTruePast}
@@ -43,6 +44,12 @@ histories_are shards shape past h =
     slice_get-map (λ shard. shard.history) shards i ∙ ap (option_map (λ shard. shard.history)) (h.each i within) in
     get_or_from_slice_get (map (λ shard. shard.history) shards) i (reverse (steps_of i past)) [] here
     ∙ sym (get_or-map-range_with_len (λ place. reverse (steps_of place past)) 0 shape.shards i i [] within (omega arith)))
+
+-- and the shards are whole
+pub whole_in : (shards : List ShardView) (shape : Shape) (past : List Event) → HasShards shards shape past → AreWhole shards
+whole_in shards shape past h = λ place default below.
+    let is = get_or_from_slice_get shards place (shard_after shape past place) default (h.each place (subst (λ (n : ℕ). place < n) h.count below)) in
+    ap (λ (shard : ShardView). shard.terms.keep) is
 
 -- the history at a place
 history_is : (shape : Shape) (past : List Event) (place : ℕ) (history : List Step)

@@ -1,4 +1,5 @@
 pub mod PrintLemmas
+pub mod HandedLemmas
 pub mod PlayLemmas
 pub mod PlayStates
 pub mod KeepLemmas

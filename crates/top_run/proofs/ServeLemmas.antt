@@ -11,7 +11,7 @@ use Rattle.conn_server.specs.declared.ends.LineEnd.{LineEnd}
 use Rattle.run_words.specs.declared.words.ServeSpec.{ServeSpec}
 use Rattle.top_run.specs.Runs.{Prints, is_read_fault}
 use Rattle.top_run.specs.Works.{IsKept}
-use Rattle.top_run.specs.Serves.{serve_shape, ready_line, served_line, serve_text, IsServedText, IsAttended, HasServed, Course, IsServed, ServeEnded}
+use Rattle.top_run.specs.Serves.{serve_shape, serve_keep, ready_line, served_line, serve_text, IsServedText, IsAttended, HasServed, Course, IsServed, ServeEnded}
 use Rattle.door_workers.specs.Attending.{GivesBack}
 use Rattle.door_workers.specs.Told.{Told}
 use Rattle.top_run.proofs.PrintLemmas.{print_none}
@@ -116,7 +116,7 @@ same_served : (found spec : ServeSpec) (ended : Status) (course : Course)
 same_served found spec ended course conns members shards h = record {
   opening = h.opening;
   failed = h.failed;
-  kept = subst (λ (shape : Shape). IsKept shape course.held course.before course.after course.left h.opening h.failed)
+  kept = subst (λ (shape : Shape). IsKept shape serve_keep course.held course.before course.after course.left h.opening h.failed)
       (same_shape found spec members shards) h.kept;
   attended = record {
     few = subst (λ (n : ℕ). length course.ends ≤ n) conns h.attended.few;

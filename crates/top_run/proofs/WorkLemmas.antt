@@ -1,12 +1,12 @@
 -- The ends of a load's run.
-use Rattle.std.proofs.Common.{ℕ, ◌≡◌, ◌+◌, ◌-◌, ◌^◌, ◌≤◌, List, [], ◌∷◌, length, arith, refl, sym, ap, ◌∙◌, subst, inl, inr, All}
+use Rattle.std.proofs.Common.{ℕ, suc, ◌≡◌, ◌+◌, ◌-◌, ◌^◌, ◌<◌, ◌≤◌, List, [], ◌∷◌, ◌++◌, length, take, drop, drop-cons, add-one, arith, refl, sym, ap, ◌∙◌, subst, inl, inr, All}
 use Rattle.std.specs.Prelude.{Bool, true, false, ◌⊎◌, nat_lt, cond, Option, Some, None, Result, Ok, Err, IfOk, IfErr, slice_get, option_map}
-use Rattle.std.specs.Prelude.{unwrap_or, is_some, get_or, position}
+use Rattle.std.specs.Prelude.{unwrap_or, is_some, get_or}
 use Rattle.std.specs.List.{position_from}
 use Rattle.std.proofs.lemmas.Iterator.Adapters.{position_from-zero}
 use Rattle.std.specs.Option.{ForSome}
 use Rattle.std.proofs.lemmas.Bool.{false≢true}
-use Rattle.std.proofs.lemmas.List.{length-map}
+use Rattle.std.proofs.lemmas.List.{length-map, take-append-drop, drop_all}
 use Rattle.std.proofs.lemmas.List.Elements.{All-get_or}
 use Rattle.std.proofs.lemmas.Option.{slice_get-map, slice_get_within, get_or_from_slice_get}
 use Rattle.iq_outside.specs.Outside.{Rose}
@@ -14,21 +14,21 @@ use Rattle.rows_model.specs.Rows.{Tables}
 use Rattle.key_shard.specs.declared.steps.Step.{Step}
 use Rattle.key_shard.specs.Answers.{Legal}
 use Rattle.key_shard.specs.Past.{Terms}
-use Rattle.key_shard.specs.Shards.{ShardView}
+use Rattle.key_shard.specs.Shards.{ShardView, kept_of}
 use Rattle.sql_keeper.specs.Faults.{FewFailed}
 use Rattle.sql_keeper.specs.Stores.{StoreView, rows_of}
 use Rattle.session_client.specs.declared.plans.Shape.{Shape}
-use Rattle.core_history.specs.Machine.{terms_of, log_cap}
+use Rattle.core_history.specs.Machine.{log_cap}
 use Rattle.shard_lock.specs.Names.{AreAll, AreLegal, IsNamed}
 use Rattle.run_audit.specs.declared.findings.Finding.{Finding}
 use Rattle.run_audit.specs.declared.findings.Finding.TheVariants as finding
-use Rattle.run_audit.specs.Findings.{histories_in, AreNumbered}
+use Rattle.run_audit.specs.Findings.{histories_in, AreNumbered, AreWhole}
 use Rattle.run_inputs.specs.declared.loads.WorkSpec.{WorkSpec}
 use Rattle.top_run.specs.declared.plays.Stop.{Stop}
 use Rattle.top_run.specs.declared.plays.Stop.TheVariants as stop
 use Rattle.top_run.specs.declared.runs.Status.TheVariants as status
-use Rattle.top_run.specs.Runs.{Held, Tells, Left, IsOpened, is_read_fault, is_write_fault}
-use Rattle.top_run.specs.Works.{work_shape, has_spent, first_spent, work_status, end_status, at_write_told, IsTold, IsHalted, IsKept, WorkEnded}
+use Rattle.top_run.specs.Runs.{Held, Tells, Left, IsOpened, kept_in, is_read_fault, is_write_fault}
+use Rattle.top_run.specs.Works.{work_shape, hub_terms, has_spent, first_spent, work_status, end_status, at_write_told, IsTold, IsHalted, IsLeft, IsKept, WorkEnded}
 
 -- ---- what the shards of a hub are
 
@@ -38,10 +38,21 @@ at_place P shards place shard all is =
     subst P (get_or_from_slice_get shards place shard shard is) (All-get_or P shards place shard (slice_get_within shards place shard is) all)
 
 -- shards in their places have the terms of their places
-terms_at_place : (terms : ℕ → Terms) (shape : Shape) (shards : List ShardView) → ((place : ℕ) → terms place ≡ terms_of shape place)
-    → AreAll terms shards → (place : ℕ) (shard : ShardView) → slice_get shards place ≡ Some shard → shard.terms ≡ terms_of shape place
-terms_at_place terms shape shards are all place shard is =
+terms_at_place : (terms : ℕ → Terms) (shape : Shape) (keep : Option ℕ) (shards : List ShardView) → ((place : ℕ) → terms place ≡ hub_terms shape keep place)
+    → AreAll terms shards → (place : ℕ) (shard : ShardView) → slice_get shards place ≡ Some shard → shard.terms ≡ hub_terms shape keep place
+terms_at_place terms shape keep shards are all place shard is =
     at_place (IsNamed terms) shards place shard all.named is ∙ ap terms (all.placed place shard is) ∙ are place
+
+-- where the terms are those of whole shards, they are whole
+pub whole_of : (terms : ℕ → Terms) (shape : Shape) (shards : List ShardView) → ((place : ℕ) → terms place ≡ hub_terms shape None place)
+    → AreAll terms shards → AreWhole shards
+whole_of terms shape shards are all = λ place default below.
+    ap (λ (t : Terms). t.keep) (all.named place default below ∙ are (get_or shards place default).terms.no)
+
+-- and so is each of them
+pub whole_at : (shards : List ShardView) (i : ℕ) (shard : ShardView) → i < length shards → shard ≡ get_or shards i shard
+    → AreWhole shards → shard.terms.keep ≡ None
+whole_at shards i shard within is whole = ap (λ (s : ShardView). s.terms.keep) is ∙ whole i shard within
 
 -- so they can be audited
 pub numbered_of : (terms : ℕ → Terms) (shards : List ShardView) → AreAll terms shards → length shards ≤ 64 → AreNumbered shards
@@ -61,34 +72,61 @@ new_are_legal shards new = λ place default below.
     subst (λ (h : List Step). Legal shard.terms h) (sym is) tt
 
 -- a mapped value is that of a value
-unmapped : (o : Option ShardView) (history : List Step) → option_map (λ (s : ShardView). s.history) o ≡ Some history
-    → (shard : ShardView) × (o ≡ Some shard) × (shard.history ≡ history)
-unmapped None history is = absurd (false≢true (ap (λ (o : Option (List Step)). is_some o) is))
-unmapped (Some shard) history is = (shard, refl, ap (λ (o : Option (List Step)). unwrap_or o history) is)
+unmapped : (f : ShardView → List Step) (o : Option ShardView) (steps : List Step) → option_map f o ≡ Some steps
+    → (shard : ShardView) × (o ≡ Some shard) × (f shard ≡ steps)
+unmapped f None steps is = absurd (false≢true (ap (λ (o : Option (List Step)). is_some o) is))
+unmapped f (Some shard) steps is = (shard, refl, ap (λ (o : Option (List Step)). unwrap_or o steps) is)
 
--- and their histories are legal
-pub legal_of : (terms : ℕ → Terms) (shape : Shape) (shards : List ShardView) → ((place : ℕ) → terms place ≡ terms_of shape place)
+-- a shard whose history is legal has the terms of its place
+legal_at : (terms : ℕ → Terms) (shape : Shape) (keep : Option ℕ) (shards : List ShardView) → ((place : ℕ) → terms place ≡ hub_terms shape keep place)
+    → AreAll terms shards → AreLegal shards → (place : ℕ) (shard : ShardView) → slice_get shards place ≡ Some shard
+    → Legal (hub_terms shape keep place) shard.history
+legal_at terms shape keep shards are all legal place shard is =
+    subst (λ (t : Terms). Legal t shard.history) (terms_at_place terms shape keep shards are all place shard is)
+    (at_place (λ (s : ShardView). Legal s.terms s.history) shards place shard legal is)
+
+-- and the histories of whole shards are legal
+pub legal_of : (terms : ℕ → Terms) (shape : Shape) (shards : List ShardView) → ((place : ℕ) → terms place ≡ hub_terms shape None place)
     → AreAll terms shards → AreLegal shards
-    → (place : ℕ) (history : List Step) → slice_get (histories_in shards) place ≡ Some history → Legal (terms_of shape place) history
+    → (place : ℕ) (history : List Step) → slice_get (histories_in shards) place ≡ Some history → IsLeft shape None place history
 legal_of terms shape shards are all legal place history is =
-    let there = unmapped (slice_get shards place) history (sym (slice_get-map (λ (s : ShardView). s.history) shards place) ∙ is) in
-    let here = at_place (λ (s : ShardView). Legal s.terms s.history) shards place there.0 legal there.1 in
-    subst (λ (h : List Step). Legal (terms_of shape place) h) there.2
-    (subst (λ (t : Terms). Legal t there.0.history) (terms_at_place terms shape shards are all place there.0 there.1) here)
+    let there = unmapped (λ (s : ShardView). s.history) (slice_get shards place) history (sym (slice_get-map (λ (s : ShardView). s.history) shards place) ∙ is) in
+    subst (λ (h : List Step). Legal (hub_terms shape None place) h) there.2 (legal_at terms shape None shards are all legal place there.0 there.1)
+
+-- and the steps that shards have in memory are the last of a legal history
+pub last_of : (terms : ℕ → Terms) (shape : Shape) (keep : ℕ) (shards : List ShardView) → ((place : ℕ) → terms place ≡ hub_terms shape (Some keep) place)
+    → AreAll terms shards → AreLegal shards
+    → (place : ℕ) (steps : List Step) → slice_get (kept_in shards) place ≡ Some steps → IsLeft shape (Some keep) place steps
+last_of terms shape keep shards are all legal place steps is =
+    let there = unmapped kept_of (slice_get shards place) steps (sym (slice_get-map kept_of shards place) ∙ is) in
+    let shard = there.0 in
+    let parts : take shard.gone shard.history ++ steps ≡ shard.history =
+    ap (λ (l : List Step). take shard.gone shard.history ++ l) (sym there.2) ∙ take-append-drop shard.gone shard.history in
+    record {
+      given_up = take shard.gone shard.history;
+      legal = subst (λ (h : List Step). Legal (hub_terms shape (Some keep) place) h) (sym parts)
+          (legal_at terms shape (Some keep) shards are all legal place shard there.1);
+    }
 
 -- ---- the least shard that is spent
 
--- a test of histories is one of shards
-spent_from : (i : ℕ) (shards : List ShardView)
-    → position_from (λ (s : ShardView). has_spent s.history) i shards ≡ position_from has_spent i (histories_in shards)
-spent_from i [] = refl
-spent_from i (shard ∷ shards) = ap (λ (later : Option ℕ). cond (has_spent shard.history) (Some i) later) (spent_from (i + 1) shards)
+-- all are left at first
+pub spent_first : (shards : List ShardView) → first_spent (histories_in shards) ≡ position_from has_spent 0 (histories_in shards)
+spent_first shards = position_from-zero has_spent (histories_in shards)
 
-pub spent_is : (shards : List ShardView) → position (λ (s : ShardView). has_spent s.history) shards ≡ first_spent (histories_in shards)
-spent_is shards =
-    position_from-zero (λ (s : ShardView). has_spent s.history) shards
-    ∙ spent_from 0 shards
-    ∙ sym (position_from-zero has_spent (histories_in shards))
+-- it is the first that is left, or it is behind it
+pub spent_next : (shards : List ShardView) (i : ℕ) (shard : ShardView) → i < length shards → shard ≡ get_or shards i shard
+    → position_from has_spent i (histories_in (drop i shards))
+    ≡ cond (has_spent shard.history) (Some i) (position_from has_spent (i + 1) (histories_in (drop (i + 1) shards)))
+spent_next shards i shard within is =
+    let cons : drop i shards ≡ shard ∷ drop (suc i) shards =
+    drop-cons shards i shard within ∙ ap (λ (s : ShardView). s ∷ drop (suc i) shards) (sym is) in
+    let parts : drop i shards ≡ shard ∷ drop (i + 1) shards = rw add-one cons in
+    ap (λ (l : List ShardView). position_from has_spent i (histories_in l)) parts
+
+-- and where none is left there is none
+pub spent_none : (shards : List ShardView) (i : ℕ) → length shards ≤ i → position_from has_spent i (histories_in (drop i shards)) ≡ None
+spent_none shards i all = ap (λ (l : List ShardView). position_from has_spent i (histories_in l)) (drop_all i shards all)
 
 -- ---- how a run ends
 
@@ -101,29 +139,29 @@ rose_of_failed start failed faults some few = by (few start refl)
     by (inr h) = inr h
 
 -- what a run leaves
-abbrev pub left_of : StoreView → List ShardView → Left
-left_of store shards = record { opening = Some store.ledger.opening; log = store.ledger.log; histories = histories_in shards }
+abbrev pub left_of : StoreView → List (List Step) → Left
+left_of store histories = record { opening = Some store.ledger.opening; log = store.ledger.log; histories = histories }
 
-pub kept_of : (shape : Shape) (held : Held) (before after : Tells) (store : StoreView) (shards : List ShardView) (terms : ℕ → Terms) (start : Option ℕ)
+pub is_kept : (shape : Shape) (keep : Option ℕ) (held : Held) (before after : Tells) (store : StoreView) (histories : List (List Step)) (start : Option ℕ)
     → after.rows ≡ store.told → after.keeps_failed ≡ store.faults → start ≡ Some before.keeps_failed
     → length store.ledger.log ≤ store.ledger.cap → store.ledger.cap ≡ log_cap
     → ForSome store.told (λ told. told ≡ rows_of store.ledger) → FewFailed start store.ledger.failed store.faults
-    → ((place : ℕ) → terms place ≡ terms_of shape place) → AreAll terms shards → AreLegal shards → length shards ≡ shape.shards
+    → ((place : ℕ) (steps : List Step) → slice_get histories place ≡ Some steps → IsLeft shape keep place steps) → length histories ≡ shape.shards
     → IsOpened held shape store.ledger.opening after.rows
-    → IsKept shape held before after (left_of store shards) store.ledger.opening store.ledger.failed
-kept_of shape held before after store shards terms start rows count starts short cap told few are all legal many opened = record {
+    → IsKept shape keep held before after (left_of store histories) store.ledger.opening store.ledger.failed
+is_kept shape keep held before after store histories start rows count starts short cap told few legal many opened = record {
   opening_is = refl;
   opened = opened;
   short = subst (λ (n : ℕ). length store.ledger.log ≤ n) cap short;
   rows_are = subst (λ (r : Option Tables). ForSome r (λ t. t ≡ rows_of store.ledger)) (sym rows) told;
-  as_many = length-map shards (λ (s : ShardView). s.history) ∙ many;
-  legal = legal_of terms shape shards are all legal;
+  as_many = many;
+  legal = legal;
   few = subst (λ (n : ℕ). FewFailed (Some before.keeps_failed) store.ledger.failed n) (sym count)
       (subst (λ (o : Option ℕ). FewFailed o store.ledger.failed store.faults) starts few);
 }
 
 module _ (spec : WorkSpec) (held : Held) (before after : Tells)
-    (left : Left) (written : ℕ) (opening : Tables) (failed : ℕ) (kept : IsKept (work_shape spec) held before after left opening failed) where
+    (left : Left) (written : ℕ) (opening : Tables) (failed : ℕ) (kept : IsKept (work_shape spec) None held before after left opening failed) where
   same_status : (b : Bool) (spent : Option ℕ) (found : Finding) → nat_lt 0 failed ≡ b → first_spent left.histories ≡ spent
       → work_status b spent found ≡ work_status (nat_lt 0 failed) (first_spent left.histories) found
   same_status b spent found is first =

@@ -9,6 +9,7 @@ use Rattle.iq_outside.specs.Outside.{Rose, Takes, TakesAtMost, AtEnd, Gains}
 use Rattle.rows_model.specs.Rows.{Tables, start_tables}
 use Rattle.key_shard.specs.declared.steps.Step.{Step}
 use Rattle.key_shard.specs.Answers.{Legal}
+use Rattle.key_shard.specs.Shards.{ShardView, kept_of}
 use Rattle.sql_keeper.specs.declared.stores.Commit.{Commit}
 use Rattle.sql_keeper.specs.declared.keepers.Keeper.{Ghosts as Keepers}
 use Rattle.sql_keeper.specs.declared.keepers.Place.{Place}
@@ -105,7 +106,7 @@ abbrev pub seen : {W K : Type 0} → Input → Sinks W → Keepers K → W → K
 seen input sinks keepers sink keeper =
     moment input (sinks.taken sink) (sinks.faults sink) (keepers.rows keeper) (keepers.faults keeper)
 
--- What a run leaves: the rows that it began with, its log and its histories.
+-- What a run leaves: the rows that it began with, its log and its histories, of shards that roll the steps in memory.
 pub record Left : Type 0 where
   pub opening : Option Tables
   pub log : List Commit
@@ -117,6 +118,10 @@ histories_at end = map (λ history. history.items) end.histories.items
 
 abbrev pub left_at : {K : Type 0} → RunEnd K → Left
 left_at end = record { opening = end.opening; log = end.log.items; histories = histories_at end }
+
+-- The steps that shards have in memory.
+abbrev pub kept_in : List ShardView → List (List Step)
+kept_in shards = map kept_of shards
 
 -- The place of a run, and the rows that it holds where it is made with so many members, where that is told.
 pub record Held : Type 0 where

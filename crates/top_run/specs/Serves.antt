@@ -1,5 +1,5 @@
 -- What a server prints and keeps, and how its lines ended.
-use Rattle.std.specs.Prelude.{ℕ, ◌≡◌, ◌≤◌, ◌⊎◌, true, List, [], ◌∷◌, ◌++◌, length, Option, codes, decimal}
+use Rattle.std.specs.Prelude.{ℕ, ◌≡◌, ◌≤◌, ◌⊎◌, true, List, [], ◌∷◌, ◌++◌, length, Option, Some, codes, decimal}
 use Rattle.iq_outside.specs.declared.sinks.Sink.{Ghosts as Sinks}
 use Rattle.iq_outside.specs.Outside.{Rose}
 use Rattle.rows_model.specs.Rows.{Tables}
@@ -19,6 +19,10 @@ use Rattle.top_run.specs.Works.{IsKept}
 -- The shape of a server's hub: so many members and shards, room for 4,096 entries in each, and leases that live 10 seconds.
 abbrev pub serve_shape : ServeSpec → Shape
 serve_shape spec = record { members = spec.members; shards = spec.shards; room = 4096; life = 10000 }
+
+-- A server's shards roll: each gives up its steps in memory where they are 256.
+abbrev pub serve_keep : Option ℕ
+serve_keep = Some 256
 
 -- The line that is written once the door is bound.
 unfoldable pub ready_line : List ℕ
@@ -90,11 +94,11 @@ course_of held before after door_before door_after end = record {
   written = end.written;
 }
 
--- A server ended so that had begun. It leaves what a run over a hub leaves.
+-- A server ended so that had begun. It leaves what a run over a hub leaves whose shards roll.
 pub record IsServed (spec : ServeSpec) (ended : Status) (course : Course) : Type 0 where
   pub opening : Tables
   pub failed : ℕ
-  pub kept : IsKept (serve_shape spec) course.held course.before course.after course.left opening failed
+  pub kept : IsKept (serve_shape spec) serve_keep course.held course.before course.after course.left opening failed
   pub attended : IsAttended spec ended course.before.taken course.after.taken
       course.door_before course.door_after course.ends course.written
 

@@ -16,6 +16,7 @@ use Rattle.sql_keeper.specs.Stores.{StoreView}
 use Rattle.session_client.specs.declared.plans.Shape.{Shape}
 use Rattle.core_history.specs.Lines.{line, count_in, is_hit, is_stored, is_again}
 use Rattle.core_history.specs.Machine.{terms_of, log_cap}
+use Rattle.shard_lock.specs.Names.{terms_at}
 use Rattle.run_audit.specs.declared.findings.Finding.{Finding}
 use Rattle.run_audit.specs.declared.findings.Finding.TheVariants as finding
 use Rattle.run_audit.specs.Findings.{IsFinding}
@@ -31,6 +32,10 @@ use Rattle.top_run.specs.Runs.{Held, Tells, Left, Prints, IsOpened, IsUnasked, I
 -- The shape of a load's run: so many members and shards, room for 1,024 entries in each, and leases that live 10 seconds.
 abbrev pub work_shape : WorkSpec → Shape
 work_shape spec = record { members = spec.members; shards = spec.shards; room = 1024; life = 10000 }
+
+-- What the shard of this number is made with in a run over a hub of this shape: it is whole, or it rolls.
+abbrev pub hub_terms : Shape → Option ℕ → ℕ → Terms
+hub_terms shape keep = terms_at shape.shards shape.room shape.life keep
 
 -- Steps that are counted, beside hits, stored values and Agains.
 abbrev pub is_void : Step → Bool
@@ -103,10 +108,10 @@ at_write_told (Ok found) = false
 at_write_told (Err stop.WriteFault) = true
 at_write_told (Err stop.Memory) = false
 
--- The name of a hub names what it is made with: a shard's terms, and the store as it was handed in.
-pub record IsNameOf (shape : Shape) (store : StoreView) (terms : ℕ → Terms)
+-- The name of a hub names what it is made with: a shard's terms, by which it is whole or rolls, and the store as it was handed in.
+pub record IsNameOf (shape : Shape) (keep : Option ℕ) (store : StoreView) (terms : ℕ → Terms)
     (opening : Tables) (cap : ℕ) (told : Option Tables) (start : Option ℕ) : Type 0 where
-  pub terms_are : (place : ℕ) → terms place ≡ terms_of shape place
+  pub terms_are : (place : ℕ) → terms place ≡ hub_terms shape keep place
   pub opening_is : store.ledger.opening ≡ opening
   pub cap_is : cap ≡ log_cap
   pub told_is : told ≡ store.told
@@ -143,23 +148,34 @@ IsHalted spec opening log histories taken_old taken_new written stop.WriteFault 
     IsCut spec opening log histories taken_old taken_new written
 IsHalted spec opening log histories taken_old taken_new written stop.Memory = Prints taken_old taken_new [] written
 
+-- These are the last steps of a legal history of a shard with these terms; those before them were given up.
+pub record AreLast (terms : Terms) (steps : List Step) : Type 0 where
+  pub given_up : List Step
+  pub legal : Legal terms (given_up ++ steps)
+
+-- What the shard of this number leaves: where it is whole a legal history, and where it rolls the last steps of one.
+abbrev pub IsLeft : Shape → Option ℕ → ℕ → List Step → Type 0
+IsLeft shape None place steps = Legal (terms_of shape place) steps
+IsLeft shape (Some keep) place steps = AreLast (hub_terms shape (Some keep) place) steps
+
 -- What a run over a hub that began leaves: the rows that it began with, which are those of the place, a log that isn't too long,
--- and a legal history of each shard. Where the keeper tells its rows, they are the opening rows after the log. So many
--- of the keeper's calls failed, no more than its count of faults rose by, unless that stands at the end of its type.
-pub record IsKept (shape : Shape) (held : Held) (before after : Tells) (left : Left) (opening : Tables) (failed : ℕ) : Type 0 where
+-- and of each shard a legal history, or where the shards roll the last steps of one. Where the keeper tells its rows, they are
+-- the opening rows after the log. So many of the keeper's calls failed, no more than its count of faults rose by, unless that
+-- stands at the end of its type.
+pub record IsKept (shape : Shape) (keep : Option ℕ) (held : Held) (before after : Tells) (left : Left) (opening : Tables) (failed : ℕ) : Type 0 where
   pub opening_is : left.opening ≡ Some opening
   pub opened : IsOpened held shape opening after.rows
   pub short : length left.log ≤ log_cap
   pub rows_are : ForSome after.rows (λ told. told ≡ rows_after opening left.log)
   pub as_many : length left.histories ≡ shape.shards
-  pub legal : (place : ℕ) (history : List Step) → slice_get left.histories place ≡ Some history → Legal (terms_of shape place) history
+  pub legal : (place : ℕ) (history : List Step) → slice_get left.histories place ≡ Some history → IsLeft shape keep place history
   pub few : FewFailed (Some before.keeps_failed) failed after.keeps_failed
 
 -- A run ended with its summary written. Its status is that of what it keeps.
 pub record IsSummed (spec : WorkSpec) (held : Held) (before after : Tells) (left : Left) (written : ℕ) (ended : Status) : Type 0 where
   pub opening : Tables
   pub failed : ℕ
-  pub kept : IsKept (work_shape spec) held before after left opening failed
+  pub kept : IsKept (work_shape spec) None held before after left opening failed
   pub found : Finding
   pub told : IsTold spec opening left.log left.histories before.taken after.taken written found
   pub ends : ended ≡ work_status (nat_lt 0 failed) (first_spent left.histories) found
@@ -168,14 +184,14 @@ pub record IsSummed (spec : WorkSpec) (held : Held) (before after : Tells) (left
 pub record IsCutShort (spec : WorkSpec) (held : Held) (before after : Tells) (left : Left) (written : ℕ) : Type 0 where
   pub opening : Tables
   pub failed : ℕ
-  pub kept : IsKept (work_shape spec) held before after left opening failed
+  pub kept : IsKept (work_shape spec) None held before after left opening failed
   pub cut : IsCut spec opening left.log left.histories before.taken after.taken written
 
 -- A run that began stopped for want of memory: nothing is written.
 pub record IsStoppedShort (spec : WorkSpec) (held : Held) (before after : Tells) (left : Left) (written : ℕ) : Type 0 where
   pub opening : Tables
   pub failed : ℕ
-  pub kept : IsKept (work_shape spec) held before after left opening failed
+  pub kept : IsKept (work_shape spec) None held before after left opening failed
   pub prints : Prints before.taken after.taken [] written
 
 -- What is so at an end of a load's run.

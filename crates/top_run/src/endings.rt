@@ -1,9 +1,10 @@
 // How a run ends, and what it leaves.
 ghost use Rattle.std.specs.Prelude.{◌≡◌, ◌≤◌, ◌++◌, [], ℕ, List, Option, Some, None, Result, map, length, vec_len, vec_capacity};
+ghost use Rattle.run_audit.specs.Findings.{AreWhole};
 ghost use Rattle.core_history.specs.Cores.{Origin, HasKept, IsSound, shards_in, histories_in};
 ghost use Rattle.core_history.specs.Machine.{Move};
 ghost use Rattle.top_run.specs.Plays.{status_of, start_status};
-ghost use Rattle.top_run.specs.Runs.{histories_at};
+ghost use Rattle.top_run.specs.Runs.{histories_at, kept_in};
 
 use crate::plays::{Stop, Tally};
 use crate::runs::{RunEnd, Status};
@@ -43,6 +44,7 @@ pub(crate) fn ended_run<K: Keeper>(
 ) -> RunEnd<K>
     requires none { histories.items ≡ [] }
     requires room { shards_in core ≤ vec_capacity histories }
+    requires whole { AreWhole core.shards }
     ensures status { result.status ≡ status_of ended tally.faulted }
     ensures started { K.is_started result.keeper }
     ensures rows { K.rows result.keeper ≡ core.store.told }
@@ -68,11 +70,13 @@ pub(crate) fn ended_run<K: Keeper>(
     }
 }
 
-/// The histories of the shards, in their order, put where there is room for them.
+/// The steps that the shards have in memory, in their order, put where there is room for them: of whole
+/// shards their histories.
 pub(crate) fn histories_of(shards: Vec<Shard>, room: Vec<Vec<Step>>) -> Vec<Vec<Step>>
     requires none { room.items ≡ [] }
     requires room { vec_len shards ≤ vec_capacity room }
-    ensures { map (λ history. history.items) result.items ≡
+    ensures steps { map (λ history. history.items) result.items ≡ kept_in shards.items }
+    ensures whole { AreWhole shards.items → map (λ history. history.items) result.items ≡
         map (λ shard. shard.history) shards.items }
 {
     let mut shards = shards;

@@ -1,12 +1,12 @@
 // What runs over a hub have in common: the parts of which it is made, the desks, and the end.
-ghost use Rattle.std.specs.Prelude.{◌≡◌, ◌≤◌, [], List, Option, Some, IfOk, length, vec_capacity};
+ghost use Rattle.std.specs.Prelude.{◌≡◌, ◌≤◌, [], List, Option, Some, IfOk, IfSome, length, vec_capacity};
 ghost use Rattle.std.specs.Option.{ForSome};
 ghost use Rattle.sql_keeper.specs.Faults.{FewFailed};
 ghost use Rattle.sql_keeper.specs.Stores.{rows_of};
-ghost use Rattle.core_history.specs.Machine.{terms_of};
-ghost use Rattle.run_audit.specs.Findings.{histories_in};
+ghost use Rattle.run_audit.specs.Findings.{histories_in, AreWhole};
 ghost use Rattle.top_run.specs.Ready.{AreParts};
-ghost use Rattle.top_run.specs.Runs.{histories_at};
+ghost use Rattle.top_run.specs.Runs.{histories_at, kept_in};
+ghost use Rattle.top_run.specs.Works.{hub_terms};
 
 use crate::endings::histories_of;
 use crate::runs::{RunEnd, Status};
@@ -27,8 +27,8 @@ pub(crate) const LIFE: u64 = 10_000;
 /// How many commits a store takes.
 pub(crate) const CAP: u64 = 8_000_000;
 
-/// What a hub is made of beside its store: the shards, a ledger with a part for each, and room for
-/// their histories.
+/// What a hub is made of beside its store: the shards, a ledger with a part for each, and room for the
+/// steps that they leave.
 #[derive(Drop)]
 pub(crate) struct Parts {
     pub(crate) shards: Vec<Shard>,
@@ -36,15 +36,16 @@ pub(crate) struct Parts {
     pub(crate) histories: Vec<Vec<Step>>,
 }
 
-/// The parts of a new hub of this shape.
-pub(crate) fn parts_for(alloc: Global, shape: &Shape) -> Result<Parts, Memory>
+/// The parts of a new hub of this shape, whose shards are whole or roll.
+pub(crate) fn parts_for(alloc: Global, shape: &Shape, keep: Option<u32>) -> Result<Parts, Memory>
     requires some { 1 ≤ shape.now.shards }
     requires roomy { 1 ≤ shape.now.room }
     requires lively { 1 ≤ shape.now.life }
-    ensures { IfOk result (AreParts shape.now (terms_of shape.now)) }
+    requires keeps { IfSome keep (λ steps. 1 ≤ steps) }
+    ensures { IfOk result (AreParts shape.now (hub_terms shape.now keep)) }
 {
     Ok(Parts {
-        shards: new_shards(alloc, shape.shards, shape.room, shape.life)?,
+        shards: new_shards(alloc, shape.shards, shape.room, shape.life, keep)?,
         ledger: Blank::new(shape.shards as u64),
         histories: Vec::with_capacity(alloc, shape.shards as usize)?,
     })
@@ -68,7 +69,8 @@ pub(crate) fn desks_over<'a, H: HubName, K: Keeper, C: Clock, G: Gate, R: Wait>(
     Ok(desks)
 }
 
-/// The end of a run over a hub that began.
+/// The end of a run over a hub that began. It hands out the steps that the shards have in memory: of whole
+/// shards their histories.
 pub(crate) fn ended_hub<K: Keeper, N: Start>(
     status: Status,
     store: Store<K, N>,
@@ -86,7 +88,8 @@ pub(crate) fn ended_hub<K: Keeper, N: Start>(
     ensures opening { result.opening ≡ Some store.ledger.opening }
     ensures log { result.log.items ≡ store.ledger.log }
     ensures short { length store.ledger.log ≤ store.ledger.cap }
-    ensures histories { histories_at result ≡ histories_in shards.items }
+    ensures histories { histories_at result ≡ kept_in shards.items }
+    ensures whole { AreWhole shards.items → histories_at result ≡ histories_in shards.items }
     ensures ends { result.ends ≡ ends }
     ensures written { result.written ≡ written }
     ensures told { ForSome store.told (λ told. told ≡ rows_of store.ledger) }

@@ -73,7 +73,8 @@ pub struct RunEnd<K> {
     pub opening: Option<Rows>,
     /// The transactions that were committed, the earliest first.
     pub log: Vec<Commit>,
-    /// Each shard's history, or none where nothing was run.
+    /// Each shard's history, or none where nothing was run. A server's shards roll: of each there are the
+    /// steps that it has in memory at the end, the last of its history.
     pub histories: Vec<Vec<Step>>,
     /// How each line that was served ended, in the order in which they were handed back.
     pub ends: Vec<LineEnd>,
@@ -135,7 +136,8 @@ pub fn replay<S: Source, W: Sink, K: Keeper>(
 /// address: the workers accept and serve them in turn, until so many were accepted or no more come. `ready`
 /// goes to the sink once the door is bound, and `served` with the number of lines at the end. A line that
 /// ends with a fault ends alone, and `ends` tells of it. A keeper that fails later is told to the client.
-/// Where the door fails, no more lines are accepted, and those that it gave are served to their end.
+/// Where the door fails, no more lines are accepted, and those that it gave are served to their end. The
+/// server's shards give up their early steps as they go on: `histories` has the last ones of each.
 ///
 /// The words that ask for help or for the version write that text. Words that can't be read are a faulty
 /// command line, and nothing is read, written or started.

@@ -3,14 +3,14 @@ ghost use Rattle.std.specs.Prelude.{◌≡◌, ◌≢◌, ◌≤◌, ◌++◌, �
 ghost use Rattle.std.specs.Bool.{IsFalse};
 ghost use Rattle.std.specs.Option.{ForSome};
 ghost use Rattle.rows_model.specs.Rows.{Tables};
-ghost use Rattle.core_history.specs.Machine.{terms_of, log_cap};
+ghost use Rattle.core_history.specs.Machine.{log_cap};
 ghost use Rattle.shard_lock.specs.Names.{AreAll, AreLegal, IsNamedStore};
 ghost use Rattle.top_run.specs.Ready.{IsServeReady, MakeHub};
 ghost use Rattle.top_run.specs.Runs.{Held, Input, Prints, moment, seen, held_at, IsOpened, RoseWhere, CountsWhere, is_read_fault, is_write_fault, is_door_fault};
-ghost use Rattle.top_run.specs.Serves.{serve_shape, ready_line, served_line, IsServedText, HasServed, course_of, ServeEnded};
+ghost use Rattle.top_run.specs.Serves.{serve_shape, serve_keep, ready_line, served_line, IsServedText, HasServed, course_of, ServeEnded};
 ghost use Rattle.run_words.specs.Words.{IsServe};
 ghost use Rattle.door_workers.specs.Attending.{told};
-ghost use Rattle.top_run.specs.Works.{IsNameOf};
+ghost use Rattle.top_run.specs.Works.{IsNameOf, hub_terms};
 ghost use Rattle.top_run.specs.declared.runs.Status.{Status};
 
 use crate::endings::{not_started, start_status};
@@ -36,9 +36,13 @@ use std::thread::Threads;
 /// How many entries a shard of a server has room for.
 const ROOM: u32 = 4096;
 
+/// At how many steps in memory a server's shard gives them up.
+const KEEP: u32 = 256;
+
 /// Serves the lines that the door gives, over a store with this keeper at a fresh place. What needs memory
 /// before the store is there before the keeper starts; the hub, its desks and room for the ends of all
-/// lines are there before the door is bound, and the first line is written once it is.
+/// lines are there before the door is bound, and the first line is written once it is. The shards roll: at
+/// the end the steps are handed out that each has in memory, the last of its history.
 pub(crate) fn serve<
     W: Sink,
     K: Keeper + Send,
@@ -92,10 +96,10 @@ struct Ready {
 
 fn ready_for(alloc: Global, spec: &ServeSpec) -> Result<Ready, Memory>
     requires { IsServe spec.now }
-    ensures { IfOk result (IsServeReady spec.now (terms_of (serve_shape spec.now))) }
+    ensures { IfOk result (IsServeReady spec.now (hub_terms (serve_shape spec.now) serve_keep)) }
 {
     Ok(Ready {
-        parts: parts_for(alloc, &shape_of(spec))?,
+        parts: parts_for(alloc, &shape_of(spec), Some(KEEP))?,
         ends: Vec::with_capacity(alloc, spec.conns as usize)?,
     })
 }
@@ -133,7 +137,7 @@ fn serve_on<
     gate: &G,
 ) -> RunEnd<K>
     requires serve { IsServe spec.now }
-    requires named { IsNameOf (serve_shape spec.now)
+    requires named { IsNameOf (serve_shape spec.now) serve_keep
         store H.terms H.opening H.cap H.told H.start }
     requires cap { store.ledger.cap ≡ log_cap }
     requires new { store.ledger.failed ≡ 0 }

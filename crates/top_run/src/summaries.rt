@@ -1,7 +1,7 @@
 // The summary of a load: what its histories, its log and its transcripts count, and what its audit found.
 ghost use Rattle.std.specs.Prelude.{◌≡◌, ◌≤◌, ◌++◌, IfOk, OnOk, count_by, length, decimal};
 ghost use Rattle.core_history.specs.Lines.{count_in};
-ghost use Rattle.run_audit.specs.Findings.{histories_in};
+ghost use Rattle.run_audit.specs.Findings.{histories_in, AreWhole};
 ghost use Rattle.top_run.specs.Works.{test_of, load_line, totals_line, audit_line, summary};
 
 use gate_workers::Transcript;
@@ -22,7 +22,8 @@ pub(crate) fn summary(
     others: Others,
     finding: Finding,
 ) -> Result<Vec<u8>, Memory>
-    requires { length shards.now ≤ 64 }
+    requires few { length shards.now ≤ 64 }
+    requires whole { AreWhole shards.now }
     ensures { IfOk result (λ text. text.items ≡ summary spec.now log.now (histories_in shards.now)
         others.bypasses others.rejected finding) }
 {
@@ -53,7 +54,8 @@ fn push_totals(
     shards: &[Shard],
     others: Others,
 ) -> Result<(), Memory>
-    requires { length shards.now ≤ 64 }
+    requires few { length shards.now ≤ 64 }
+    requires whole { AreWhole shards.now }
     ensures { OnOk result (text.new.items ≡ text.old.items
         ++ totals_line log.now (histories_in shards.now) others.bypasses others.rejected) }
 {
@@ -154,7 +156,8 @@ pub(crate) enum Counted {
 
 /// How many steps of this kind the histories of all shards have.
 fn counted_in(counted: Counted, shards: &[Shard]) -> u128
-    requires { length shards.now ≤ 64 }
+    requires few { length shards.now ≤ 64 }
+    requires whole { AreWhole shards.now }
     ensures { result ≡ count_in (test_of counted) (histories_in shards.now) }
 {
     let mut count = 0u128;

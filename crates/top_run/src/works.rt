@@ -1,6 +1,6 @@
 // The run of a load: its sessions over a hub, each worker in a thread of its own, and then the audit and
 // the summary.
-ghost use Rattle.std.specs.Prelude.{◌≡◌, ◌≢◌, ◌≤◌, ◌<◌, [], List, Option, Some, None, All, IfOk, IfErr, IfSome, IsSome, count_by, length, position, vec_capacity, nat_lt};
+ghost use Rattle.std.specs.Prelude.{◌≡◌, ◌≢◌, ◌≤◌, ◌<◌, [], List, Option, Some, None, All, IfOk, IfErr, IsSome, count_by, length, vec_capacity, nat_lt};
 ghost use Rattle.std.specs.Bool.{IsFalse};
 ghost use Rattle.std.specs.Option.{ForSome};
 ghost use Rattle.rows_model.specs.Rows.{Tables};
@@ -11,12 +11,12 @@ ghost use Rattle.run_inputs.specs.declared.loads.WorkSpec.{WorkSpec};
 ghost use Rattle.sql_keeper.specs.Faults.{FewFailed};
 ghost use Rattle.sql_keeper.specs.Stores.{rows_of};
 ghost use Rattle.session_client.specs.Plans.{IsPlan};
-ghost use Rattle.core_history.specs.Machine.{terms_of, log_cap};
+ghost use Rattle.core_history.specs.Machine.{log_cap};
 ghost use Rattle.shard_lock.specs.Names.{AreAll, AreLegal, IsNamedStore};
-ghost use Rattle.run_audit.specs.Findings.{histories_in, AreNumbered};
+ghost use Rattle.run_audit.specs.Findings.{histories_in, AreNumbered, AreWhole};
 ghost use Rattle.run_inputs.specs.Loads.{IsWork};
 ghost use Rattle.top_run.specs.Runs.{Held, Input, moment, seen, held_at, histories_at, left_at, IsOpened, RoseWhere, CountsWhere, is_read_fault, is_write_fault};
-ghost use Rattle.top_run.specs.Works.{work_shape, has_spent, first_spent, work_status, end_status, at_write_told, IsNameOf, IsSummary, IsTold, IsHalted, WorkEnded};
+ghost use Rattle.top_run.specs.Works.{work_shape, hub_terms, has_spent, first_spent, work_status, end_status, at_write_told, IsNameOf, IsSummary, IsTold, IsHalted, WorkEnded};
 ghost use Rattle.top_run.specs.Ready.{IsReady, MakeHub};
 
 use crate::endings::{not_started, start_status};
@@ -43,8 +43,9 @@ use std::thread::Threads;
 /// How many entries a shard of a load has room for.
 const ROOM: u32 = 1024;
 
-/// Runs the load over a store with this keeper, at a fresh place, and writes its summary. What needs
-/// memory before the store is there before the keeper starts.
+/// Runs the load over a store with this keeper, at a fresh place, and writes its summary. Its shards are
+/// whole, so that all is counted and audited. What needs memory before the store is there before the
+/// keeper starts.
 pub(crate) fn work<W: Sink, K: Keeper + Send, C: Clock, G: Gate, R: Threads + Wait + Sync>(
     rt: &R,
     alloc: Global,
@@ -88,11 +89,11 @@ struct Ready {
 
 fn ready_for(alloc: Global, spec: &WorkSpec) -> Result<Ready, Memory>
     requires { IsWork spec.now }
-    ensures { IfOk result (IsReady spec.now (terms_of (work_shape spec.now))) }
+    ensures { IfOk result (IsReady spec.now (hub_terms (work_shape spec.now) None)) }
 {
     Ok(Ready {
         plans: make_plans(alloc, spec)?,
-        parts: parts_for(alloc, &shape_of(spec))?,
+        parts: parts_for(alloc, &shape_of(spec), None)?,
     })
 }
 
@@ -127,7 +128,8 @@ fn work_on<
     gate: &G,
 ) -> RunEnd<K>
     requires work { IsWork spec.now }
-    requires named { IsNameOf (work_shape spec.now) store H.terms H.opening H.cap H.told H.start }
+    requires named { IsNameOf (work_shape spec.now) None
+        store H.terms H.opening H.cap H.told H.start }
     requires cap { store.ledger.cap ≡ log_cap }
     requires new { store.ledger.failed ≡ 0 }
     requires ready { IsReady spec.now H.terms ready }
@@ -271,6 +273,7 @@ fn summed_up(
     requires some { 1 ≤ length shards.now }
     requires few { length shards.now ≤ 64 }
     requires numbered { AreNumbered shards.now }
+    requires whole { AreWhole shards.now }
     ensures { IfOk result (λ made. IsSummary spec.now opening.now log.now (histories_in shards.now)
         made.finding made.text.items) }
 {
@@ -321,6 +324,7 @@ fn ended_work<K: Keeper, N: Start>(
     histories: Vec<Vec<Step>>,
 ) -> RunEnd<K>
     requires few { length shards.items ≤ 64 }
+    requires whole { AreWhole shards.items }
     requires none { histories.items ≡ [] }
     requires room { length shards.items ≤ vec_capacity histories }
     ensures status { result.status ≡ end_status (nat_lt 0 store.ledger.failed)
@@ -372,21 +376,16 @@ fn work_status(failed: bool, spent: Option<u32>, finding: Finding) -> Status
 
 /// The least shard that has drawn each token that it can, if there is one.
 fn first_spent(shards: &[Shard]) -> Option<u32>
-    requires { length shards.now ≤ 64 }
+    requires few { length shards.now ≤ 64 }
+    requires whole { AreWhole shards.now }
     ensures { result ≡ first_spent (histories_in shards.now) }
 {
-    match spent_place(shards) {
-        Some(place) => Some(place as u32),
-        None => None,
+    for (place, shard) in shards.iter().enumerate() {
+        if has_spent(shard.history()) {
+            return Some(place as u32);
+        }
     }
-}
-
-/// Its place among them.
-fn spent_place(shards: &[Shard]) -> Option<usize>
-    ensures place { result ≡ position (λ shard. has_spent shard.history) shards.now }
-    ensures within { IfSome result (λ place. place < length shards.now) }
-{
-    shards.iter().position(|shard| has_spent(shard.history()))
+    None
 }
 
 /// Whether the shard of this history has drawn each token that it can.

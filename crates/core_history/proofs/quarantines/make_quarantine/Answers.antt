@@ -2,7 +2,7 @@ use Rattle.std.proofs.Common.{◌≡◌, ℤ, w32, subst}
 use Rattle.std.proofs.lemmas.Int.{to_z-of_z}
 use Rattle.key_shard.specs.declared.steps.Step.{Step}
 use Rattle.key_shard.specs.Replies.{ShowsQuarantine}
-use Rattle.key_shard.specs.Shards.{past_of, stepped}
+use Rattle.key_shard.specs.Shards.{past_of, rolled, stepped}
 use Rattle.core_history.specs.Requests.{quarantine_of}
 use Rattle.core_history.proofs.ShardsLemmas.{home_read, shard_found}
 use Rattle.core_history.proofs.RequestLemmas.{quarantine_made, quarantine_belongs}
@@ -23,7 +23,7 @@ returns-in-Ok-clause-makes c shape world has time =
     let found = home_read c.args.key shards c.home_of-place.ensures.is c.home_of-place.ensures.within c.index_mut.ensures.value in
     let is = shard_found shape world.past c.args.key shards c.home_of-place.result old has c.home_of-place.ensures.is found in
     let step : ℤ → Step = λ by. quarantine_of old c.args.key c.args.who c.args.mode by c.args.now in
-    let P : ℤ → Type 0 = λ by. (c.quarantine_on.new.shard ≡ stepped old (step by)) × ShowsQuarantine old.terms (past_of old) (step by) c.in-Ok.told in
+    let P : ℤ → Type 0 = λ by. (c.quarantine_on.new.shard ≡ stepped (rolled old) (step by)) × ShowsQuarantine old.terms (past_of old) (step by) c.in-Ok.told in
     let h = subst P (to_z-of_z w32 c.args.by c.ranges.by) (c.in-Ok.ensures.step, c.in-Ok.ensures.shows) in
     quarantine_made shape world c.args.who c.args.key c.args.mode
     c.args.by c.args.now shards c.home_of-place.result old c.quarantine_on.new.shard c.in-Ok.told c.requires.shift time has is h.0 h.1

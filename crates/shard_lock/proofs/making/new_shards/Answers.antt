@@ -9,13 +9,13 @@ use Rattle.shard_lock.proofs.making.new_shards.Goals as goal
 pub loop-no-preserved : goal.loop-no-preserved
 loop-no-preserved c =
     let shards = c.loop-no.shards.items in
-    let new = c.in_ok-new.field-0 in
+    let new = c.in_ok-new_shard.field-0 in
     let all : (P : ShardView → Type 0) → All P shards → P new → All P (shards ++ new ∷ []) = λ P before here.
     All-append P shards (new ∷ []) before (All-cons P new [] here (All-nil P)) in
-    let named : IsNamed (terms_at c.args.count c.args.room c.args.life) new =
-    let is = ap (λ (s : ShardView). s.terms) c.in_ok-new.ensures in
-    is ∙ ap (terms_at c.args.count c.args.room c.args.life) (sym (ap (λ (t : Terms). t.no) is)) in
-    let Named : ShardView → Type 0 = IsNamed (terms_at c.args.count c.args.room c.args.life) in
+    let named : IsNamed (terms_at c.args.count c.args.room c.args.life c.args.keep) new =
+    let is = c.in_ok-new_shard.ensures.terms in
+    is ∙ ap (terms_at c.args.count c.args.room c.args.life c.args.keep) (sym (ap (λ (t : Terms). t.no) is)) in
+    let Named : ShardView → Type 0 = IsNamed (terms_at c.args.count c.args.room c.args.life c.args.keep) in
     let Counted : ShardView → Type 0 = λ s. s.terms.count ≡ c.args.count in
     let New : ShardView → Type 0 = λ s. s.history ≡ [] in
     let P : List ShardView → Type 0 = λ xs. (length xs ≡ c.loop-no.no + 1) × (c.args.count ≤ vec_capacity c.push_reserved.new.self)
@@ -25,8 +25,8 @@ loop-no-preserved c =
       omega (arith, length-append shards (new ∷ []), c.loop-no.invariant.0),
       grind (arith, c.loop-no.invariant.1, c.push_reserved.ensures.capacity),
       all Named c.loop-no.invariant.2 named,
-      all Counted c.loop-no.invariant.3 (ap (λ (s : ShardView). s.terms.count) c.in_ok-new.ensures),
-      all New c.loop-no.invariant.4 (ap (λ (s : ShardView). s.history) c.in_ok-new.ensures),
-      placed_next shards new c.loop-no.invariant.5 (let is = ap (λ (s : ShardView). s.terms.no) c.in_ok-new.ensures in
+      all Counted c.loop-no.invariant.3 (ap (λ (t : Terms). t.count) c.in_ok-new_shard.ensures.terms),
+      all New c.loop-no.invariant.4 c.in_ok-new_shard.ensures.new,
+      placed_next shards new c.loop-no.invariant.5 (let is = ap (λ (t : Terms). t.no) c.in_ok-new_shard.ensures.terms in
           omega (arith, is, c.loop-no.invariant.0)),
     )

@@ -1,7 +1,8 @@
 use Rattle.std.proofs.Common.{sym, refl, ap, subst, ◌∙◌, Bool}
 use Rattle.core_history.specs.Cores.{origin_of}
 use Rattle.top_run.specs.Runs.{RoseWhere, is_read_fault, is_write_fault}
-use Rattle.top_run.proofs.RunLemmas.{ended_is, room_at_end, other_end, no_read_end, write_end, faults_at_end}
+use Rattle.top_run.proofs.KeepLemmas.{whole_in}
+use Rattle.top_run.proofs.RunLemmas.{ended_is, kept_at_end, room_at_end, other_end, no_read_end, write_end, faults_at_end}
 use Rattle.top_run.proofs.runs.play_on.Goals as goal
 
 pub ended_run-requires-clause-room : goal.ended_run-requires-clause-room
@@ -9,6 +10,13 @@ ended_run-requires-clause-room g c =
     room_at_end c.play_whole-ended.result c.play_whole-ended.new.core
     (origin_of c.args.script.shape c.args.core) c.args.script.acts _ _ c.play_whole-ended.new.tally _
     c.play_whole-ended.ensures.all c.play_whole-ended.ensures.some c.requires.room
+
+pub ended_run-requires-clause-whole : goal.ended_run-requires-clause-whole
+ended_run-requires-clause-whole g c =
+    let kept = kept_at_end c.play_whole-ended.result c.play_whole-ended.new.core
+    (origin_of c.args.script.shape c.args.core) c.args.script.acts _ _ c.play_whole-ended.new.tally
+    c.play_whole-ended.ensures.all c.play_whole-ended.ensures.some in
+    whole_in c.play_whole-ended.new.core.shards c.args.script.shape _ kept.1.shards
 
 pub returns-clause-ended : goal.returns-clause-ended
 returns-clause-ended g c = λ unread read rows held is_read opened.

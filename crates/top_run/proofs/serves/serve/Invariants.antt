@@ -1,12 +1,13 @@
 use Rattle.std.proofs.Common.{Some}
-use Rattle.core_history.specs.Machine.{terms_of, log_cap}
-use Rattle.top_run.specs.Serves.{serve_shape}
+use Rattle.core_history.specs.Machine.{log_cap}
+use Rattle.top_run.specs.Serves.{serve_shape, serve_keep}
+use Rattle.top_run.specs.Works.{hub_terms}
 use Rattle.top_run.proofs.serves.serve.Given as goal
 
 -- what the shards are made with, and the store as it is handed in
 abbrev pub ghosts-serve_on-H-HubName : goal.ghosts-serve_on-H-HubName
 ghosts-serve_on-H-HubName g a = record {
-  terms = terms_of (serve_shape a.spec.now);
+  terms = hub_terms (serve_shape a.spec.now) serve_keep;
   opening = a.store.ledger.opening;
   cap = log_cap;
   told = a.store.told;

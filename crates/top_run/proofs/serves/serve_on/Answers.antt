@@ -1,12 +1,14 @@
-use Rattle.std.proofs.Common.{Option, refl, sym, ap, subst, ◌∙◌}
+use Rattle.std.proofs.Common.{Option, ◌≡◌, length, refl, sym, ap, subst, ◌∙◌}
 use Rattle.std.specs.Prelude.{IsSome}
 use Rattle.rows_model.specs.Rows.{Tables}
-use Rattle.top_run.specs.Runs.{moment, IsOpened, is_read_fault}
-use Rattle.top_run.specs.Serves.{serve_shape, Course}
+use Rattle.std.proofs.lemmas.List.{length-map}
+use Rattle.key_shard.specs.Shards.{kept_of}
+use Rattle.top_run.specs.Runs.{moment, IsOpened, kept_in, is_read_fault}
+use Rattle.top_run.specs.Serves.{serve_shape, serve_keep, Course}
 use Rattle.door_workers.specs.Attending.{told}
 use Rattle.top_run.proofs.KeepLemmas.{opened_since}
 use Rattle.top_run.proofs.ReadyLemmas.{make_hub}
-use Rattle.top_run.proofs.WorkLemmas.{left_of, kept_of}
+use Rattle.top_run.proofs.WorkLemmas.{last_of, left_of, is_kept}
 use Rattle.top_run.proofs.ServeLemmas.{served_ended, no_usage, no_read}
 use Rattle.top_run.proofs.serves.serve_on.Goals as goal
 
@@ -29,17 +31,19 @@ returns-clause-ended g c = λ unread rows held opens.
     subst (λ (r : Option Tables). IsSome r) c.requires.named.told_is (named.told_before some) in
     let opened = subst (λ (opening : Tables). IsOpened held shape opening store.told) (c.requires.named.opening_is ∙ sym named.opening_is)
     (opened_since held shape c.args.store.ledger.opening c.args.store.told store.told before_now opens) in
-    let kept = kept_of shape held before after store shards g.H.HubName.terms g.H.HubName.start refl refl c.requires.named.start_is
+    let many : length (kept_in shards) ≡ shape.shards =
+    length-map shards kept_of ∙ c.serve_hub-store.ensures.as_many ∙ c.requires.ready.parts.as_many in
+    let last = last_of g.H.HubName.terms shape 256 shards c.requires.named.terms_are c.serve_hub-store.ensures.all c.serve_hub-store.ensures.legal in
+    let kept = is_kept shape serve_keep held before after store (kept_in shards) g.H.HubName.start refl refl c.requires.named.start_is
     c.ended_hub.ensures.short (named.cap_is ∙ c.requires.named.cap_is) c.ended_hub.ensures.told c.ended_hub.ensures.few
-    c.requires.named.terms_are c.serve_hub-store.ensures.all c.serve_hub-store.ensures.legal
-    (c.serve_hub-store.ensures.as_many ∙ c.requires.ready.parts.as_many) opened in
+    last many opened in
     let course : Course = record {
       held = held;
       before = before;
       after = after;
       door_before = tells c.args.door.now;
       door_after = tells c.serve_hub-store.new.door;
-      left = left_of store shards;
+      left = left_of store (kept_in shards);
       ends = served.ends.items;
       written = served.written;
     } in

@@ -1,12 +1,12 @@
-use Rattle.std.proofs.Common.{Some}
-use Rattle.core_history.specs.Machine.{terms_of, log_cap}
-use Rattle.top_run.specs.Works.{work_shape}
+use Rattle.std.proofs.Common.{Some, None}
+use Rattle.core_history.specs.Machine.{log_cap}
+use Rattle.top_run.specs.Works.{work_shape, hub_terms}
 use Rattle.top_run.proofs.works.work.Given as goal
 
 -- what the shards are made with, and the store as it is handed in
 abbrev pub ghosts-work_on-H-HubName : goal.ghosts-work_on-H-HubName
 ghosts-work_on-H-HubName g a = record {
-  terms = terms_of (work_shape a.spec.now);
+  terms = hub_terms (work_shape a.spec.now) None;
   opening = a.store.ledger.opening;
   cap = log_cap;
   told = a.store.told;

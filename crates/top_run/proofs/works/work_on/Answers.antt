@@ -1,12 +1,14 @@
-use Rattle.std.proofs.Common.{arith, Bool, refl, sym, ap, subst, ◌∙◌}
-use Rattle.run_audit.specs.Findings.{histories_in}
+use Rattle.std.proofs.Common.{arith, Bool, None, ◌≡◌, length, refl, sym, ap, subst, ◌∙◌}
+use Rattle.run_audit.specs.Findings.{histories_in, AreWhole}
 use Rattle.std.specs.Prelude.{nat_lt, Option, IsSome}
+use Rattle.std.proofs.lemmas.List.{length-map}
+use Rattle.key_shard.specs.Shards.{ShardView}
 use Rattle.rows_model.specs.Rows.{Tables}
 use Rattle.top_run.specs.Runs.{moment, IsOpened, RoseWhere, is_read_fault, is_write_fault}
 use Rattle.top_run.specs.Works.{first_spent, work_shape}
 use Rattle.top_run.proofs.KeepLemmas.{opened_since}
 use Rattle.top_run.proofs.ReadyLemmas.{make_hub}
-use Rattle.top_run.proofs.WorkLemmas.{numbered_of, left_of, kept_of, work_ended, no_usage, no_read, at_write_end}
+use Rattle.top_run.proofs.WorkLemmas.{numbered_of, whole_of, legal_of, left_of, is_kept, work_ended, no_usage, no_read, at_write_end}
 use Rattle.top_run.proofs.works.work_on.Goals as goal
 
 pub run_plans-store-requires-clause-parts : goal.run_plans-store-requires-clause-parts
@@ -18,6 +20,15 @@ summed_up-made-requires-clause-numbered g c =
     let shards = c.run_plans-store.result.shards.items in
     let many = c.run_plans-store.ensures.as_many ∙ c.requires.ready.parts.as_many in
     rw c.as_slice-2.ensures.value (numbered_of g.H.HubName.terms shards c.run_plans-store.ensures.all (omega (arith, many, c.requires.work.few_shards)))
+
+pub summed_up-made-requires-clause-whole : goal.summed_up-made-requires-clause-whole
+summed_up-made-requires-clause-whole g c =
+    subst AreWhole (sym c.as_slice-2.ensures.value)
+    (whole_of g.H.HubName.terms (work_shape c.args.spec.now) c.run_plans-store.result.shards.items c.requires.named.terms_are c.run_plans-store.ensures.all)
+
+pub ended_work-requires-clause-whole : goal.ended_work-requires-clause-whole
+ended_work-requires-clause-whole g c =
+    whole_of g.H.HubName.terms (work_shape c.args.spec.now) c.run_plans-store.result.shards.items c.requires.named.terms_are c.run_plans-store.ensures.all
 
 pub returns-clause-ended : goal.returns-clause-ended
 returns-clause-ended g c = λ unread rows held opens.
@@ -33,10 +44,12 @@ returns-clause-ended g c = λ unread rows held opens.
     subst (λ (r : Option Tables). IsSome r) c.requires.named.told_is (named.told_before some) in
     let opened = subst (λ (opening : Tables). IsOpened held (work_shape spec) opening store.told) (c.requires.named.opening_is ∙ sym named.opening_is)
     (opened_since held (work_shape spec) c.args.store.ledger.opening c.args.store.told store.told before_now opens) in
-    let kept = kept_of (work_shape spec) held before after store shards g.H.HubName.terms g.H.HubName.start refl refl c.requires.named.start_is
+    let many : length (histories_in shards) ≡ spec.shards =
+    length-map shards (λ (s : ShardView). s.history) ∙ c.run_plans-store.ensures.as_many ∙ c.requires.ready.parts.as_many in
+    let legal = legal_of g.H.HubName.terms (work_shape spec) shards c.requires.named.terms_are c.run_plans-store.ensures.all c.run_plans-store.ensures.legal in
+    let kept = is_kept (work_shape spec) None held before after store (histories_in shards) g.H.HubName.start refl refl c.requires.named.start_is
     short (c.run_plans-store.ensures.store.cap_is ∙ c.requires.named.cap_is) c.ended_work.ensures.told c.ended_work.ensures.few
-    c.requires.named.terms_are c.run_plans-store.ensures.all c.run_plans-store.ensures.legal
-    (c.run_plans-store.ensures.as_many ∙ c.requires.ready.parts.as_many) opened in
+    legal many opened in
     rw (
       c.ended_work.ensures.status,
       c.ended_work.ensures.opening,
@@ -46,7 +59,7 @@ returns-clause-ended g c = λ unread rows held opens.
       c.ended_work.ensures.rows,
       c.ended_work.ensures.faults,
     )
-    (work_ended spec held before after (left_of store shards) c.tell-told.new.written store.ledger.opening store.ledger.failed kept c.tell-told.result
+    (work_ended spec held before after (left_of store (histories_in shards)) c.tell-told.new.written store.ledger.opening store.ledger.failed kept c.tell-told.result
     (c.tell-told.ensures.told spec store.ledger.opening store.ledger.log (histories_in shards) made)
     (c.tell-told.ensures.halted spec store.ledger.opening store.ledger.log (histories_in shards) made))
 

@@ -11,7 +11,7 @@ pub returns-clause-kept : goal.returns-clause-kept
 returns-clause-kept c =
     let old = c.args.self.now in
     let step : Step = Again c.args.key c.args.who c.args.floor c.args.now c.args.standing in
-    let pushed = c.push_reserved.ensures.items ∙ ap (λ (h : List Step). h ++ step ∷ []) c.make_room.ensures.items in
+    let pushed = c.push.ensures.items ∙ ap (λ (h : List Step). h ++ step ∷ []) c.make_room.ensures.items in
     let ties = Ties-again (terms_of old) (steps_of old) old.entries.list
     old.leases old.next c.args.key c.args.who c.args.floor c.args.now c.args.standing c.requires.answers c.requires.kept.ties in
     IsKept-step old _ step (λ k t q e. e) c.requires.kept pushed (terms-kept old c.drop_key.new.self.room c.drop_key.ensures.room)

@@ -27,7 +27,7 @@ returns-clause-kept c =
     let same = ap (λ k. Released k c.args.quar.sid c.token-token.result c.end_entry-how.result) c.key-key.ensures
     ∙ ap (λ t. Released grant.key c.args.quar.sid t c.end_entry-how.result) c.token-token.ensures
     ∙ ap (Released grant.key c.args.quar.sid grant.token) c.end_entry-how.ensures.how in
-    let pushed = c.push_reserved.ensures.items ∙ ap (λ (s : Step). old.history.items ++ s ∷ []) same in
+    let pushed = c.push_reserved.ensures.items ∙ ap (λ (s : Step). old.history.steps ++ s ∷ []) same in
     let leaves = ended-leaves c.requires.kept.ties grant.key grant.token c.key-key.result c.token-token.result
     c.end_q.result c.args.quar c.end_q.new.self c.key-key.ensures c.token-token.ensures c.end_q.ensures.ended c.end_q.ensures.after c.requires.stands in
     let ends : Ends grant.key how old.entries c.end_entry-how.new.entries =
@@ -48,9 +48,9 @@ returns-clause-step c =
     let same = ap (λ k. Released k c.args.quar.sid c.token-token.result c.end_entry-how.result) c.key-key.ensures
     ∙ ap (λ t. Released grant.key c.args.quar.sid t c.end_entry-how.result) c.token-token.ensures
     ∙ ap (Released grant.key c.args.quar.sid grant.token) c.end_entry-how.ensures.how in
-    let pushed = c.push_reserved.ensures.items ∙ ap (λ (s : Step). old.history.items ++ s ∷ []) same in
-    view-returned old _ c.push_reserved.new.self.items c.take.new.self (Released grant.key c.args.quar.sid grant.token how) grant
-    (terms-kept old c.end_entry-how.new.entries.room c.end_entry-how.ensures.ends.same_room) pushed c.take.ensures
+    let pushed = c.push_reserved.ensures.items ∙ ap (λ (s : Step). old.history.steps ++ s ∷ []) same in
+    view-returned old _ c.push_reserved.new.self.steps c.take.new.self c.push_reserved.new.self.gone (Released grant.key c.args.quar.sid grant.token how) grant
+    (terms-kept old c.end_entry-how.new.entries.room c.end_entry-how.ensures.ends.same_room) pushed c.take.ensures c.push_reserved.ensures.gone
 
 pub take-requires : goal.take-requires
 take-requires c = some-out c.args.self.now c.args.grant c.requires.out

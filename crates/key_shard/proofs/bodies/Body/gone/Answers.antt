@@ -23,7 +23,7 @@ returns-clause-kept c =
     let step : Step = Gone grant.key grant.sid grant.token in
     let same = ap (λ k. Gone k c.sid.result c.token.result) c.key.ensures
     ∙ ap (λ s. Gone grant.key s c.token.result) c.sid.ensures ∙ ap (Gone grant.key grant.sid) c.token.ensures in
-    let pushed = c.push_reserved.ensures.items ∙ ap (λ (s : Step). old.history.items ++ s ∷ []) same in
+    let pushed = c.push_reserved.ensures.items ∙ ap (λ (s : Step). old.history.steps ++ s ∷ []) same in
     let ties = Ties-quiet (terms_of old) (steps_of old) old.entries.list old.leases old.next step tt c.requires.answers c.requires.kept.ties in
     let two = places-out old grant 1 (may-take-one old grant) c.requires.kept c.requires.out in
     IsKept-returned old _ step grant 1 (may-take-one old grant) (λ k t q e. e) c.requires.none
@@ -35,8 +35,8 @@ returns-clause-step c =
     let grant = c.args.grant in
     let same = ap (λ k. Gone k c.sid.result c.token.result) c.key.ensures
     ∙ ap (λ s. Gone grant.key s c.token.result) c.sid.ensures ∙ ap (Gone grant.key grant.sid) c.token.ensures in
-    let pushed = c.push_reserved.ensures.items ∙ ap (λ (s : Step). old.history.items ++ s ∷ []) same in
-    view-returned old (terms_of old) c.push_reserved.new.self.items c.take.new.self (Gone grant.key grant.sid grant.token) grant refl pushed c.take.ensures
+    let pushed = c.push_reserved.ensures.items ∙ ap (λ (s : Step). old.history.steps ++ s ∷ []) same in
+    view-returned old (terms_of old) c.push_reserved.new.self.steps c.take.new.self c.push_reserved.new.self.gone (Gone grant.key grant.sid grant.token) grant refl pushed c.take.ensures c.push_reserved.ensures.gone
 
 pub take-requires : goal.take-requires
 take-requires c = some-out c.args.self.now c.args.grant c.requires.out

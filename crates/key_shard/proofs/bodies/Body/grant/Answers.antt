@@ -19,6 +19,9 @@ use Rattle.key_shard.proofs.PlaceLemmas.{places-more, stood-granted}
 use Rattle.key_shard.proofs.TiesLemmas.{Ties-granted}
 use Rattle.key_shard.proofs.bodies.Body.grant.Goals as goal
 
+pub overflow_add-self-2 : goal.overflow_add-self-2
+overflow_add-self-2 c = omega (arith, c.in_ok-make_room.ensures.ok, c.make_room.ensures.fits)
+
 pub returns-in_err-make_room-clause-kept : goal.returns-in_err-make_room-clause-kept
 returns-in_err-make_room-clause-kept c =
     IsKept-still c.args.self.now _ c.requires.kept refl c.make_room.ensures.items
@@ -52,8 +55,8 @@ returns-clause-kept c =
     let told : ℤ → Type 0 = λ s. Leaves c.args.key None (quars c.args.key old.leases
     ++ record { sid = c.args.sid; mode = c.args.mode; token = token; deadline = deadline; shift = s } ∷ []) old.leases c.stand.new.leases in
     let leaves = subst told (to_z-of_z w32 shift fits) c.in-Ok.ensures.stands in
-    let pushed = subst (λ (s : ℤ). c.push_reserved.new.self.items ≡ c.make_room.new.history.items
-    ++ Granted c.args.key c.args.sid c.args.mode s c.args.now token deadline ∷ []) (to_z-of_z w32 shift fits) c.push_reserved.ensures.items
+    let pushed = subst (λ (s : ℤ). c.push.new.self.steps ≡ c.make_room.new.self.steps
+    ++ Granted c.args.key c.args.sid c.args.mode s c.args.now token deadline ∷ []) (to_z-of_z w32 shift fits) c.push.ensures.items
     ∙ ap (λ (h : List Step). h ++ step ∷ []) c.make_room.ensures.items in
     let ties = Ties-granted (terms_of old) (steps_of old) old.entries.list
     old.leases c.stand.new.leases old.next c.args.key c.args.sid c.args.mode shift c.args.now token deadline refl leaves answers c.requires.kept.ties in

@@ -14,9 +14,9 @@ returns-clause-kept c =
     let step : Step = Hit c.args.key c.args.who c.args.floor found.0 found.1 in
     let peeked = rw c.unwrap-stamp.ensures at c.peek.ensures.value in
     let there = peeked ∙ c.requires.kept.ties.entries c.args.key ∙ c.requires.found.1 in
-    let pushed = hit-pushed old.history.items c.make_room.new.history.items c.push_reserved.new.self.items c.args.key c.args.who c.args.floor
+    let pushed = hit-pushed old.history.steps c.make_room.new.self.steps c.push.new.self.steps c.args.key c.args.who c.args.floor
     c.unwrap-stamp.result.0.now c.in_ok-value.value c.unwrap-stamp.result.1
-    found c.push_reserved.ensures.items c.make_room.ensures.items c.in_ok-value.ensures there in
+    found c.push.ensures.items c.make_room.ensures.items c.in_ok-value.ensures there in
     let ties = Ties-hit (terms_of old) (steps_of old) old.entries.list
     old.leases old.next c.args.key c.args.who c.args.floor found c.requires.found.1 c.requires.found.2 c.requires.kept.ties in
     let room = ap (λ (t : Table). t.room) c.find.follows.holds-at-none ∙ room-promoted c.args.key old.entries in
@@ -29,11 +29,12 @@ returns-clause-step c found there =
     let old = c.args.self.now in
     let peeked = rw c.unwrap-stamp.ensures at c.peek.ensures.value in
     let here = peeked ∙ c.requires.kept.ties.entries c.args.key ∙ there in
-    let pushed = hit-pushed old.history.items c.make_room.new.history.items c.push_reserved.new.self.items c.args.key c.args.who c.args.floor
+    let pushed = hit-pushed old.history.steps c.make_room.new.self.steps c.push.new.self.steps c.args.key c.args.who c.args.floor
     c.unwrap-stamp.result.0.now c.in_ok-value.value c.unwrap-stamp.result.1
-    found c.push_reserved.ensures.items c.make_room.ensures.items c.in_ok-value.ensures here in
+    found c.push.ensures.items c.make_room.ensures.items c.in_ok-value.ensures here in
     let room = ap (λ (t : Table). t.room) c.find.follows.holds-at-none ∙ room-promoted c.args.key old.entries in
-    view-after (shown old) _ (Hit c.args.key c.args.who c.args.floor found.0 found.1) (terms-kept old c.find.follows.lender-at-none.room room) pushed refl refl
+    view-after (shown old) _ (Hit c.args.key c.args.who c.args.floor found.0 found.1) (terms-kept old c.find.follows.lender-at-none.room room) pushed refl
+    (rw (c.make_room.ensures.gone, c.make_room.ensures.items) at c.push.ensures.gone) refl
 
 pub returns-in_err-make_room-clause-kept : goal.returns-in_err-make_room-clause-kept
 returns-in_err-make_room-clause-kept c =

@@ -28,7 +28,7 @@ returns-clause-kept c =
     ∙ ap (λ h. verdict h read) (holding-seen c.requires.kept.ties c.args.key c.args.who c.args.now) ∙ c.requires.free) in
     let leaves = MatchBool-at_true (Leaves c.args.key (Some (record { sid = c.args.who; token = token; deadline = deadline }))
     (quars c.args.key old.leases) old.leases c.ask_i.new.self) (c.ask_i.new.self ≡ old.leases) given c.in_ok-ask_i.ensures.after in
-    let pushed = c.push_reserved.ensures.items ∙ ap (λ (h : List Step). h ++ step ∷ []) c.make_room.ensures.items in
+    let pushed = c.push.ensures.items ∙ ap (λ (h : List Step). h ++ step ∷ []) c.make_room.ensures.items in
     let ties = Ties-lease (terms_of old) (steps_of old) old.entries.list
     old.leases c.ask_i.new.self old.next c.args.key c.args.who c.args.floor c.args.now token deadline leaves answers c.requires.kept.ties in
     IsKept-step old _ step (λ k t q e. e) c.requires.kept pushed (terms-kept old c.drop_key.new.self.room c.drop_key.ensures.room)

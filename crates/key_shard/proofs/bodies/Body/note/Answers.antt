@@ -8,7 +8,7 @@ use Rattle.key_shard.proofs.bodies.Body.note.Goals as goal
 
 pub returns-clause-kept : goal.returns-clause-kept
 returns-clause-kept c =
-    let pushed = c.push_reserved.ensures.items ∙ ap (λ (h : List Step). h ++ c.args.step ∷ []) c.make_room.ensures.items in
+    let pushed = c.push.ensures.items ∙ ap (λ (h : List Step). h ++ c.args.step ∷ []) c.make_room.ensures.items in
     let ties = Ties-quiet (terms_of c.args.self.now) (steps_of c.args.self.now)
     c.args.self.now.entries.list c.args.self.now.leases c.args.self.now.next c.args.step c.requires.quiet c.requires.answers c.requires.kept.ties in
     IsKept-step c.args.self.now _ c.args.step (quiet-adds_none (steps_of c.args.self.now) c.args.step c.requires.quiet) c.requires.kept

@@ -49,7 +49,7 @@ returns-clause-kept c =
     let evicted : Option QKey = evicts (terms_of old) grant.key (steps_of old) in
     let step : Step = Released grant.key c.args.quar.sid grant.token (Put c.args.value c.args.stamp evicted) in
     let room = room-told c.requires.kept.ties grant.key c.key-key.result c.key-key.ensures c.in-Ok-put_in_front.ensures.puts.room_by in
-    let pushed = step-pushed old.history.items c.args.quar.sid c.args.stamp c.push_reserved.ensures.items c.key-key.ensures c.token-token.ensures
+    let pushed = step-pushed old.history.steps c.args.quar.sid c.args.stamp c.push_reserved.ensures.items c.key-key.ensures c.token-token.ensures
     c.in-Ok.ensures room in
     let puts = told grant.key c.key-key.result c.args.value c.args.stamp
     evicted c.in-Ok-put_in_front.evicted old.entries c.put_in_front.new.entries c.key-key.ensures room c.in-Ok-put_in_front.ensures.puts in
@@ -70,10 +70,10 @@ returns-clause-step c =
     let grant = c.args.grant in
     let evicted : Option QKey = evicts (terms_of old) grant.key (steps_of old) in
     let room = room-told c.requires.kept.ties grant.key c.key-key.result c.key-key.ensures c.in-Ok-put_in_front.ensures.puts.room_by in
-    let pushed = step-pushed old.history.items c.args.quar.sid c.args.stamp c.push_reserved.ensures.items c.key-key.ensures c.token-token.ensures
+    let pushed = step-pushed old.history.steps c.args.quar.sid c.args.stamp c.push_reserved.ensures.items c.key-key.ensures c.token-token.ensures
     c.in-Ok.ensures room in
-    view-returned old _ c.push_reserved.new.self.items c.take.new.self (Released grant.key c.args.quar.sid grant.token (Put c.args.value c.args.stamp evicted))
-    grant (terms-kept old c.put_in_front.new.entries.room c.in-Ok-put_in_front.ensures.puts.same_room) pushed c.take.ensures
+    view-returned old _ c.push_reserved.new.self.steps c.take.new.self c.push_reserved.new.self.gone (Released grant.key c.args.quar.sid grant.token (Put c.args.value c.args.stamp evicted))
+    grant (terms-kept old c.put_in_front.new.entries.room c.in-Ok-put_in_front.ensures.puts.same_room) pushed c.take.ensures c.push_reserved.ensures.gone
 
 pub take-requires : goal.take-requires
 take-requires c = some-out c.args.self.now c.args.grant c.requires.out

@@ -24,8 +24,8 @@ returns-clause-kept c =
     let current = c.take_i.ensures.taken ∙ ap (is_current c.args.token c.args.now) (c.requires.kept.ties.reads c.args.key) ∙ c.requires.current in
     let leaves = MatchBool-at_true (Leaves c.args.key None (quars c.args.key old.leases) old.leases c.take_i.new.self)
     (c.take_i.new.self ≡ old.leases) current c.take_i.ensures.after in
-    let pushed = c.push_reserved.ensures.items ∙ ap (λ (h : List Step). h ++ Stored c.args.key c.args.token c.args.now c.args.value c.args.stamp c.in-Ok.evicted
-    ∷ []) c.make_room.ensures.items ∙ ap (λ e. old.history.items ++ Stored c.args.key c.args.token c.args.now c.args.value c.args.stamp e ∷ []) told in
+    let pushed = c.push.ensures.items ∙ ap (λ (h : List Step). h ++ Stored c.args.key c.args.token c.args.now c.args.value c.args.stamp c.in-Ok.evicted
+    ∷ []) c.make_room.ensures.items ∙ ap (λ e. old.history.steps ++ Stored c.args.key c.args.token c.args.now c.args.value c.args.stamp e ∷ []) told in
     let ties = Ties-stored (terms_of old) (steps_of old) old.entries.list old.leases
     c.take_i.new.self old.next c.args.key c.args.token c.args.now c.args.value c.args.stamp evicted put puts leaves c.requires.answers c.requires.kept.ties in
     IsKept-step old _ step (λ k t q e. e) c.requires.kept pushed (terms-kept old put.room puts.same_room)

@@ -7,5 +7,5 @@ pub returns-clause-all : goal.returns-clause-all
 returns-clause-all g c =
     let shards = c.unlocked.result.items in
     let many : length shards ≡ c.self.inside.count = c.unlocked.ensures.as_many ∙ c.self.invariant.1 in
-    let have = subst (λ (n : ℕ). HaveCount g.H.HubName.terms n) (sym many) c.self.invariant.4 in
+    let have = subst (λ (n : ℕ). HaveCount g.H.HubName.terms n) (sym many) c.self.invariant.3 in
     are_all g.H.HubName.terms shards (omega (arith, many, c.self.invariant.0)) have c.unlocked.ensures.named c.unlocked.ensures.placed

@@ -20,5 +20,5 @@ returns-else-no-place g c =
     grind (arith, c.no.ensures.number, c.deref.ensures, c.if-no-place.false, c.shard_number-place.ensures) in
     let few : kept.terms.no < c.self.inside.count = rw same below in
     let named : IsNamed g.H.HubName.terms kept = subst (λ (shard : ShardView). IsNamed g.H.HubName.terms shard) c.deref.ensures c.no.ensures.named in
-    let counted = ap (λ (terms : Terms). terms.count) named ∙ c.self.invariant.4 kept.terms.no few in
+    let counted = ap (λ (terms : Terms). terms.count) named ∙ c.self.invariant.3 kept.terms.no few in
     ap (λ (n : ℕ). shard_of c.args.key.now n) counted ∙ sym same

@@ -11,8 +11,7 @@ invariant_of-result g c =
     let many : length c.args.shards.items ≡ c.len-count.result = grind (arith, count) in (
       grind (arith, c.requires.shards.some, many),
       grind (arith, made.all, count),
-      made.left,
-      grind (arith, made.room, count),
+      grind (arith, c.requires.ledger.1, c.requires.one_each, count),
       subst (λ (n : ℕ). HaveCount g.H.HubName.terms n) many have,
       subst (λ (n : ℕ). AreTokens n c.locked-locks.result.2.parts c.locked-locks.result.2.amount) (sym count) made.tokens,
     )

@@ -1,0 +1,13 @@
+use Rattle.std.proofs.Common.{◌∙◌}
+use Rattle.lease_table.proofs.CopyLemmas.{Stays-cloned, IsKept-cloned}
+use Rattle.lease_table.proofs.table.Leases.copy.Goals as goal
+
+pub invariant_of-result : goal.invariant_of-result
+invariant_of-result c =
+    IsKept-cloned c.self.inside.leases c.in_ok-leases.leases c.self.inside.terms
+    c.in_ok-terms.terms c.self.invariant c.in_ok-leases.ensures.cases c.in_ok-terms.ensures.cases
+
+pub returns : goal.returns
+returns c =
+    let stays = Stays-cloned c.self.inside.leases c.in_ok-leases.leases c.self.invariant.in_order c.in_ok-leases.ensures.cases in
+    stays.same_records ∙ c.self.view_is
