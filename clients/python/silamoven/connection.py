@@ -5,7 +5,6 @@ from __future__ import annotations
 import socket
 from dataclasses import dataclass
 from time import monotonic
-from types import TracebackType
 from typing import List, Optional, Sequence, Tuple, Type, TypeVar, Union, cast
 
 from . import commands
@@ -141,12 +140,7 @@ class Connection:
     def __enter__(self: _C) -> _C:
         return self
 
-    def __exit__(
-        self,
-        kind: Optional[Type[BaseException]],
-        error: Optional[BaseException],
-        trace: Optional[TracebackType],
-    ) -> None:
+    def __exit__(self, *_: object) -> None:
         self.quit()
 
     @property

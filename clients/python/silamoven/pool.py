@@ -5,8 +5,7 @@ from __future__ import annotations
 import threading
 from contextlib import contextmanager
 from time import sleep
-from types import TracebackType
-from typing import Callable, Iterable, Iterator, List, Optional, Type, TypeVar, Union
+from typing import Callable, Iterable, Iterator, List, Optional, TypeVar, Union
 
 from . import reading, writing
 from .changes import Change, Txn
@@ -77,12 +76,7 @@ class Pool:
     def __enter__(self) -> Pool:
         return self
 
-    def __exit__(
-        self,
-        kind: Optional[Type[BaseException]],
-        error: Optional[BaseException],
-        trace: Optional[TracebackType],
-    ) -> None:
+    def __exit__(self, *_: object) -> None:
         self.close()
 
     def close(self) -> None:
