@@ -2,12 +2,12 @@
 use Rattle.std.proofs.Common.{◌≡◌, Bool, true, false, Option, Some, None, List, [], ◌∷◌, map, refl}
 use Rattle.std.specs.List.{list_all, list_any, slice_get}
 use Rattle.case_tables.specs.declared.grids.Verdict.{Verdict}
-use Rattle.case_tables.specs.Compatibility.{Way, invalidate, refresh, delta, Request, read, quarantine, Holding, is_invalidate, is_refresh}
+use Rattle.case_tables.specs.Compatibility.{Way, invalidate, refresh, delta, Request, read, quarantine, raise, Holding, is_invalidate, is_refresh}
 use Rattle.case_tables.specs.Compatibility.{verdict, row_of, column_of, cell}
 
 -- each request once, in the order of the columns
 abbrev pub requests : List Request
-requests = read ∷ quarantine invalidate ∷ quarantine refresh ∷ quarantine delta ∷ []
+requests = read ∷ quarantine invalidate ∷ quarantine refresh ∷ quarantine delta ∷ raise ∷ []
 
 -- what the rules answer to each request
 abbrev pub verdicts : Holding → List Verdict
@@ -21,7 +21,8 @@ holding own others reading = record { own = own; others = others; reading = read
 abbrev pub holdings : List Holding
 holdings =
     holding None [] false ∷ holding None [] true ∷ holding None (invalidate ∷ []) false ∷ holding None (refresh ∷ []) false
-    ∷ holding None (delta ∷ []) false ∷ holding (Some invalidate) [] false ∷ holding (Some refresh) [] false ∷ holding (Some delta) [] false ∷ []
+    ∷ holding None (delta ∷ []) false ∷ holding (Some invalidate) [] false ∷ holding (Some refresh) [] false ∷ holding (Some delta) [] false
+    ∷ holding (Some invalidate) (invalidate ∷ []) false ∷ []
 
 -- the grid that the rules make
 abbrev pub rules_grid : List (List Verdict)
@@ -37,7 +38,8 @@ row-beside w ws reading false false a b = rw (a, b) refl
 -- the row of what stands has the rules' verdicts on it
 row-verdicts : (own : Option Way) (others : List Way) (reading : Bool)
     → slice_get rules_grid (row_of (holding own others reading)) ≡ Some (verdicts (holding own others reading))
-row-verdicts (Some invalidate) others reading = refl
+row-verdicts (Some invalidate) [] reading = refl
+row-verdicts (Some invalidate) (w ∷ ws) reading = refl
 row-verdicts (Some refresh) others reading = refl
 row-verdicts (Some delta) others reading = refl
 row-verdicts None [] true = refl
@@ -50,6 +52,7 @@ column-request f read = refl
 column-request f (quarantine invalidate) = refl
 column-request f (quarantine refresh) = refl
 column-request f (quarantine delta) = refl
+column-request f raise = refl
 
 -- each cell is the rules' verdict
 pub cell-rules : (h : Holding) (request : Request) → cell rules_grid (row_of h) (column_of request) ≡ Some (verdict h request)

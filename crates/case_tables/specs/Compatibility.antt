@@ -1,7 +1,7 @@
 use Rattle.std.specs.Prelude.{ℕ, ◌+◌, Bool, true, false, ◌&&◌, ◌||◌, if◌then◌else◌, Option, Some, None, is_some, option_and_then, List, [], ◌∷◌, slice_get}
 use Rattle.std.specs.List.{list_all, list_any}
 use Rattle.case_tables.specs.declared.grids.Verdict.{Verdict}
-use Rattle.case_tables.specs.declared.grids.Verdict.TheVariants.{Give, Wait, Void, Join, Same, Own, Refuse}
+use Rattle.case_tables.specs.declared.grids.Verdict.TheVariants.{Give, Wait, Void, Join, Same, Own, Refuse, Raise, Gone}
 
 -- why a session quarantines a key: to invalidate its value, to refresh it, or to shift it by a delta
 pub data Way : Type 0 where
@@ -9,10 +9,11 @@ pub data Way : Type 0 where
   refresh : Way
   delta : Way
 
--- what a session asks for on a key: a lease to read, or a quarantine
+-- what a session asks for on a key: a lease to read, a quarantine, or that its quarantine to invalidate becomes one to refresh
 pub data Request : Type 0 where
   read : Request
   quarantine : Way → Request
+  raise : Request
 
 -- what stands on a key, as the asker sees it
 pub record Holding : Type 0 where
@@ -72,10 +73,16 @@ abbrev pub quarantine_verdict : Way → Option Way → List Way → Bool → Ver
 quarantine_verdict w (Some own) others reading = if same_way own w then Same else Refuse
 quarantine_verdict w None others reading = new_verdict w others reading
 
+-- to raise: Gone where the asker holds no quarantine to invalidate, else Refuse beside others, else Raise
+abbrev pub raise_verdict : Option Way → List Way → Verdict
+raise_verdict (Some own) others = if is_invalidate own then (if is_any others then Refuse else Raise) else Gone
+raise_verdict None others = Gone
+
 -- the verdict on a request
 abbrev pub verdict : Holding → Request → Verdict
 verdict h read = read_verdict h
 verdict h (quarantine w) = quarantine_verdict w h.own h.others h.reading
+verdict h raise = raise_verdict h.own h.others
 
 -- whether a verdict gives the lease that was asked for
 abbrev pub is_given : Verdict → Bool
@@ -86,6 +93,20 @@ is_given Wait = false
 is_given Same = false
 is_given Own = false
 is_given Refuse = false
+is_given Raise = false
+is_given Gone = false
+
+-- whether a verdict raises the quarantine
+abbrev pub is_raised : Verdict → Bool
+is_raised Raise = true
+is_raised Give = false
+is_raised Void = false
+is_raised Join = false
+is_raised Wait = false
+is_raised Same = false
+is_raised Own = false
+is_raised Refuse = false
+is_raised Gone = false
 
 -- the place of a way among the ways
 abbrev pub way_number : Way → ℕ
@@ -99,18 +120,19 @@ abbrev pub others_row : List Way → Bool → ℕ
 others_row others reading =
     if is_any others then (if list_all is_invalidate others then 2 else if list_any is_refresh others then 3 else 4) else if reading then 1 else 0
 
--- the row of the grid: 5 to 7 where the asker holds a quarantine, by its way
+-- the row of the grid: 5 to 7 where the asker holds a quarantine, by its way, and 8 where others invalidate beside its own
 abbrev pub row_from : Option Way → List Way → Bool → ℕ
-row_from (Some own) others reading = 5 + way_number own
+row_from (Some own) others reading = if is_invalidate own && is_any others then 8 else 5 + way_number own
 row_from None others reading = others_row others reading
 
 abbrev pub row_of : Holding → ℕ
 row_of h = row_from h.own h.others h.reading
 
--- the column of the grid: 0 to read, 1 to 3 a quarantine by its way
+-- the column of the grid: 0 to read, 1 to 3 a quarantine by its way, 4 to raise
 abbrev pub column_of : Request → ℕ
 column_of read = 0
 column_of (quarantine w) = 1 + way_number w
+column_of raise = 4
 
 -- the verdict in a row and a column, if the grid has them
 abbrev pub cell : List (List Verdict) → ℕ → ℕ → Option Verdict

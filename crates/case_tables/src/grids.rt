@@ -18,8 +18,12 @@ pub enum Verdict {
     Same,
     /// The asker of a lease to read holds a quarantine on the key.
     Own,
-    /// The quarantine isn't given.
+    /// The quarantine isn't given, or isn't raised: others stand in the way.
     Refuse,
+    /// The quarantine to invalidate becomes one to refresh.
+    Raise,
+    /// The asker holds no quarantine that it could raise.
+    Gone,
 }
 
 impl Verdict {
@@ -29,7 +33,12 @@ impl Verdict {
     {
         match self {
             Verdict::Give | Verdict::Void | Verdict::Join => true,
-            Verdict::Wait | Verdict::Same | Verdict::Own | Verdict::Refuse => false,
+            Verdict::Wait
+            | Verdict::Same
+            | Verdict::Own
+            | Verdict::Refuse
+            | Verdict::Raise
+            | Verdict::Gone => false,
         }
     }
 }
@@ -69,22 +78,23 @@ macro_rules! cells {
     ($([$($verdict:ident)*])*) => { [$([$(Verdict::$verdict),*]),*] };
 }
 
-/// The verdict on each request, whatever stands on the key. The columns are a lease to read, and a
-/// quarantine to invalidate, to refresh and to shift by a delta.
-pub fn lease_grid() -> Grid<8, 4>
+/// The verdict on each request, whatever stands on the key. The columns are a lease to read, a
+/// quarantine to invalidate, to refresh and to shift by a delta, and to raise a quarantine.
+pub fn lease_grid() -> Grid<9, 5>
     ensures { (holding : Holding) (request : Request)
         → cell result (row_of holding) (column_of request) ≡ Some (verdict holding request) }
 {
     Grid {
         cells: cells! {
-            [Give Give Give Give] // nothing
-            [Wait Void Void Void] // an unexpired lease to read
-            [Wait Join Refuse Refuse] // others' quarantines to invalidate, alone
-            [Wait Refuse Refuse Refuse] // another's quarantine to refresh
-            [Wait Refuse Refuse Refuse] // another's quarantine to shift
-            [Own Same Refuse Refuse] // an own quarantine to invalidate
-            [Own Refuse Same Refuse] // an own quarantine to refresh
-            [Own Refuse Refuse Same] // an own quarantine to shift
+            [Give Give Give Give Gone] // nothing
+            [Wait Void Void Void Gone] // an unexpired lease to read
+            [Wait Join Refuse Refuse Gone] // others' quarantines to invalidate, alone
+            [Wait Refuse Refuse Refuse Gone] // another's quarantine to refresh
+            [Wait Refuse Refuse Refuse Gone] // another's quarantine to shift
+            [Own Same Refuse Refuse Raise] // an own quarantine to invalidate, alone
+            [Own Refuse Same Refuse Gone] // an own quarantine to refresh
+            [Own Refuse Refuse Same Gone] // an own quarantine to shift
+            [Own Same Refuse Refuse Refuse] // an own quarantine to invalidate, beside others'
         },
     }
 }

@@ -1,12 +1,14 @@
 use Rattle.std.specs.Prelude.{ℕ, ◌≡◌, ◌≢◌, ◌<◌, ◌≤◌, ◌==◌, Bool, false, not, nat_lt, if◌then◌else◌, Option, Some, None, option_map, ◌&&◌}
 use Rattle.std.specs.Prelude.{List, [], ◌∷◌, map, filter, find, length, IsTrue}
-use Rattle.std.specs.List.{filter_map, AllPairs}
+use Rattle.std.specs.List.{filter_map, list_any, AllPairs}
 use Rattle.std.specs.Option.{option_or}
 use Rattle.std.specs.Bool.{IsFalse}
 use Rattle.rows_model.specs.declared.keys.Sid.{Sid}
 use Rattle.rows_model.specs.declared.keys.QKey.{QKey}
 use Rattle.rows_model.specs.Key.{same_key}
-use Rattle.case_tables.specs.Compatibility.{Way, invalidate, refresh, delta, is_invalidate, Holding}
+use Rattle.case_tables.specs.Compatibility.{Way, invalidate, refresh, delta, is_invalidate, Holding, verdict, raise}
+use Rattle.case_tables.specs.declared.grids.Verdict.{Verdict}
+use Rattle.case_tables.specs.declared.grids.Verdict.TheVariants as verdicts
 use Rattle.lease_table.specs.declared.records.Mode.{Mode}
 use Rattle.lease_table.specs.declared.records.Mode.TheVariants.{Invalidate, Refresh, Delta}
 use Rattle.lease_table.specs.declared.records.Quar.{Quar}
@@ -134,3 +136,27 @@ has_token token quar = quar.token == token
 abbrev pub is_current : ℕ → ℕ → Option ReadLease → Bool
 is_current token now None = false
 is_current token now (Some lease) = (lease.token == token) && nat_lt now lease.deadline
+
+-- whether a quarantine is this session's, has this token, and is to invalidate
+abbrev pub is_raisable : Sid → ℕ → Quar → Bool
+is_raisable who token quar = is_of who quar && (has_token token quar && is_invalidate (way_of quar.mode))
+
+-- the verdict on raising the quarantine of a token, among those that stand on a key: that of the rules where it may be
+-- raised at all, and else Gone
+abbrev pub raise_in : Sid → ℕ → List Quar → Verdict
+raise_in who token quars =
+    if list_any (is_raisable who token) quars then verdict (holding_of who 0 None quars) raise else verdicts.Gone
+
+-- a quarantine once the one of this token is raised
+abbrev pub raised : ℕ → Quar → Quar
+raised token quar =
+    if has_token token quar then
+      record { sid = quar.sid; mode = Refresh; token = quar.token; deadline = quar.deadline; shift = quar.shift }
+    else quar
+
+-- a quarantine once the one of this token has another deadline
+abbrev pub renewed : ℕ → ℕ → Quar → Quar
+renewed token deadline quar =
+    if has_token token quar then
+      record { sid = quar.sid; mode = quar.mode; token = quar.token; deadline = deadline; shift = quar.shift }
+    else quar

@@ -104,7 +104,12 @@ impl Leases {
     {
         let verdict = self.on_key(&key).read_verdict(sid, now);
         match verdict {
-            Verdict::Wait | Verdict::Same | Verdict::Own | Verdict::Refuse => {}
+            Verdict::Wait
+            | Verdict::Same
+            | Verdict::Own
+            | Verdict::Refuse
+            | Verdict::Raise
+            | Verdict::Gone => {}
             Verdict::Give | Verdict::Void | Verdict::Join => {
                 let read = ReadLease {
                     sid,
@@ -143,7 +148,12 @@ impl Leases {
     {
         let verdict = self.on_key(&key).quar_verdict(q.sid, q.mode, now);
         match verdict {
-            Verdict::Wait | Verdict::Same | Verdict::Own | Verdict::Refuse => {}
+            Verdict::Wait
+            | Verdict::Same
+            | Verdict::Own
+            | Verdict::Refuse
+            | Verdict::Raise
+            | Verdict::Gone => {}
             Verdict::Give | Verdict::Void | Verdict::Join => {
                 list(&mut self.terms, key, &q)?;
                 if let Err(memory) = put_quar(&mut self.leases, self.alloc, key, q) {
