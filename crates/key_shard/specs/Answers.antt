@@ -10,13 +10,13 @@ use Rattle.case_tables.specs.declared.grids.Verdict.TheVariants as verdicts
 use Rattle.lease_table.specs.declared.records.Mode.{Mode}
 use Rattle.lease_table.specs.declared.records.Mode.TheVariants as modes
 use Rattle.lease_table.specs.declared.records.Quar.{Quar}
-use Rattle.lease_table.specs.Leases.{way_of, is_current}
+use Rattle.lease_table.specs.Leases.{way_of, is_current, first, others_in, raise_in}
 use Rattle.key_shard.specs.declared.steps.Stands.{Stands}
 use Rattle.key_shard.specs.declared.steps.Stands.TheVariants.{I, Q}
 use Rattle.key_shard.specs.declared.steps.Ended.{Ended}
 use Rattle.key_shard.specs.declared.steps.Ended.TheVariants as ended
 use Rattle.key_shard.specs.declared.steps.Step.{Step}
-use Rattle.key_shard.specs.declared.steps.Step.TheVariants.{Hit, Lease, Again, Own, Stored, Void, Granted, Held, Refused, Released, Gone}
+use Rattle.key_shard.specs.declared.steps.Step.TheVariants.{Hit, Lease, Again, Own, Stored, Void, Granted, Held, Refused, Released, Gone, Raised, Shared, Renewed}
 use Rattle.key_shard.specs.declared.replies.How.{How}
 use Rattle.key_shard.specs.declared.replies.How.TheVariants as how
 use Rattle.key_shard.specs.Permit.{Permit}
@@ -37,6 +37,8 @@ miss_by terms past key who floor now verdicts.Void = Own key who
 miss_by terms past key who floor now verdicts.Join = Own key who
 miss_by terms past key who floor now verdicts.Same = Own key who
 miss_by terms past key who floor now verdicts.Refuse = Own key who
+miss_by terms past key who floor now verdicts.Raise = Own key who
+miss_by terms past key who floor now verdicts.Gone = Own key who
 
 abbrev pub miss_step : Terms → List Step → QKey → Sid → ℕ → ℕ → Step
 miss_step terms past key who floor now =
@@ -72,7 +74,7 @@ abbrev pub granted_step : Terms → List Step → QKey → Sid → Mode → ℤ 
 granted_step terms past key who mode shift now =
     Granted key who mode shift now (next_token terms past) (deadline_at terms now)
 
--- The step of a quarantine, by the verdict on it. Wait and Own are none on a quarantine.
+-- The step of a quarantine, by the verdict on it. Wait, Own, Raise and Gone are none on a quarantine.
 abbrev pub quarantine_by : Terms → List Step → QKey → Sid → Mode → ℤ → ℕ → Verdict → Step
 quarantine_by terms past key who mode shift now verdicts.Give = granted_step terms past key who mode shift now
 quarantine_by terms past key who mode shift now verdicts.Void = granted_step terms past key who mode shift now
@@ -82,6 +84,8 @@ quarantine_by terms past key who mode shift now verdicts.Refuse =
     refused_step key who mode (holder_of key who past)
 quarantine_by terms past key who mode shift now verdicts.Wait = Held key who mode
 quarantine_by terms past key who mode shift now verdicts.Own = Held key who mode
+quarantine_by terms past key who mode shift now verdicts.Raise = Held key who mode
+quarantine_by terms past key who mode shift now verdicts.Gone = Held key who mode
 
 abbrev pub quarantine_step : Terms → List Step → QKey → Sid → Mode → ℤ → ℕ → Step
 quarantine_step terms past key who mode shift now =
@@ -115,6 +119,39 @@ replace_step terms past permit value stamp =
 abbrev pub sweep_step : List Step → QKey → ℕ → Option Step
 sweep_step past key token = option_map (λ quar. Released key quar.sid token ended.Drop) (quar_of key token past)
 
+-- That a quarantine isn't raised, since another session's stands beside it. Of more than one, the one of least token is named.
+abbrev pub shared_step : Permit → Option Quar → Step
+shared_step permit (Some other) = Shared permit.key permit.sid permit.token other.sid
+shared_step permit None = Gone permit.key permit.sid permit.token
+
+-- The step of a raise, by the verdict on it. No verdict but these three is one on a raise.
+abbrev pub raise_by : Permit → Option Quar → Verdict → Step
+raise_by permit other verdicts.Raise = Raised permit.key permit.sid permit.token
+raise_by permit other verdicts.Refuse = shared_step permit other
+raise_by permit other verdicts.Gone = Gone permit.key permit.sid permit.token
+raise_by permit other verdicts.Give = Gone permit.key permit.sid permit.token
+raise_by permit other verdicts.Void = Gone permit.key permit.sid permit.token
+raise_by permit other verdicts.Join = Gone permit.key permit.sid permit.token
+raise_by permit other verdicts.Wait = Gone permit.key permit.sid permit.token
+raise_by permit other verdicts.Same = Gone permit.key permit.sid permit.token
+raise_by permit other verdicts.Own = Gone permit.key permit.sid permit.token
+
+-- It goes by the quarantines on the key.
+abbrev pub raise_among : Permit → List Quar → Step
+raise_among permit quars =
+    raise_by permit (first (others_in permit.sid quars)) (raise_in permit.sid permit.token quars)
+
+abbrev pub raise_step : List Step → Permit → Step
+raise_step past permit = raise_among permit (standing permit.key past)
+
+-- The step of a renewal: the quarantine of the permit's token has a new deadline, where it stands.
+abbrev pub renew_by : Terms → Permit → ℕ → Option Quar → Step
+renew_by terms permit now (Some quar) = Renewed permit.key permit.sid permit.token now (deadline_at terms now)
+renew_by terms permit now None = Gone permit.key permit.sid permit.token
+
+abbrev pub renew_step : Terms → List Step → Permit → ℕ → Step
+renew_step terms past permit now = renew_by terms permit now (quar_of permit.key permit.token past)
+
 -- What is asked of a shard.
 pub data Request : Type 0 where
   Get : (key : QKey) (who : Sid) (floor now : ℕ) → Request
@@ -122,6 +159,8 @@ pub data Request : Type 0 where
   Quarantine : (key : QKey) (who : Sid) (mode : Mode) (shift : ℤ) (now : ℕ) → Request
   Release : (permit : Permit) (how : How) → Request
   Replace : (permit : Permit) (value : List ℕ) (stamp : ℕ) → Request
+  Raise : (permit : Permit) → Request
+  Renew : (permit : Permit) (now : ℕ) → Request
 
 -- The key that a request is on.
 abbrev pub key_of : Request → QKey
@@ -130,6 +169,8 @@ key_of (Set key token value stamp now) = key
 key_of (Quarantine key who mode shift now) = key
 key_of (Release permit how) = permit.key
 key_of (Replace permit value stamp) = permit.key
+key_of (Raise permit) = permit.key
+key_of (Renew permit now) = permit.key
 
 -- The quarantine of which a permit speaks was granted.
 abbrev pub WasGranted : List Step → Permit → Type 0
@@ -162,13 +203,25 @@ abbrev pub OwesReplace : List Step → Permit → Option Quar → Type 0
 OwesReplace past permit (Some quar) = IsOf permit quar × (quar.mode ≡ modes.Refresh)
 OwesReplace past permit None = WasGranted past permit
 
--- What a request owes: a shift is a delta's, and what is released or replaced stands as the permit says, or was granted.
+-- What a raise owes: a quarantine that stands is to invalidate.
+abbrev pub OwesRaise : List Step → Permit → Option Quar → Type 0
+OwesRaise past permit (Some quar) = IsOf permit quar × (quar.mode ≡ modes.Invalidate)
+OwesRaise past permit None = WasGranted past permit
+
+-- What a renewal owes: one that stands is the permit's.
+abbrev pub OwesRenew : List Step → Permit → Option Quar → Type 0
+OwesRenew past permit (Some quar) = IsOf permit quar
+OwesRenew past permit None = WasGranted past permit
+
+-- What a request owes: a shift is a delta's, and what is released, replaced, raised or renewed stands as the permit says, or was granted.
 abbrev pub IsOwed : List Step → Request → Type 0
 IsOwed past (Get key who floor now) = Unit {0}
 IsOwed past (Set key token value stamp now) = Unit {0}
 IsOwed past (Quarantine key who mode shift now) = FitsShift mode shift
 IsOwed past (Release permit how) = OwesRelease past permit how (quar_of permit.key permit.token past)
 IsOwed past (Replace permit value stamp) = OwesReplace past permit (quar_of permit.key permit.token past)
+IsOwed past (Raise permit) = OwesRaise past permit (quar_of permit.key permit.token past)
+IsOwed past (Renew permit now) = OwesRenew past permit (quar_of permit.key permit.token past)
 
 -- The key is this shard's.
 abbrev pub IsAtHome : Terms → QKey → Type 0
@@ -181,6 +234,8 @@ step_of terms past (Set key token value stamp now) = set_step terms past key tok
 step_of terms past (Quarantine key who mode shift now) = quarantine_step terms past key who mode shift now
 step_of terms past (Release permit how) = release_step past permit how
 step_of terms past (Replace permit value stamp) = replace_step terms past permit value stamp
+step_of terms past (Raise permit) = raise_step past permit
+step_of terms past (Renew permit now) = renew_step terms past permit now
 
 -- The step is the answer to a request that could be made.
 pub record Answers (terms : Terms) (past : List Step) (step : Step) : Type 0 where

@@ -17,7 +17,7 @@ use Rattle.key_shard.specs.Permit.{Permit}
 use Rattle.key_shard.specs.Shards.{ShardView}
 use Rattle.key_shard.specs.Past.{Terms, standing, recorded, entry, order, next_token}
 use Rattle.key_shard.specs.OneStep.{step_key, standing_after, recorded_after, entry_after, order_after, next_after}
-use Rattle.key_shard.specs.Answers.{Request, Get, Set, Quarantine, Release, Replace, key_of}
+use Rattle.key_shard.specs.Answers.{Request, Get, Set, Quarantine, Release, Replace, Raise, Renew, key_of}
 use Rattle.key_shard.specs.Answers.{FitsMode, FitsShift, IsAtHome, IsOf, IsLegalPast, WasGranted}
 use Rattle.key_shard.specs.Sights.{Sight, step_at}
 
@@ -101,6 +101,15 @@ abbrev pub OwesReplaceFrom : BaseView → List Step → Permit → Option Quar �
 OwesReplaceFrom base past permit (Some quar) = IsOf permit quar × (quar.mode ≡ modes.Refresh)
 OwesReplaceFrom base past permit None = WasGrantedFrom base past permit
 
+-- what a raise owes, and a renewal
+abbrev pub OwesRaiseFrom : BaseView → List Step → Permit → Option Quar → Type 0
+OwesRaiseFrom base past permit (Some quar) = IsOf permit quar × (quar.mode ≡ modes.Invalidate)
+OwesRaiseFrom base past permit None = WasGrantedFrom base past permit
+
+abbrev pub OwesRenewFrom : BaseView → List Step → Permit → Option Quar → Type 0
+OwesRenewFrom base past permit (Some quar) = IsOf permit quar
+OwesRenewFrom base past permit None = WasGrantedFrom base past permit
+
 -- what a request owes
 abbrev pub IsOwedFrom : BaseView → List Step → Request → Type 0
 IsOwedFrom base past (Get key who floor now) = Unit {0}
@@ -110,6 +119,10 @@ IsOwedFrom base past (Release permit how) =
     OwesReleaseFrom base past permit how (find (has_token permit.token) (standing_from base permit.key past))
 IsOwedFrom base past (Replace permit value stamp) =
     OwesReplaceFrom base past permit (find (has_token permit.token) (standing_from base permit.key past))
+IsOwedFrom base past (Raise permit) =
+    OwesRaiseFrom base past permit (find (has_token permit.token) (standing_from base permit.key past))
+IsOwedFrom base past (Renew permit now) =
+    OwesRenewFrom base past permit (find (has_token permit.token) (standing_from base permit.key past))
 
 -- a step is the answer to a request, judged from a base and the steps behind it
 pub record AnswersFrom (terms : Terms) (base : BaseView) (past : List Step) (step : Step) : Type 0 where

@@ -9,12 +9,13 @@ use Rattle.case_tables.specs.Compatibility.{verdict, read}
 use Rattle.case_tables.specs.declared.grids.Verdict.TheVariants as verdicts
 use Rattle.lease_table.specs.declared.records.Lease.{Lease}
 use Rattle.lease_table.specs.declared.records.Quar.{Quar}
+use Rattle.lease_table.specs.declared.records.Mode.TheVariants as modes
 use Rattle.lease_table.specs.Leases as leases
 use Rattle.entry_table.specs.Entries.{Item, Table, IsSound, lookup, keys}
 use Rattle.key_shard.specs.Permit.{Permit}
 use Rattle.key_shard.specs.declared.steps.Ended.{Ended}
 use Rattle.key_shard.specs.declared.steps.Step.{Step}
-use Rattle.key_shard.specs.declared.steps.Step.TheVariants.{Hit, Lease as StepLease, Again, Own, Void, Held, Refused, Gone}
+use Rattle.key_shard.specs.declared.steps.Step.TheVariants.{Hit, Lease as StepLease, Again, Own, Void, Held, Refused, Gone, Shared}
 use Rattle.key_shard.specs.declared.replies.How.{How}
 use Rattle.key_shard.specs.declared.replies.How.TheVariants as hows
 use Rattle.key_shard.specs.declared.bodies.Body.{Body}
@@ -76,6 +77,11 @@ places_of past outs = sum_by (places_for past) outs
 abbrev pub is_for : QKey → ℕ → Out → Bool
 is_for key token out = same_key key out.key && (out.token == token)
 
+-- A grant that is out, once the one of this key and token is raised.
+abbrev pub raised_out : QKey → ℕ → Out → Out
+raised_out key token out =
+    if is_for key token out then record { key = out.key; sid = out.sid; mode = modes.Refresh; token = out.token } else out
+
 -- Each quarantine that stands has a grant that is out.
 abbrev pub AreHeld : List Step → List Out → Type 0
 AreHeld past outs =
@@ -97,6 +103,7 @@ IsQuiet (Void key token now) = Unit {0}
 IsQuiet (Held key sid mode) = Unit {0}
 IsQuiet (Refused key sid mode holder held) = Unit {0}
 IsQuiet (Gone key sid token) = Unit {0}
+IsQuiet (Shared key sid token holder) = Unit {0}
 IsQuiet step = ⊥
 
 -- whether there is an entry with a stamp of at least the floor

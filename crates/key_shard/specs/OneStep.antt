@@ -1,14 +1,14 @@
 -- What one step makes of what a shard holds: quarantines, leases to read, entries, their order and the next token.
-use Rattle.std.specs.Prelude.{ℕ, ◌≡◌, ◌+◌, not, if◌then◌else◌, List, [], ◌∷◌, ◌++◌, filter, Option, Some, None, is_some}
+use Rattle.std.specs.Prelude.{ℕ, ◌≡◌, ◌+◌, not, if◌then◌else◌, List, [], ◌∷◌, ◌++◌, map, filter, Option, Some, None, is_some}
 use Rattle.rows_model.specs.declared.keys.QKey.{QKey}
 use Rattle.rows_model.specs.Key.{same_key}
 use Rattle.lease_table.specs.declared.records.Quar.{Quar}
 use Rattle.lease_table.specs.declared.records.ReadLease.{ReadLease}
-use Rattle.lease_table.specs.Leases.{has_token}
+use Rattle.lease_table.specs.Leases.{has_token, raised, renewed}
 use Rattle.key_shard.specs.declared.steps.Ended.{Ended}
 use Rattle.key_shard.specs.declared.steps.Ended.TheVariants.{Keep, Drop, Put, Shift}
 use Rattle.key_shard.specs.declared.steps.Step.{Step}
-use Rattle.key_shard.specs.declared.steps.Step.TheVariants.{Hit, Lease, Again, Own, Stored, Void, Granted, Held, Refused, Released, Gone}
+use Rattle.key_shard.specs.declared.steps.Step.TheVariants.{Hit, Lease, Again, Own, Stored, Void, Granted, Held, Refused, Released, Gone, Raised, Shared, Renewed}
 use Rattle.key_shard.specs.Past.{Terms, standing, recorded, entry, order, is_evicted, evicted_by, entry_shifted, entry_ended, next_token}
 
 -- The key that a step is on.
@@ -24,14 +24,21 @@ step_key (Held on sid mode) = on
 step_key (Refused on sid mode holder held) = on
 step_key (Released on sid token how) = on
 step_key (Gone on sid token) = on
+step_key (Raised on sid token) = on
+step_key (Shared on sid token holder) = on
+step_key (Renewed on sid token now deadline) = on
 
--- The quarantines on a key after a step: one that is granted on it stands behind the others, and one that is released of it is gone.
+-- The quarantines on a key after a step: one that is granted on it stands behind the others, one that is released of it is gone, one that is
+-- raised is to refresh, and one that is renewed has another deadline.
 abbrev pub standing_after : Step → QKey → List Quar → List Quar
 standing_after (Granted on sid mode shift now token deadline) key quars =
     if same_key key on then quars ++ record { sid = sid; mode = mode; token = token; deadline = deadline; shift = shift } ∷ []
     else quars
 standing_after (Released on sid token how) key quars =
     if same_key key on then filter (λ quar. not (has_token token quar)) quars else quars
+standing_after (Raised on sid token) key quars = if same_key key on then map (raised token) quars else quars
+standing_after (Renewed on sid token now deadline) key quars =
+    if same_key key on then map (renewed token deadline) quars else quars
 standing_after step key quars = quars
 
 -- The lease to read that is recorded on a key after a step: one that is given on it, and none once it is quarantined or a value stored.

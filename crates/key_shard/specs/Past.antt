@@ -1,6 +1,6 @@
 -- What a shard holds, found by looking back over its steps. A past is a list of steps, the latest first.
 use Rattle.std.specs.Prelude.{ℕ, ◌+◌, ◌-◌, ◌^◌, Bool, true, false, not, ◌==◌, ◌&&◌, nat_lt, if◌then◌else◌, List, [], ◌∷◌, ◌++◌, length}
-use Rattle.std.specs.Prelude.{filter, find, count_by, Option, Some, None, is_some, option_map, option_and_then, min, ℤ, decimal}
+use Rattle.std.specs.Prelude.{map, filter, find, count_by, Option, Some, None, is_some, option_map, option_and_then, min, ℤ, decimal}
 use Rattle.rows_model.specs.declared.keys.QKey.{QKey}
 use Rattle.rows_model.specs.declared.keys.Sid.{Sid}
 use Rattle.rows_model.specs.Key.{same_key}
@@ -8,12 +8,12 @@ use Rattle.rows_model.specs.Shift.{shifted}
 use Rattle.case_tables.specs.Compatibility.{Holding}
 use Rattle.lease_table.specs.declared.records.Quar.{Quar}
 use Rattle.lease_table.specs.declared.records.ReadLease.{ReadLease}
-use Rattle.lease_table.specs.Leases.{has_token, own_in, others_in, holder_in, holding_of}
+use Rattle.lease_table.specs.Leases.{has_token, own_in, others_in, holder_in, holding_of, raised, renewed}
 use Rattle.key_shard.specs.Permit.{Permit}
 use Rattle.key_shard.specs.declared.steps.Ended.{Ended}
 use Rattle.key_shard.specs.declared.steps.Ended.TheVariants.{Keep, Drop, Put, Shift}
 use Rattle.key_shard.specs.declared.steps.Step.{Step}
-use Rattle.key_shard.specs.declared.steps.Step.TheVariants.{Hit, Lease, Again, Stored, Granted, Released}
+use Rattle.key_shard.specs.declared.steps.Step.TheVariants.{Hit, Lease, Again, Stored, Granted, Released, Raised, Renewed}
 
 -- What a shard is made with: its number of so many, how many entries it has room for, how long a lease lives, its first token; and at
 -- how many steps in memory these are given up, where it rolls.
@@ -25,7 +25,8 @@ pub record Terms : Type 0 where
   pub first : ℕ
   pub keep : Option ℕ
 
--- The quarantines that stand on a key, in order of token: those granted, less those released since.
+-- The quarantines that stand on a key, in order of token: those granted, less those released since. One that was raised is to refresh, and
+-- one that was renewed has its new deadline.
 abbrev pub standing : QKey → List Step → List Quar
 standing key [] = []
 standing key (Granted on sid mode shift now token deadline ∷ past) =
@@ -33,6 +34,10 @@ standing key (Granted on sid mode shift now token deadline ∷ past) =
     else standing key past
 standing key (Released on sid token how ∷ past) =
     if same_key key on then filter (λ quar. not (has_token token quar)) (standing key past) else standing key past
+standing key (Raised on sid token ∷ past) =
+    if same_key key on then map (raised token) (standing key past) else standing key past
+standing key (Renewed on sid token now deadline ∷ past) =
+    if same_key key on then map (renewed token deadline) (standing key past) else standing key past
 standing key (step ∷ past) = standing key past
 
 -- The recorded I lease of a key: the last one given on it, unless it was quarantined or a value was stored on it since.

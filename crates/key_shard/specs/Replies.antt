@@ -3,7 +3,7 @@ use Rattle.std.specs.Prelude.{ℕ, ◌≡◌, List, Option, Some, None}
 use Rattle.lease_table.specs.declared.records.Mode.{Mode}
 use Rattle.lease_table.specs.declared.records.Mode.TheVariants.{Invalidate, Refresh, Delta}
 use Rattle.key_shard.specs.declared.steps.Step.{Step}
-use Rattle.key_shard.specs.declared.steps.Step.TheVariants.{Hit, Lease, Again, Own, Stored, Void, Granted, Held, Refused, Released, Gone}
+use Rattle.key_shard.specs.declared.steps.Step.TheVariants.{Hit, Lease, Again, Own, Stored, Void, Granted, Held, Refused, Released, Gone, Raised, Shared, Renewed}
 use Rattle.key_shard.specs.declared.replies.Got.{Got}
 use Rattle.key_shard.specs.declared.replies.Got.TheVariants as got
 use Rattle.key_shard.specs.declared.replies.SetAnswer.{SetAnswer}
@@ -12,6 +12,12 @@ use Rattle.key_shard.specs.declared.replies.QAnswer.{QAnswer}
 use Rattle.key_shard.specs.declared.replies.QAnswer.TheVariants as quarantine
 use Rattle.key_shard.specs.declared.replies.Rel.{Rel}
 use Rattle.key_shard.specs.declared.replies.Rel.TheVariants as rel
+use Rattle.key_shard.specs.declared.replies.Raising.{Raising}
+use Rattle.key_shard.specs.declared.replies.Raising.TheVariants as raising
+use Rattle.key_shard.specs.declared.replies.Renewal.{Renewal}
+use Rattle.key_shard.specs.declared.replies.Renewal.TheVariants as renewal
+use Rattle.key_shard.specs.Permit.{Permit}
+use Rattle.key_shard.specs.Shards.{raised_permit}
 use Rattle.key_shard.specs.Past.{Terms, entry, evicted_by}
 
 -- the answer to a get is the one that its step shows
@@ -47,6 +53,20 @@ abbrev pub ShowsRelease : Step → Rel → Type 0
 ShowsRelease (Released key sid token how) answer = answer ≡ rel.Released (evicted_by how)
 ShowsRelease (Gone key sid token) answer = answer ≡ rel.Gone
 ShowsRelease step answer = ⊥
+
+-- the answer to a raise is the one that its step shows, with the grant as it is then, and with the entry where it is raised
+abbrev pub ShowsRaise : List Step → Permit → Step → Raising → Type 0
+ShowsRaise past permit (Raised key sid token) answer =
+    answer ≡ raising.Raised (raised_permit permit.key permit.token permit) (entry key past)
+ShowsRaise past permit (Shared key sid token holder) answer = answer ≡ raising.Shared permit holder
+ShowsRaise past permit (Gone key sid token) answer = answer ≡ raising.Gone
+ShowsRaise past permit step answer = ⊥
+
+-- the answer to a renewal is the one that its step shows
+abbrev pub ShowsRenewal : Step → Renewal → Type 0
+ShowsRenewal (Renewed key sid token now deadline) answer = answer ≡ renewal.Renewed deadline
+ShowsRenewal (Gone key sid token) answer = answer ≡ renewal.Gone
+ShowsRenewal step answer = ⊥
 
 -- The answer to a sweep: Released where its step ends a quarantine, for which no key makes room, and else Gone.
 abbrev pub sweep_told : Option Step → Rel

@@ -1,11 +1,13 @@
 -- What contracts see of a shard, what becomes of it, and when it refuses.
-use Rattle.std.specs.Prelude.{ℕ, ◌≡◌, ◌≤◌, ◌-◌, ◌^◌, Bool, not, ◌==◌, ◌&&◌, if◌then◌else◌, List, [], ◌∷◌, ◌++◌, drop, length, filter, reverse, Option, Some, None, Result, Ok, Err}
+use Rattle.std.specs.Prelude.{ℕ, ◌≡◌, ◌≤◌, ◌-◌, ◌^◌, Bool, not, ◌==◌, ◌&&◌, if◌then◌else◌, List, [], ◌∷◌, ◌++◌, drop, length, map, filter, reverse, Option, Some, None, Result, Ok, Err}
 use Rattle.std.specs.List.{list_any}
 use Rattle.rows_model.specs.declared.keys.QKey.{QKey}
+use Rattle.rows_model.specs.Key.{same_key}
 use Rattle.rows_model.specs.Placement.{shard_of}
 use Rattle.key_shard.specs.Permit.{Permit, same_permit}
 use Rattle.key_shard.specs.declared.steps.Step.{Step}
-use Rattle.key_shard.specs.declared.steps.Step.TheVariants.{Granted}
+use Rattle.lease_table.specs.declared.records.Mode.TheVariants as modes
+use Rattle.key_shard.specs.declared.steps.Step.TheVariants.{Granted, Raised, Gone}
 use Rattle.key_shard.specs.declared.replies.ShardFault.{ShardFault}
 use Rattle.key_shard.specs.declared.replies.ShardFault.TheVariants as faults
 use Rattle.key_shard.specs.Past.{Terms, draws, next_token}
@@ -44,10 +46,18 @@ is_out shard permit = list_any (same_permit permit) shard.out
 abbrev pub without_permit : Permit → List Permit → List Permit
 without_permit permit out = filter (λ other. not (same_permit permit other)) out
 
--- the grants that are out after a step: a granted quarantine's is
+-- a grant that is out, once the one of this key and token is raised
+abbrev pub raised_permit : QKey → ℕ → Permit → Permit
+raised_permit key token permit =
+    if same_key key permit.key && (permit.token == token) then
+      record { shard = permit.shard; key = permit.key; sid = permit.sid; mode = modes.Refresh; token = permit.token }
+    else permit
+
+-- the grants that are out after a step: a granted quarantine's is, and a raised one's is to refresh
 abbrev pub out_after : Terms → Step → List Permit → List Permit
 out_after terms (Granted key sid mode shift now token deadline) out =
     out ++ record { shard = terms.no; key = key; sid = sid; mode = mode; token = token } ∷ []
+out_after terms (Raised key sid token) out = map (raised_permit key token) out
 out_after terms step out = out
 
 -- the shard after a step
@@ -67,6 +77,11 @@ returned shard permit step = record {
   out = without_permit permit shard.out;
   gone = shard.gone;
 }
+
+-- the shard after a raise: where the quarantine was gone its grant is spent
+abbrev pub after_raise : ShardView → Permit → Step → ShardView
+after_raise shard permit (Gone key sid token) = returned shard permit (Gone key sid token)
+after_raise shard permit step = stepped (rolled shard) step
 
 -- The shard after a sweep: after its step, where it has one.
 abbrev pub swept : ShardView → Option Step → ShardView

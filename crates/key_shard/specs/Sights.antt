@@ -14,8 +14,8 @@ use Rattle.key_shard.specs.declared.steps.Step.{Step}
 use Rattle.key_shard.specs.declared.steps.Step.TheVariants.{Hit, Lease, Again, Own, Stored, Void, Granted, Held, Released, Gone}
 use Rattle.key_shard.specs.Permit.{Permit}
 use Rattle.key_shard.specs.Past.{Terms, standing, recorded, entry, order, last_key, next_token, deadline_at}
-use Rattle.key_shard.specs.Answers.{stands_of, refused_step, release_by}
-use Rattle.key_shard.specs.Answers.{Request, Get, Set, Quarantine, Release, Replace, key_of, step_of}
+use Rattle.key_shard.specs.Answers.{stands_of, refused_step, release_by, raise_among, renew_by}
+use Rattle.key_shard.specs.Answers.{Request, Get, Set, Quarantine, Release, Replace, Raise, Renew, key_of, step_of}
 
 -- what is seen of a key: its quarantines, its lease to read, its entry; and the order of the entries, and the next token
 pub record Sight : Type 0 where
@@ -54,6 +54,8 @@ miss_at terms sight key who floor now verdicts.Void = Own key who
 miss_at terms sight key who floor now verdicts.Join = Own key who
 miss_at terms sight key who floor now verdicts.Same = Own key who
 miss_at terms sight key who floor now verdicts.Refuse = Own key who
+miss_at terms sight key who floor now verdicts.Raise = Own key who
+miss_at terms sight key who floor now verdicts.Gone = Own key who
 
 -- a get by the entry, where the session has not quarantined the key
 abbrev pub found_at : Terms → Sight → QKey → Sid → ℕ → ℕ → Option (List ℕ × ℕ) → Step
@@ -80,6 +82,8 @@ asked_at terms sight key who mode shift now verdicts.Same = Held key who mode
 asked_at terms sight key who mode shift now verdicts.Refuse = refused_step key who mode (holder_in who sight.quars)
 asked_at terms sight key who mode shift now verdicts.Wait = Held key who mode
 asked_at terms sight key who mode shift now verdicts.Own = Held key who mode
+asked_at terms sight key who mode shift now verdicts.Raise = Held key who mode
+asked_at terms sight key who mode shift now verdicts.Gone = Held key who mode
 
 -- a release with a new value, by the quarantine of its token
 abbrev pub replaced_at : Terms → Sight → Permit → List ℕ → ℕ → Option Quar → Step
@@ -99,6 +103,9 @@ step_at terms sight (Quarantine key who mode shift now) =
 step_at terms sight (Release permit how) = release_by permit how (find (has_token permit.token) sight.quars)
 step_at terms sight (Replace permit value stamp) =
     replaced_at terms sight permit value stamp (find (has_token permit.token) sight.quars)
+step_at terms sight (Raise permit) = raise_among permit sight.quars
+step_at terms sight (Renew permit now) =
+    renew_by terms permit now (find (has_token permit.token) sight.quars)
 
 -- A request's step rests on what its past shows of its key, and on nothing else of the past.
 abbrev pub StepBySight : Type 0

@@ -1,4 +1,5 @@
 ghost use Rattle.std.specs.Prelude.{◌≡◌, ◌≤◌, [], IfOk, vec_capacity};
+ghost use Rattle.key_shard.specs.Shards.{raised_permit};
 
 use lease_table::Mode;
 use rows_model::{Memory, QKey, Sid};
@@ -92,6 +93,16 @@ impl Grant {
             token,
             digits,
         })
+    }
+
+    /// The grant of the same quarantine, in mode Refresh.
+    pub(crate) fn raised(self) -> Grant
+        ensures { result ≡ raised_permit self.key self.token self }
+    {
+        Grant {
+            mode: Mode::Refresh,
+            ..self
+        }
     }
 
     /// Spends a grant. What is left of one of mode Delta has room for a number's digits.

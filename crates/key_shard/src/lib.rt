@@ -3,7 +3,7 @@
 
 pub use bases::Base;
 pub use grants::Grant;
-pub use replies::{Back, Got, How, QAnswer, Rel, SetAnswer, ShardFault};
+pub use replies::{Back, Got, How, QAnswer, Raising, Rel, Renewal, SetAnswer, ShardFault};
 pub use shards::Shard;
 pub use steps::{Ended, Stands, Step};
 
@@ -16,6 +16,7 @@ pub mod laws;
 mod lookups;
 mod outs;
 mod quarantines;
+mod raises;
 pub mod readers;
 mod releases;
 pub mod replies;

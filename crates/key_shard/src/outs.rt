@@ -1,6 +1,6 @@
-ghost use Rattle.std.specs.Prelude.{◌≡◌, ◌<◌, [], ◌∷◌, ◌++◌, List, not, filter, IsTrue, OnOk, OnErr};
+ghost use Rattle.std.specs.Prelude.{◌≡◌, ◌<◌, [], ◌∷◌, ◌++◌, List, not, map, filter, IsTrue, OnOk, OnErr};
 ghost use Rattle.std.specs.List.{All, list_any};
-ghost use Rattle.key_shard.specs.Kept.{permit_of};
+ghost use Rattle.key_shard.specs.Kept.{permit_of, raised_out};
 ghost use Rattle.key_shard.specs.Permit.{same_permit};
 
 use crate::grants::Grant;
@@ -85,6 +85,16 @@ impl Outs {
             self.old ≡ others ++ last ∷ [] → self.new ≡ others }
     {
         let _ = self.by_token.pop_last();
+    }
+
+    /// Makes a grant of a shard that is among them one of mode Refresh. It takes no memory.
+    pub fn raise(&mut self, no: u32, grant: &Grant)
+        requires { IsTrue (list_any (λ out. same_permit grant.now (permit_of no out)) self.old) }
+        ensures { self.new ≡ map (raised_out grant.now.key grant.now.token) self.old }
+    {
+        if let Some(out) = self.by_token.get_mut(&grant.token()) {
+            out.mode = Mode::Refresh;
+        }
     }
 
     /// Takes out a grant of a shard that is among them. It takes no memory.

@@ -95,7 +95,7 @@ impl Body {
     }
 
     /// In mode Refresh the entry of the key.
-    fn old_value(&self, key: &QKey, mode: Mode) -> Result<Option<(Value, u64)>, Memory>
+    pub fn old_value(&self, key: &QKey, mode: Mode) -> Result<Option<(Value, u64)>, Memory>
         requires { IsKept self.now }
         ensures { IfOk result (λ old. old ≡ old_value mode (entry key.now (steps_of self.now))) }
     {

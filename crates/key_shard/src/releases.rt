@@ -77,14 +77,14 @@ fn end_entry(entries: &mut Entries, key: &QKey, how: How, quar: Quar, digits: Ve
 
 impl Body {
     /// Whether a grant is out.
-    fn is_out(&self, grant: &Grant) -> bool
+    pub fn is_out(&self, grant: &Grant) -> bool
         ensures { result ≡ is_out (shown self.now) grant.now }
     {
         self.out.has(self.no, grant)
     }
 
     /// Writes down that the quarantine of a grant stood no longer.
-    fn gone(&mut self, grant: Grant) -> Rel
+    pub fn gone(&mut self, grant: Grant) -> Rel
         requires kept { IsKept self.old }
         requires out { IsTrue (is_out (shown self.old) grant) }
         requires none { quar_of grant.key grant.token (steps_of self.old) ≡ None }

@@ -61,6 +61,29 @@ pub enum Rel {
     Gone,
 }
 
+/// The answer to a raise.
+pub enum Raising {
+    /// The quarantine is to refresh now, as its grant says. The key's entry, value and stamp, comes along.
+    Raised {
+        grant: Grant,
+        old: Option<(Value, u64)>,
+    },
+    /// The quarantine of another session stands beside it: of more than one, the one of least token. The
+    /// grant comes back as it was.
+    Shared { grant: Grant, holder: Sid },
+    /// The quarantine stood no longer. Its grant is spent.
+    Gone,
+}
+
+/// The answer to a renewal.
+#[derive(Clone, Copy, Debug, PartialEq, Eq)]
+pub enum Renewal {
+    /// The quarantine's deadline is this one now.
+    Renewed { deadline: u64 },
+    /// The quarantine stood no longer, and nothing changed.
+    Gone,
+}
+
 /// What a replace hands back for want of memory.
 pub struct Back {
     pub grant: Grant,

@@ -2,20 +2,20 @@ ghost use Rattle.std.specs.Prelude.{◌≡◌, ◌≢◌, ◌↔◌, ◌≤◌, 
 ghost use Rattle.std.specs.Bool.{IsFalse};
 ghost use Rattle.lease_table.specs.Expiry.{NoneDue, NoneDueBefore, StandsDue};
 ghost use Rattle.key_shard.specs.Dues.{first_due};
-ghost use Rattle.key_shard.specs.Answers.{get_step, set_step, quarantine_step, release_step, replace_step, sweep_step, FitsMode, FitsShift, IsAtHome, Legal};
+ghost use Rattle.key_shard.specs.Answers.{get_step, set_step, quarantine_step, release_step, replace_step, sweep_step, raise_step, renew_step, FitsMode, FitsShift, IsAtHome, Legal};
 ghost use Rattle.entry_table.specs.Entries.{keys, lookup};
 ghost use Rattle.key_shard.specs.Past.{entry, order, quar_of, standing};
-ghost use Rattle.key_shard.specs.Replies.{ShowsGot, ShowsSet, ShowsQuarantine, ShowsRelease, sweep_told};
+ghost use Rattle.key_shard.specs.Replies.{ShowsGot, ShowsSet, ShowsQuarantine, ShowsRaise, ShowsRelease, ShowsRenewal, sweep_told};
 ghost use Rattle.key_shard.specs.Base.{IsBase, IsRolled, LegalFrom};
 ghost use Rattle.key_shard.specs.Histories.{is_due};
-ghost use Rattle.key_shard.specs.Shards.{kept_of, past_of, is_out, stepped, rolled, returned, swept, refusal, Refuses};
+ghost use Rattle.key_shard.specs.Shards.{kept_of, past_of, is_out, after_raise, stepped, rolled, returned, swept, refusal, Refuses};
 
 use crate::bases::Base;
 use crate::bodies::Body;
 use crate::grants::Grant;
 use crate::histories::History;
 use crate::outs::Outs;
-use crate::replies::{Back, Got, How, QAnswer, Rel, SetAnswer, ShardFault};
+use crate::replies::{Back, Got, How, QAnswer, Raising, Rel, Renewal, SetAnswer, ShardFault};
 use crate::steps::Step;
 use entry_table::Entries;
 use lease_table::{Due, Leases, Mode};
@@ -297,6 +297,56 @@ impl Shard {
         self.body.replace(grant, value, stamp)
     }
 
+    /// Raises the quarantine of a grant of mode Invalidate to one of mode Refresh, where it stands alone on
+    /// its key: the grant comes back in that mode, with the key's entry. Where another session's stands
+    /// beside it, the grant comes back as it was. Gone as for `release`: the grant is spent. For want of
+    /// memory the grant comes back, and everything is as before.
+    pub fn raise(&mut self, grant: Grant) -> Result<Raising, Grant>
+        requires { grant.mode ≡ Mode.Invalidate }
+        ensures out { IsTrue (is_out self.old grant) →
+            OnOk result (self.new ≡ after_raise self.old grant
+            (raise_step (past_of self.old) grant)) }
+        ensures shows { IsTrue (is_out self.old grant) →
+            IfOk result (ShowsRaise (past_of self.old) grant
+            (raise_step (past_of self.old) grant)) }
+        ensures unknown { IsFalse (is_out self.old grant) → (self.new ≡ self.old) ×
+            (result ≡ Ok Raising.Gone) }
+        ensures returned { IfErr result (λ back. back ≡ grant) }
+        ensures err { OnErr result (self.new ≡ self.old) }
+    {
+        let base = self.next_base();
+        let raising = self.body.raise(grant)?;
+        if let (Raising::Raised { .. } | Raising::Shared { .. }, Some(base)) = (&raising, base) {
+            self.base = base;
+        }
+        Ok(raising)
+    }
+
+    /// Gives the quarantine of a grant a new deadline, as if it was granted now. Gone comes where the
+    /// grant isn't out at this shard, which leaves the history, and where its quarantine stands no longer;
+    /// the grant stays as it is. After a refusal everything is as before.
+    pub fn renew(&mut self, grant: &Grant, now: u64) -> Result<Renewal, Memory>
+        ensures out { IsTrue (is_out self.old grant.now) →
+            OnOk result (self.new ≡ stepped (rolled self.old)
+            (renew_step self.old.terms (past_of self.old) grant.now now)) }
+        ensures shows { IsTrue (is_out self.old grant.now) →
+            IfOk result (ShowsRenewal
+            (renew_step self.old.terms (past_of self.old) grant.now now)) }
+        ensures unknown { IsFalse (is_out self.old grant.now) → (self.new ≡ self.old) ×
+            (result ≡ Ok Renewal.Gone) }
+        ensures err { OnErr result (self.new ≡ self.old) }
+    {
+        if !self.body.is_out(grant) {
+            return Ok(Renewal::Gone);
+        }
+        let base = self.next_base();
+        let told = self.body.renew(grant, now)?;
+        if let Some(base) = base {
+            self.base = base;
+        }
+        Ok(told)
+    }
+
     /// Its number, from 0. It takes no memory.
     pub fn no(&self) -> u32
         ensures { result ≡ self.now.terms.no }
@@ -312,12 +362,14 @@ impl Shard {
     }
 
     /// The quarantine whose deadline has come that is first by key, and then by token; none exactly where
-    /// no deadline of a quarantine has come. It takes no memory.
-    pub fn expired(&self, now: u64) -> Option<Due>
-        ensures due { IfSome result (StandsDue now (λ key. standing key (past_of self.now))) }
-        ensures least { IfSome result (NoneDueBefore now (λ key. standing key (past_of self.now))) }
-        ensures none { IfNone result (NoneDue now (λ key. standing key (past_of self.now))) }
-        ensures first { result ≡ first_due now (past_of self.now) }
+    /// no deadline of a quarantine has come. Nothing that contracts see changes; what was found due is kept
+    /// apart, so that the next call finds it at once. It takes no memory.
+    pub fn expired(&mut self, now: u64) -> Option<Due>
+        ensures left { self.new ≡ self.old }
+        ensures due { IfSome result (StandsDue now (λ key. standing key (past_of self.old))) }
+        ensures least { IfSome result (NoneDueBefore now (λ key. standing key (past_of self.old))) }
+        ensures none { IfNone result (NoneDue now (λ key. standing key (past_of self.old))) }
+        ensures first { result ≡ first_due now (past_of self.old) }
     {
         self.body.expired(now)
     }

@@ -109,10 +109,32 @@ pub enum Step {
         token: u64,
         how: Ended,
     },
-    /// A quarantine was to be ended that stood no longer.
+    /// A quarantine was to be ended, raised or renewed that stood no longer.
     Gone {
         key: QKey,
         sid: Sid,
         token: u64,
+    },
+    /// The quarantine of this token, to invalidate, became one to refresh.
+    Raised {
+        key: QKey,
+        sid: Sid,
+        token: u64,
+    },
+    /// The quarantine of this token wasn't raised, since another session's stands beside it. Of more than
+    /// one, the one of least token is named by its session.
+    Shared {
+        key: QKey,
+        sid: Sid,
+        token: u64,
+        holder: Sid,
+    },
+    /// The quarantine of this token has a new deadline.
+    Renewed {
+        key: QKey,
+        sid: Sid,
+        token: u64,
+        now: u64,
+        deadline: u64,
     },
 }

@@ -23,13 +23,15 @@ impl Body {
     }
 
     /// The first quarantine whose deadline has come, by key and then by token.
-    pub fn expired(&self, now: u64) -> Option<Due>
-        requires { IsKept self.now }
-        ensures due { IfSome result (StandsDue now (λ key. standing key (steps_of self.now))) }
+    pub fn expired(&mut self, now: u64) -> Option<Due>
+        requires { IsKept self.old }
+        ensures kept { IsKept self.new }
+        ensures left { shown self.new ≡ shown self.old }
+        ensures due { IfSome result (StandsDue now (λ key. standing key (steps_of self.old))) }
         ensures least { IfSome result (NoneDueBefore now
-            (λ key. standing key (steps_of self.now))) }
-        ensures none { IfNone result (NoneDue now (λ key. standing key (steps_of self.now))) }
-        ensures first { result ≡ first_due now (steps_of self.now) }
+            (λ key. standing key (steps_of self.old))) }
+        ensures none { IfNone result (NoneDue now (λ key. standing key (steps_of self.old))) }
+        ensures first { result ≡ first_due now (steps_of self.old) }
     {
         self.leases.expired(now)
     }
