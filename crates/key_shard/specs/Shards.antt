@@ -81,7 +81,7 @@ returned shard permit step = record {
 -- the shard after a raise: where the quarantine was gone its grant is spent
 abbrev pub after_raise : ShardView → Permit → Step → ShardView
 after_raise shard permit (Gone key sid token) = returned shard permit (Gone key sid token)
-after_raise shard permit step = stepped (rolled shard) step
+after_raise shard permit step = stepped shard step
 
 -- The shard after a sweep: after its step, where it has one.
 abbrev pub swept : ShardView → Option Step → ShardView

@@ -2,10 +2,10 @@ ghost use Rattle.std.specs.Prelude.{◌≡◌, IsTrue, IsSome, OnOk, OnErr, IfOk
 ghost use Rattle.std.specs.Bool.{IsFalse};
 ghost use Rattle.lease_table.specs.Leases.{first, others_in, raise_in};
 ghost use Rattle.key_shard.specs.Answers.{Answers, raise_step, renew_step, shared_step};
-ghost use Rattle.key_shard.specs.Kept.{IsKept, shown, steps_of, terms_of};
+ghost use Rattle.key_shard.specs.Kept.{IsKept, IsQuiet, shown, steps_of, terms_of};
 ghost use Rattle.key_shard.specs.Past.{deadline_at, standing};
 ghost use Rattle.key_shard.specs.Replies.{ShowsRaise, ShowsRenewal};
-ghost use Rattle.key_shard.specs.Shards.{after_raise, is_out, rolled, stepped};
+ghost use Rattle.key_shard.specs.Shards.{after_raise, is_out, stepped};
 ghost use Rattle.case_tables.specs.declared.grids.Verdict.TheVariants as verdicts;
 
 use crate::bodies::Body;
@@ -59,7 +59,7 @@ impl Body {
         requires answers { Answers (terms_of self.old) (steps_of self.old)
             (Step.Raised grant.key grant.sid grant.token) }
         ensures kept { IsKept self.new }
-        ensures step { OnOk result (shown self.new ≡ stepped (rolled (shown self.old))
+        ensures step { OnOk result (shown self.new ≡ stepped (shown self.old)
             (Step.Raised grant.key grant.sid grant.token)) }
         ensures shows { IfOk result (ShowsRaise (steps_of self.old) grant
             (Step.Raised grant.key grant.sid grant.token)) }
@@ -76,7 +76,7 @@ impl Body {
         let _ = self.leases.raise(&key, sid, token);
         self.out.raise(self.no, &grant);
         self.history
-            .push(self.keep, Step::Raised { key, sid, token });
+            .push_reserved(Step::Raised { key, sid, token });
         let grant = grant.raised();
         Ok(Raising::Raised { grant, old })
     }
@@ -90,7 +90,7 @@ impl Body {
             (shared_step grant (first (others_in grant.sid
             (standing grant.key (steps_of self.old))))) }
         ensures kept { IsKept self.new }
-        ensures step { OnOk result (shown self.new ≡ stepped (rolled (shown self.old))
+        ensures step { OnOk result (shown self.new ≡ stepped (shown self.old)
             (shared_step grant (first (others_in grant.sid
             (standing grant.key (steps_of self.old)))))) }
         ensures shows { IfOk result (ShowsRaise (steps_of self.old) grant
@@ -107,10 +107,24 @@ impl Body {
             token,
             holder,
         };
-        match self.note(step) {
+        match self.note_also(step) {
             Ok(()) => Ok(Raising::Shared { grant, holder }),
             Err(_) => Err(grant),
         }
+    }
+
+    /// Writes down a step that changes nothing else, and gives up none.
+    fn note_also(&mut self, step: Step) -> Result<(), Memory>
+        requires kept { IsKept self.old }
+        requires quiet { IsQuiet step }
+        requires answers { Answers (terms_of self.old) (steps_of self.old) step }
+        ensures kept { IsKept self.new }
+        ensures ok { OnOk result (shown self.new ≡ stepped (shown self.old) step) }
+        ensures err { OnErr result (shown self.new ≡ shown self.old) }
+    {
+        self.history.make_room(self.promised, 1)?;
+        self.history.push_reserved(step);
+        Ok(())
     }
 
     /// Renews the quarantine of a grant, as a shard does.
@@ -118,7 +132,7 @@ impl Body {
         requires { IsKept self.old }
         ensures kept { IsKept self.new }
         ensures out { IsTrue (is_out (shown self.old) grant.now) →
-            OnOk result (shown self.new ≡ stepped (rolled (shown self.old))
+            OnOk result (shown self.new ≡ stepped (shown self.old)
             (renew_step (terms_of self.old) (steps_of self.old) grant.now now)) }
         ensures shows { IsTrue (is_out (shown self.old) grant.now) →
             IfOk result (ShowsRenewal
@@ -142,12 +156,12 @@ impl Body {
         requires answers { Answers (terms_of self.old) (steps_of self.old)
             (Step.Gone grant.now.key grant.now.sid grant.now.token) }
         ensures kept { IsKept self.new }
-        ensures step { OnOk result (shown self.new ≡ stepped (rolled (shown self.old))
+        ensures step { OnOk result (shown self.new ≡ stepped (shown self.old)
             (Step.Gone grant.now.key grant.now.sid grant.now.token)) }
         ensures gone { IfOk result (λ told. told ≡ Renewal.Gone) }
         ensures err { OnErr result (shown self.new ≡ shown self.old) }
     {
-        self.note(Step::Gone {
+        self.note_also(Step::Gone {
             key: grant.key(),
             sid: grant.sid(),
             token: grant.token(),
@@ -162,7 +176,7 @@ impl Body {
             (Step.Renewed grant.now.key grant.now.sid grant.now.token now
             (deadline_at (terms_of self.old) now)) }
         ensures kept { IsKept self.new }
-        ensures step { OnOk result (shown self.new ≡ stepped (rolled (shown self.old))
+        ensures step { OnOk result (shown self.new ≡ stepped (shown self.old)
             (Step.Renewed grant.now.key grant.now.sid grant.now.token now
             (deadline_at (terms_of self.old) now))) }
         ensures renewed { IfOk result (λ told. told
@@ -173,16 +187,13 @@ impl Body {
         let (key, sid, token) = (grant.key(), grant.sid(), grant.token());
         let deadline = self.deadline(now);
         let _ = self.leases.renew(&key, token, deadline);
-        self.history.push(
-            self.keep,
-            Step::Renewed {
-                key,
-                sid,
-                token,
-                now,
-                deadline,
-            },
-        );
+        self.history.push_reserved(Step::Renewed {
+            key,
+            sid,
+            token,
+            now,
+            deadline,
+        });
         Ok(Renewal::Renewed { deadline })
     }
 }

@@ -314,12 +314,7 @@ impl Shard {
         ensures returned { IfErr result (λ back. back ≡ grant) }
         ensures err { OnErr result (self.new ≡ self.old) }
     {
-        let base = self.next_base();
-        let raising = self.body.raise(grant)?;
-        if let (Raising::Raised { .. } | Raising::Shared { .. }, Some(base)) = (&raising, base) {
-            self.base = base;
-        }
-        Ok(raising)
+        self.body.raise(grant)
     }
 
     /// Gives the quarantine of a grant a new deadline, as if it was granted now. Gone comes where the
@@ -327,7 +322,7 @@ impl Shard {
     /// the grant stays as it is. After a refusal everything is as before.
     pub fn renew(&mut self, grant: &Grant, now: u64) -> Result<Renewal, Memory>
         ensures out { IsTrue (is_out self.old grant.now) →
-            OnOk result (self.new ≡ stepped (rolled self.old)
+            OnOk result (self.new ≡ stepped self.old
             (renew_step self.old.terms (past_of self.old) grant.now now)) }
         ensures shows { IsTrue (is_out self.old grant.now) →
             IfOk result (ShowsRenewal
@@ -336,15 +331,7 @@ impl Shard {
             (result ≡ Ok Renewal.Gone) }
         ensures err { OnErr result (self.new ≡ self.old) }
     {
-        if !self.body.is_out(grant) {
-            return Ok(Renewal::Gone);
-        }
-        let base = self.next_base();
-        let told = self.body.renew(grant, now)?;
-        if let Some(base) = base {
-            self.base = base;
-        }
-        Ok(told)
+        self.body.renew(grant, now)
     }
 
     /// Its number, from 0. It takes no memory.
