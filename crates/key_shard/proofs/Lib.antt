@@ -18,3 +18,4 @@ pub mod SweepLemmas
 pub mod TiesLemmas
 pub mod TokenLemmas
 pub mod PermitLemmas
+pub mod RaiseLemmas
