@@ -429,7 +429,7 @@ own_token terms past key who token quar h e found =
     sym (ap (λ q. q.sid.number) same) ∙ own.2
 
 -- what is found passes the test, and is there
-found-passes : (p q : Quar → Bool) (quars : List Quar) (quar : Quar) → (p quar ≡ true → q quar ≡ true) → find p quars ≡ Some quar → list_any q quars ≡ true
+pub found-passes : (p q : Quar → Bool) (quars : List Quar) (quar : Quar) → (p quar ≡ true → q quar ≡ true) → find p quars ≡ Some quar → list_any q quars ≡ true
 found-passes p q [] quar more e = cc
 found-passes p q (x ∷ xs) quar more e = by (p x) refl (found-passes p q xs quar more)
   where

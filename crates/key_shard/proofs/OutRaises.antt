@@ -49,7 +49,7 @@ raised_out-same f key token out e = by (is_for key token out)
 -- what is found by its token has it
 found-token : (token : ℕ) (quars : List Quar) (quar : Quar) → find (has_token token) quars ≡ Some quar → quar.token ≡ token
 found-token token [] quar e = cc
-found-token token (one ∷ quars) quar = by (has_token token one) refl (found-token token quars quar)
+found-token token (one ∷ quars) quar e = by (has_token token one) refl (found-token token quars quar) e
   where
     by : (b : Bool) → has_token token one ≡ b → (find (has_token token) quars ≡ Some quar → quar.token ≡ token)
         → cond b (Some one) (find (has_token token) quars) ≡ Some quar → quar.token ≡ token
@@ -215,11 +215,11 @@ view-raised old history outs gone key sid token pushed less stays =
 
 pub owes-raise : (body : Body) (grant : Permit) → IsKept body → is_out (shown body) grant ≡ true → grant.mode ≡ Invalidate
     → OwesRaise (steps_of body) grant (quar_of grant.key grant.token (steps_of body))
-owes-raise body grant kept out invalidate = by (quar_of grant.key grant.token (steps_of body)) refl
+owes-raise body grant kept out invalidates = by (quar_of grant.key grant.token (steps_of body)) refl
   where
     by : (o : Option Quar) → quar_of grant.key grant.token (steps_of body) ≡ o → OwesRaise (steps_of body) grant o
     by None is = (out-granted body grant kept out).0
-    by (Some quar) is = let of = out-stands body grant kept out quar is in (of, of.mode ∙ invalidate)
+    by (Some quar) is = let of = out-stands body grant kept out quar is in (of, of.mode ∙ invalidates)
 
 pub owes-renew : (body : Body) (grant : Permit) → IsKept body → is_out (shown body) grant ≡ true
     → OwesRenew (steps_of body) grant (quar_of grant.key grant.token (steps_of body))
@@ -263,16 +263,22 @@ raise-leaves {table = table} h key key' sid sid' token token' v new keys sids to
     (subst (λ k. Leaves k (leases.recorded k table) (map (raised token') (leases.quars k table)) table new) keys leaves)
 
 -- what a renewal leaves of a quarantine that is there
-pub renew-leaves : (table new : List Lease) (key key' : QKey) (token token' deadline : ℕ) (told : Bool) → key' ≡ key → token' ≡ token
-    → told ≡ true
-    → MatchBool told (Leaves key' (leases.recorded key' table) (map (renewed token' deadline) (leases.quars key' table)) table new) (new ≡ table)
+pub renew-leaves : {terms : Terms} {past : List Step} {list : List Item} {table : List Lease} {next : ℕ} → Ties terms past list table next
+    → (key key' : QKey) (token token' deadline deadline' : ℕ) (told : Bool) (new : List Lease) → key' ≡ key → token' ≡ token → deadline' ≡ deadline
+    → told ≡ is_some (find (has_token token') (leases.quars key' table))
+    → MatchBool told (Leaves key' (leases.recorded key' table) (map (renewed token' deadline') (leases.quars key' table)) table new) (new ≡ table)
+    → is_some (quar_of key token past) ≡ true
     → Leaves key (leases.recorded key table) (map (renewed token deadline) (leases.quars key table)) table new
-renew-leaves table new key key' token token' deadline told keys tokens is after =
-    let leaves : Leaves key' (leases.recorded key' table) (map (renewed token' deadline) (leases.quars key' table)) table new =
-    subst (λ b. MatchBool b (Leaves key' (leases.recorded key' table) (map (renewed token' deadline) (leases.quars key' table)) table new)
+renew-leaves {table = table} h key key' token token' deadline deadline' told new keys tokens until e after stands =
+    let is : told ≡ true =
+    e ∙ ap (λ t. is_some (find (has_token t) (leases.quars key' table))) tokens
+    ∙ ap (λ k. is_some (find (has_token token) (leases.quars k table))) keys ∙ ap (λ qs. is_some (find (has_token token) qs)) (h.quars key) ∙ stands in
+    let leaves : Leaves key' (leases.recorded key' table) (map (renewed token' deadline') (leases.quars key' table)) table new =
+    subst (λ b. MatchBool b (Leaves key' (leases.recorded key' table) (map (renewed token' deadline') (leases.quars key' table)) table new)
     (new ≡ table)) is after in
-    subst (λ t. Leaves key (leases.recorded key table) (map (renewed t deadline) (leases.quars key table)) table new) tokens
-    (subst (λ k. Leaves k (leases.recorded k table) (map (renewed token' deadline) (leases.quars k table)) table new) keys leaves)
+    subst (λ d. Leaves key (leases.recorded key table) (map (renewed token d) (leases.quars key table)) table new) until
+    (subst (λ t. Leaves key (leases.recorded key table) (map (renewed t deadline') (leases.quars key table)) table new) tokens
+    (subst (λ k. Leaves k (leases.recorded k table) (map (renewed token' deadline') (leases.quars k table)) table new) keys leaves))
 
 -- where it is refused another's is there
 refused-any : (own : Option Way) (others : List Way) → raise_verdict own others ≡ verdicts.Refuse → others ≡ [] → ⊥

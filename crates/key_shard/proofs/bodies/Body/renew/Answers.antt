@@ -1,4 +1,4 @@
-use Rattle.std.proofs.Common.{◌≡◌, true, Some, None, sym, ap, ◌∙◌}
+use Rattle.std.proofs.Common.{◌≡◌, true, Some, None, is_some, sym, ap, ◌∙◌}
 use Rattle.key_shard.specs.Answers.{Renew, renew_by}
 use Rattle.key_shard.specs.Kept.{shown, terms_of, steps_of}
 use Rattle.key_shard.specs.Shards.{is_out}
@@ -20,6 +20,12 @@ prolong-requires-clause-answers c =
       owed = owes-renew body grant c.requires out;
       answer = sym (ap (renew_by (terms_of body) grant c.args.now) stands);
     }
+
+pub prolong-requires-clause-stands : goal.prolong-requires-clause-stands
+prolong-requires-clause-stands c =
+    let grant = c.args.grant.now in
+    ap is_some (stands-told c.requires.ties grant.key grant.token c.key.result c.token.result (Some c.in-Some.field-0)
+    c.key.ensures c.token.ensures c.in-Some.ensures)
 
 pub note_gone-requires-clause-answers : goal.note_gone-requires-clause-answers
 note_gone-requires-clause-answers c =
