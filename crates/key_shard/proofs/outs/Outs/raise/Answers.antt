@@ -1,4 +1,4 @@
-use Rattle.std.proofs.Common.{◌≡◌, Bool, true, Option, Some, None, List, map, sym, ap, ◌∙◌, IsSome, MutBor}
+use Rattle.std.proofs.Common.{◌≡◌, Bool, true, Option, Some, None, List, map, refl, sym, ap, ◌∙◌, IsSome, MutBor}
 use Rattle.std.specs.List.{list_any}
 use Rattle.std.specs.Map.{values_of, lookup}
 use Rattle.std.specs.Option.{option_copied_mut}
@@ -13,7 +13,7 @@ use Rattle.key_shard.proofs.outs.Outs.raise.Goals as goal
 -- what is there to be copied is there
 some-copied : (r : Option (MutBor Out)) (out : Out) → option_copied_mut r ≡ Some out → IsSome r
 some-copied None out e = cc
-some-copied (Some r) out e = tt
+some-copied (Some r) out e = refl
 
 some_one : {a b : Out} → Some a ≡ Some b → a ≡ b
 some_one e = cc
