@@ -83,22 +83,24 @@ module _ {X : Type 0} (p : X → Bool) where
 -- a weaker test
 any-weaker : {X : Type 0} (p q : X → Bool) → ((x : X) → p x ≡ true → q x ≡ true) → (xs : List X) → list_any p xs ≡ true → list_any q xs ≡ true
 any-weaker p q weaker [] some = some
-any-weaker p q weaker (x ∷ xs) some = by_case (or_cases (p x) (list_any p xs) some)
+any-weaker p q weaker (x ∷ xs) some = by_case (any-weaker p q weaker xs) (or_cases (p x) (list_any p xs) some)
   where
-    by_case : (p x ≡ true) ⊎ (list_any p xs ≡ true) → list_any q (x ∷ xs) ≡ true
-    by_case (inl passes) = or_left (q x) (list_any q xs) (weaker x passes)
-    by_case (inr rest) = or_right (q x) (list_any q xs) (any-weaker p q weaker xs rest)
+    by_case : (list_any p xs ≡ true → list_any q xs ≡ true) → (p x ≡ true) ⊎ (list_any p xs ≡ true) → list_any q (x ∷ xs) ≡ true
+    by_case later (inl passes) = or_left (q x) (list_any q xs) (weaker x passes)
+    by_case later (inr rest) = or_right (q x) (list_any q xs) (later rest)
 
 -- a filter that leaves out what passes leaves fewer
 filter-shorter : {X : Type 0} (p : X → Bool) (xs : List X) → list_any p xs ≡ true → length (filter (λ x. not (p x)) xs) < length xs
 filter-shorter p [] some = absurd (false≢true some)
-filter-shorter p (x ∷ xs) some = by_test (p x) refl
+filter-shorter p (x ∷ xs) some = by_test (filter-shorter p xs) (p x) refl
   where
-    by_test : (b : Bool) → p x ≡ b → length (filter (λ y. not (p y)) (x ∷ xs)) < length (x ∷ xs)
-    by_test true e = rw e (omega (arith, length-filter-le (λ y. not (p y)) xs))
-    by_test false e =
+    by_test : (list_any p xs ≡ true → length (filter (λ y. not (p y)) xs) < length xs) → (b : Bool) → p x ≡ b
+        → length (filter (λ y. not (p y)) (x ∷ xs)) < length (x ∷ xs)
+    by_test later true e = rw e (omega (arith, length-filter-le (λ y. not (p y)) xs))
+    by_test later false e =
         let rest : list_any p xs ≡ true = ap (λ b. b || list_any p xs) (sym e) ∙ some in
-        rw e (omega (arith, filter-shorter p xs rest))
+        let fewer = later rest in
+        rw e (omega arith)
 
 -- ---- what is listed in two lists
 
@@ -228,8 +230,8 @@ KeepsEach-same old new terms others = record {
 }
 
 pub KeepsEach-then : (old mid new : Index) → KeepsEach old mid → KeepsEach mid new → KeepsEach old new
-KeepsEach-then old mid new first then = record {
-  each = λ key token deadline listed. then.each key token deadline (first.each key token deadline listed);
+KeepsEach-then old mid new before after = record {
+  each = λ key token deadline listed. after.each key token deadline (before.each key token deadline listed);
 }
 
 pub KeepsEach-put : (x : Reverse Term) (old new : Index) → IsPermutation (x ∷ heap_items old.later) (heap_items new.later)
@@ -261,8 +263,8 @@ KeepsOthers-forgot y old new same less = record {
 }
 
 pub KeepsOthers-then : (key : QKey) (token : ℕ) (old mid new : Index) → KeepsOthers key token old mid → KeepsEach mid new → KeepsOthers key token old new
-KeepsOthers-then key token old mid new first then = record {
-  each = λ other its deadline apart listed. then.each other its deadline (first.each other its deadline apart listed);
+KeepsOthers-then key token old mid new before after = record {
+  each = λ other its deadline apart listed. after.each other its deadline (before.each other its deadline apart listed);
 }
 
 pub KeepsOthers-same : (key : QKey) (token : ℕ) (index : Index) → KeepsOthers key token index index

@@ -5,7 +5,7 @@ use Rattle.std.specs.Prelude.{◌==◌, ◌&&◌, option_map}
 use Rattle.std.specs.Option.{option_or}
 use Rattle.std.specs.List.{All}
 use Rattle.std.specs.BTreeMap.{BTreeMap}
-use Rattle.std.proofs.lemmas.Bool.{eqb-true, eq-eqb, false≢true, not-true}
+use Rattle.std.proofs.lemmas.Bool.{eqb-true, eq-eqb, ne_eqb, false≢true, not-true}
 use Rattle.std.proofs.lemmas.List.Elements.{All-weaker, filter_passes}
 use Rattle.std.proofs.lemmas.List.Folds.{find-append}
 use Rattle.std.proofs.lemmas.Option.{IfSome_then}
@@ -112,6 +112,15 @@ ListsOn-raised key quars index t lists = λ token.
 
 -- ---- a quarantine gets another deadline
 
+-- another token of a key isn't the same
+no_second : (a b : Bool) → b ≡ false → (a && b) ≡ false
+no_second true b e = e
+no_second false b e = refl
+
+other_token : (key : QKey) (token t : ℕ) → (token == t) ≡ false → is_same key token key t ≡ false
+other_token key token t apart =
+    no_second (same_key key key) (t == token) (ne_eqb t token (λ e. false≢true (sym apart ∙ eq-eqb token t (sym e))))
+
 module _ (key : QKey) (t deadline : ℕ) (old new : Index) (others : KeepsOthers key t old new) (listed : is_listed key t deadline new ≡ true) where
   -- on its key
   renewed-listed : (quars : List Quar) → ListsOn key quars old → (token : ℕ) (o : Option Quar) → find (has_token token) quars ≡ o
@@ -129,18 +138,7 @@ module _ (key : QKey) (t deadline : ℕ) (old new : Index) (others : KeepsOthers
           (λ i. is_listed key (eqb-true token t e i) (new_one i) new) ∙ listed
       by_token false e =
           let kept = renewed-other t deadline q (subst (λ u. (u == t) ≡ false) (sym its) e) in
-          subst (λ u. is_listed key token u new ≡ true) (sym kept) (others.each key token q.deadline (apart e) before)
-        where
-          apart : (token == t) ≡ false → is_same key token key t ≡ false
-          apart e = second_fails (same_key key key) (t == token) (swapped (t == token) refl)
-
-          second_fails : (a b : Bool) → b ≡ false → (a && b) ≡ false
-          second_fails true b f = f
-          second_fails false b f = refl
-
-          swapped : (b : Bool) → (t == token) ≡ b → (t == token) ≡ false
-          swapped false f = f
-          swapped true f = absurd (false≢true (sym e ∙ eq-eqb token t (sym (eqb-true t token f))))
+          subst (λ u. is_listed key token u new ≡ true) (sym kept) (others.each key token q.deadline (other_token key token t e) before)
 
   pub ListsOn-renewed : (quars : List Quar) → ListsOn key quars old → ListsOn key (map (renewed t deadline) quars) new
   ListsOn-renewed quars lists = λ token.

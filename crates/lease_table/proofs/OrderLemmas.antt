@@ -1,5 +1,6 @@
 -- What stands in front of a heap comes first.
-use Rattle.std.proofs.Common.{◌≡◌, ℕ, ◌<◌, ◌≤◌, Bool, true, false, cond, List, [], ◌∷◌, sym, refl, ◌∙◌, ap, length, get_or, Some, arith, ltb}
+use Rattle.std.proofs.Common.{◌≡◌, ℕ, ◌<◌, ◌≤◌, Bool, true, false, cond, List, [], ◌∷◌, sym, refl, ◌∙◌, ap, length, get_or, Option, Some, None, arith, subst, is_some, IfSome}
+use Rattle.std.specs.List.Sorted.{IsPermutation}
 use Rattle.std.specs.Prelude.{◌==◌, ◌&&◌, ◌||◌, nat_lt, IsFalse}
 use Rattle.std.specs.List.{All}
 use Rattle.std.specs.BinaryHeap.{IsUpperBound}
@@ -8,8 +9,8 @@ use Rattle.std.specs.declared.cmp.Ordering.{Ordering}
 use Rattle.std.specs.declared.cmp.Ordering.TheVariants.{Less, Equal, Greater}
 use Rattle.std.specs.Ordering.{ordering_then, nat_cmp, is_eq, is_lt}
 use Rattle.std.specs.Cmp.{unsigned_tied}
-use Rattle.std.proofs.lemmas.Bool.{or_parts, or_from, ltb-false}
-use Rattle.std.proofs.lemmas.List.Elements.{All-from_recursion, All-weaker, All-cons, All-nil}
+use Rattle.std.proofs.lemmas.Bool.{or_parts, ltb-false, false≢true}
+use Rattle.std.proofs.lemmas.List.Elements.{All-from_recursion, All-weaker}
 use Rattle.rows_model.specs.declared.keys.QKey.{QKey}
 use Rattle.rows_model.specs.Key.{same_key, kind_number}
 use Rattle.lease_table.specs.declared.index.Term.{Term}
@@ -69,3 +70,10 @@ found-front x xs bound =
 pub first-read : {X : Type 0} (xs : List X) (x : X) → 0 < length xs → x ≡ get_or xs 0 x → first xs ≡ Some x
 first-read [] x within read = absurd (omega arith)
 first-read (y ∷ ys) x within read = ap Some (sym read)
+
+-- what comes out of a heap was the first
+pub popped-first : {X : Type 0} (xs ys : List X) (r : Option X) → 0 < length xs → is_some r ≡ true → IfSome r (λ x. x ≡ get_or xs 0 x)
+    → IfSome r (λ x. IsPermutation xs (x ∷ ys)) → IfSome (first xs) (λ x. IsPermutation xs (x ∷ ys))
+popped-first xs ys None within some read same = absurd (false≢true some)
+popped-first xs ys (Some x) within some read same =
+    subst (λ o. IfSome o (λ y. IsPermutation xs (y ∷ ys))) (sym (first-read xs x within read)) same

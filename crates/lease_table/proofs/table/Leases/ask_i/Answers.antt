@@ -10,7 +10,7 @@ invariant_of-self c =
     let stood = rw (← c.self.view_is) at c.on_key.ensures.quars in
     let given : is_given c.read_verdict-verdict.result ≡ true = search rules in
     IsKept-read c.args.key (record { sid = c.args.sid; token = c.args.token; deadline = c.args.deadline }) c.args.now c.self.inside.leases c.put_read.new.leases
-    c.self.inside.terms c.read_verdict-verdict.result c.self.invariant (c.read_verdict-verdict.ensures
+    c.self.inside.index c.read_verdict-verdict.result c.self.invariant (c.read_verdict-verdict.ensures
     ∙ (λ i. verdict (holding_of c.args.sid c.args.now (reader i) (stood i)) read)) given c.in_ok-put_read-in-Give.ensures.ok
 
 pub returns-in_ok-put_read-in-Give-clause-after : goal.returns-in_ok-put_read-in-Give-clause-after
@@ -19,5 +19,5 @@ returns-in_ok-put_read-in-Give-clause-after c =
     let stood = rw (← c.self.view_is) at c.on_key.ensures.quars in
     let given : is_given c.read_verdict-verdict.result ≡ true = search rules in
     rw (given, ← c.self.view_is) (Leaves-read c.args.key (record { sid = c.args.sid; token = c.args.token; deadline = c.args.deadline }) c.args.now
-    c.self.inside.leases c.put_read.new.leases c.self.inside.terms c.read_verdict-verdict.result c.self.invariant (c.read_verdict-verdict.ensures
+    c.self.inside.leases c.put_read.new.leases c.self.inside.index c.read_verdict-verdict.result c.self.invariant (c.read_verdict-verdict.ensures
     ∙ (λ i. verdict (holding_of c.args.sid c.args.now (reader i) (stood i)) read)) given c.in_ok-put_read-in-Give.ensures.ok)
