@@ -1,5 +1,5 @@
 -- On lists: what a map that leaves elements out gives of a filtered list, and the first that passes.
-use Rattle.std.proofs.Common.{◌≡◌, ℕ, suc, length, get_or, ◌<◌, ◌≤◌, map, arith, Bool, true, false, not, Option, Some, None, List, [], ◌∷◌, ap, sym, refl, subst}
+use Rattle.std.proofs.Common.{◌≡◌, ℕ, suc, length, get_or, ◌<◌, ◌≤◌, ◌++◌, zero, set, take, drop, map, arith, Bool, true, false, not, Option, Some, None, List, [], ◌∷◌, ap, sym, refl, subst}
 use Rattle.std.proofs.Common.{◌∙◌, find, filter, MatchOption}
 use Rattle.std.specs.Bool.{⊤}
 use Rattle.std.specs.Prelude.{◌&&◌, option_map}
@@ -159,3 +159,10 @@ AllPairs-map R f keeps xs pairs = λ i j d before within.
     let a = get_or-map f xs i d d (omega arith) in
     let b = get_or-map f xs j d d inside in
     subst (λ x. R x (get_or (map f xs) j d)) (sym a) (subst (λ y. R (f (get_or xs i d)) y) (sym b) (keeps (get_or xs i d) (get_or xs j d) (pairs i j d before inside)))
+
+-- one element more is changed, where those in front of it are
+pub set-map_next : {X : Type 0} (f : X → X) (xs : List X) (i : ℕ) (d : X) → i < length xs
+    → set (map f (take i xs) ++ drop i xs) i (f (get_or (map f (take i xs) ++ drop i xs) i d)) ≡ map f (take (suc i) xs) ++ drop (suc i) xs
+set-map_next f [] i d within = absurd (omega arith)
+set-map_next f (x ∷ xs) zero d within = refl
+set-map_next f (x ∷ xs) (suc i) d within = ap (λ rest. f x ∷ rest) (set-map_next f xs i d (omega arith))
