@@ -1,26 +1,24 @@
 -- What a table is after each answer that changes it.
-use Rattle.std.proofs.Common.{◌≡◌, ℕ, ◌<◌, ◌≤◌, Bool, true, false, not, Option, Some, None, List, [], ◌∷◌, ◌++◌, filter, find, map, sym, refl, ap, ◌∙◌}
+use Rattle.std.proofs.Common.{◌≡◌, ℕ, ◌<◌, ◌≤◌, true, not, Some, None, List, [], ◌∷◌, ◌++◌, filter, find, map, sym, refl, ap, ◌∙◌}
 use Rattle.std.proofs.Common.{subst, arith, length, IfSome}
-use Rattle.std.specs.List.{All, AllPairs}
+use Rattle.std.specs.List.{All}
 use Rattle.std.specs.BTreeMap.{BTreeMap}
 use Rattle.rows_model.specs.declared.keys.Sid.{Sid}
 use Rattle.rows_model.specs.declared.keys.QKey.{QKey}
-use Rattle.rows_model.specs.Key.{same_key}
 use Rattle.case_tables.specs.declared.grids.Verdict.{Verdict}
 use Rattle.case_tables.specs.Compatibility.{read, quarantine, verdict, is_given, is_raised}
 use Rattle.lease_table.specs.declared.records.Quar.{Quar}
 use Rattle.lease_table.specs.declared.records.ReadLease.{ReadLease}
-use Rattle.lease_table.specs.declared.records.Lease.{Lease}
 use Rattle.lease_table.specs.declared.records.KeyLeases.{KeyLeases}
 use Rattle.lease_table.specs.declared.index.Index.{Index}
-use Rattle.lease_table.specs.Leases.{quars, reads, recorded, first, way_of, holding, has_token, is_current, raise_in, raised, renewed, IsTable, MayStand}
-use Rattle.lease_table.specs.Leases.{StandBeside, Leaves}
-use Rattle.lease_table.specs.Index.{is_listed, ListsOn, ListsEach, IsSound, KeepsOthers}
-use Rattle.lease_table.specs.Stands.{records, leases_on, quars_of, reads_of, stands_in, IsKept, PutsOn, Stays}
-use Rattle.lease_table.proofs.MapLemmas.{Gives, records-at}
+use Rattle.lease_table.specs.Leases.{quars, reads, recorded, first, way_of, holding, has_token, is_current, raise_in, raised, renewed, MayStand}
+use Rattle.lease_table.specs.Leases.{Leaves}
+use Rattle.lease_table.specs.Index.{is_listed, ListsEach, IsSound, KeepsOthers}
+use Rattle.lease_table.specs.Stands.{records, leases_on, quars_of, reads_of, stands_in, IsKept, PutsOn}
+use Rattle.lease_table.proofs.MapLemmas.{records-at}
 use Rattle.lease_table.proofs.VerdictLemmas.{read-given, quar-given, raise-alone}
 use Rattle.lease_table.proofs.ListedLemmas.{ListsOn-more, ListsOn-less, ListsOn-raised, ListsOn-renewed, ListsOn-others, ListsEach-puts}
-use Rattle.lease_table.proofs.TableLemmas.{SetsKey, SetsKey-puts, Leaves-from, IsKept-puts, MayStand-read, MayStand-quar, MayStand-drop_read}
+use Rattle.lease_table.proofs.TableLemmas.{SetsKey-puts, Leaves-from, IsKept-puts, MayStand-read, MayStand-quar, MayStand-drop_read}
 use Rattle.lease_table.proofs.TableLemmas.{MayStand-drop_quar, MayStand-raised, MayStand-renewed}
 
 -- the map, before and after

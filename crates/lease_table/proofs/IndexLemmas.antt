@@ -1,12 +1,12 @@
 -- What the index lists, as terms come and go.
-use Rattle.std.proofs.Common.{◌≡◌, ℕ, suc, ◌+◌, ◌<◌, ◌≤◌, Bool, true, false, not, Option, Some, None, List, [], ◌∷◌, sym, refl, ◌∙◌, ap, subst, inl, inr, filter}
-use Rattle.std.proofs.Common.{⊎_elim, find, length, arith, is_some, IfSome, IsTrue, IsFalse}
-use Rattle.std.specs.Prelude.{◌⊎◌, ◌==◌, ◌&&◌, ◌||◌, nat_le, if◌then◌else◌}
+use Rattle.std.proofs.Common.{◌≡◌, ℕ, ◌+◌, ◌<◌, ◌≤◌, Bool, true, false, not, Option, Some, None, List, [], ◌∷◌, sym, refl, ◌∙◌, ap, subst, inl, inr, filter}
+use Rattle.std.proofs.Common.{find, length, arith, is_some, IfSome}
+use Rattle.std.specs.Prelude.{◌⊎◌, ◌==◌, ◌||◌, nat_le}
 use Rattle.std.specs.List.{list_any}
 use Rattle.std.specs.List.Sorted.{IsPermutation}
-use Rattle.std.specs.BinaryHeap.{IsHeap, heap_items, heap_len, heap_capacity}
+use Rattle.std.specs.BinaryHeap.{heap_items}
 use Rattle.std.specs.declared.cmp.Reverse.{Reverse}
-use Rattle.std.proofs.lemmas.Bool.{and_parts, and_from, or_cases, or_left, or_right, eqb-true, eq-eqb, leb-true, le-leb, cases_Bool, false≢true}
+use Rattle.std.proofs.lemmas.Bool.{and_parts, and_from, or_cases, or_left, or_right, eqb-true, eq-eqb, leb-true, le-leb, false≢true}
 use Rattle.std.proofs.lemmas.List.Sorted.{list_any-IsPermutation, length_permutation}
 use Rattle.std.proofs.lemmas.Map.Views.{any-filter_same}
 use Rattle.std.proofs.lemmas.Option.{IfSome_then}
@@ -17,8 +17,8 @@ use Rattle.lease_table.specs.declared.records.Quar.{Quar}
 use Rattle.lease_table.specs.declared.index.Term.{Term}
 use Rattle.lease_table.specs.declared.index.Found.{Found}
 use Rattle.lease_table.specs.declared.index.Index.{Index}
-use Rattle.lease_table.specs.Leases.{has_token, first}
-use Rattle.lease_table.specs.Index.{later_back, found_back, is_same, is_later, is_found, listed_in, is_listed, ListsOn, ListsEach, IsSound, HasRoom, KeepsEach}
+use Rattle.lease_table.specs.Leases.{has_token}
+use Rattle.lease_table.specs.Index.{is_same, is_later, is_found, listed_in, is_listed, ListsEach, IsSound, HasRoom, KeepsEach}
 use Rattle.lease_table.specs.Index.{KeepsOthers}
 use Rattle.lease_table.proofs.ListLemmas.{length-filter-le}
 
@@ -262,14 +262,6 @@ KeepsOthers-forgot y old new same less = record {
       (listed-forgot other its deadline y (heap_items old.later) (heap_items old.found) (heap_items new.found) apart less listed);
 }
 
-pub KeepsOthers-then : (key : QKey) (token : ℕ) (old mid new : Index) → KeepsOthers key token old mid → KeepsEach mid new → KeepsOthers key token old new
-KeepsOthers-then key token old mid new before after = record {
-  each = λ other its deadline apart listed. after.each other its deadline (before.each other its deadline apart listed);
-}
-
-pub KeepsOthers-same : (key : QKey) (token : ℕ) (index : Index) → KeepsOthers key token index index
-KeepsOthers-same key token index = record { each = λ other its deadline apart listed. listed }
-
 -- what has a key and a token is left out
 pub KeepsOthers-terms : (key : QKey) (token : ℕ) (old new : Index)
     → IsPermutation (filter (λ x. not (is_same key token x.0.key x.0.token)) (heap_items old.later)) (heap_items new.later)
@@ -280,21 +272,6 @@ KeepsOthers-terms key token old new terms others = record {
       (heap_items new.later) (heap_items old.found) (heap_items new.found)
       (λ k t same. ap not (is_same-apart key token other its k t apart same)) terms others listed;
 }
-
--- more room, for the same
-pub IsSound-grown : (old new : Index) → IsSound old → heap_items new.later ≡ heap_items old.later → heap_items new.found ≡ heap_items old.found
-    → heap_capacity old.later ≤ heap_capacity new.later → heap_capacity old.found ≤ heap_capacity new.found → IsSound new
-IsSound-grown old new sound terms others later_cap found_cap =
-    let later_room = sound.later_room in
-    let found_room = sound.found_room in
-    let later_len = ap length terms in
-    let found_len = ap length others in
-    record {
-      later_heap = subst (IsHeap later_back) (sym terms) sound.later_heap;
-      found_heap = subst (IsHeap found_back) (sym others) sound.found_heap;
-      later_room = omega (arith, old.later.data.ok.0, old.found.data.ok.0, new.later.data.ok.0, new.found.data.ok.0);
-      found_room = omega (arith, old.later.data.ok.0, old.found.data.ok.0, new.later.data.ok.0, new.found.data.ok.0);
-    }
 
 -- the number of what is listed is the length of the lists
 pub HasRoom-fewer : (key : QKey) (token was : ℕ) (old new : Index) → IsSound old
@@ -371,8 +348,3 @@ ListsEach-again standing key token quar old mid new stands forgot put listed lis
         let both : Some quar ≡ Some q = sym stands ∙ (λ i. find (has_token (one.1 i)) (standing (sym one.0 i))) ∙ there in
         let its : quar ≡ q = cc in
         (λ i. is_listed (one.0 i) (sym one.1 i) (sym its i).deadline new) ∙ listed
-
--- what is found first stands in front
-pub first-head : {X : Type 0} (xs : List X) (x : X) → first xs ≡ Some x → 0 < length xs
-first-head [] x e = absurd (cc)
-first-head (y ∷ ys) x e = omega arith

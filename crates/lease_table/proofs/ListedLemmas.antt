@@ -1,6 +1,6 @@
 -- That each quarantine that stands is listed, as quarantines come, change and go.
-use Rattle.std.proofs.Common.{◌≡◌, ℕ, ◌≤◌, Bool, true, false, cond, not, Option, Some, None, List, [], ◌∷◌, ◌++◌, sym, refl, ◌∙◌, ap, subst, map, filter}
-use Rattle.std.proofs.Common.{find, IfSome, IsTrue, IsFalse}
+use Rattle.std.proofs.Common.{◌≡◌, ℕ, Bool, true, false, not, Option, Some, None, List, [], ◌∷◌, ◌++◌, sym, refl, ◌∙◌, ap, subst, map, filter}
+use Rattle.std.proofs.Common.{find, IfSome}
 use Rattle.std.specs.Prelude.{◌==◌, ◌&&◌, option_map}
 use Rattle.std.specs.Option.{option_or}
 use Rattle.std.specs.List.{All}
@@ -12,14 +12,13 @@ use Rattle.std.proofs.lemmas.Option.{IfSome_then}
 use Rattle.rows_model.specs.declared.keys.QKey.{QKey}
 use Rattle.rows_model.specs.Key.{same_key}
 use Rattle.rows_model.proofs.SameKey.{same_key-true, same_key-swap}
-use Rattle.lease_table.specs.declared.records.Mode.TheVariants.{Refresh}
 use Rattle.lease_table.specs.declared.records.Quar.{Quar}
 use Rattle.lease_table.specs.declared.records.ReadLease.{ReadLease}
 use Rattle.lease_table.specs.declared.records.KeyLeases.{KeyLeases}
 use Rattle.lease_table.specs.declared.index.Index.{Index}
 use Rattle.lease_table.specs.Leases.{has_token, raised, renewed}
 use Rattle.lease_table.specs.Index.{is_same, is_listed, ListsOn, ListsEach, KeepsOthers}
-use Rattle.lease_table.specs.Stands.{leases_on, quars_of, stands_in, PutsOn}
+use Rattle.lease_table.specs.Stands.{quars_of, stands_in, PutsOn}
 use Rattle.lease_table.proofs.ListLemmas.{find-cons_true, find-cons_false, find-passes, find-no, find-filter, find-map}
 
 -- ---- on one key

@@ -12,7 +12,7 @@ use Rattle.std.specs.Cmp.{unsigned_tied}
 use Rattle.std.proofs.lemmas.Bool.{or_parts, ltb-false, false≢true}
 use Rattle.std.proofs.lemmas.List.Elements.{All-from_recursion, All-weaker}
 use Rattle.rows_model.specs.declared.keys.QKey.{QKey}
-use Rattle.rows_model.specs.Key.{same_key, kind_number}
+use Rattle.rows_model.specs.Key.{kind_number}
 use Rattle.lease_table.specs.declared.index.Term.{Term}
 use Rattle.lease_table.specs.declared.index.Found.{Found}
 use Rattle.lease_table.specs.Leases.{first}

@@ -1,9 +1,9 @@
 -- What a change of the map leaves on each key, and that the table stays one.
-use Rattle.std.proofs.Common.{◌≡◌, ℕ, Bool, true, false, not, Option, Some, None, List, [], ◌∷◌, ◌++◌, sym, refl, ◌∙◌, ap, filter, arith}
+use Rattle.std.proofs.Common.{◌≡◌, ℕ, Bool, true, false, Some, List, [], ◌∷◌, ◌++◌, sym, refl, ◌∙◌, ap, filter, arith}
 use Rattle.std.proofs.Common.{IfSome, IsTrue, cond, subst, map, ◌≤◌}
 use Rattle.std.proofs.lemmas.List.{length-map}
-use Rattle.std.specs.Prelude.{length, ◌<◌}
-use Rattle.std.specs.List.{All, AllPairs}
+use Rattle.std.specs.Prelude.{length}
+use Rattle.std.specs.List.{All}
 use Rattle.std.specs.BTreeMap.{BTreeMap, IsOrdered, WritesThrough, UpdatesBy, is_at}
 use Rattle.std.proofs.lemmas.List.Kept.{AllPairs-filter}
 use Rattle.std.proofs.lemmas.List.Quantifiers.{all_pairs_push}
@@ -14,14 +14,14 @@ use Rattle.lease_table.specs.declared.records.ReadLease.{ReadLease}
 use Rattle.lease_table.specs.declared.records.Lease.{Lease}
 use Rattle.lease_table.specs.declared.records.KeyLeases.{KeyLeases}
 use Rattle.lease_table.specs.declared.index.Index.{Index}
-use Rattle.lease_table.specs.Leases.{quars, reads, recorded, first, quar_on, read_on, has_token, is_of, way_of, raised, renewed, Leaves, IsTable, MayStand}
+use Rattle.lease_table.specs.Leases.{quars, reads, first, quar_on, read_on, has_token, raised, renewed, Leaves, IsTable, MayStand}
 use Rattle.lease_table.specs.Leases.{StandBeside}
 use Rattle.lease_table.specs.Index.{ListsEach, IsSound}
-use Rattle.lease_table.specs.Stands.{key_cmp, records, records_on, leases_on, quars_of, reads_of, stands_in, has_any, NoneEmpty, IsKept, PutsOn, SameLeases}
+use Rattle.lease_table.specs.Stands.{key_cmp, records, leases_on, quars_of, reads_of, stands_in, has_any, NoneEmpty, IsKept, PutsOn, SameLeases}
 use Rattle.lease_table.specs.Stands.{Stays}
-use Rattle.lease_table.proofs.KeyLemmas.{is_at-key, same_key-left}
+use Rattle.lease_table.proofs.KeyLemmas.{same_key-left}
 use Rattle.lease_table.proofs.ListLemmas.{filter_map-same, length-filter-le, AllPairs-map}
-use Rattle.lease_table.proofs.MapLemmas.{Gives, records-at, records-set_value, leases_on-same_key}
+use Rattle.lease_table.proofs.MapLemmas.{records-at, records-set_value, leases_on-same_key}
 
 -- ---- what a change leaves on each key
 
@@ -111,13 +111,22 @@ StandBeside-renewed token deadline a b beside = by_tests (has_token token a) (ha
         (cond x (record { sid = a.sid; mode = a.mode; token = a.token; deadline = deadline; shift = a.shift }) a)
         (cond y (record { sid = b.sid; mode = b.mode; token = b.token; deadline = deadline; shift = b.shift }) b)
     by_tests true true = record {
-      in_order = beside.in_order; of_two = beside.of_two; one_invalidates = beside.one_invalidates; other_invalidates = beside.other_invalidates;
+      in_order = beside.in_order;
+      of_two = beside.of_two;
+      one_invalidates = beside.one_invalidates;
+      other_invalidates = beside.other_invalidates;
     }
     by_tests true false = record {
-      in_order = beside.in_order; of_two = beside.of_two; one_invalidates = beside.one_invalidates; other_invalidates = beside.other_invalidates;
+      in_order = beside.in_order;
+      of_two = beside.of_two;
+      one_invalidates = beside.one_invalidates;
+      other_invalidates = beside.other_invalidates;
     }
     by_tests false true = record {
-      in_order = beside.in_order; of_two = beside.of_two; one_invalidates = beside.one_invalidates; other_invalidates = beside.other_invalidates;
+      in_order = beside.in_order;
+      of_two = beside.of_two;
+      one_invalidates = beside.one_invalidates;
+      other_invalidates = beside.other_invalidates;
     }
     by_tests false false = beside
 

@@ -43,7 +43,10 @@ impl Term {
     /// The term of a quarantine on a key.
     pub fn new(key: QKey, quar: &Quar) -> Term
         ensures { result ≡ record {
-            deadline = quar.now.deadline; key = key; token = quar.now.token } }
+          deadline = quar.now.deadline;
+          key = key;
+          token = quar.now.token;
+        } }
     {
         Term {
             deadline: quar.deadline,
@@ -219,6 +222,7 @@ impl Index {
         self.grow()
     }
 
+    // Whether there is room for one term more.
     fn has_room(&self) -> bool
         requires { IsSound self.now }
         ensures { IsTrue result → HasRoom self.now }

@@ -26,7 +26,7 @@ returns-clause-lists c =
     let others = c.retain-2.ensures.filtered in
     ListsEach-ended standing c.args.self.now new
     (subst (λ kept. IsPermutation kept (heap_items new.later))
-    (filter_same _ (λ x. is_some (find (has_token x.0.token) (standing x.0.key))) _ (λ x b f' k. search rules) _ _ terms.1) terms.2)
+    (filter_same _ (λ x. is_some (find (has_token x.0.token) (standing x.0.key))) _ (λ x b f' k. search rules) (heap_items c.args.self.now.later) terms.0 terms.1) terms.2)
     (subst (λ kept. IsPermutation kept (heap_items new.found))
-    (filter_same _ (λ y. is_some (find (has_token y.0.token) (standing y.0.key))) _ (λ x b f' k. search rules) _ _ others.1) others.2)
+    (filter_same _ (λ y. is_some (find (has_token y.0.token) (standing y.0.key))) _ (λ x b f' k. search rules) (heap_items c.args.self.now.found) others.0 others.1) others.2)
     c.requires.lists

@@ -24,9 +24,9 @@ returns-clause-others c =
     let others = c.retain-2.ensures.filtered in
     KeepsOthers-terms c.args.key.now c.args.token c.args.self.now new
     (subst (λ kept. IsPermutation kept (heap_items new.later))
-    (filter_same _ (λ x. not (is_same c.args.key.now c.args.token x.0.key x.0.token)) _ (λ x b f' k. search rules) _ _ terms.1) terms.2)
+    (filter_same _ (λ x. not (is_same c.args.key.now c.args.token x.0.key x.0.token)) _ (λ x b f' k. search rules) (heap_items c.args.self.now.later) terms.0 terms.1) terms.2)
     (subst (λ kept. IsPermutation kept (heap_items new.found))
-    (filter_same _ (λ y. not (is_same c.args.key.now c.args.token y.0.key y.0.token)) _ (λ x b f' k. search rules) _ _ others.1) others.2)
+    (filter_same _ (λ y. not (is_same c.args.key.now c.args.token y.0.key y.0.token)) _ (λ x b f' k. search rules) (heap_items c.args.self.now.found) others.0 others.1) others.2)
 
 pub returns-clause-room : goal.returns-clause-room
 returns-clause-room c =
@@ -35,7 +35,7 @@ returns-clause-room c =
     let others = c.retain-2.ensures.filtered in
     λ was listed. HasRoom-fewer c.args.key.now c.args.token was c.args.self.now new c.requires
     (subst (λ kept. IsPermutation kept (heap_items new.later))
-    (filter_same _ (λ x. not (is_same c.args.key.now c.args.token x.0.key x.0.token)) _ (λ x b f' k. search rules) _ _ terms.1) terms.2)
+    (filter_same _ (λ x. not (is_same c.args.key.now c.args.token x.0.key x.0.token)) _ (λ x b f' k. search rules) (heap_items c.args.self.now.later) terms.0 terms.1) terms.2)
     (subst (λ kept. IsPermutation kept (heap_items new.found))
-    (filter_same _ (λ y. not (is_same c.args.key.now c.args.token y.0.key y.0.token)) _ (λ x b f' k. search rules) _ _ others.1) others.2)
+    (filter_same _ (λ y. not (is_same c.args.key.now c.args.token y.0.key y.0.token)) _ (λ x b f' k. search rules) (heap_items c.args.self.now.found) others.0 others.1) others.2)
     c.retain.ensures.capacity c.retain-2.ensures.capacity listed
