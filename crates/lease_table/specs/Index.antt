@@ -14,6 +14,10 @@ use Rattle.lease_table.specs.contracts.index.FoundOrd.TheImpl as found_order
 use Rattle.lease_table.specs.Leases.{has_token}
 use Rattle.lease_table.specs.Expiry.{key_before}
 
+-- The term of a quarantine on a key.
+abbrev pub term_of : QKey → Quar → Term
+term_of key quar = record { deadline = quar.deadline; key = key; token = quar.token }
+
 -- The order of terms: by deadline, then by key, then by token.
 abbrev pub term_cmp : Term → Term → Ordering
 term_cmp = (term_order.ghosts).cmp

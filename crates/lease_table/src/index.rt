@@ -2,7 +2,7 @@ ghost use Rattle.std.specs.Prelude.{◌≡◌, ◌+◌, ◌<◌, ℕ, [], ◌∷
 ghost use Rattle.std.specs.BinaryHeap.{heap_items, heap_len};
 ghost use Rattle.lease_table.specs.Leases.{first};
 ghost use Rattle.lease_table.specs.Stands.{stands_in};
-ghost use Rattle.lease_table.specs.Index.{is_same, is_listed, found_before, ListsEach, IsSound, HasRoom, KeepsEach, KeepsOthers, AllAhead};
+ghost use Rattle.lease_table.specs.Index.{term_of, is_same, is_listed, found_before, ListsEach, IsSound, HasRoom, KeepsEach, KeepsOthers, AllAhead};
 
 use crate::lookups::stands;
 use crate::records::{LeaseMap, Quar};
@@ -42,11 +42,7 @@ pub struct Index {
 impl Term {
     /// The term of a quarantine on a key.
     pub fn new(key: QKey, quar: &Quar) -> Term
-        ensures { result ≡ record {
-          deadline = quar.now.deadline;
-          key = key;
-          token = quar.now.token;
-        } }
+        ensures { result ≡ term_of key quar.now }
     {
         Term {
             deadline: quar.deadline,
