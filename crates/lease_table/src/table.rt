@@ -2,12 +2,12 @@ ghost use Rattle.std.specs.Prelude.{◌≡◌, ◌<◌, ◌≤◌, [], ◌∷◌
 ghost use Rattle.std.specs.List.{All, AllPairs, list_all};
 ghost use Rattle.case_tables.specs.Compatibility.{verdict, is_given, is_raised, row_of, read, quarantine};
 ghost use Rattle.lease_table.specs.Expiry.{NoneDue, NoneDueBefore, quars_in, StandsDue};
-ghost use Rattle.lease_table.specs.Leases.{quars, recorded, own_quar, holder_in, has_token, is_current, way_of, holding, raise_in, raised, renewed, IsTable, Leaves, StandBeside};
+ghost use Rattle.lease_table.specs.Leases.{quars, recorded, own_quar, holder_in, has_token, is_current, way_of, holding, first, others_in, raise_in, raised, renewed, IsTable, Leaves, StandBeside};
 
 use crate::dues::first_due;
 use crate::edits::{Change, change_quar, drop_quar, drop_read, put_quar, put_read};
 use crate::index::Index;
-use crate::lookups::{OnKey, holder_of, is_current_at, on_key, quar_with};
+use crate::lookups::{OnKey, holder_of, is_current_at, on_key, other_quar, quar_with};
 use crate::records::{Due, LeaseMap, Mode, Quar, ReadLease};
 use case_tables::Verdict;
 use rows_model::{Memory, QKey, Sid};
@@ -167,6 +167,21 @@ impl Leases {
         ensures { result ≡ verdict (holding key.now who now self.now) (quarantine (way_of mode)) }
     {
         self.on_key(key).quar_verdict(who, mode, now)
+    }
+
+    /// The grid's verdict on raising the session's quarantine of this token on the key, as `raise` would
+    /// answer it.
+    pub fn judge_raise(&self, key: &QKey, who: Sid, token: u64) -> Verdict
+        ensures { result ≡ raise_in who token (quars key.now self.now) }
+    {
+        self.on_key(key).raise_verdict(who, token)
+    }
+
+    /// The quarantine of least token that another session has on the key, if there is one.
+    pub fn other(&self, key: &QKey, who: Sid) -> Option<Quar>
+        ensures { result ≡ first (others_in who (quars key.now self.now)) }
+    {
+        other_quar(self.on_key(key).quars, who)
     }
 
     /// The quarantine on the key that has this token.
