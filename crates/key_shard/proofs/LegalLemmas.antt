@@ -22,7 +22,6 @@ use Rattle.key_shard.specs.declared.steps.Ended.{Ended}
 use Rattle.key_shard.specs.declared.steps.Step.{Step}
 use Rattle.key_shard.specs.declared.steps.Step.TheVariants as step
 use Rattle.key_shard.specs.Past.{Terms, standing, recorded, own_of, quar_of, evicts, next_token, deadline_at}
-use Rattle.key_shard.specs.Permit.{Permit}
 use Rattle.key_shard.specs.Answers.{Request, Get, Set, Quarantine, Release, Replace, Raise, Renew, Answers, step_of, ended_as}
 use Rattle.key_shard.specs.LegalStands.{AllStandBeside, StandsWell, LegalStandsWell}
 use Rattle.key_shard.proofs.CaseLemmas.{MayJoin, map_none, got_cases, set_cases, verdict_cases, release_cases, replace_cases, raise_cases, renew_cases}

@@ -1,19 +1,19 @@
 -- The grants that are out, behind a raise and behind a renewal.
-use Rattle.std.proofs.Common.{◌≡◌, ◌<◌, ◌≤◌, ◌+◌, ◌&&◌, ◌==◌, ℕ, Bool, true, false, cond, List, [], ◌∷◌, ◌++◌, Option, Some, None, MatchBool, is_some, option_map, map, find, refl, sym, ap, subst, ◌∙◌, arith}
+use Rattle.std.proofs.Common.{◌≡◌, ◌<◌, ◌≤◌, ◌&&◌, ◌==◌, ℕ, Bool, true, false, cond, List, [], ◌∷◌, ◌++◌, Option, Some, None, MatchBool, is_some, option_map, map, find, refl, sym, ap, subst, ◌∙◌, arith}
 use Rattle.std.specs.List.{All, list_any, sum_by}
-use Rattle.std.proofs.lemmas.Bool.{and_parts, and_from, eq-eqb, eqb-true, false≢true, or_right}
+use Rattle.std.proofs.lemmas.Bool.{and_parts, and_from, eq-eqb, eqb-true, or_right}
 use Rattle.std.proofs.lemmas.List.Elements.{All-nil, All-cons, All-head, All-tail, All-weaker}
 use Rattle.std.proofs.lemmas.List.Sums.{sum_by-cons}
 use Rattle.rows_model.specs.declared.keys.QKey.{QKey}
 use Rattle.rows_model.specs.declared.keys.Sid.{Sid}
 use Rattle.rows_model.specs.Key.{same_key}
-use Rattle.rows_model.proofs.SameKey.{same_key-true, same_key-swap}
+use Rattle.rows_model.proofs.SameKey.{same_key-swap}
 use Rattle.lease_table.specs.declared.records.Mode.TheVariants.{Invalidate, Refresh}
 use Rattle.lease_table.specs.declared.records.Quar.{Quar}
 use Rattle.lease_table.specs.Leases as leases
 use Rattle.lease_table.specs.Leases.{Leaves, first, has_token, is_of, is_raisable, holding_of, own_in, others_in, raise_in, raised, renewed, way_of}
 use Rattle.lease_table.specs.declared.records.Lease.{Lease}
-use Rattle.case_tables.specs.Compatibility.{Way, invalidate, refresh, delta, is_any, is_invalidate, is_raised, raise_verdict}
+use Rattle.case_tables.specs.Compatibility.{Way, invalidate, refresh, delta, is_invalidate, is_raised, raise_verdict}
 use Rattle.case_tables.specs.declared.grids.Verdict.{Verdict}
 use Rattle.case_tables.specs.declared.grids.Verdict.TheVariants as verdicts
 use Rattle.entry_table.specs.Entries.{Item}
@@ -22,8 +22,8 @@ use Rattle.key_shard.specs.declared.outs.Out.{Out}
 use Rattle.key_shard.specs.declared.steps.Step.{Step}
 use Rattle.key_shard.specs.declared.steps.Step.TheVariants.{Raised, Renewed}
 use Rattle.key_shard.specs.Permit.{Permit}
-use Rattle.key_shard.specs.Past.{Terms, standing, quar_of, own_of, next_token, grants}
-use Rattle.key_shard.specs.Answers.{IsOf, OwesRaise, OwesRenew, WasGranted}
+use Rattle.key_shard.specs.Past.{Terms, standing, quar_of, next_token, grants}
+use Rattle.key_shard.specs.Answers.{IsOf, OwesRaise, OwesRenew}
 use Rattle.key_shard.specs.LegalStands.{StandsWell}
 use Rattle.key_shard.specs.Kept.{Ties, IsKept, IsOut, AreHeld, is_for, permit_of, places_for, places_of, raised_out, shown, steps_of, terms_of}
 use Rattle.key_shard.specs.Shards.{ShardView, is_out, raised_permit, stepped}
@@ -32,7 +32,7 @@ use Rattle.key_shard.proofs.DueLemmas.{found-there, same-told}
 use Rattle.key_shard.proofs.LegalLemmas.{distinct, found_own, found-passes, token_stands}
 use Rattle.key_shard.proofs.OutLemmas.{any-map, out-granted, out-stands}
 use Rattle.key_shard.proofs.PlaceLemmas.{StoodSome, next-grows, places-some_kept}
-use Rattle.key_shard.proofs.RaiseLemmas.{quar-raised, quar-renewed, raised-here, raised-apart, raised-sid, renewed-sid, renewed-mode}
+use Rattle.key_shard.proofs.RaiseLemmas.{quar-raised, quar-renewed, raised-here, raised-apart, renewed-sid, renewed-mode}
 
 -- a grant in mode Refresh in the place of this one
 abbrev lifted_out : Out → Out

@@ -24,7 +24,6 @@ use Rattle.key_shard.specs.declared.outs.Out.{Out}
 use Rattle.key_shard.specs.Permit.{Permit, same_permit}
 use Rattle.key_shard.specs.Kept.{permit_of, is_for, raised_out}
 use Rattle.rows_model.specs.declared.keys.QKey.{QKey}
-use Rattle.rows_model.proofs.SameKey.{same_key-refl}
 use Rattle.lease_table.specs.declared.records.Mode.TheVariants.{Refresh}
 use Rattle.key_shard.specs.Outs.{IsAtToken, AreByToken}
 

@@ -75,8 +75,7 @@ impl Body {
         };
         let _ = self.leases.raise(&key, sid, token);
         self.out.raise(self.no, &grant);
-        self.history
-            .push_reserved(Step::Raised { key, sid, token });
+        self.history.push_reserved(Step::Raised { key, sid, token });
         let grant = grant.raised();
         Ok(Raising::Raised { grant, old })
     }

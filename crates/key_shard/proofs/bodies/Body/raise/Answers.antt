@@ -1,5 +1,5 @@
 use Rattle.std.proofs.Common.{◌≡◌, true, sym, ap, ◌∙◌}
-use Rattle.lease_table.specs.Leases.{first, others_in, raise_in}
+use Rattle.lease_table.specs.Leases.{first, others_in}
 use Rattle.key_shard.specs.Past.{standing}
 use Rattle.key_shard.specs.Answers.{Raise, raise_by}
 use Rattle.key_shard.specs.Kept.{shown, terms_of, steps_of}

@@ -1,6 +1,6 @@
 use Rattle.std.proofs.Common.{◌≡◌, true, Some, None, is_some, sym, ap, ◌∙◌}
 use Rattle.key_shard.specs.Answers.{Renew, renew_by}
-use Rattle.key_shard.specs.Kept.{shown, terms_of, steps_of}
+use Rattle.key_shard.specs.Kept.{shown, terms_of}
 use Rattle.key_shard.specs.Shards.{is_out}
 use Rattle.key_shard.proofs.OutLemmas.{out-granted, stands-told}
 use Rattle.key_shard.proofs.OutRaises.{owes-renew}

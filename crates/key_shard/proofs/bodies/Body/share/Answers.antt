@@ -1,7 +1,6 @@
 use Rattle.std.proofs.Common.{◌≡◌, Some, IsSome, refl, sym, ap, subst, ◌∙◌}
 use Rattle.lease_table.specs.Leases.{first, others_in}
 use Rattle.key_shard.specs.declared.replies.Raising.TheVariants as raising
-use Rattle.key_shard.specs.declared.steps.Step.{Step}
 use Rattle.key_shard.specs.declared.steps.Step.TheVariants.{Shared}
 use Rattle.key_shard.specs.Past.{standing}
 use Rattle.key_shard.specs.Answers.{Answers, shared_step}

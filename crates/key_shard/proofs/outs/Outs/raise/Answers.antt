@@ -1,11 +1,10 @@
-use Rattle.std.proofs.Common.{◌≡◌, Bool, true, Option, Some, None, List, map, refl, sym, ap, ◌∙◌, IsSome, MutBor}
-use Rattle.std.specs.List.{list_any}
+use Rattle.std.proofs.Common.{◌≡◌, Bool, true, Option, Some, None, map, refl, sym, ap, ◌∙◌, IsSome, MutBor}
 use Rattle.std.specs.Map.{values_of, lookup}
 use Rattle.std.specs.Option.{option_copied_mut}
 use Rattle.std.specs.BTreeMap.{is_at}
 use Rattle.std.specs.Ordering.{nat_cmp}
 use Rattle.key_shard.specs.declared.outs.Out.{Out}
-use Rattle.key_shard.specs.Permit.{Permit, same_permit}
+use Rattle.key_shard.specs.Permit.{same_permit}
 use Rattle.key_shard.specs.Kept.{is_for, permit_of, raised_out}
 use Rattle.key_shard.proofs.TokenLemmas.{AreByToken-raised, values-raised, found-at, lifted, passes-some, same-for, token-named}
 use Rattle.key_shard.proofs.outs.Outs.raise.Goals as goal

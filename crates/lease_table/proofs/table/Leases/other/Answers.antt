@@ -1,4 +1,4 @@
-use Rattle.std.proofs.Common.{not, sym, ap, ◌∙◌}
+use Rattle.std.proofs.Common.{not, ap, ◌∙◌}
 use Rattle.lease_table.specs.Leases.{first, others_in, is_of}
 use Rattle.lease_table.proofs.ListLemmas.{find-first}
 use Rattle.lease_table.proofs.table.Leases.other.Goals as goal
