@@ -2,7 +2,7 @@
 use Rattle.std.proofs.Common.{ℕ, ◌+◌, ◌*◌, ◌≡◌, List, [], ◌∷◌, length, Some, arith, refl, sym, ap, ◌∙◌, get_or}
 use Rattle.std.specs.Prelude.{codes}
 use Rattle.rows_model.specs.declared.changes.Change.{Change}
-use Rattle.rows_model.specs.declared.changes.Change.TheVariants.{Invite, Accept, Reject, Thaw, Rename}
+use Rattle.rows_model.specs.declared.changes.Change.TheVariants.{Invite, Accept, Reject, Thaw, Rename, Block}
 use Rattle.change_words.specs.Txns.{IsId, change_word, AreSides, AreChanges, AreTxnWords}
 use Rattle.change_words.specs.Laws.{WordsTellTxns}
 
@@ -21,6 +21,7 @@ change_once (Accept a b) (Accept a' b') first second e h k = let f = id_once fir
 change_once (Reject a b) (Reject a' b') first second e h k = let f = id_once first a a' h.0 k.0 in let g = id_once second b b' h.1 k.1 in cc
 change_once (Thaw a b) (Thaw a' b') first second e h k = let f = id_once first a a' h.0 k.0 in let g = id_once second b b' h.1 k.1 in cc
 change_once (Rename a name) (Rename a' name') first second e h k = let f = id_once first a a' h.0 k.0 in let g : name ≡ name' = h.1 ∙ sym k.1 in cc
+change_once (Block a b) (Block a' b') first second e h k = let f = id_once first a a' h.0 k.0 in let g = id_once second b b' h.1 k.1 in cc
 change_once a b first second e h k = let two : letters (change_word a) ≡ letters (change_word b) = ap letters e in absurd (omega arith)
 
 -- no words and a word are two things
