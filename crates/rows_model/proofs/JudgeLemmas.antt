@@ -289,8 +289,9 @@ block_count_step (Block a b) t =
 counted_folded : (changes : List Change) (n : ℕ) → fold (λ k change. k + cond (adds_block change) 1 0) n changes ≡ n + count_by adds_block changes
 counted_folded [] n = omega arith
 counted_folded (change ∷ changes) n =
-    let rest = counted_folded changes (n + cond (adds_block change) 1 0) in
-    omega (arith, rest, count_cons adds_block change changes)
+    let more : n + cond (adds_block change) 1 0 + count_by adds_block changes ≡ n + count_by adds_block (change ∷ changes) =
+    omega (arith, count_cons adds_block change changes) in
+    counted_folded changes (n + cond (adds_block change) 1 0) ∙ more
 
 pub blocks_counted : (place : ℕ) (changes : List Change) (t after : Tables)
     → Fit t → All HasIds changes → apply_from place changes t ≡ Ok after → length after.blocks ≡ length t.blocks + count_by adds_block changes
