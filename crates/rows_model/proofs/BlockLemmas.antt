@@ -1,7 +1,7 @@
 -- Those whom each member has blocked: the room for one more, and that all lists make the blocks of all.
 use Rattle.std.proofs.Common.{ℕ, zero, suc, ◌+◌, ◌<◌, ◌≤◌, ◌≡◌, Bool, true, false, List, [], ◌∷◌, ◌++◌, length, get_or, map, filter, fold}
-use Rattle.std.proofs.Common.{All, Some, None, Option, Vec, Global, refl, sym, ap, subst, ◌∙◌, arith}
-use Rattle.std.specs.Prelude.{◌==◌, nat_lt, cond, if◌then◌else◌, count_by, vec_capacity}
+use Rattle.std.proofs.Common.{All, Some, None, Option, Vec, Global, inl, inr, refl, sym, ap, subst, ◌∙◌, arith}
+use Rattle.std.specs.Prelude.{◌==◌, ◌⊎◌, nat_lt, cond, if◌then◌else◌, count_by, vec_capacity}
 use Rattle.std.specs.List.{flat_map, AllZip}
 use Rattle.std.specs.Option.{option_and_then}
 use Rattle.std.proofs.lemmas.Bool.{eqb-true, eq-eqb, ne_eqb, false≢true}
@@ -58,16 +58,20 @@ made_of_barred a b x y h = record {
 }
 
 -- the room for a block is that in the list of its blocker
-pub room_of_block : (a b more : ℕ) (x : Near) → HasBlockRoomAt a more x → HasBlockRoomOf x more (Block a b)
-room_of_block a b more x room e = room (sym (eqb-true a x.id e))
+pub room_of_block : (a b more : ℕ) (xs : List Near) → All (HasBlockRoomAt a more) xs → All (λ one. HasBlockRoomOf one more (Block a b)) xs
+room_of_block a b more xs room = λ k d l e. room k d l (sym (eqb-true a (get_or xs k d).id e))
 
-pub room_at_block : (a b more : ℕ) (x : Near) → HasBlockRoomOf x more (Block a b) → HasBlockRoomAt a more x
-room_at_block a b more x room same = room (eq-eqb a x.id (sym same))
+pub room_at_block : (a b more : ℕ) (xs : List Near) → All (λ one. HasBlockRoomOf one more (Block a b)) xs → All (HasBlockRoomAt a more) xs
+room_at_block a b more xs room = λ k d l same. room k d l (eq-eqb a (get_or xs k d).id (sym same))
 
 -- no room is asked for a change that puts no block
 pub no_block_room : (change : Change) → ((id : ℕ) → blocks_by id change ≡ false) → (more : ℕ) (xs : List Near)
     → All (λ one. HasBlockRoomOf one more change) xs
 no_block_room change none more xs = λ k d l e. absurd (false≢true (sym (none (get_or xs k d).id) ∙ e))
+
+pub no_block : (a b : ℕ) (change : Change) → (change ≡ Invite a b) ⊎ (change ≡ Accept a b) → (id : ℕ) → blocks_by id change ≡ false
+no_block a b change (inl e) id = ap (blocks_by id) e
+no_block a b change (inr e) id = ap (blocks_by id) e
 
 -- room for one change is kept while there is made more for the rest
 block_room_kept : (change : Change) (more : ℕ) (x y : Near) → IsGrown x y → HasBlockRoomOf x more change → HasBlockRoomOf y more change
@@ -85,12 +89,16 @@ block_room_for_all change rest changes more xs ys parts grown one others =
     (All-cons (HasBlockRoomOf (get_or ys k d) more) change rest (first k d l) (others k d l))
 
 -- room for the first of the changes, and for the rest after it
-pub first_block_room : (change : Change) (rest changes : List Change) → changes ≡ change ∷ rest
+first_go : (change : Change) (rest changes : List Change) → changes ≡ change ∷ rest
     → (x : Near) → HasBlockRoomFor changes (length changes) x → HasBlockRoomOf x 1 change
-first_block_room change rest changes parts x room e =
+first_go change rest changes parts x room e =
     let all : HasBlockRoomFor (change ∷ rest) (length changes) x = subst (λ (cs : List Change). HasBlockRoomFor cs (length changes) x) parts room in
     let h : length x.blocked.items + length changes ≤ vec_capacity x.blocked = All-head (HasBlockRoomOf x (length changes)) change rest all e in
     omega (arith, h, ap length parts)
+
+pub first_block_room : (change : Change) (rest changes : List Change) → changes ≡ change ∷ rest
+    → (xs : List Near) → All (HasBlockRoomFor changes (length changes)) xs → All (λ one. HasBlockRoomOf one 1 change) xs
+first_block_room change rest changes parts xs room = λ k d l. first_go change rest changes parts (get_or xs k d) (room k d l)
 
 one_more_go : (b : ℕ) (ids : List ℕ) (c : Bool) → length (if c then with_id b ids else ids) ≤ length ids + 1
 one_more_go b ids true =

@@ -152,8 +152,8 @@ none_by_first f (one ∷ near) = none_by_first f near
 others_go : {X : Type 0} (f : X → ℕ) (l : X) (ls : List X) (one : Near) (near : List Near) (b : Bool) → (f l == one.id) ≡ b → b ≡ false
     → flat_map (by_first f (l ∷ ls)) near ≡ flat_map (by_first f ls) near
     → cond b (l ∷ by_first f ls one) (by_first f ls one) ++ flat_map (by_first f (l ∷ ls)) near ≡ by_first f ls one ++ flat_map (by_first f ls) near
-others_go {X} f l ls one near b e no rest =
-    rw no (ap (λ (xs : List X). by_first f ls one ++ xs) rest)
+others_go {X} f l ls one near b e apart rest =
+    rw apart (ap (λ (xs : List X). by_first f ls one ++ xs) rest)
 
 others : {X : Type 0} (f : X → ℕ) (l : X) (ls : List X) (near : List Near) → All (λ one. (f l == one.id) ≡ false) near
     → flat_map (by_first f (l ∷ ls)) near ≡ flat_map (by_first f ls) near

@@ -161,7 +161,14 @@ fn has_bond(rows: &Rows, earlier: &[Change], bond: Bond, a: u32, b: u32) -> bool
 fn has_block(rows: &Rows, earlier: &[Change], a: u32, b: u32) -> bool
     ensures { result ≡ (has_blocked a b rows.now || list_any (is_block_of a b) earlier.now) }
 {
-    has_blocked(rows, a, b) || earlier.iter().any(|change| is_block_of(change, a, b))
+    has_blocked(rows, a, b) || blocks(earlier, a, b)
+}
+
+// Whether one of the changes is the block of `b` by `a`.
+fn blocks(changes: &[Change], a: u32, b: u32) -> bool
+    ensures { result ≡ list_any (is_block_of a b) changes.now }
+{
+    changes.iter().any(|change| is_block_of(change, a, b))
 }
 
 // Whether `a` has blocked `b`.

@@ -9,7 +9,7 @@ use Rattle.rows_model.proofs.near.+make_all.Goals as goal
 pub make-requires-clause-block_room : goal.make-requires-clause-block_room
 make-requires-clause-block_room t c =
     let parts : c.args.changes.now ≡ c.in-Some.change.now ∷ c.in-Some.rest.now = search rules in
-    λ k d l. first_block_room c.in-Some.change.now c.in-Some.rest.now c.args.changes.now parts _ (c.requires.block_room k d l)
+    first_block_room c.in-Some.change.now c.in-Some.rest.now c.args.changes.now parts c.args.near.now c.requires.block_room
 
 pub make_all-requires : goal.make_all-requires
 make_all-requires t c =

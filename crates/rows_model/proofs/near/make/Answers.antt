@@ -40,7 +40,7 @@ returns-in-Invite-clause-near c =
 pub bar_at-requires-clause-room : goal.bar_at-requires-clause-room
 bar_at-requires-clause-room c =
     let room = rw c.in-Block.is at c.requires.block_room in
-    λ k d l. room_at_block c.in-Block.a c.in-Block.b 1 _ (room k d l)
+    room_at_block c.in-Block.a c.in-Block.b 1 c.args.near.now room
 
 pub returns-in-Block-clause-near : goal.returns-in-Block-clause-near
 returns-in-Block-clause-near c =

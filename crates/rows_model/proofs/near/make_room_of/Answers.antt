@@ -3,7 +3,8 @@ use Rattle.std.proofs.lemmas.Bool.{false≢true, and_parts}
 use Rattle.rows_model.specs.Near.{puts, blocks_by}
 use Rattle.rows_model.specs.NearSteps.{HasRoomOf, HasBlockRoomAt}
 use Rattle.rows_model.proofs.NearLemmas.{grown_itself, on_ok, on_any}
-use Rattle.rows_model.proofs.BlockLemmas.{room_of_block, no_block_room}
+use Rattle.rows_model.proofs.BlockLemmas.{room_of_block, no_block, no_block_room}
+use Rattle.rows_model.proofs.near.make_room_of.Goals.{in-Invite, in-Invite-2}
 use Rattle.rows_model.proofs.near.make_room_of.Goals as goal
 
 pub returns-in-Reject : goal.returns-in-Reject
@@ -30,9 +31,9 @@ returns-in-Reject c =
 
 pub returns-in-Invite-clause-block_room : goal.returns-in-Invite-clause-block_room
 returns-in-Invite-clause-block_room c =
-    let free : (id : ℕ) → blocks_by id c.args.change.now ≡ false = elim c.in-Invite.is [
-      | inl invite ↦ λ id. rw invite.2
-      | inr accept ↦ λ id. rw accept.2
+    let free : (id : ℕ) → blocks_by id c.args.change.now ≡ false = elim c.in-Invite-1.branch [
+      | in-Invite w ↦ λ id. no_block _ _ _ w.in-Invite.is id
+      | in-Invite-2 w ↦ λ id. no_block _ _ _ w.in-Invite.is id
     ] in
     on_any c.reserve_both.result (no_block_room c.args.change.now free c.args.more c.reserve_both.new.near)
 
@@ -44,4 +45,4 @@ returns-in-Block-clause-room c =
 pub returns-in-Block-clause-block_room : goal.returns-in-Block-clause-block_room
 returns-in-Block-clause-block_room c =
     on_ok c.reserve_block.result (λ (room : All (HasBlockRoomAt c.in-Block.a c.args.more) c.reserve_block.new.near).
-    rw c.in-Block.is (λ k d l. room_of_block c.in-Block.a _ c.args.more _ (room k d l))) c.reserve_block.ensures.room
+    rw c.in-Block.is (room_of_block c.in-Block.a c.in-Block.b c.args.more c.reserve_block.new.near room)) c.reserve_block.ensures.room
