@@ -1,7 +1,7 @@
 -- A footprint has just the keys that are touched, in order and each once.
-use Rattle.std.proofs.Common.{ℕ, ◌≡◌, Bool, true, false, List, [], ◌∷◌, get_or, fold, AllPairs, refl, sym, ap, ◌∙◌, arith}
+use Rattle.std.proofs.Common.{◌≡◌, Bool, true, false, List, [], ◌∷◌, get_or, fold, AllPairs, refl, ap, ◌∙◌, arith}
 use Rattle.std.specs.Prelude.{count_by, ◌||◌, if◌then◌else◌}
-use Rattle.std.specs.List.{list_any, flat_map, insert}
+use Rattle.std.specs.List.{flat_map, insert}
 use Rattle.std.proofs.lemmas.Bool.{false≢true}
 use Rattle.std.proofs.lemmas.Bool.Decides.{nat_tests}
 use Rattle.std.proofs.lemmas.List.Folds.{list_any-append}

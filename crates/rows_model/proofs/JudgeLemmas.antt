@@ -5,7 +5,7 @@ use Rattle.std.proofs.Common.{Err, Bor, inl, inr, refl, sym, ap, subst, ◌∙�
 use Rattle.std.specs.Prelude.{count_by, ◌==◌, ◌&&◌, ◌||◌, nat_lt, cond, if◌then◌else◌, ◌⊎◌}
 use Rattle.std.specs.List.{list_any}
 use Rattle.std.specs.Option.{is_some, option_copied}
-use Rattle.std.proofs.lemmas.Bool.{false≢true, and_parts, eq-eqb}
+use Rattle.std.proofs.lemmas.Bool.{false≢true}
 use Rattle.std.proofs.lemmas.Bool.Decides.{nat_tests}
 use Rattle.std.proofs.lemmas.List.{take_more}
 use Rattle.std.proofs.lemmas.List.Elements.{All-nil, All-cons, All-head, All-tail}
@@ -19,8 +19,8 @@ use Rattle.rows_model.specs.declared.judging.Bond.{Bond}
 use Rattle.rows_model.specs.declared.judging.Bond.TheVariants.{Any, Invitation, Friendship}
 use Rattle.rows_model.specs.declared.changes.Change.{Change}
 use Rattle.rows_model.specs.declared.changes.Change.TheVariants.{Invite, Accept, Reject, Thaw, Rename, Block}
-use Rattle.rows_model.specs.Rows.{Tables, BlockRow, Fit, IsLink, joins}
-use Rattle.rows_model.specs.Changes.{HasIds, is_before, with_link, without_link, invitation, friendship, is_block_before, with_block, block_of, renamed}
+use Rattle.rows_model.specs.Rows.{Tables, Fit, IsLink, joins}
+use Rattle.rows_model.specs.Changes.{HasIds, is_before, with_link, without_link, invitation, friendship, is_block_before, block_of, renamed}
 use Rattle.rows_model.specs.Changes.{is_member, is_linked, is_invited, has_blocked, applies, changed, apply_from, apply_all}
 use Rattle.rows_model.specs.Query.{is_by, blocked_ids}
 use Rattle.rows_model.specs.Refresh.{has_id}

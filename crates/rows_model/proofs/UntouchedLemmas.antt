@@ -21,7 +21,7 @@ use Rattle.rows_model.specs.declared.changes.Change.TheVariants.{Invite, Accept,
 use Rattle.rows_model.specs.Rows.{Tables, BlockRow, joins, member_of, is_pending, is_friend}
 use Rattle.rows_model.specs.Query.{befriends, invites, is_by, answer, answer_of, friend_count, pending_count, other_end, id_list, profile_text}
 use Rattle.rows_model.specs.Changes.{with_link, without_link, invitation, friendship, renamed, applies, changed, apply_from, apply_all}
-use Rattle.rows_model.specs.Changes.{foot_of, has_key, touches, is_invited, are_friends, is_before, is_block_before, with_block, block_of}
+use Rattle.rows_model.specs.Changes.{foot_of, has_key, touches, is_invited, are_friends, is_before, is_block_before, block_of}
 use Rattle.rows_model.specs.Untouched.{UntouchedKeepsItsAnswer}
 use Rattle.rows_model.proofs.FitLemmas.{InPlace, in_place, with_in_place, none_go, none_passes, not_true, friend_free, invite_parts}
 

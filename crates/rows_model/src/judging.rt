@@ -11,6 +11,7 @@ use crate::refreshing::has_id;
 use crate::rows::{Link, Rows};
 
 const MOST_LINKS: usize = 1_000_000;
+
 const MOST_BLOCKS: usize = 1_000_000;
 
 // What a change asks of the links between two members.

@@ -1,7 +1,7 @@
-use Rattle.std.proofs.Common.{ℕ, ◌≡◌, true, false, All, sym, inl, inr, ◌∙◌, refl}
+use Rattle.std.proofs.Common.{ℕ, ◌≡◌, false, All, sym, inl, inr, ◌∙◌, refl}
 use Rattle.std.proofs.lemmas.Bool.{false≢true, and_parts}
 use Rattle.rows_model.specs.Near.{puts, blocks_by}
-use Rattle.rows_model.specs.NearSteps.{HasRoomOf, HasBlockRoomAt}
+use Rattle.rows_model.specs.NearSteps.{HasBlockRoomAt}
 use Rattle.rows_model.proofs.NearLemmas.{grown_itself, on_ok, on_any}
 use Rattle.rows_model.proofs.BlockLemmas.{room_of_block, no_block, no_block_room}
 use Rattle.rows_model.proofs.near.make_room_of.Goals.{in-Invite, in-Invite-2}
