@@ -1,8 +1,8 @@
 -- Words say one transaction at most.
-use Rattle.std.proofs.Common.{ℕ, ◌+◌, ◌*◌, ◌≡◌, List, [], ◌∷◌, length, Some, arith, refl, sym, ap, ◌∙◌, get_or}
+use Rattle.std.proofs.Common.{ℕ, ◌+◌, ◌*◌, ◌≡◌, ◌≢◌, List, [], ◌∷◌, length, Some, arith, refl, sym, ap, ◌∙◌, get_or}
 use Rattle.std.specs.Prelude.{codes}
 use Rattle.rows_model.specs.declared.changes.Change.{Change}
-use Rattle.rows_model.specs.declared.changes.Change.TheVariants.{Invite, Accept, Reject, Thaw, Rename}
+use Rattle.rows_model.specs.declared.changes.Change.TheVariants.{Invite, Accept, Reject, Thaw, Rename, Block}
 use Rattle.change_words.specs.Txns.{IsId, change_word, AreSides, AreChanges, AreTxnWords}
 use Rattle.change_words.specs.Laws.{WordsTellTxns}
 
@@ -21,7 +21,18 @@ change_once (Accept a b) (Accept a' b') first second e h k = let f = id_once fir
 change_once (Reject a b) (Reject a' b') first second e h k = let f = id_once first a a' h.0 k.0 in let g = id_once second b b' h.1 k.1 in cc
 change_once (Thaw a b) (Thaw a' b') first second e h k = let f = id_once first a a' h.0 k.0 in let g = id_once second b b' h.1 k.1 in cc
 change_once (Rename a name) (Rename a' name') first second e h k = let f = id_once first a a' h.0 k.0 in let g : name ≡ name' = h.1 ∙ sym k.1 in cc
+change_once (Block a b) (Block a' b') first second e h k = let f = id_once first a a' h.0 k.0 in let g = id_once second b b' h.1 k.1 in cc
 change_once a b first second e h k = let two : letters (change_word a) ≡ letters (change_word b) = ap letters e in absurd (omega arith)
+
+-- a word that none of these is, is that of no change between two members
+pub no_pair : (word : List ℕ) → (word ≡ codes "invite" → ⊥) → (word ≡ codes "accept" → ⊥) → (word ≡ codes "reject" → ⊥) → (word ≡ codes "thaw" → ⊥)
+    → (word ≡ codes "block" → ⊥) → (change : Change) → word ≡ change_word change → change_word change ≢ codes "rename" → ⊥
+no_pair word invite accept reject thaw block (Invite a b) e other = invite e
+no_pair word invite accept reject thaw block (Accept a b) e other = accept e
+no_pair word invite accept reject thaw block (Reject a b) e other = reject e
+no_pair word invite accept reject thaw block (Thaw a b) e other = thaw e
+no_pair word invite accept reject thaw block (Rename a name) e other = other refl
+no_pair word invite accept reject thaw block (Block a b) e other = block e
 
 -- no words and a word are two things
 pub nothing : (word : List ℕ) (words : List (List ℕ)) → word ∷ words ≡ [] → ⊥

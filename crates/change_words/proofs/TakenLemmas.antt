@@ -3,7 +3,7 @@ use Rattle.std.proofs.Common.{ℕ, ◌≡◌, ◌<◌, List, [], ◌∷◌, ◌+
 use Rattle.std.specs.Prelude.{codes, All}
 use Rattle.std.proofs.lemmas.List.Elements.{All-nil, All-cons}
 use Rattle.rows_model.specs.declared.changes.Change.{Change}
-use Rattle.rows_model.specs.declared.changes.Change.TheVariants.{Invite, Accept, Reject, Thaw, Rename}
+use Rattle.rows_model.specs.declared.changes.Change.TheVariants.{Invite, Accept, Reject, Thaw, Rename, Block}
 use Rattle.rows_model.specs.Changes.{HasIds}
 use Rattle.change_words.specs.Txns.{change_word, AreSides, AreChanges, AreTxnWords}
 use Rattle.change_words.specs.Parsing.{BeginsWith, BeginsWithNone}
@@ -16,6 +16,7 @@ has_ids (Accept a b) first second h = (h.0.from, h.1.from)
 has_ids (Reject a b) first second h = (h.0.from, h.1.from)
 has_ids (Thaw a b) first second h = (h.0.from, h.1.from)
 has_ids (Rename a name) first second h = (h.0.from, rw h.1 h.2)
+has_ids (Block a b) first second h = (h.0.from, h.1.from)
 
 pub all_have_ids : (changes : List Change) (words : List (List ℕ)) → AreChanges changes words → All HasIds changes
 all_have_ids [] words h = All-nil HasIds

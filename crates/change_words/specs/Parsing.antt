@@ -1,7 +1,7 @@
 -- What the parts of a parser answer.
 use Rattle.std.specs.Prelude.{ℕ, ◌≡◌, List, ◌∷◌, codes}
 use Rattle.rows_model.specs.declared.changes.Change.{Change}
-use Rattle.rows_model.specs.declared.changes.Change.TheVariants.{Invite, Accept, Reject, Thaw, Rename}
+use Rattle.rows_model.specs.declared.changes.Change.TheVariants.{Invite, Accept, Reject, Thaw, Rename, Block}
 use Rattle.change_words.specs.Txns.{change_word, AreSides, AreChanges}
 
 -- the words begin with three of a change, and these stand behind
@@ -22,3 +22,4 @@ IsPair (Accept a b) first second = (a ≡ first) × (b ≡ second)
 IsPair (Reject a b) first second = (a ≡ first) × (b ≡ second)
 IsPair (Thaw a b) first second = (a ≡ first) × (b ≡ second)
 IsPair (Rename a name) first second = ⊥
+IsPair (Block a b) first second = (a ≡ first) × (b ≡ second)

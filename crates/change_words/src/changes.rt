@@ -40,6 +40,7 @@ fn pair_of(word: &[u8], a: u32, b: u32) -> Option<Change>
         b"accept" => Some(Change::Accept { a, b }),
         b"reject" => Some(Change::Reject { a, b }),
         b"thaw" => Some(Change::Thaw { a, b }),
+        b"block" => Some(Change::Block { a, b }),
         _ => None,
     }
 }

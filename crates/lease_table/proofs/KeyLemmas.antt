@@ -7,7 +7,7 @@ use Rattle.std.specs.BTreeMap.{is_at}
 use Rattle.std.specs.Cmp.{IsTotalOrder, IsEquivalence, nat_cmp_total, then_total, on_total, eq_by_cmp_equiv, tied_then, unsigned_tied}
 use Rattle.std.proofs.lemmas.Bool.Decides.{nat_tests}
 use Rattle.rows_model.specs.declared.keys.Kind.{Kind}
-use Rattle.rows_model.specs.declared.keys.Kind.TheVariants.{Profile, Friends, Pending, NFriends, NPending}
+use Rattle.rows_model.specs.declared.keys.Kind.TheVariants.{Profile, Friends, Pending, NFriends, NPending, Blocked}
 use Rattle.rows_model.specs.declared.keys.QKey.{QKey}
 use Rattle.rows_model.specs.Key.{same_key, kind_number}
 use Rattle.lease_table.specs.Stands.{key_cmp}
@@ -35,26 +35,37 @@ key_cmp-ranks Profile Friends i j = refl
 key_cmp-ranks Profile Pending i j = refl
 key_cmp-ranks Profile NFriends i j = refl
 key_cmp-ranks Profile NPending i j = refl
+key_cmp-ranks Profile Blocked i j = refl
 key_cmp-ranks Friends Profile i j = refl
 key_cmp-ranks Friends Friends i j = refl
 key_cmp-ranks Friends Pending i j = refl
 key_cmp-ranks Friends NFriends i j = refl
 key_cmp-ranks Friends NPending i j = refl
+key_cmp-ranks Friends Blocked i j = refl
 key_cmp-ranks Pending Profile i j = refl
 key_cmp-ranks Pending Friends i j = refl
 key_cmp-ranks Pending Pending i j = refl
 key_cmp-ranks Pending NFriends i j = refl
 key_cmp-ranks Pending NPending i j = refl
+key_cmp-ranks Pending Blocked i j = refl
 key_cmp-ranks NFriends Profile i j = refl
 key_cmp-ranks NFriends Friends i j = refl
 key_cmp-ranks NFriends Pending i j = refl
 key_cmp-ranks NFriends NFriends i j = refl
 key_cmp-ranks NFriends NPending i j = refl
+key_cmp-ranks NFriends Blocked i j = refl
 key_cmp-ranks NPending Profile i j = refl
 key_cmp-ranks NPending Friends i j = refl
 key_cmp-ranks NPending Pending i j = refl
 key_cmp-ranks NPending NFriends i j = refl
 key_cmp-ranks NPending NPending i j = refl
+key_cmp-ranks NPending Blocked i j = refl
+key_cmp-ranks Blocked Profile i j = refl
+key_cmp-ranks Blocked Friends i j = refl
+key_cmp-ranks Blocked Pending i j = refl
+key_cmp-ranks Blocked NFriends i j = refl
+key_cmp-ranks Blocked NPending i j = refl
+key_cmp-ranks Blocked Blocked i j = refl
 
 pub key_cmp-rank : (a b : QKey) → key_cmp a b ≡ rank_cmp a b
 key_cmp-rank a b = key_cmp-ranks a.kind b.kind a.id b.id

@@ -7,7 +7,7 @@ use Rattle.std.proofs.lemmas.Int.{ints}
 use Rattle.std.proofs.lemmas.List.Folds.{fold_along}
 use Rattle.std.proofs.lemmas.Option.{same_Some}
 use Rattle.rows_model.specs.declared.keys.Kind.{Kind}
-use Rattle.rows_model.specs.declared.keys.Kind.TheVariants.{Profile, Friends, Pending, NFriends, NPending}
+use Rattle.rows_model.specs.declared.keys.Kind.TheVariants.{Profile, Friends, Pending, NFriends, NPending, Blocked}
 use Rattle.rows_model.specs.declared.keys.QKey.{QKey}
 use Rattle.rows_model.specs.declared.changes.Change.{Change}
 use Rattle.rows_model.specs.declared.refreshing.Circle.{Circle}
@@ -85,6 +85,7 @@ kind_shifted Friends id changes t after counts fit ids e = absurd cc
 kind_shifted Pending id changes t after counts fit ids e = absurd cc
 kind_shifted NFriends id changes t after counts fit ids e = count_shifted Befriended id changes t after fit ids e
 kind_shifted NPending id changes t after counts fit ids e = count_shifted Inviting id changes t after fit ids e
+kind_shifted Blocked id changes t after counts fit ids e = absurd cc
 
 -- the law
 pub delta_shifts : DeltaIsAnswer
@@ -108,6 +109,7 @@ nothing_by Friends id changes none = refl
 nothing_by Pending id changes none = refl
 nothing_by NFriends id changes none = absurd cc
 nothing_by NPending id changes none = absurd cc
+nothing_by Blocked id changes none = refl
 
 -- changes add nothing to a key that is no count
 pub delta_of-no_count : (key : QKey) (changes : List Change) → is_count key ≡ false → delta_of key changes ≡ pos 0

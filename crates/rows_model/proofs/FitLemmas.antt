@@ -1,10 +1,10 @@
 -- A change that applies leaves fit rows fit.
 use Rattle.std.proofs.Common.{ℕ, zero, suc, ◌+◌, ◌<◌, ◌≤◌, ◌≡◌, ◌≢◌, Bool, true, false, not, List, [], ◌∷◌, length, get_or, take, drop, map}
-use Rattle.std.proofs.Common.{filter, find, All, AllPairs, IsSome, Some, refl, sym, ap, subst, zero-add, ◌∙◌, arith}
+use Rattle.std.proofs.Common.{filter, find, All, AllPairs, IsSome, Some, refl, sym, ap, subst, zero-add, take-append-drop, ◌∙◌, arith}
 use Rattle.std.specs.Prelude.{count_by, ◌==◌, ◌&&◌, ◌||◌, nat_lt, cond, if◌then◌else◌}
 use Rattle.std.specs.List.{list_any, insert}
 use Rattle.std.proofs.lemmas.Bool.{false≢true, and_parts, eqb-true, eq-eqb}
-use Rattle.std.proofs.lemmas.List.Folds.{Any-from_list_any}
+use Rattle.std.proofs.lemmas.List.Folds.{Any-from_list_any, list_any_none, list_any-append}
 use borrow.Author.Tests.{ltb-true}
 use Rattle.std.proofs.lemmas.Bool.Decides.{nat_tests}
 use Rattle.std.proofs.lemmas.List.{get_or-map, length-map}
@@ -16,9 +16,10 @@ use Rattle.rows_model.specs.declared.rows.LinkState.TheVariants.{Friend}
 use Rattle.rows_model.specs.declared.rows.Link.{Link}
 use Rattle.rows_model.specs.declared.rows.Member.{Member}
 use Rattle.rows_model.specs.Name.{IsName}
-use Rattle.rows_model.specs.Rows.{Tables, Fit, IsLink, IsBefore, IsMember, joins, is_pending}
-use Rattle.rows_model.specs.Changes.{is_before, with_link, without_link, invitation, friendship, renamed, is_member, is_linked, is_invited, applies}
-use Rattle.rows_model.specs.declared.changes.Change.TheVariants.{Invite, Accept}
+use Rattle.rows_model.specs.Rows.{Tables, BlockRow, Fit, IsLink, IsBlock, IsBefore, IsBlockBefore, IsMember, joins, is_pending}
+use Rattle.rows_model.specs.Changes.{is_before, with_link, without_link, invitation, friendship, is_block_before, with_block, block_of, renamed}
+use Rattle.rows_model.specs.Changes.{is_member, is_linked, is_invited, has_blocked, applies}
+use Rattle.rows_model.specs.declared.changes.Change.TheVariants.{Invite, Accept, Block}
 
 All-insert : {X : Type 0} (P : X → Type 0) (xs : List X) (i : ℕ) (new : X) → All P xs → P new → All P (insert xs i new)
 All-insert P xs i new all here =
@@ -90,52 +91,6 @@ with_in_place new links pairs free =
     pairs_insert InPlace (is_before new) new links pairs (stops new)
     (λ k d l e. goes_before new (get_or links k d) (free k d l) e) (λ k d l e. comes_after new (get_or links k d) (free k d l) e)
 
--- a link is one of the same members' tables with other links
-link_kept : (members : List Member) (links others : List Link) (link : Link)
-    → IsLink (record { members = members; links = links }) link → IsLink (record { members = members; links = others }) link
-link_kept members links others link h = record { from = h.from; to = h.to; different = h.different; smaller_first = h.smaller_first }
-
--- one more link
-pub Fit-with_link : (members : List Member) (links : List Link) (new : Link) → Fit (record { members = members; links = links })
-    → IsLink (record { members = members; links = links }) new → All (λ link. joins new.a new.b link ≡ false) links
-    → length links < 1000000 → Fit (record { members = members; links = with_link new links })
-Fit-with_link members links new fit here free few =
-    let pairs = with_in_place new links (in_place links fit.links_ascend fit.one_link) free in
-    let after : Tables = record { members = members; links = with_link new links } in
-    let kept : All (λ link. IsLink after link) links = λ k d l. link_kept members links (with_link new links) (get_or links k d) (fit.links_join k d l) in
-    let n : length (with_link new links) ≡ length links + 1 =
-    length-insert links (count_by (is_before new) links) new (count_by-le-length (is_before new) links) in
-    record {
-      ids = fit.ids;
-      names = fit.names;
-      members_ascend = fit.members_ascend;
-      links_join =
-          All-insert (λ link. IsLink after link) links (count_by (is_before new) links) new kept (link_kept members links (with_link new links) new here);
-      links_ascend = λ i j d low l. let h = pairs i j d low l in (h.low, h.tied);
-      one_link = λ i j d low l. (pairs i j d low l).apart;
-      few_links = omega (arith, n);
-    }
-
--- one link less
-pub Fit-without_link : (members : List Member) (links : List Link) (a b : ℕ)
-    → Fit (record { members = members; links = links }) → Fit (record { members = members; links = without_link a b links })
-Fit-without_link members links a b fit =
-    let p : Link → Bool = λ link. not (joins a b link) in
-    let after : Tables = record { members = members; links = without_link a b links } in
-    let kept : All (λ link. IsLink after link) links = λ k d l. link_kept members links (without_link a b links) (get_or links k d) (fit.links_join k d l) in
-    let n : length (filter p links) ≡ count_by p links = length-filter p links in
-    let le : count_by p links ≤ length links = count_by-le-length p links in
-    let most : length links ≤ 1000000 = fit.few_links in
-    record {
-      ids = fit.ids;
-      names = fit.names;
-      members_ascend = fit.members_ascend;
-      links_join = All-filter p (λ link. IsLink after link) links kept;
-      links_ascend = AllPairs-filter IsBefore p links fit.links_ascend;
-      one_link = AllPairs-filter (λ link later. joins later.a later.b link ≡ false) p links fit.one_link;
-      few_links = omega (arith, n, le, most);
-    }
-
 -- a member that a test finds is there
 found_go : {X : Type 0} (p : X → Bool) (x : X) (xs : List X) (b : Bool)
     → (b || list_any p xs) ≡ true → (list_any p xs ≡ true → IsSome (find p xs)) → IsSome (cond b (Some x) (find p xs))
@@ -161,24 +116,180 @@ pub not_true : (b : Bool) → not b ≡ true → b ≡ false
 not_true true e = absurd (false≢true e)
 not_true false e = refl
 
--- after an invitation that applies
-pub Fit-invited : (members : List Member) (links : List Link) (a b : ℕ) → Fit (record { members = members; links = links })
-    → applies (Invite a b) (record { members = members; links = links }) ≡ true → Fit (record { members = members; links = with_link (invitation a b) links })
-Fit-invited members links a b fit e =
-    let t : Tables = record { members = members; links = links } in
-    let p4 = and_parts (not (a == b) && is_member a t && is_member b t && not (is_linked a b t)) (nat_lt (length links) 1000000) e in
+-- `||` in another order
+or_last : (t s d : Bool) → (t || (s || d)) ≡ ((t || d) || s)
+or_last true s d = refl
+or_last false true true = refl
+or_last false true false = refl
+or_last false false true = refl
+or_last false false false = refl
+
+-- one more element, wherever it is put
+pub any-insert : {X : Type 0} (p : X → Bool) (xs : List X) (i : ℕ) (new : X) → list_any p (insert xs i new) ≡ (list_any p xs || p new)
+any-insert p xs i new =
+    let whole : list_any p xs ≡ (list_any p (take i xs) || list_any p (drop i xs)) =
+    ap (list_any p) (sym (take-append-drop i xs)) ∙ list_any-append p (take i xs) (drop i xs) in
+    list_any-append p (take i xs) (new ∷ drop i xs)
+    ∙ (or_last (list_any p (take i xs)) (p new) (list_any p (drop i xs)) ∙ ap (λ b. b || p new) (sym whole))
+
+no_more : {X : Type 0} (p : X → Bool) (xs : List X) (i : ℕ) (new : X) → list_any p xs ≡ false → p new ≡ false → list_any p (insert xs i new) ≡ false
+no_more p xs i new none here = any-insert p xs i new ∙ (ap (λ b. b || p new) none ∙ here)
+
+no_fewer : {X : Type 0} (p q : X → Bool) (xs : List X) → list_any p xs ≡ false → list_any p (filter q xs) ≡ false
+no_fewer p q xs none = list_any_none p (filter q xs) (All-filter q (λ x. p x ≡ false) xs (none_passes p xs none))
+
+-- a link is one of the same members' tables with other links and blocks
+link_kept : (members : List Member) (links others : List Link) (blocks bars : List BlockRow) (link : Link)
+    → IsLink (record { members = members; links = links; blocks = blocks }) link
+    → IsLink (record { members = members; links = others; blocks = bars }) link
+link_kept members links others blocks bars link h =
+    record { from = h.from; to = h.to; different = h.different; smaller_first = h.smaller_first }
+
+-- and a block is one of the same members' tables with other links, of which none joins its two
+block_kept : (members : List Member) (links others : List Link) (blocks bars : List BlockRow) (block : BlockRow)
+    → IsBlock (record { members = members; links = links; blocks = blocks }) block
+    → list_any (joins block.blocker block.blocked) others ≡ false
+    → IsBlock (record { members = members; links = others; blocks = bars }) block
+block_kept members links others blocks bars block h none = record { from = h.from; to = h.to; different = h.different; unlinked = none }
+
+-- one more link, between two of whom none has blocked the other
+pub Fit-with_link : (members : List Member) (links : List Link) (blocks : List BlockRow) (new : Link)
+    → Fit (record { members = members; links = links; blocks = blocks })
+    → IsLink (record { members = members; links = links; blocks = blocks }) new → All (λ link. joins new.a new.b link ≡ false) links
+    → All (λ block. joins block.blocker block.blocked new ≡ false) blocks → length links < 1000000
+    → Fit (record { members = members; links = with_link new links; blocks = blocks })
+Fit-with_link members links blocks new fit here free clear few =
+    let pairs = with_in_place new links (in_place links fit.links_ascend fit.one_link) free in
+    let after : Tables = record { members = members; links = with_link new links; blocks = blocks } in
+    let kept : All (λ link. IsLink after link) links =
+    λ k d l. link_kept members links (with_link new links) blocks blocks (get_or links k d) (fit.links_join k d l) in
+    let n : length (with_link new links) ≡ length links + 1 =
+    length-insert links (count_by (is_before new) links) new (count_by-le-length (is_before new) links) in
+    record {
+      ids = fit.ids;
+      names = fit.names;
+      members_ascend = fit.members_ascend;
+      links_join =
+          All-insert (λ link. IsLink after link) links (count_by (is_before new) links) new kept
+          (link_kept members links (with_link new links) blocks blocks new here);
+      links_ascend = λ i j d low l. let h = pairs i j d low l in (h.low, h.tied);
+      one_link = λ i j d low l. (pairs i j d low l).apart;
+      few_links = omega (arith, n);
+      blocks_join = λ k d l.
+          let block = get_or blocks k d in
+          let h : IsBlock (record { members = members; links = links; blocks = blocks }) block = fit.blocks_join k d l in
+          block_kept members links (with_link new links) blocks blocks block h
+          (no_more (joins block.blocker block.blocked) links (count_by (is_before new) links) new h.unlinked (clear k d l));
+      blocks_ascend = fit.blocks_ascend;
+      few_blocks = fit.few_blocks;
+    }
+
+-- one link less
+pub Fit-without_link : (members : List Member) (links : List Link) (blocks : List BlockRow) (a b : ℕ)
+    → Fit (record { members = members; links = links; blocks = blocks })
+    → Fit (record { members = members; links = without_link a b links; blocks = blocks })
+Fit-without_link members links blocks a b fit =
+    let p : Link → Bool = λ link. not (joins a b link) in
+    let after : Tables = record { members = members; links = without_link a b links; blocks = blocks } in
+    let kept : All (λ link. IsLink after link) links =
+    λ k d l. link_kept members links (without_link a b links) blocks blocks (get_or links k d) (fit.links_join k d l) in
+    let n : length (filter p links) ≡ count_by p links = length-filter p links in
+    let le : count_by p links ≤ length links = count_by-le-length p links in
+    let most : length links ≤ 1000000 = fit.few_links in
+    record {
+      ids = fit.ids;
+      names = fit.names;
+      members_ascend = fit.members_ascend;
+      links_join = All-filter p (λ link. IsLink after link) links kept;
+      links_ascend = AllPairs-filter IsBefore p links fit.links_ascend;
+      one_link = AllPairs-filter (λ link later. joins later.a later.b link ≡ false) p links fit.one_link;
+      few_links = omega (arith, n, le, most);
+      blocks_join = λ k d l.
+          let block = get_or blocks k d in
+          let h : IsBlock (record { members = members; links = links; blocks = blocks }) block = fit.blocks_join k d l in
+          block_kept members links (without_link a b links) blocks blocks block h (no_fewer (joins block.blocker block.blocked) p links h.unlinked);
+      blocks_ascend = fit.blocks_ascend;
+      few_blocks = fit.few_blocks;
+    }
+
+-- what an invitation that applies asked
+pub record CanInvite (t : Tables) (a b : ℕ) : Type 0 where
+  pub differ : a ≢ b
+  pub from : IsMember a t
+  pub to : IsMember b t
+  pub free : is_linked a b t ≡ false
+  pub unblocked : has_blocked a b t ≡ false
+  pub unblocked_back : has_blocked b a t ≡ false
+  pub few : length t.links < 1000000
+
+pub invite_parts : (a b : ℕ) (t : Tables) → applies (Invite a b) t ≡ true → CanInvite t a b
+invite_parts a b t e =
+    let p6 =
+    and_parts (not (a == b) && is_member a t && is_member b t && not (is_linked a b t) && not (has_blocked a b t) && not (has_blocked b a t))
+    (nat_lt (length t.links) 1000000) e in
+    let p5 =
+    and_parts (not (a == b) && is_member a t && is_member b t && not (is_linked a b t) && not (has_blocked a b t)) (not (has_blocked b a t)) p6.0 in
+    let p4 = and_parts (not (a == b) && is_member a t && is_member b t && not (is_linked a b t)) (not (has_blocked a b t)) p5.0 in
     let p3 = and_parts (not (a == b) && is_member a t && is_member b t) (not (is_linked a b t)) p4.0 in
     let p2 = and_parts (not (a == b) && is_member a t) (is_member b t) p3.0 in
     let p1 = and_parts (not (a == b)) (is_member a t) p2.0 in
-    let differ : a ≢ b = λ same. false≢true (sym (not_true (a == b) p1.0) ∙ eq-eqb a b same) in
-    let here : IsLink t (invitation a b) = record {
-      from = found_some (λ member. member.id == a) members p1.1;
-      to = found_some (λ member. member.id == b) members p2.1;
-      different = differ;
-      smaller_first = λ friend. absurd (false≢true friend);
-    } in
-    let free : All (λ link. joins a b link ≡ false) links = none_passes (joins a b) links (not_true (is_linked a b t) p3.1) in
-    Fit-with_link members links (invitation a b) fit here free (ltb-true _ _ p4.1)
+    record {
+      differ = λ same. false≢true (sym (not_true (a == b) p1.0) ∙ eq-eqb a b same);
+      from = found_some (λ member. member.id == a) t.members p1.1;
+      to = found_some (λ member. member.id == b) t.members p2.1;
+      free = not_true (is_linked a b t) p3.1;
+      unblocked = not_true (has_blocked a b t) p4.1;
+      unblocked_back = not_true (has_blocked b a t) p5.1;
+      few = ltb-true _ _ p6.1;
+    }
+
+-- what a block that applies asked
+pub record CanBlock (t : Tables) (a b : ℕ) : Type 0 where
+  pub differ : a ≢ b
+  pub from : IsMember a t
+  pub to : IsMember b t
+  pub free : is_linked a b t ≡ false
+  pub unblocked : has_blocked a b t ≡ false
+  pub few : length t.blocks < 1000000
+
+pub block_parts : (a b : ℕ) (t : Tables) → applies (Block a b) t ≡ true → CanBlock t a b
+block_parts a b t e =
+    let p5 =
+    and_parts (not (a == b) && is_member a t && is_member b t && not (is_linked a b t) && not (has_blocked a b t)) (nat_lt (length t.blocks) 1000000) e in
+    let p4 = and_parts (not (a == b) && is_member a t && is_member b t && not (is_linked a b t)) (not (has_blocked a b t)) p5.0 in
+    let p3 = and_parts (not (a == b) && is_member a t && is_member b t) (not (is_linked a b t)) p4.0 in
+    let p2 = and_parts (not (a == b) && is_member a t) (is_member b t) p3.0 in
+    let p1 = and_parts (not (a == b)) (is_member a t) p2.0 in
+    record {
+      differ = λ same. false≢true (sym (not_true (a == b) p1.0) ∙ eq-eqb a b same);
+      from = found_some (λ member. member.id == a) t.members p1.1;
+      to = found_some (λ member. member.id == b) t.members p2.1;
+      free = not_true (is_linked a b t) p3.1;
+      unblocked = not_true (has_blocked a b t) p4.1;
+      few = ltb-true _ _ p5.1;
+    }
+
+-- a link between two is none between those of a block of neither by the other
+unjoined : (a b : ℕ) (block : BlockRow) → ((block.blocker == a) && (block.blocked == b)) ≡ false
+    → ((block.blocker == b) && (block.blocked == a)) ≡ false → joins block.blocker block.blocked (invitation a b) ≡ false
+unjoined a b block one other = grind (arith, nat_tests)
+
+-- after an invitation that applies
+pub Fit-invited : (members : List Member) (links : List Link) (blocks : List BlockRow) (a b : ℕ)
+    → Fit (record { members = members; links = links; blocks = blocks })
+    → applies (Invite a b) (record { members = members; links = links; blocks = blocks }) ≡ true
+    → Fit (record { members = members; links = with_link (invitation a b) links; blocks = blocks })
+Fit-invited members links blocks a b fit e =
+    let t : Tables = record { members = members; links = links; blocks = blocks } in
+    let h = invite_parts a b t e in
+    let here : IsLink t (invitation a b) =
+    record { from = h.from; to = h.to; different = h.differ; smaller_first = λ friend. absurd (false≢true friend) } in
+    let free : All (λ link. joins a b link ≡ false) links = none_passes (joins a b) links h.free in
+    let one = none_passes (λ block. (block.blocker == a) && (block.blocked == b)) blocks h.unblocked in
+    let other = none_passes (λ block. (block.blocker == b) && (block.blocked == a)) blocks h.unblocked_back in
+    let clear : All (λ block. joins block.blocker block.blocked (invitation a b) ≡ false) blocks =
+    λ k d l. unjoined a b (get_or blocks k d) (one k d l) (other k d l) in
+    Fit-with_link members links blocks (invitation a b) fit here free clear h.few
 
 -- a friendship of two members
 pub friend_link : (t : Tables) (a b : ℕ) (first : Bool) → nat_lt a b ≡ first
@@ -236,24 +347,91 @@ invited_parts t a b fit e =
       fewer = count_less (λ l. not (joins a b l)) t.links k link w.2 (ap (λ l. not (joins a b l)) w.3 ∙ joined);
     }
 
+-- an invitation that waits isn't between those of a block
+invited_apart : (x y a b : ℕ) (link : Link) → (is_pending link.state && (link.a == a) && (link.b == b)) ≡ true → joins x y link ≡ false
+    → joins x y (invitation a b) ≡ false
+invited_apart x y a b link e none = grind (arith, nat_tests)
+
+invited_unjoined : (x y a b : ℕ) (t : Tables) → is_invited a b t ≡ true → list_any (joins x y) t.links ≡ false → joins x y (invitation a b) ≡ false
+invited_unjoined x y a b t e none =
+    let w = Any-from_list_any (λ link. is_pending link.state && (link.a == a) && (link.b == b)) t.links e in
+    let at : joins x y (get_or t.links w.0 w.1) ≡ false = none_passes (joins x y) t.links none w.0 w.1 w.2 in
+    invited_apart x y a b w.1 w.4 (ap (joins x y) (sym w.3) ∙ at)
+
+friend_apart : (x y a b : ℕ) (first : Bool) → joins x y (invitation a b) ≡ false
+    → joins x y (if first then record { a = a; b = b; state = Friend } else record { a = b; b = a; state = Friend }) ≡ false
+friend_apart x y a b true e = e
+friend_apart x y a b false e = grind (arith, nat_tests)
+
 -- after an invitation was accepted
-pub Fit-accepted : (members : List Member) (links : List Link) (a b : ℕ) → Fit (record { members = members; links = links })
-    → applies (Accept a b) (record { members = members; links = links }) ≡ true
-    → Fit (record { members = members; links = with_link (friendship a b) (without_link a b links) })
-Fit-accepted members links a b fit e =
-    let t : Tables = record { members = members; links = links } in
+pub Fit-accepted : (members : List Member) (links : List Link) (blocks : List BlockRow) (a b : ℕ)
+    → Fit (record { members = members; links = links; blocks = blocks })
+    → applies (Accept a b) (record { members = members; links = links; blocks = blocks }) ≡ true
+    → Fit (record { members = members; links = with_link (friendship a b) (without_link a b links); blocks = blocks })
+Fit-accepted members links blocks a b fit e =
+    let t : Tables = record { members = members; links = links; blocks = blocks } in
     let h = invited_parts t a b fit e in
     let p : Link → Bool = λ link. not (joins a b link) in
-    let kept = Fit-without_link members links a b fit in
+    let kept = Fit-without_link members links blocks a b fit in
     let passes = filter_passes p links in
     let free : All (λ link. joins (friendship a b).a (friendship a b).b link ≡ false) (without_link a b links) =
     λ k d l. friend_free a b (nat_lt a b) (get_or (without_link a b links) k d) (not_true _ (passes k d l)) in
-    let here : IsLink (record { members = members; links = without_link a b links }) (friendship a b) =
-    link_kept members links (without_link a b links) (friendship a b) (friend_link t a b (nat_lt a b) refl h.from h.to h.differ) in
+    let here : IsLink (record { members = members; links = without_link a b links; blocks = blocks }) (friendship a b) =
+    link_kept members links (without_link a b links) blocks blocks (friendship a b) (friend_link t a b (nat_lt a b) refl h.from h.to h.differ) in
+    let clear : All (λ block. joins block.blocker block.blocked (friendship a b) ≡ false) blocks = λ k d l.
+    let block = get_or blocks k d in
+    let is : IsBlock t block = fit.blocks_join k d l in
+    friend_apart block.blocker block.blocked a b (nat_lt a b) (invited_unjoined block.blocker block.blocked a b t e is.unlinked) in
     let n : length (without_link a b links) ≡ count_by p links = length-filter p links in
     let most : length links ≤ 1000000 = fit.few_links in
     let fewer : count_by p links < length links = h.fewer in
-    Fit-with_link members (without_link a b links) (friendship a b) kept here free (omega (arith, n, most, fewer))
+    Fit-with_link members (without_link a b links) blocks (friendship a b) kept here free clear (omega (arith, n, most, fewer))
+
+-- blocks in order
+block_stops : (new block later : BlockRow) → IsBlockBefore block later → is_block_before new block ≡ false → is_block_before new later ≡ false
+block_stops new block later h e =
+    let low : block.blocker ≤ later.blocker = h.0 in
+    let tied : block.blocker ≡ later.blocker → block.blocked < later.blocked = h.1 in
+    grind (arith, nat_tests)
+
+block_before : (new block : BlockRow) → is_block_before new block ≡ true → IsBlockBefore block new
+block_before new block e = (grind (arith, nat_tests), grind (arith, nat_tests))
+
+block_after : (new block : BlockRow) → ((block.blocker == new.blocker) && (block.blocked == new.blocked)) ≡ false → is_block_before new block ≡ false
+    → IsBlockBefore new block
+block_after new block other e = (grind (arith, nat_tests), grind (arith, nat_tests))
+
+-- after a block that applies
+pub Fit-blocked : (members : List Member) (links : List Link) (blocks : List BlockRow) (a b : ℕ)
+    → Fit (record { members = members; links = links; blocks = blocks })
+    → applies (Block a b) (record { members = members; links = links; blocks = blocks }) ≡ true
+    → Fit (record { members = members; links = links; blocks = with_block (block_of a b) blocks })
+Fit-blocked members links blocks a b fit e =
+    let t : Tables = record { members = members; links = links; blocks = blocks } in
+    let new = block_of a b in
+    let h = block_parts a b t e in
+    let after : Tables = record { members = members; links = links; blocks = with_block new blocks } in
+    let here : IsBlock after new = record { from = h.from; to = h.to; different = h.differ; unlinked = h.free } in
+    let kept : All (λ block. IsBlock after block) blocks = λ k d l.
+    let is : IsBlock t (get_or blocks k d) = fit.blocks_join k d l in
+    block_kept members links links blocks (with_block new blocks) (get_or blocks k d) is is.unlinked in
+    let others = none_passes (λ block. (block.blocker == a) && (block.blocked == b)) blocks h.unblocked in
+    let n : length (with_block new blocks) ≡ length blocks + 1 =
+    length-insert blocks (count_by (is_block_before new) blocks) new (count_by-le-length (is_block_before new) blocks) in
+    let few : length blocks < 1000000 = h.few in
+    record {
+      ids = fit.ids;
+      names = fit.names;
+      members_ascend = fit.members_ascend;
+      links_join = λ k d l. link_kept members links links blocks (with_block new blocks) (get_or links k d) (fit.links_join k d l);
+      links_ascend = fit.links_ascend;
+      one_link = fit.one_link;
+      few_links = fit.few_links;
+      blocks_join = All-insert (λ block. IsBlock after block) blocks (count_by (is_block_before new) blocks) new kept here;
+      blocks_ascend = pairs_insert IsBlockBefore (is_block_before new) new blocks fit.blocks_ascend (block_stops new)
+          (λ k d l before. block_before new (get_or blocks k d) before) (λ k d l later. block_after new (get_or blocks k d) (others k d l) later);
+      few_blocks = omega (arith, n, few);
+    }
 
 same_id_go : (member : Member) (b : Bool) (name : List ℕ) → (let m : Member = if b then record { id = member.id; name = name } else member in m.id ≡ member.id)
 same_id_go member true name = refl
@@ -282,12 +460,12 @@ find_kept id name i (x ∷ xs) h =
     ((renamed id name x).id == i) (x.id == i) (ap (λ (n : ℕ). n == i) (same_id id name x)) (find_kept id name i xs) h
 
 -- after a member has another name
-pub Fit-renamed : (members : List Member) (links : List Link) (id : ℕ) (name : List ℕ)
-    → Fit (record { members = members; links = links }) → IsName name → Fit (record { members = map (renamed id name) members; links = links })
-Fit-renamed members links id name fit new =
+pub Fit-renamed : (members : List Member) (links : List Link) (blocks : List BlockRow) (id : ℕ) (name : List ℕ)
+    → Fit (record { members = members; links = links; blocks = blocks }) → IsName name
+    → Fit (record { members = map (renamed id name) members; links = links; blocks = blocks })
+Fit-renamed members links blocks id name fit new =
     let f = renamed id name in
     let n : length (map f members) ≡ length members = length-map members f in
-    let after : Tables = record { members = map f members; links = links } in
     record {
       ids = λ k d l.
           let within : k < length members = omega (arith, n) in
@@ -320,4 +498,14 @@ Fit-renamed members links id name fit new =
       links_ascend = fit.links_ascend;
       one_link = fit.one_link;
       few_links = fit.few_links;
+      blocks_join = λ k d l.
+          let h = fit.blocks_join k d l in
+          record {
+            from = find_kept id name (get_or blocks k d).blocker members h.from;
+            to = find_kept id name (get_or blocks k d).blocked members h.to;
+            different = h.different;
+            unlinked = h.unlinked;
+          };
+      blocks_ascend = fit.blocks_ascend;
+      few_blocks = fit.few_blocks;
     }

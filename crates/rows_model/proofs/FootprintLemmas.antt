@@ -1,7 +1,7 @@
 -- A footprint has just the keys that are touched, in order and each once.
-use Rattle.std.proofs.Common.{ℕ, ◌≡◌, Bool, true, false, List, [], ◌∷◌, get_or, take, drop, fold, AllPairs, refl, sym, ap, ◌∙◌, arith, take-append-drop}
+use Rattle.std.proofs.Common.{◌≡◌, Bool, true, false, List, [], ◌∷◌, get_or, fold, AllPairs, refl, ap, ◌∙◌, arith}
 use Rattle.std.specs.Prelude.{count_by, ◌||◌, if◌then◌else◌}
-use Rattle.std.specs.List.{list_any, flat_map, insert}
+use Rattle.std.specs.List.{flat_map, insert}
 use Rattle.std.proofs.lemmas.Bool.{false≢true}
 use Rattle.std.proofs.lemmas.Bool.Decides.{nat_tests}
 use Rattle.std.proofs.lemmas.List.Folds.{list_any-append}
@@ -11,17 +11,10 @@ use Rattle.rows_model.specs.Key.{same_key}
 use Rattle.rows_model.specs.Changes.{foot_of, has_key, touches, is_key_before, with_key}
 use Rattle.rows_model.specs.Footprint.{FootprintsAreExact}
 use Rattle.rows_model.proofs.SameKey.{same_key-true}
-use Rattle.rows_model.proofs.FitLemmas.{pairs_insert, none_passes}
+use Rattle.rows_model.proofs.FitLemmas.{pairs_insert, none_passes, any-insert}
 
 -- `||` in another order
-or_last : (t s d : Bool) → (t || (s || d)) ≡ ((t || d) || s)
-or_last true s d = refl
-or_last false true true = refl
-or_last false true false = refl
-or_last false false true = refl
-or_last false false false = refl
-
-or_assoc : (t s d : Bool) → ((t || s) || d) ≡ (t || (s || d))
+pub or_assoc : (t s d : Bool) → ((t || s) || d) ≡ (t || (s || d))
 or_assoc true s d = refl
 or_assoc false s d = refl
 
@@ -29,14 +22,6 @@ or_absorbed : (t s : Bool) → (s ≡ true → t ≡ true) → t ≡ (t || s)
 or_absorbed true s h = refl
 or_absorbed false true h = absurd (false≢true (h refl))
 or_absorbed false false h = refl
-
--- one more element, wherever it is put
-pub any-insert : {X : Type 0} (p : X → Bool) (xs : List X) (i : ℕ) (new : X) → list_any p (insert xs i new) ≡ (list_any p xs || p new)
-any-insert p xs i new =
-    let whole : list_any p xs ≡ (list_any p (take i xs) || list_any p (drop i xs)) =
-    ap (list_any p) (sym (take-append-drop i xs)) ∙ list_any-append p (take i xs) (drop i xs) in
-    list_any-append p (take i xs) (new ∷ drop i xs)
-    ∙ (or_last (list_any p (take i xs)) (p new) (list_any p (drop i xs)) ∙ ap (λ b. b || p new) (sym whole))
 
 -- a key is among the keys with one more where it is among them or is that one
 has_go : (key new : QKey) (keys : List QKey) (b : Bool) → has_key new keys ≡ b

@@ -14,7 +14,7 @@ use Rattle.rows_model.specs.declared.rows.LinkState.TheVariants.{Friend}
 use Rattle.rows_model.specs.declared.rows.Link.{Link}
 use Rattle.rows_model.specs.declared.near.Near.{Near}
 use Rattle.rows_model.specs.declared.changes.Change.{Change}
-use Rattle.rows_model.specs.declared.changes.Change.TheVariants.{Invite, Accept, Reject, Thaw, Rename}
+use Rattle.rows_model.specs.declared.changes.Change.TheVariants.{Invite, Accept, Reject, Thaw, Rename, Block}
 use Rattle.rows_model.specs.declared.judging.Bond.{Bond}
 use Rattle.rows_model.specs.declared.judging.Bond.TheVariants.{Any, Invitation, Friendship}
 use Rattle.rows_model.specs.Rows.{IsBefore, joins, is_pending, is_friend}
@@ -46,7 +46,7 @@ filter_comm p q [] = refl
 filter_comm p q (x ∷ xs) = comm_go p q x xs (p x) (q x) refl refl (filter_comm p q xs)
 
 -- a filter that no element passes
-pub filter_none : (p : Link → Bool) (xs : List Link) → All (λ x. p x ≡ false) xs → filter p xs ≡ []
+pub filter_none : {X : Type 0} (p : X → Bool) (xs : List X) → All (λ x. p x ≡ false) xs → filter p xs ≡ []
 filter_none p [] all = refl
 filter_none p (x ∷ xs) all =
     ap (λ b. cond b (x ∷ filter p xs) (filter p xs)) (All-head (λ y. p y ≡ false) x xs all) ∙ filter_none p xs (All-tail (λ y. p y ≡ false) x xs all)
@@ -138,28 +138,29 @@ near_changed id (Accept a b) links order = moved_go id a b links ((a == id) || (
 near_changed id (Reject a b) links order = taken_from_list id a b links ((a == id) || (b == id)) refl
 near_changed id (Thaw a b) links order = taken_from_list id a b links ((a == id) || (b == id)) refl
 near_changed id (Rename a name) links order = refl
+near_changed id (Block a b) links order = refl
 
--- the links that name a member first, member by member
-abbrev by_first : List Link → Near → List Link
-by_first links one = filter (λ link. link.a == one.id) links
+-- what stands under a member's id, member by member
+abbrev pub by_first : {X : Type 0} → (X → ℕ) → List X → Near → List X
+by_first f xs one = filter (λ x. f x == one.id) xs
 
-none_by_first : (near : List Near) → flat_map (by_first []) near ≡ []
-none_by_first [] = refl
-none_by_first (one ∷ near) = none_by_first near
+none_by_first : {X : Type 0} (f : X → ℕ) (near : List Near) → flat_map (by_first f []) near ≡ []
+none_by_first f [] = refl
+none_by_first f (one ∷ near) = none_by_first f near
 
--- a link that no member behind has first
-others_go : (l : Link) (ls : List Link) (one : Near) (near : List Near) (b : Bool) → (l.a == one.id) ≡ b → b ≡ false
-    → flat_map (by_first (l ∷ ls)) near ≡ flat_map (by_first ls) near
-    → cond b (l ∷ by_first ls one) (by_first ls one) ++ flat_map (by_first (l ∷ ls)) near ≡ by_first ls one ++ flat_map (by_first ls) near
-others_go l ls one near b e f rest =
-    rw f (ap (λ (xs : List Link). by_first ls one ++ xs) rest)
+-- an element that stands under the id of none behind
+others_go : {X : Type 0} (f : X → ℕ) (l : X) (ls : List X) (one : Near) (near : List Near) (b : Bool) → (f l == one.id) ≡ b → b ≡ false
+    → flat_map (by_first f (l ∷ ls)) near ≡ flat_map (by_first f ls) near
+    → cond b (l ∷ by_first f ls one) (by_first f ls one) ++ flat_map (by_first f (l ∷ ls)) near ≡ by_first f ls one ++ flat_map (by_first f ls) near
+others_go {X} f l ls one near b e apart rest =
+    rw apart (ap (λ (xs : List X). by_first f ls one ++ xs) rest)
 
-others : (l : Link) (ls : List Link) (near : List Near) → All (λ one. (l.a == one.id) ≡ false) near
-    → flat_map (by_first (l ∷ ls)) near ≡ flat_map (by_first ls) near
-others l ls [] all = refl
-others l ls (one ∷ near) all =
-    others_go l ls one near (l.a == one.id) refl (All-head (λ other. (l.a == other.id) ≡ false) one near all)
-    (others l ls near (All-tail (λ other. (l.a == other.id) ≡ false) one near all))
+others : {X : Type 0} (f : X → ℕ) (l : X) (ls : List X) (near : List Near) → All (λ one. (f l == one.id) ≡ false) near
+    → flat_map (by_first f (l ∷ ls)) near ≡ flat_map (by_first f ls) near
+others f l ls [] all = refl
+others f l ls (one ∷ near) all =
+    others_go f l ls one near (f l == one.id) refl (All-head (λ other. (f l == other.id) ≡ false) one near all)
+    (others f l ls near (All-tail (λ other. (f l == other.id) ≡ false) one near all))
 
 -- whether a list stands for this member
 abbrev pub has_list : ℕ → List Near → Bool
@@ -173,60 +174,66 @@ later_id one near id up e =
     let is : (w.1.id == id) ≡ true = w.4 in
     grind (arith, nat_tests)
 
--- the first of all links stands in front
-first_go : (l : Link) (ls : List Link) (one : Near) (near : List Near) (b : Bool)
-    → (one.id == l.a) ≡ b → NearAscend (one ∷ near) → All (λ m. l.a ≤ m.a) ls → (b || has_list l.a near) ≡ true
-    → (has_list l.a near ≡ true → flat_map (by_first (l ∷ ls)) near ≡ l ∷ flat_map (by_first ls) near)
-    → by_first (l ∷ ls) one ++ flat_map (by_first (l ∷ ls)) near ≡ l ∷ (by_first ls one ++ flat_map (by_first ls) near)
-first_go l ls one near true e up low has rest =
-    let here : (l.a == one.id) ≡ true = grind (arith, nat_tests) in
-    let same : one.id ≡ l.a = grind (arith, nat_tests) in
-    let apart : All (λ other. (l.a == other.id) ≡ false) near =
+-- the first of all stands in front
+first_go : {X : Type 0} (f : X → ℕ) (l : X) (ls : List X) (one : Near) (near : List Near) (b : Bool)
+    → (one.id == f l) ≡ b → NearAscend (one ∷ near) → All (λ m. f l ≤ f m) ls → (b || has_list (f l) near) ≡ true
+    → (has_list (f l) near ≡ true → flat_map (by_first f (l ∷ ls)) near ≡ l ∷ flat_map (by_first f ls) near)
+    → by_first f (l ∷ ls) one ++ flat_map (by_first f (l ∷ ls)) near ≡ l ∷ (by_first f ls one ++ flat_map (by_first f ls) near)
+first_go {X} f l ls one near true e up low has rest =
+    let here : (f l == one.id) ≡ true = grind (arith, nat_tests) in
+    let same : one.id ≡ f l = grind (arith, nat_tests) in
+    let apart : All (λ other. (f l == other.id) ≡ false) near =
     λ k d m. (let h : one.id < (get_or near k d).id = pairs_head (λ x y. x.id < y.id) one near up k d m in grind (arith, nat_tests)) in
-    ap (λ b. cond b (l ∷ by_first ls one) (by_first ls one) ++ flat_map (by_first (l ∷ ls)) near) here
-    ∙ ap (λ (xs : List Link). l ∷ (by_first ls one ++ xs)) (others l ls near apart)
-first_go l ls one near false e up low has rest =
-    let below : one.id < l.a = later_id one near l.a up has in
-    let none : All (λ m. (m.a == one.id) ≡ false) ls = λ k d m. (let h : l.a ≤ (get_or ls k d).a = low k d m in grind (arith, nat_tests)) in
-    let here : (l.a == one.id) ≡ false = grind (arith, nat_tests) in
-    let empty : by_first ls one ≡ [] = filter_none (λ link. link.a == one.id) ls none in
-    ap (λ b. cond b (l ∷ by_first ls one) (by_first ls one) ++ flat_map (by_first (l ∷ ls)) near) here
-    ∙ (ap (λ (xs : List Link). xs ++ flat_map (by_first (l ∷ ls)) near) empty
-    ∙ (rest has ∙ sym (ap (λ (xs : List Link). l ∷ (xs ++ flat_map (by_first ls) near)) empty)))
+    ap (λ b. cond b (l ∷ by_first f ls one) (by_first f ls one) ++ flat_map (by_first f (l ∷ ls)) near) here
+    ∙ ap (λ (xs : List X). l ∷ (by_first f ls one ++ xs)) (others f l ls near apart)
+first_go {X} f l ls one near false e up low has rest =
+    let below : one.id < f l = later_id one near (f l) up has in
+    let none : All (λ m. (f m == one.id) ≡ false) ls = λ k d m. (let h : f l ≤ f (get_or ls k d) = low k d m in grind (arith, nat_tests)) in
+    let here : (f l == one.id) ≡ false = grind (arith, nat_tests) in
+    let empty : by_first f ls one ≡ [] = filter_none (λ x. f x == one.id) ls none in
+    ap (λ b. cond b (l ∷ by_first f ls one) (by_first f ls one) ++ flat_map (by_first f (l ∷ ls)) near) here
+    ∙ (ap (λ (xs : List X). xs ++ flat_map (by_first f (l ∷ ls)) near) empty
+    ∙ (rest has ∙ sym (ap (λ (xs : List X). l ∷ (xs ++ flat_map (by_first f ls) near)) empty)))
 
-first_of_all : (l : Link) (ls : List Link) (near : List Near)
-    → NearAscend near → All (λ m. l.a ≤ m.a) ls → has_list l.a near ≡ true → flat_map (by_first (l ∷ ls)) near ≡ l ∷ flat_map (by_first ls) near
-first_of_all l ls [] up low has = absurd (false≢true has)
-first_of_all l ls (one ∷ near) up low has =
-    first_go l ls one near (one.id == l.a) refl up low has (first_of_all l ls near (pairs_tail (λ x y. x.id < y.id) one near up) low)
+first_of_all : {X : Type 0} (f : X → ℕ) (l : X) (ls : List X) (near : List Near)
+    → NearAscend near → All (λ m. f l ≤ f m) ls → has_list (f l) near ≡ true → flat_map (by_first f (l ∷ ls)) near ≡ l ∷ flat_map (by_first f ls) near
+first_of_all f l ls [] up low has = absurd (false≢true has)
+first_of_all f l ls (one ∷ near) up low has =
+    first_go f l ls one near (one.id == f l) refl up low has (first_of_all f l ls near (pairs_tail (λ x y. x.id < y.id) one near up) low)
 
--- links in order, whose first ends all have lists, are had member by member
-gathered : (near : List Near) (links : List Link) → NearAscend near
-    → InOrder links → All (λ l. has_list l.a near ≡ true) links → flat_map (by_first links) near ≡ links
-gathered near [] up order has = none_by_first near
-gathered near (l ∷ ls) up order has =
-    let later = pairs_head IsBefore l ls order in
-    first_of_all l ls near up (λ k d m. (later k d m).0) (All-head (λ m. has_list m.a near ≡ true) l ls has)
-    ∙ ap (λ (xs : List Link). l ∷ xs) (gathered near ls up (pairs_tail IsBefore l ls order) (All-tail (λ m. has_list m.a near ≡ true) l ls has))
+-- what stands in order under ids that all have lists is had member by member
+pub gathered : {X : Type 0} (f : X → ℕ) (near : List Near) (xs : List X) → NearAscend near
+    → AllPairs (λ x y. f x ≤ f y) xs → All (λ x. has_list (f x) near ≡ true) xs → flat_map (by_first f xs) near ≡ xs
+gathered f near [] up order has = none_by_first f near
+gathered {X} f near (l ∷ ls) up order has =
+    let later = pairs_head (λ x y. f x ≤ f y) l ls order in
+    first_of_all f l ls near up later (All-head (λ m. has_list (f m) near ≡ true) l ls has)
+    ∙ ap (λ (xs : List X). l ∷ xs)
+    (gathered f near ls up (pairs_tail (λ x y. f x ≤ f y) l ls order) (All-tail (λ m. has_list (f m) near ≡ true) l ls has))
 
 first_is_end : (id : ℕ) (link : Link) → is_end id link ≡ false → (link.a == id) ≡ false
 first_is_end id link e = (or_parts (link.a == id) (link.b == id) e).0
 
-whole_by_first : (near : List Near) (links : List Link) → IsIndex near links → whole near ≡ flat_map (by_first links) near
+-- the first end of a link
+abbrev first_end : Link → ℕ
+first_end link = link.a
+
+whole_by_first : (near : List Near) (links : List Link) → IsIndex near links → whole near ≡ flat_map (by_first first_end links) near
 whole_by_first [] links index = refl
 whole_by_first (one ∷ near) links index =
     let P : Near → Type 0 = λ other. other.links.items ≡ filter (is_end other.id) links in
     let here : one.links.items ≡ filter (is_end one.id) links = All-head P one near index in
     let p : Link → Bool = λ link. link.a == one.id in
-    let same : firsts one ≡ by_first links one =
+    let same : firsts one ≡ by_first first_end links one =
     ap (filter p) here ∙ filter_both p (is_end one.id) links (λ k d l e. first_is_end one.id (get_or links k d) e) in
     ap (λ (xs : List Link). xs ++ whole near) same
-    ∙ ap (λ (xs : List Link). by_first links one ++ xs) (whole_by_first near links (All-tail P one near index))
+    ∙ ap (λ (xs : List Link). by_first first_end links one ++ xs) (whole_by_first near links (All-tail P one near index))
 
 -- the lists of an index make the whole
 pub whole_is : (near : List Near) (links : List Link) → IsIndex near links
     → NearAscend near → InOrder links → All (λ l. has_list l.a near ≡ true) links → whole near ≡ links
-whole_is near links index up order has = whole_by_first near links index ∙ gathered near links up order has
+whole_is near links index up order has =
+    whole_by_first near links index ∙ gathered first_end near links up (λ i j d low l. (order i j d low l).0) has
 
 -- what a test finds among a member's links, where it passes no others
 pub kept_in_list : (p : Link → Bool) (id : ℕ) (links : List Link)

@@ -5,7 +5,7 @@ use Rattle.std.proofs.Common.{Err, Bor, inl, inr, refl, sym, ap, subst, ◌∙�
 use Rattle.std.specs.Prelude.{count_by, ◌==◌, ◌&&◌, ◌||◌, nat_lt, cond, if◌then◌else◌, ◌⊎◌}
 use Rattle.std.specs.List.{list_any}
 use Rattle.std.specs.Option.{is_some, option_copied}
-use Rattle.std.proofs.lemmas.Bool.{false≢true, and_parts, eq-eqb}
+use Rattle.std.proofs.lemmas.Bool.{false≢true}
 use Rattle.std.proofs.lemmas.Bool.Decides.{nat_tests}
 use Rattle.std.proofs.lemmas.List.{take_more}
 use Rattle.std.proofs.lemmas.List.Elements.{All-nil, All-cons, All-head, All-tail}
@@ -18,16 +18,18 @@ use Rattle.rows_model.specs.declared.rows.Member.{Member}
 use Rattle.rows_model.specs.declared.judging.Bond.{Bond}
 use Rattle.rows_model.specs.declared.judging.Bond.TheVariants.{Any, Invitation, Friendship}
 use Rattle.rows_model.specs.declared.changes.Change.{Change}
-use Rattle.rows_model.specs.declared.changes.Change.TheVariants.{Invite, Accept, Reject, Thaw, Rename}
+use Rattle.rows_model.specs.declared.changes.Change.TheVariants.{Invite, Accept, Reject, Thaw, Rename, Block}
 use Rattle.rows_model.specs.Rows.{Tables, Fit, IsLink, joins}
-use Rattle.rows_model.specs.Changes.{HasIds, is_before, with_link, without_link, invitation, friendship, renamed, is_member, is_linked}
-use Rattle.rows_model.specs.Changes.{is_invited, applies, changed, apply_from, apply_all}
-use Rattle.rows_model.specs.Near.{AreTwo, links_after, members_after}
-use Rattle.rows_model.specs.Judge.{bonds, still_bonds, adds, ends}
-use Rattle.rows_model.proofs.FitLemmas.{pairs_head, pairs_tail, count_cons, same_id}
-use Rattle.rows_model.proofs.FootprintLemmas.{any-insert}
+use Rattle.rows_model.specs.Changes.{HasIds, is_before, with_link, without_link, invitation, friendship, is_block_before, block_of, renamed}
+use Rattle.rows_model.specs.Changes.{is_member, is_linked, is_invited, has_blocked, applies, changed, apply_from, apply_all}
+use Rattle.rows_model.specs.Query.{is_by, blocked_ids}
+use Rattle.rows_model.specs.Refresh.{has_id}
+use Rattle.rows_model.specs.Near.{AreTwo, links_after, blocks_after, members_after}
+use Rattle.rows_model.specs.Judge.{bonds, still_bonds, adds, ends, is_block_of, adds_block}
+use Rattle.rows_model.proofs.FitLemmas.{pairs_head, pairs_tail, count_cons, same_id, any-insert, invite_parts}
 use Rattle.rows_model.proofs.IndexLemmas.{bond_joins}
-use Rattle.rows_model.proofs.RefreshStepLemmas.{any_implied}
+use Rattle.rows_model.proofs.FootprintLemmas.{or_assoc}
+use Rattle.rows_model.proofs.RefreshStepLemmas.{any_implied, has_mapped}
 use Rattle.rows_model.proofs.ApplyLemmas.{apply_all_is}
 use Rattle.rows_model.proofs.StayFitLemmas.{Fit-changed}
 
@@ -51,13 +53,14 @@ walked step view told place (change ∷ changes) t after fit ids e =
     (λ kept made. walked step view told (place + 1) changes (changed change t) after kept (All-tail HasIds change changes ids) made
     ∙ ap (λ (v : _). fold step v changes) (told change t fit))
 
--- the two parts of the tables
+-- the three parts of the tables
 pub links_changed : (change : Change) (t : Tables) → (changed change t).links ≡ links_after t.links change
 links_changed (Invite a b) t = refl
 links_changed (Accept a b) t = refl
 links_changed (Reject a b) t = refl
 links_changed (Thaw a b) t = refl
 links_changed (Rename a name) t = refl
+links_changed (Block a b) t = refl
 
 pub members_changed : (change : Change) (t : Tables) → (changed change t).members ≡ members_after t.members change
 members_changed (Invite a b) t = refl
@@ -65,6 +68,15 @@ members_changed (Accept a b) t = refl
 members_changed (Reject a b) t = refl
 members_changed (Thaw a b) t = refl
 members_changed (Rename a name) t = refl
+members_changed (Block a b) t = refl
+
+pub blocks_changed : (change : Change) (t : Tables) → (changed change t).blocks ≡ blocks_after t.blocks change
+blocks_changed (Invite a b) t = refl
+blocks_changed (Accept a b) t = refl
+blocks_changed (Reject a b) t = refl
+blocks_changed (Thaw a b) t = refl
+blocks_changed (Rename a name) t = refl
+blocks_changed (Block a b) t = refl
 
 -- a bond of two members after a change of them, or of others
 same_two : (a b c d : ℕ) (link : Link) → joins a b link ≡ true → not (joins c d link) ≡ not (joins a b (invitation c d))
@@ -88,6 +100,7 @@ bond_step bond a b (Accept c d) t =
 bond_step bond a b (Reject c d) t = bond_parted bond a b c d t.links
 bond_step bond a b (Thaw c d) t = bond_parted bond a b c d t.links
 bond_step bond a b (Rename c name) t = refl
+bond_step bond a b (Block c d) t = refl
 
 pub bonds_after : (bond : Bond) (a b place : ℕ) (changes : List Change) (t after : Tables) → Fit t → All HasIds changes
     → apply_from place changes t ≡ Ok after → list_any (bonds bond a b) after.links ≡ fold (still_bonds bond a b) (list_any (bonds bond a b) t.links) changes
@@ -108,6 +121,7 @@ member_step id (Accept a b) t = refl
 member_step id (Reject a b) t = refl
 member_step id (Thaw a b) t = refl
 member_step id (Rename a name) t = members_stay_go id a name t.members
+member_step id (Block a b) t = refl
 
 pub members_stay : (id place : ℕ) (changes : List Change) (t after : Tables)
     → Fit t → All HasIds changes → apply_from place changes t ≡ Ok after → is_member id after ≡ is_member id t
@@ -141,17 +155,12 @@ joined_differ t a b p fit joined e same =
     differ both
 
 two_in : (change : Change) (t : Tables) → Fit t → applies change t ≡ true → AreTwo change
-two_in (Invite a b) t fit e = λ same.
-    let one =
-    and_parts (not (a == b)) (is_member a t) (and_parts (not (a == b) && is_member a t) (is_member b t)
-    (and_parts (not (a == b) && is_member a t && is_member b t) (not (is_linked a b t))
-    (and_parts (not (a == b) && is_member a t && is_member b t && not (is_linked a b t)) (nat_lt (length t.links) 1000000) e).0).0).0 in
-    let eq : (a == b) ≡ true = eq-eqb a b same in
-    false≢true (sym (ap not eq) ∙ one.0)
+two_in (Invite a b) t fit e = (invite_parts a b t e).differ
 two_in (Accept a b) t fit e = joined_differ t a b (bonds Invitation a b) fit (bond_joins Invitation a b) e
 two_in (Reject a b) t fit e = joined_differ t a b (bonds Invitation a b) fit (bond_joins Invitation a b) e
 two_in (Thaw a b) t fit e = joined_differ t a b (bonds Friendship a b) fit (bond_joins Friendship a b) e
 two_in (Rename a name) t fit e = tt
+two_in (Block a b) t fit e = tt
 
 -- changes that apply in turn name two members each
 two_go : (place : ℕ) (change : Change) (changes : List Change) (t after : Tables) (b : Bool)
@@ -212,6 +221,7 @@ count_step (Reject a b) t fit e =
 count_step (Thaw a b) t fit e =
     let less = one_less a b t.links fit.one_link (any_of_bond Friendship a b t.links e) in omega (arith, less)
 count_step (Rename a name) t fit e = omega arith
+count_step (Block a b) t fit e = omega arith
 
 count_go : (place : ℕ) (change : Change) (changes : List Change) (t after : Tables) (b : Bool)
     → applies change t ≡ b → Fit t → HasIds change → (if b then apply_from (place + 1) changes (changed change t) else Err place) ≡ Ok after
@@ -237,27 +247,99 @@ links_counted place (change ∷ changes) t after fit ids e =
 few_alike : (n m adding ending : ℕ) → n + ending ≡ m + adding → nat_lt (m + adding) (1000000 + ending) ≡ nat_lt n 1000000
 few_alike n m adding ending e = grind (arith, nat_tests)
 
+-- blocks among those of a member
+pub blocked_is : (a b : ℕ) (t : Tables) → has_id b (blocked_ids a t) ≡ has_blocked a b t
+blocked_is a b t = has_mapped (λ block. block.blocked) (is_by a) b t.blocks
+
+or_none : (s : Bool) → s ≡ (s || false)
+or_none true = refl
+or_none false = refl
+
+-- a block after a change stood before it or is made by it
+blocked_step : (a b : ℕ) (change : Change) (t : Tables) → has_blocked a b (changed change t) ≡ (has_blocked a b t || is_block_of a b change)
+blocked_step a b (Invite c d) t = or_none (has_blocked a b t)
+blocked_step a b (Accept c d) t = or_none (has_blocked a b t)
+blocked_step a b (Reject c d) t = or_none (has_blocked a b t)
+blocked_step a b (Thaw c d) t = or_none (has_blocked a b t)
+blocked_step a b (Rename c name) t = or_none (has_blocked a b t)
+blocked_step a b (Block c d) t =
+    any-insert (λ block. (block.blocker == a) && (block.blocked == b)) t.blocks (count_by (is_block_before (block_of c d)) t.blocks) (block_of c d)
+
+any_folded : {X : Type 0} (p : X → Bool) (xs : List X) (s : Bool) → fold (λ stood x. stood || p x) s xs ≡ (s || list_any p xs)
+any_folded p [] s = or_none s
+any_folded p (x ∷ xs) s = any_folded p xs (s || p x) ∙ or_assoc s (p x) (list_any p xs)
+
+blocked_then : (a b place : ℕ) (changes : List Change) (t after : Tables) → Fit t → All HasIds changes
+    → apply_from place changes t ≡ Ok after → has_blocked a b after ≡ (has_blocked a b t || list_any (is_block_of a b) changes)
+blocked_then a b place changes t after fit ids e =
+    walked (λ (stood : Bool) (change : Change). stood || is_block_of a b change) (has_blocked a b)
+    (λ change u h. blocked_step a b change u) place changes t after fit ids e
+    ∙ any_folded (is_block_of a b) changes (has_blocked a b t)
+
+-- how many blocks there are after changes
+block_count_step : (change : Change) (t : Tables) → length (changed change t).blocks ≡ length t.blocks + cond (adds_block change) 1 0
+block_count_step (Invite a b) t = omega arith
+block_count_step (Accept a b) t = omega arith
+block_count_step (Reject a b) t = omega arith
+block_count_step (Thaw a b) t = omega arith
+block_count_step (Rename a name) t = omega arith
+block_count_step (Block a b) t =
+    length-insert t.blocks (count_by (is_block_before (block_of a b)) t.blocks) (block_of a b) (count_by-le-length (is_block_before (block_of a b)) t.blocks)
+
+counted_folded : (changes : List Change) (n : ℕ) → fold (λ k change. k + cond (adds_block change) 1 0) n changes ≡ n + count_by adds_block changes
+counted_folded [] n = omega arith
+counted_folded (change ∷ changes) n =
+    let more : n + cond (adds_block change) 1 0 + count_by adds_block changes ≡ n + count_by adds_block (change ∷ changes) =
+    omega (arith, count_cons adds_block change changes) in
+    counted_folded changes (n + cond (adds_block change) 1 0) ∙ more
+
+pub blocks_counted : (place : ℕ) (changes : List Change) (t after : Tables)
+    → Fit t → All HasIds changes → apply_from place changes t ≡ Ok after → length after.blocks ≡ length t.blocks + count_by adds_block changes
+blocks_counted place changes t after fit ids e =
+    walked (λ (n : ℕ) (change : Change). n + cond (adds_block change) 1 0) (λ u. length u.blocks)
+    (λ change u h. block_count_step change u) place changes t after fit ids e
+    ∙ counted_folded changes (length t.blocks)
+
+-- tests of the same outcomes
+same_invite : (d m n l x y f m1 n1 l1 x1 y1 f1 : Bool) → m ≡ m1 → n ≡ n1 → l ≡ l1 → x ≡ x1 → y ≡ y1 → f ≡ f1
+    → (d && m && n && not l && not x && not y && f) ≡ (d && m1 && n1 && not l1 && not x1 && not y1 && f1)
+same_invite d m n l x y f m1 n1 l1 x1 y1 f1 em en el ex ey ef = cc
+
+same_block : (d m n l x f m1 n1 l1 x1 f1 : Bool) → m ≡ m1 → n ≡ n1 → l ≡ l1 → x ≡ x1 → f ≡ f1
+    → (d && m && n && not l && not x && f) ≡ (d && m1 && n1 && not l1 && not x1 && f1)
+same_block d m n l x f m1 n1 l1 x1 f1 em en el ex ef = cc
+
 pub invite_judged : (a b count : ℕ) (earlier : List Change) (t after : Tables) (r : Bool)
     → Fit t → All HasIds earlier → count ≡ length t.links → apply_all earlier t ≡ Ok after
     → r ≡ (not (a == b) && is_member a t && is_member b t && not (fold (still_bonds Any a b) (list_any (joins a b) t.links) earlier)
+    && not (has_blocked a b t || list_any (is_block_of a b) earlier) && not (has_blocked b a t || list_any (is_block_of b a) earlier)
     && nat_lt (count + count_by adds earlier) (1000000 + count_by ends earlier))
     → r ≡ applies (Invite a b) after
 invite_judged a b count earlier t after r fit ids counted e is =
     let made = sym (apply_all_is earlier t) ∙ e in
     let n : length after.links + count_by ends earlier ≡ count + count_by adds earlier =
     links_counted 0 earlier t after fit ids made ∙ ap (λ (k : ℕ). k + count_by adds earlier) (sym counted) in
-    let few = few_alike (length after.links) count (count_by adds earlier) (count_by ends earlier) n in
-    let linked : fold (still_bonds Any a b) (list_any (joins a b) t.links) earlier ≡ is_linked a b after =
-    sym (bonds_after Any a b 0 earlier t after fit ids made) in
-    let one = sym (members_stay a 0 earlier t after fit ids made) in
-    let other = sym (members_stay b 0 earlier t after fit ids made) in
-    is ∙ (ap (λ s. not (a == b) && s && is_member b t && not (fold (still_bonds Any a b) (list_any (joins a b) t.links) earlier)
-    && nat_lt (count + count_by adds earlier) (1000000 + count_by ends earlier)) one
-    ∙ (ap (λ s. not (a == b) && is_member a after && s && not (fold (still_bonds Any a b) (list_any (joins a b) t.links) earlier)
-    && nat_lt (count + count_by adds earlier) (1000000 + count_by ends earlier)) other
-    ∙ (ap (λ s. not (a == b) && is_member a after && is_member b after
-    && not s && nat_lt (count + count_by adds earlier) (1000000 + count_by ends earlier)) linked
-    ∙ ap (λ s. not (a == b) && is_member a after && is_member b after && not (is_linked a b after) && s) few)))
+    is ∙ same_invite (not (a == b)) _ _ _ _ _ _ (is_member a after) (is_member b after) (is_linked a b after)
+    (has_blocked a b after) (has_blocked b a after) (nat_lt (length after.links) 1000000)
+    (sym (members_stay a 0 earlier t after fit ids made))
+    (sym (members_stay b 0 earlier t after fit ids made)) (sym (bonds_after Any a b 0 earlier t after fit ids made))
+    (sym (blocked_then a b 0 earlier t after fit ids made)) (sym (blocked_then b a 0 earlier t after fit ids made))
+    (few_alike (length after.links) count (count_by adds earlier) (count_by ends earlier) n)
+
+pub block_judged : (a b blocks : ℕ) (earlier : List Change) (t after : Tables) (r : Bool)
+    → Fit t → All HasIds earlier → blocks ≡ length t.blocks → apply_all earlier t ≡ Ok after
+    → r ≡ (not (a == b) && is_member a t && is_member b t && not (fold (still_bonds Any a b) (list_any (joins a b) t.links) earlier)
+    && not (has_blocked a b t || list_any (is_block_of a b) earlier) && nat_lt (blocks + count_by adds_block earlier) 1000000)
+    → r ≡ applies (Block a b) after
+block_judged a b blocks earlier t after r fit ids counted e is =
+    let made = sym (apply_all_is earlier t) ∙ e in
+    let n : blocks + count_by adds_block earlier ≡ length after.blocks =
+    ap (λ (k : ℕ). k + count_by adds_block earlier) counted ∙ sym (blocks_counted 0 earlier t after fit ids made) in
+    is ∙ same_block (not (a == b)) _ _ _ _ _ (is_member a after) (is_member b after) (is_linked a b after)
+    (has_blocked a b after) (nat_lt (length after.blocks) 1000000)
+    (sym (members_stay a 0 earlier t after fit ids made))
+    (sym (members_stay b 0 earlier t after fit ids made)) (sym (bonds_after Any a b 0 earlier t after fit ids made))
+    (sym (blocked_then a b 0 earlier t after fit ids made)) (ap (λ (k : ℕ). nat_lt k 1000000) n)
 
 pub bond_judged : (bond : Bond) (a b : ℕ) (earlier : List Change) (t after : Tables) (r : Bool) → Fit t → All HasIds earlier
     → apply_all earlier t ≡ Ok after → r ≡ fold (still_bonds bond a b) (list_any (bonds bond a b) t.links) earlier → r ≡ list_any (bonds bond a b) after.links

@@ -4,7 +4,7 @@ use Rattle.std.proofs.Common.{All, IsSome, Option, Some, None, Result, Ok, Err, 
 use Rattle.std.specs.Prelude.{count_by, ◌==◌, ◌||◌}
 use Rattle.std.specs.List.{list_any, AllZip}
 use Rattle.std.specs.Option.{is_some}
-use Rattle.std.proofs.lemmas.Bool.{false≢true, false_from_ne_true, or_cases, eqb-true}
+use Rattle.std.proofs.lemmas.Bool.{false≢true, false_from_ne_true, or_cases, eqb-true, eq-eqb}
 use Rattle.std.proofs.Math.ListN.{drop_of_length-le}
 use Rattle.std.proofs.Math.Seq.{take-length}
 use Rattle.std.proofs.lemmas.List.{append-nil, length-map}
@@ -13,16 +13,21 @@ use Rattle.rows_model.specs.declared.rows.Link.{Link}
 use Rattle.rows_model.specs.declared.rows.Member.{Member}
 use Rattle.rows_model.specs.declared.near.Near.{Near}
 use Rattle.rows_model.specs.declared.changes.Change.{Change}
-use Rattle.rows_model.specs.Rows.{Tables, Fit, IsMember, IsLink}
-use Rattle.rows_model.specs.Changes.{HasIds, apply_all, apply_from}
-use Rattle.rows_model.specs.Near.{tables_of, IsAt, is_end, firsts, whole, NearAscend, IsIndex, AreKept, AreTwo, near_after, members_after}
+use Rattle.rows_model.specs.declared.refreshing.Circle.TheVariants.{Barred}
+use Rattle.rows_model.specs.Rows.{Tables, BlockRow, Fit, IsMember, IsLink}
+use Rattle.rows_model.specs.Query.{blocked_ids}
+use Rattle.rows_model.specs.Changes.{HasIds, block_of, apply_all, apply_from}
+use Rattle.rows_model.specs.Near.{tables_of, IsAt, is_end, firsts, whole, blocks_of, all_blocks, tables_in, NearAscend, IsIndex, AreKept, AreTwo}
+use Rattle.rows_model.specs.Near.{near_after, members_after, blocked_after}
 use Rattle.rows_model.specs.NearSteps.{IsSame, IsGrown, IsMadeAll}
-use Rattle.rows_model.specs.Judge.{adds, ends}
+use Rattle.rows_model.specs.Judge.{adds, ends, adds_block}
 use Rattle.rows_model.proofs.ApplyLemmas.{apply_all_is}
 use Rattle.rows_model.proofs.StayFitLemmas.{fit_from}
-use Rattle.rows_model.proofs.IndexLemmas.{has_list, near_changed, whole_is, filter_none}
+use Rattle.rows_model.proofs.IndexLemmas.{has_list, near_changed, whole_is, gathered, filter_none}
 use Rattle.rows_model.proofs.NearLemmas.{zip_all, zip_chain, zip_ids, ascend_alike, same_ids_after}
-use Rattle.rows_model.proofs.JudgeLemmas.{walked, links_changed, members_changed, links_counted, all_two, is_some-find}
+use Rattle.rows_model.proofs.BlockLemmas.{own_ids, all_blocks_is, blocker_of, folded_ids}
+use Rattle.rows_model.proofs.RefreshLawLemmas.{ids_law}
+use Rattle.rows_model.proofs.JudgeLemmas.{walked, links_changed, members_changed, links_counted, blocks_counted, all_two, is_some-find}
 
 some_true : {X : Type 0} (o : Option X) → IsSome o → is_some o ≡ true
 some_true (Some x) h = refl
@@ -33,8 +38,8 @@ length-zero [] none = refl
 length-zero (x ∷ xs) none = absurd (omega arith)
 
 -- the lists stand by id
-pub kept_ascend : (members : List Member) (near : List Near) (count : ℕ) → AreKept members near count → NearAscend near
-kept_ascend members near count kept = ascend_alike (λ m. m.id) (λ one. one.id) members near kept.ids kept.fit.members_ascend
+pub kept_ascend : (members : List Member) (near : List Near) (count blocks : ℕ) → AreKept members near count blocks → NearAscend near
+kept_ascend members near count blocks kept = ascend_alike (λ m. m.id) (λ one. one.id) members near kept.ids kept.fit.members_ascend
 
 -- a test of what is made of each element
 list_any-map : {X Y : Type 0} (p : Y → Bool) (f : X → Y) (xs : List X) → list_any p (map f xs) ≡ list_any (λ x. p (f x)) xs
@@ -48,28 +53,31 @@ any_same_ids id members near same =
     sym (list_any-map (λ n. n == id) (λ (one : Near). one.id) near)
     ∙ (ap (list_any (λ n. n == id)) same ∙ list_any-map (λ n. n == id) (λ (m : Member). m.id) members)
 
-pub member_has_list : (id : ℕ) (members : List Member) (near : List Near) (links : List Link)
-    → map (λ one. one.id) near ≡ map (λ m. m.id) members → IsMember id (tables_of members links) → has_list id near ≡ true
-member_has_list id members near links same there =
+pub member_has_list : (id : ℕ) (members : List Member) (near : List Near) (links : List Link) (blocks : List BlockRow)
+    → map (λ one. one.id) near ≡ map (λ m. m.id) members → IsMember id (tables_of members links blocks) → has_list id near ≡ true
+member_has_list id members near links blocks same there =
     any_same_ids id members near same ∙ (sym (is_some-find (λ m. m.id == id) members) ∙ some_true (find (λ m. m.id == id) members) there)
 
 -- no list stands for one who is no member, and it has no links
-pub no_list : (id : ℕ) (members : List Member) (near : List Near) (count : ℕ)
-    → AreKept members near count → has_list id near ≡ false → [] ≡ filter (is_end id) (whole near)
-no_list id members near count kept none =
+pub no_list : (id : ℕ) (members : List Member) (near : List Near) (count blocks : ℕ)
+    → AreKept members near count blocks → has_list id near ≡ false → [] ≡ filter (is_end id) (whole near)
+no_list id members near count blocks kept none =
     sym (filter_none (is_end id) (whole near) (λ k d l. false_from_ne_true (is_end id (get_or (whole near) k d)) (λ e.
     let link = get_or (whole near) k d in
-    let h : IsLink (tables_of members (whole near)) link = kept.fit.links_join k d l in
+    let h : IsLink (tables_in members near) link = kept.fit.links_join k d l in
     elim (or_cases (link.a == id) (link.b == id) e) [
       | inl first ↦ false≢true (sym none
-          ∙ (ap (λ (n : ℕ). has_list n near) (sym (eqb-true link.a id first)) ∙ member_has_list link.a members near (whole near) kept.ids h.from))
+          ∙ (ap (λ (n : ℕ). has_list n near) (sym (eqb-true link.a id first)) ∙ member_has_list link.a members near (whole near) (all_blocks near) kept.ids h.from))
       | inr second ↦ false≢true (sym none
-          ∙ (ap (λ (n : ℕ). has_list n near) (sym (eqb-true link.b id second)) ∙ member_has_list link.b members near (whole near) kept.ids h.to))
+          ∙ (ap (λ (n : ℕ). has_list n near) (sym (eqb-true link.b id second)) ∙ member_has_list link.b members near (whole near) (all_blocks near) kept.ids h.to))
     ])))
 
--- the same lists make the same whole
-same_whole : (R : Near → Near → Type 0) → ((x y : Near) → R x y → (y.id ≡ x.id) × (y.links.items ≡ x.links.items))
-    → (xs ys : List Near) → AllZip R xs ys → whole ys ≡ whole xs
+-- the same lists
+abbrev SameLists : Near → Near → Type 0
+SameLists x y = (y.id ≡ x.id) × (y.links.items ≡ x.links.items) × (y.blocked.items ≡ x.blocked.items)
+
+-- make the same links
+same_whole : (R : Near → Near → Type 0) → ((x y : Near) → R x y → SameLists x y) → (xs ys : List Near) → AllZip R xs ys → whole ys ≡ whole xs
 same_whole R same [] [] zip = refl
 same_whole R same [] (y ∷ ys) zip = absurd zip
 same_whole R same (x ∷ xs) [] zip = absurd zip
@@ -78,36 +86,54 @@ same_whole R same (x ∷ xs) (y ∷ ys) zip =
     let first : firsts y ≡ firsts x = ap (λ (n : ℕ). filter (λ link. link.a == n) y.links.items) one.0 ∙ ap (filter (λ link. link.a == x.id)) one.1 in
     ap (λ (ls : List Link). ls ++ whole ys) first ∙ ap (λ (ls : List Link). firsts x ++ ls) (same_whole R same xs ys zip.1)
 
-same_kept : (R : Near → Near → Type 0) → ((x y : Near) → R x y → (y.id ≡ x.id) × (y.links.items ≡ x.links.items))
-    → (members : List Member) (near after : List Near) (count : ℕ) → AllZip R near after → AreKept members near count → AreKept members after count
-same_kept R same members near after count zip kept =
+-- and the same blocks
+same_blocks : (R : Near → Near → Type 0) → ((x y : Near) → R x y → SameLists x y)
+    → (xs ys : List Near) → AllZip R xs ys → all_blocks ys ≡ all_blocks xs
+same_blocks R same [] [] zip = refl
+same_blocks R same [] (y ∷ ys) zip = absurd zip
+same_blocks R same (x ∷ xs) [] zip = absurd zip
+same_blocks R same (x ∷ xs) (y ∷ ys) zip =
+    let one = same x y zip.0 in
+    let first : blocks_of y ≡ blocks_of x = ap (λ (n : ℕ). map (block_of n) y.blocked.items) one.0 ∙ ap (map (block_of x.id)) one.2 in
+    ap (λ (bs : List BlockRow). bs ++ all_blocks ys) first ∙ ap (λ (bs : List BlockRow). blocks_of x ++ bs) (same_blocks R same xs ys zip.1)
+
+same_tables : (R : Near → Near → Type 0) → ((x y : Near) → R x y → SameLists x y)
+    → (members : List Member) (near after : List Near) → AllZip R near after → tables_in members after ≡ tables_in members near
+same_tables R same members near after zip =
+    ap (λ (ls : List Link). tables_of members ls (all_blocks after)) (same_whole R same near after zip)
+    ∙ ap (λ (bs : List BlockRow). tables_of members (whole near) bs) (same_blocks R same near after zip)
+
+same_kept : (R : Near → Near → Type 0) → ((x y : Near) → R x y → SameLists x y) → (members : List Member) (near after : List Near) (count blocks : ℕ)
+    → AllZip R near after → AreKept members near count blocks → AreKept members after count blocks
+same_kept R same members near after count blocks zip kept =
     let one = same_whole R same near after zip in
     let P : Near → Type 0 = λ x. x.links.items ≡ filter (is_end x.id) (whole near) in
     let index : IsIndex after (whole near) = zip_all R P P (λ x y r h.
     let s = same x y r in
     s.1 ∙ (h ∙ ap (λ (n : ℕ). filter (is_end n) (whole near)) (sym s.0))) near after zip kept.index in
     record {
-      fit = subst (λ (ls : List Link). Fit (tables_of members ls)) (sym one) kept.fit;
+      fit = subst Fit (sym (same_tables R same members near after zip)) kept.fit;
       ids = zip_ids R (λ x y r. (same x y r).0) near after zip ∙ kept.ids;
       index = subst (λ (ls : List Link). IsIndex after ls) (sym one) index;
       counted = kept.counted ∙ ap length (sym one);
+      blocks_counted = kept.blocks_counted ∙ ap length (sym (same_blocks R same near after zip));
     }
 
 -- a copy
-pub copy_whole : (xs ys : List Near) → AllZip IsSame xs ys → whole ys ≡ whole xs
-copy_whole xs ys zip = same_whole IsSame (λ x y h. (h.id, h.links)) xs ys zip
+pub copy_tables : (members : List Member) (xs ys : List Near) → AllZip IsSame xs ys → tables_in members ys ≡ tables_in members xs
+copy_tables members xs ys zip = same_tables IsSame (λ x y h. (h.id, h.links, h.blocked)) members xs ys zip
 
-pub copy_kept : (members : List Member) (near after : List Near) (count : ℕ)
-    → AllZip IsSame near after → AreKept members near count → AreKept members after count
-copy_kept members near after count zip kept = same_kept IsSame (λ x y h. (h.id, h.links)) members near after count zip kept
+pub copy_kept : (members : List Member) (near after : List Near) (count blocks : ℕ)
+    → AllZip IsSame near after → AreKept members near count blocks → AreKept members after count blocks
+copy_kept members near after count blocks zip kept = same_kept IsSame (λ x y h. (h.id, h.links, h.blocked)) members near after count blocks zip kept
 
 -- lists with more room
-pub grown_whole : (xs ys : List Near) → AllZip IsGrown xs ys → whole ys ≡ whole xs
-grown_whole xs ys zip = same_whole IsGrown (λ x y h. (h.id, h.links)) xs ys zip
+pub grown_tables : (members : List Member) (xs ys : List Near) → AllZip IsGrown xs ys → tables_in members ys ≡ tables_in members xs
+grown_tables members xs ys zip = same_tables IsGrown (λ x y h. (h.id, h.links, h.blocked)) members xs ys zip
 
-pub grown_kept : (members : List Member) (near after : List Near) (count : ℕ)
-    → AllZip IsGrown near after → AreKept members near count → AreKept members after count
-grown_kept members near after count zip kept = same_kept IsGrown (λ x y h. (h.id, h.links)) members near after count zip kept
+pub grown_kept : (members : List Member) (near after : List Near) (count blocks : ℕ)
+    → AllZip IsGrown near after → AreKept members near count blocks → AreKept members after count blocks
+grown_kept members near after count blocks zip kept = same_kept IsGrown (λ x y h. (h.id, h.links, h.blocked)) members near after count blocks zip kept
 
 -- lists with no links
 none_whole : (near : List Near) → All (λ one. length one.links.items ≡ 0) near → whole near ≡ []
@@ -117,18 +143,30 @@ none_whole (one ∷ near) none =
     ap (λ (ls : List Link). filter (λ link. link.a == one.id) ls ++ whole near) here
     ∙ none_whole near (All-tail (λ other. length other.links.items ≡ 0) one near none)
 
-pub start_whole : (near : List Near) → All (λ one. length one.links.items ≡ 0) near → whole near ≡ []
-start_whole near none = none_whole near none
+-- lists with no blocks
+none_blocks : (near : List Near) → All (λ one. length one.blocked.items ≡ 0) near → all_blocks near ≡ []
+none_blocks [] free = refl
+none_blocks (one ∷ near) free =
+    let here : one.blocked.items ≡ [] = length-zero one.blocked.items (All-head (λ other. length other.blocked.items ≡ 0) one near free) in
+    ap (λ (ids : List ℕ). map (block_of one.id) ids ++ all_blocks near) here
+    ∙ none_blocks near (All-tail (λ other. length other.blocked.items ≡ 0) one near free)
 
-pub start_kept : (members : List Member) (near : List Near) → Fit (tables_of members [])
-    → map (λ one. one.id) near ≡ map (λ m. m.id) members → All (λ one. length one.links.items ≡ 0) near → AreKept members near 0
-start_kept members near fit ids none =
+pub start_in : (members : List Member) (near : List Near) → All (λ one. length one.links.items ≡ 0) near
+    → All (λ one. length one.blocked.items ≡ 0) near → tables_in members near ≡ tables_of members [] []
+start_in members near none free =
+    ap (λ (ls : List Link). tables_of members ls (all_blocks near)) (none_whole near none)
+    ∙ ap (λ (bs : List BlockRow). tables_of members [] bs) (none_blocks near free)
+
+pub start_kept : (members : List Member) (near : List Near) → Fit (tables_of members [] []) → map (λ one. one.id) near ≡ map (λ m. m.id) members
+    → All (λ one. length one.links.items ≡ 0) near → All (λ one. length one.blocked.items ≡ 0) near → AreKept members near 0 0
+start_kept members near fit ids none free =
     let empty = none_whole near none in
     record {
-      fit = subst (λ (ls : List Link). Fit (tables_of members ls)) (sym empty) fit;
+      fit = subst Fit (sym (start_in members near none free)) fit;
       ids = ids;
       index = λ k d l. length-zero (get_or near k d).links.items (none k d l) ∙ ap (filter (is_end (get_or near k d).id)) (sym empty);
       counted = ap length (sym empty);
+      blocks_counted = ap length (sym (none_blocks near free));
     }
 
 -- a member's list after changes in turn
@@ -148,16 +186,17 @@ member_ids [] members = refl
 member_ids (change ∷ changes) members = member_ids changes (members_after members change) ∙ same_ids_after change members
 
 -- what all changes leave
-pub record AreMade (after : Tables) (members : List Member) (near : List Near) (count : ℕ) : Type 0 where
-  pub kept : AreKept members near count
-  pub tables : after ≡ tables_of members (whole near)
+pub record AreMade (after : Tables) (members : List Member) (near : List Near) (count blocks : ℕ) : Type 0 where
+  pub kept : AreKept members near count blocks
+  pub tables : after ≡ tables_in members near
 
-pub all_made : (changes : List Change) (members left : List Member) (near made : List Near) (count counted : ℕ) (after : Tables)
-    → AreKept members near count → All HasIds changes → apply_all changes (tables_of members (whole near)) ≡ Ok after
+pub all_made : (changes : List Change) (members left : List Member) (near made : List Near) (count counted blocks barred : ℕ) (after : Tables)
+    → AreKept members near count blocks → All HasIds changes → apply_all changes (tables_in members near) ≡ Ok after
     → left ≡ fold members_after members changes → AllZip (IsMadeAll changes) near made
-    → counted + count_by ends changes ≡ count + count_by adds changes → AreMade after left made counted
-all_made changes members left near made count counted after kept ids e members_made lists_made counts =
-    let t = tables_of members (whole near) in
+    → counted + count_by ends changes ≡ count + count_by adds changes → barred ≡ blocks + count_by adds_block changes
+    → AreMade after left made counted barred
+all_made changes members left near made count counted blocks barred after kept ids e members_made lists_made counts barred_is =
+    let t = tables_in members near in
     let from = sym (apply_all_is changes t) ∙ e in
     let fit : Fit after = fit_from 0 changes t after kept.fit ids from in
     let same : left ≡ after.members = members_made ∙ sym (members_are changes t after kept.fit ids from) in
@@ -167,25 +206,43 @@ all_made changes members left near made count counted after kept ids e members_m
     let index : IsIndex made after.links = zip_all (IsMadeAll changes) P (λ y. y.links.items ≡ filter (is_end y.id) after.links) (λ x y r h.
     r.links ∙ (ap (λ (ls : List Link). fold (near_after x.id) ls changes) h
     ∙ (sym (list_after x.id changes t after kept.fit ids from) ∙ ap (λ (n : ℕ). filter (is_end n) after.links) (sym r.id)))) near made lists_made kept.index in
-    let fit_left : Fit (tables_of left after.links) = subst (λ (ms : List Member). Fit (tables_of ms after.links)) (sym same) fit in
+    let fit_left : Fit (tables_of left after.links after.blocks) =
+    subst (λ (ms : List Member). Fit (tables_of ms after.links after.blocks)) (sym same) fit in
     let up : NearAscend made = ascend_alike (λ m. m.id) (λ one. one.id) left made made_ids fit_left.members_ascend in
     let all : whole made ≡ after.links = whole_is made after.links index up fit.links_ascend
-    (λ k d l. member_has_list (get_or after.links k d).a left made after.links made_ids (fit_left.links_join k d l).from) in
+    (λ k d l. member_has_list (get_or after.links k d).a left made after.links after.blocks made_ids (fit_left.links_join k d l).from) in
+    let old_up = kept_ascend members near count blocks kept in
+    let old_ids : All (λ x. x.blocked.items ≡ blocked_ids x.id t) near =
+    λ k d l. own_ids (get_or near k d).id members near k d old_up l (eq-eqb (get_or near k d).id (get_or near k d).id refl) in
+    let new_ids : All (λ y. y.blocked.items ≡ blocked_ids y.id after) made =
+    zip_all (IsMadeAll changes) (λ x. x.blocked.items ≡ blocked_ids x.id t) (λ y. y.blocked.items ≡ blocked_ids y.id after) (λ x y r h.
+    r.blocked ∙ (ap (λ (ns : List ℕ). fold (blocked_after x.id) ns changes) h
+    ∙ (folded_ids x.id changes (blocked_ids x.id t) (blocked_ids x.id after) (ids_law Barred x.id changes t after kept.fit ids from)
+    ∙ ap (λ (n : ℕ). blocked_ids n after) (sym r.id)))) near made lists_made old_ids in
+    let all_barred : all_blocks made ≡ after.blocks = all_blocks_is made after.blocks new_ids
+    ∙ gathered blocker_of made after.blocks up (λ i j d low l. (fit.blocks_ascend i j d low l).0)
+    (λ k d l. member_has_list (get_or after.blocks k d).blocker left made after.links after.blocks made_ids (fit_left.blocks_join k d l).from) in
+    let tables : after ≡ tables_in left made =
+    ap (λ (ms : List Member). tables_of ms after.links after.blocks) (sym same)
+    ∙ (ap (λ (ls : List Link). tables_of left ls after.blocks) (sym all)
+    ∙ ap (λ (bs : List BlockRow). tables_of left (whole made) bs) (sym all_barred)) in
     let n = links_counted 0 changes t after kept.fit ids from in
+    let m = blocks_counted 0 changes t after kept.fit ids from in
     record {
       kept = record {
-        fit = subst (λ (ls : List Link). Fit (tables_of left ls)) (sym all) fit_left;
+        fit = subst Fit tables fit;
         ids = made_ids;
         index = subst (λ (ls : List Link). IsIndex made ls) (sym all) index;
         counted = omega (arith, n, counts, kept.counted, ap length all);
+        blocks_counted = omega (arith, m, barred_is, kept.blocks_counted, ap length all_barred);
       };
-      tables = ap (λ (ms : List Member). tables_of ms after.links) (sym same) ∙ ap (λ (ls : List Link). tables_of left ls) (sym all);
+      tables = tables;
     }
 
 -- the list that stands for a member
-pub list_at : (id place : ℕ) (members : List Member) (near : List Near) (count : ℕ) (d : Near)
-    → AreKept members near count → IsAt (λ one. one.id == id) near place → (get_or near place d).links.items ≡ filter (is_end id) (whole near)
-list_at id place members near count d kept at =
+pub list_at : (id place : ℕ) (members : List Member) (near : List Near) (count blocks : ℕ) (d : Near)
+    → AreKept members near count blocks → IsAt (λ one. one.id == id) near place → (get_or near place d).links.items ≡ filter (is_end id) (whole near)
+list_at id place members near count blocks d kept at =
     kept.index place d at.within ∙ ap (λ (n : ℕ). filter (is_end n) (whole near)) (eqb-true (get_or near place d).id id (at.passes d))
 
 -- a list that was written back whole
@@ -201,6 +258,9 @@ grown_made changes x y z grown made =
     record {
       id = made.id ∙ grown.id;
       links = subst P grown.id made.links ∙ ap (λ (ls : List Link). fold (near_after x.id) ls changes) grown.links;
+      blocked =
+          let Q : ℕ → Type 0 = λ n. z.blocked.items ≡ fold (blocked_after n) y.blocked.items changes in
+          subst Q grown.id made.blocked ∙ ap (λ (ns : List ℕ). fold (blocked_after x.id) ns changes) grown.blocked;
     }
 
 pub made_from : (changes : List Change) (near grown made : List Near)

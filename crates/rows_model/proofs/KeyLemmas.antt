@@ -7,7 +7,7 @@ use Rattle.std.proofs.lemmas.List.Quantifiers.{position-Some}
 use Rattle.std.proofs.lemmas.Bool.Decides.{nat_tests}
 use Rattle.std.proofs.lemmas.List.{drop_more, take_rest}
 use Rattle.rows_model.specs.declared.keys.Kind.{Kind}
-use Rattle.rows_model.specs.declared.keys.Kind.TheVariants.{Profile, Friends, Pending, NFriends, NPending}
+use Rattle.rows_model.specs.declared.keys.Kind.TheVariants.{Profile, Friends, Pending, NFriends, NPending, Blocked}
 use Rattle.rows_model.specs.declared.keys.QKey.{QKey}
 use Rattle.std.proofs.lemmas.Fmt.{decimal_injective}
 use Rattle.rows_model.specs.Key.{kind_number, word_of, key_text, IsKeyText, IsNoKeyText, IsNoWord, is_colon}
@@ -25,6 +25,7 @@ colon_from Friends rest = refl
 colon_from Pending rest = refl
 colon_from NFriends rest = refl
 colon_from NPending rest = refl
+colon_from Blocked rest = refl
 
 pub colon_at : (kind : Kind) (rest : List ℕ) → position is_colon (word_of kind ++ 58 ∷ rest) ≡ Some (length (word_of kind))
 colon_at kind rest = position_from-zero is_colon (word_of kind ++ 58 ∷ rest) ∙ colon_from kind rest
@@ -36,6 +37,7 @@ behind Friends rest = refl
 behind Pending rest = refl
 behind NFriends rest = refl
 behind NPending rest = refl
+behind Blocked rest = refl
 
 -- the parts of a key's text
 pub record IsSplit (text : List ℕ) (key : QKey) : Type 0 where
@@ -104,6 +106,7 @@ word_injective Friends Friends e = refl
 word_injective Pending Pending e = refl
 word_injective NFriends NFriends e = refl
 word_injective NPending NPending e = refl
+word_injective Blocked Blocked e = refl
 word_injective a b e = let two : letters (word_of a) ≡ letters (word_of b) = ap letters e in absurd (omega arith)
 
 -- a kind is told by its place in the order
@@ -113,6 +116,7 @@ kind_injective Friends Friends e = refl
 kind_injective Pending Pending e = refl
 kind_injective NFriends NFriends e = refl
 kind_injective NPending NPending e = refl
+kind_injective Blocked Blocked e = refl
 kind_injective a b e = absurd (omega arith)
 
 -- a key is its kind and its id

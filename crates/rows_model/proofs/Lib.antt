@@ -21,5 +21,6 @@ pub mod FootprintLemmas
 pub mod StayFitLemmas
 pub mod IndexLemmas
 pub mod NearLemmas
+pub mod BlockLemmas
 pub mod JudgeLemmas
 pub mod KeptLemmas

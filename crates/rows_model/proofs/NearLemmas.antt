@@ -1,6 +1,6 @@
 -- The lists of the members, one by one: where a member's stands, and what a call leaves of each.
 use Rattle.std.proofs.Common.{ℕ, zero, suc, ◌+◌, ◌<◌, ◌≤◌, ◌≡◌, ◌≢◌, Bool, true, false, not, List, [], ◌∷◌, length, get_or, set, map, All}
-use Rattle.std.proofs.Common.{AllPairs, IfSome, IfNone, OnOk, Result, Ok, Err, refl, sym, ap, subst, ◌∙◌, inl, inr, arith}
+use Rattle.std.proofs.Common.{AllPairs, IfSome, IfNone, OnOk, Result, Ok, Err, Vec, Global, refl, sym, ap, subst, ◌∙◌, inl, inr, arith}
 use Rattle.std.specs.Prelude.{◌==◌, ◌&&◌, ◌||◌, if◌then◌else◌, count_by, vec_capacity, fold, ◌⊎◌}
 use Rattle.std.specs.List.{list_any, AllZip}
 use Rattle.std.specs.Result.{result_ok}
@@ -18,12 +18,12 @@ use Rattle.std.proofs.lemmas.List.Sums.{count_by-le-length, length-filter}
 use Rattle.std.proofs.lemmas.List.Sorted.{searchable_from_sorted}
 use Rattle.rows_model.specs.declared.rows.Member.{Member}
 use Rattle.rows_model.specs.declared.near.Near.{Near}
-use Rattle.rows_model.specs.declared.changes.Change.TheVariants.{Invite, Accept, Reject, Thaw, Rename}
+use Rattle.rows_model.specs.declared.changes.Change.TheVariants.{Invite, Accept, Reject, Thaw, Rename, Block}
 use Rattle.rows_model.specs.Rows.{joins}
 use Rattle.rows_model.specs.Changes.{is_before, with_link, without_link, invitation, friendship, renamed}
 use Rattle.rows_model.specs.declared.rows.Link.{Link}
 use Rattle.rows_model.specs.declared.changes.Change.{Change}
-use Rattle.rows_model.specs.Near.{IsAt, NearAscend, puts, names, links_after, near_after, members_after}
+use Rattle.rows_model.specs.Near.{IsAt, NearAscend, puts, names, links_after, near_after, members_after, blocked_after}
 use Rattle.rows_model.specs.NearSteps.{HasRoomAt, HasRoomAtBoth, IsGrown, HasRoomOf, HasRoomFor, IsMadeAt, IsMadeAtBoth, IsMade, IsMadeAll}
 use Rattle.rows_model.proofs.FitLemmas.{pairs_head, pairs_tail, none_passes, same_id}
 
@@ -165,13 +165,19 @@ pub on_ok : {X E : Type 0} {P Q : Type 0} (r : Result X E) → (P → Q) → OnO
 on_ok (Ok x) step h = step h
 on_ok (Err e) step h = tt
 
+-- and what holds anyway
+pub on_any : {X E : Type 0} {P : Type 0} (r : Result X E) → P → OnOk r P
+on_any (Ok x) h = h
+on_any (Err e) h = tt
+
 -- the list in which a change was made
-pub made_here : (id : ℕ) (change : Change) (x y : Near) → (x.id == id) ≡ true
-    → y.id ≡ x.id → y.links.items ≡ links_after x.links.items change → vec_capacity y.links ≡ vec_capacity x.links → IsMadeAt id change x y
-made_here id change x y here same made room = record {
+pub made_here : (id : ℕ) (change : Change) (x y : Near) → (x.id == id) ≡ true → y.id ≡ x.id → y.links.items ≡ links_after x.links.items change
+    → vec_capacity y.links ≡ vec_capacity x.links → y.blocked ≡ x.blocked → IsMadeAt id change x y
+made_here id change x y here same made room blocked = record {
   id = same;
   links = made ∙ sym (ap (λ b. if b then links_after x.links.items change else x.links.items) here);
   room = room;
+  blocked = blocked;
 }
 
 -- and one of another member
@@ -180,6 +186,7 @@ made_elsewhere id change x other = record {
   id = refl;
   links = sym (ap (λ b. if b then links_after x.links.items change else x.links.items) (ne_eqb x.id id other));
   room = refl;
+  blocked = refl;
 }
 
 -- a change made in two lists
@@ -194,7 +201,7 @@ made_both_go a b change x y z true false ec ee two one other = other ∙ one
 made_both_go a b change x y z false true ec ee two one other = other ∙ ap (λ (ls : List Link). links_after ls change) one
 made_both_go a b change x y z false false ec ee two one other = other ∙ one
 
-swap_eq : (m n : ℕ) → (m == n) ≡ (n == m)
+pub swap_eq : (m n : ℕ) → (m == n) ≡ (n == m)
 swap_eq m n = grind (arith, nat_tests)
 
 pub made_both : (a b : ℕ) (change : Change) → a ≢ b → (x y z : Near) → IsMadeAt a change x y → IsMadeAt b change y z → IsMadeAtBoth a b change x z
@@ -207,6 +214,7 @@ made_both a b change two x y z one other = record {
       ∙ ap (λ t. if t then links_after x.links.items change else x.links.items) (ap (λ s. s || (x.id == b)) (swap_eq x.id a)
       ∙ ap (λ s. (a == x.id) || s) (swap_eq x.id b));
   room = other.room ∙ one.room;
+  blocked = other.blocked ∙ one.blocked;
 }
 
 -- the room of the second list is as before
@@ -227,10 +235,17 @@ first_room a b x room same =
 
 -- a list as it is
 pub grown_itself : (near : List Near) → AllZip IsGrown near near
-grown_itself near = zip_itself IsGrown near (λ k d l. record { id = refl; links = refl; room = omega arith })
+grown_itself near =
+    zip_itself IsGrown near (λ k d l. record { id = refl; links = refl; room = omega arith; blocked = refl; block_room = omega arith })
 
 grown_twice : (x y z : Near) → IsGrown x y → IsGrown y z → IsGrown x z
-grown_twice x y z one other = record { id = other.id ∙ one.id; links = other.links ∙ one.links; room = omega (arith, one.room, other.room) }
+grown_twice x y z one other = record {
+  id = other.id ∙ one.id;
+  links = other.links ∙ one.links;
+  room = omega (arith, one.room, other.room);
+  blocked = other.blocked ∙ one.blocked;
+  block_room = omega (arith, one.block_room, other.block_room);
+}
 
 pub grown_on : (xs ys zs : List Near) → AllZip IsGrown xs ys → AllZip IsGrown ys zs → AllZip IsGrown xs zs
 grown_on xs ys zs one other = zip_chain IsGrown IsGrown IsGrown grown_twice xs ys zs one other
@@ -289,11 +304,13 @@ zip_map R S step (x ∷ xs) (y ∷ ys) zip = (step x y zip.0, zip_map R S step x
 
 -- a change was made in the lists of the members that it names
 pub made_of_both : (a b : ℕ) (change : Change) → ((id : ℕ) → names id change ≡ ((a == id) || (b == id)))
-    → (x y : Near) → IsMadeAtBoth a b change x y → IsMade change x y
-made_of_both a b change named x y h = record {
+    → ((id : ℕ) (ids : List ℕ) → blocked_after id ids change ≡ ids) → (x y : Near) → IsMadeAtBoth a b change x y → IsMade change x y
+made_of_both a b change named free x y h = record {
   id = h.id;
   links = h.links ∙ sym (ap (λ t. if t then links_after x.links.items change else x.links.items) (named x.id));
   room = h.room;
+  blocked = ap (λ (v : Vec ℕ Global). v.items) h.blocked ∙ sym (free x.id x.blocked.items);
+  block_room = ap (λ (v : Vec ℕ Global). vec_capacity v) h.blocked;
 }
 
 length-with : (new : Link) (links : List Link) → length (with_link new links) ≡ length links + 1
@@ -311,6 +328,7 @@ one_more links (Accept a b) = omega (arith, length-with (friendship a b) (withou
 one_more links (Reject a b) = omega (arith, length-without a b links)
 one_more links (Thaw a b) = omega (arith, length-without a b links)
 one_more links (Rename a name) = omega arith
+one_more links (Block a b) = omega arith
 
 near_more_go : (links : List Link) (change : Change) (b : Bool) → length (if b then links_after links change else links) ≤ length links + 1
 near_more_go links change true = one_more links change
@@ -355,10 +373,14 @@ made_all_on change rest changes parts x y z one others =
       id = others.id ∙ one.id;
       links = steps ∙ (ap (λ (ls : List Link). fold (near_after x.id) ls rest) one.links
           ∙ sym (ap (λ (cs : List Change). fold (near_after x.id) x.links.items cs) parts));
+      blocked =
+          let Q : ℕ → Type 0 = λ n. z.blocked.items ≡ fold (blocked_after n) y.blocked.items rest in
+          subst Q one.id others.blocked ∙ (ap (λ (ns : List ℕ). fold (blocked_after x.id) ns rest) one.blocked
+          ∙ sym (ap (λ (cs : List Change). fold (blocked_after x.id) x.blocked.items cs) parts));
     }
 
 pub none_made : (changes : List Change) → length changes ≡ 0 → (near : List Near) → AllZip (IsMadeAll changes) near near
-none_made [] none near = zip_itself (IsMadeAll []) near (λ k d l. record { id = refl; links = refl })
+none_made [] none near = zip_itself (IsMadeAll []) near (λ k d l. record { id = refl; links = refl; blocked = refl })
 none_made (c ∷ cs) none near = absurd (omega arith)
 
 -- members keep their ids
@@ -373,6 +395,7 @@ same_ids_after (Accept a b) members = refl
 same_ids_after (Reject a b) members = refl
 same_ids_after (Thaw a b) members = refl
 same_ids_after (Rename a name) members = same_ids_go a name members
+same_ids_after (Block a b) members = refl
 
 pub members_ascend_after : (change : Change) (members after : List Member)
     → after ≡ members_after members change → AllPairs (λ member later. member.id < later.id) members → AllPairs (λ member later. member.id < later.id) after
@@ -386,6 +409,14 @@ named_both a b change (inl e) id = ap (names id) e
 named_both a b change (inr (inl e)) id = ap (names id) e
 named_both a b change (inr (inr (inl e))) id = ap (names id) e
 named_both a b change (inr (inr (inr e))) id = ap (names id) e
+
+-- and puts no block
+pub free_both : (a b : ℕ) (change : Change) → (change ≡ Invite a b) ⊎ ((change ≡ Accept a b) ⊎ ((change ≡ Reject a b) ⊎ (change ≡ Thaw a b)))
+    → (id : ℕ) (ids : List ℕ) → blocked_after id ids change ≡ ids
+free_both a b change (inl e) id ids = ap (blocked_after id ids) e
+free_both a b change (inr (inl e)) id ids = ap (blocked_after id ids) e
+free_both a b change (inr (inr (inl e))) id ids = ap (blocked_after id ids) e
+free_both a b change (inr (inr (inr e))) id ids = ap (blocked_after id ids) e
 
 pub same_length : (R : Near → Near → Type 0) (xs ys : List Near) → AllZip R xs ys → length ys ≡ length xs
 same_length R xs ys zip = sym (length_all_zip R xs ys zip)

@@ -1,4 +1,4 @@
--- The ids in an answer ascend, since links are in order.
+-- The ids in an answer ascend, since links and blocks are in order.
 use Rattle.std.proofs.Common.{ℕ, ◌+◌, ◌<◌, ◌≤◌, ◌≡◌, Bool, true, List, length, map, filter, AllPairs, arith}
 use Rattle.std.specs.List.Sorted.{IsStrictlyIncreasing}
 use Rattle.std.proofs.lemmas.List.{get_or-map, length-map}
@@ -7,8 +7,9 @@ use Rattle.std.proofs.lemmas.List.Kept.{AllPairs-filter}
 use Rattle.std.proofs.lemmas.Bool.Decides.{nat_tests}
 use Rattle.rows_model.specs.declared.rows.LinkState.TheVariants.{Friend}
 use Rattle.rows_model.specs.declared.rows.Link.{Link}
-use Rattle.rows_model.specs.Rows.{Tables, Fit, is_friend}
-use Rattle.rows_model.specs.Query.{befriends, invites, other_end, AnswersAscend}
+use Rattle.rows_model.specs.Rows.{Tables, BlockRow, Fit, IsBlockBefore, is_friend}
+use Rattle.rows_model.specs.Changes.{block_of}
+use Rattle.rows_model.specs.Query.{befriends, invites, is_by, other_end, AnswersAscend}
 
 -- one link stands before another, and each names the smaller friend first
 record InOrder (link later : Link) : Type 0 where
@@ -33,21 +34,31 @@ friends_rise id link later h one two = grind (arith, nat_tests)
 inviters_rise : (id : ℕ) (link later : Link) → InOrder link later → invites id link ≡ true → invites id later ≡ true → link.a < later.a
 inviters_rise id link later h one two = grind (arith, nat_tests)
 
--- what rises along the links that pass is a strictly increasing list
-rising : (p : Link → Bool) (f : Link → ℕ) (links : List Link) → AllPairs InOrder links
-    → ((link later : Link) → InOrder link later → p link ≡ true → p later ≡ true → f link < f later) → IsStrictlyIncreasing (map f (filter p links))
-rising p f links order rise = λ k l.
-    let kept = filter p links in
-    let d : Link = record { a = 0; b = 0; state = Friend } in
+-- of two blocks by a member, the one before is of the smaller
+blocked_rise : (id : ℕ) (block later : BlockRow) → IsBlockBefore block later → is_by id block ≡ true → is_by id later ≡ true
+    → block.blocked < later.blocked
+blocked_rise id block later h one two =
+    let tied : block.blocker ≡ later.blocker → block.blocked < later.blocked = h.1 in
+    let same : block.blocker ≡ later.blocker = grind (arith, nat_tests) in
+    tied same
+
+-- what rises along the elements that pass is a strictly increasing list
+rising : {X : Type 0} (R : X → X → Type 0) (d : X) (p : X → Bool) (f : X → ℕ) (xs : List X) → AllPairs R xs
+    → ((x y : X) → R x y → p x ≡ true → p y ≡ true → f x < f y) → IsStrictlyIncreasing (map f (filter p xs))
+rising R d p f xs order rise = λ k l.
+    let kept = filter p xs in
     let in_range : k + 1 < length kept = omega (arith, length-map kept f) in
-    let pair = AllPairs-filter InOrder p links order k (k + 1) d (omega arith) in_range in
-    let one = filter_passes p links k d (omega arith) in
-    let two = filter_passes p links (k + 1) d in_range in
+    let pair = AllPairs-filter R p xs order k (k + 1) d (omega arith) in_range in
+    let one = filter_passes p xs k d (omega arith) in
+    let two = filter_passes p xs (k + 1) d in_range in
     rw (get_or-map f kept k d 0 (omega arith), get_or-map f kept (k + 1) d 0 in_range) (rise _ _ pair one two)
 
 -- on fit tables the ids of an answer ascend
 pub answers_ascend_is : AnswersAscend
-answers_ascend_is tables id fit = record {
-  friends = rising (befriends id) (other_end id) tables.links (in_order tables fit) (friends_rise id);
-  inviters = rising (invites id) (λ link. link.a) tables.links (in_order tables fit) (inviters_rise id);
-}
+answers_ascend_is tables id fit =
+    let d : Link = record { a = 0; b = 0; state = Friend } in
+    record {
+      friends = rising InOrder d (befriends id) (other_end id) tables.links (in_order tables fit) (friends_rise id);
+      inviters = rising InOrder d (invites id) (λ link. link.a) tables.links (in_order tables fit) (inviters_rise id);
+      blocked = rising IsBlockBefore (block_of 0 0) (is_by id) (λ block. block.blocked) tables.blocks fit.blocks_ascend (blocked_rise id);
+    }

@@ -1,7 +1,7 @@
 -- The answer before changes, refreshed by them, is the answer after them.
-use Rattle.std.proofs.Common.{ℕ, ◌+◌, ◌<◌, ◌≤◌, ◌≡◌, ◌^◌, Bool, true, false, not, List, [], ◌∷◌, length, get_or, map, filter, find, fold}
+use Rattle.std.proofs.Common.{ℕ, ◌+◌, ◌<◌, ◌≤◌, ◌≡◌, ◌^◌, Bool, true, false, List, [], ◌∷◌, length, get_or, map, filter, find, fold}
 use Rattle.std.proofs.Common.{decimal, All, Option, Some, None, IsSome, Ok, Err, refl, sym, ap, subst, ◌∙◌, arith}
-use Rattle.std.specs.Prelude.{◌==◌, ◌&&◌, ◌||◌, nat_lt, cond, if◌then◌else◌, option_map}
+use Rattle.std.specs.Prelude.{◌==◌, ◌&&◌, ◌||◌, cond, if◌then◌else◌, option_map}
 use Rattle.std.specs.Option.{option_and_then}
 use Rattle.std.proofs.lemmas.Bool.{false≢true, and_parts, eqb-true}
 use Rattle.std.proofs.lemmas.Bool.Decides.{nat_tests}
@@ -10,23 +10,23 @@ use Rattle.std.proofs.lemmas.List.{get_or-map, length-map}
 use Rattle.std.proofs.lemmas.List.Elements.{All-head, All-tail, All-filter}
 use Rattle.std.proofs.lemmas.List.Folds.{Any-from_list_any}
 use Rattle.rows_model.specs.declared.keys.Kind.{Kind}
-use Rattle.rows_model.specs.declared.keys.Kind.TheVariants.{Profile, Friends, Pending, NFriends, NPending}
+use Rattle.rows_model.specs.declared.keys.Kind.TheVariants.{Profile, Friends, Pending, NFriends, NPending, Blocked}
 use Rattle.rows_model.specs.declared.rows.LinkState.TheVariants.{Friend}
 use Rattle.rows_model.specs.declared.rows.Link.{Link}
 use Rattle.rows_model.specs.declared.rows.Member.{Member}
 use Rattle.rows_model.specs.declared.changes.Change.{Change}
-use Rattle.rows_model.specs.declared.changes.Change.TheVariants.{Invite, Accept, Reject, Thaw, Rename}
+use Rattle.rows_model.specs.declared.changes.Change.TheVariants.{Invite, Accept, Reject, Thaw, Rename, Block}
 use Rattle.rows_model.specs.declared.refreshing.Circle.{Circle}
-use Rattle.rows_model.specs.declared.refreshing.Circle.TheVariants.{Befriended, Inviting}
+use Rattle.rows_model.specs.declared.refreshing.Circle.TheVariants.{Befriended, Inviting, Barred}
 use Rattle.rows_model.specs.declared.refreshing.Person.{Person}
 use Rattle.rows_model.specs.Name.{IsName}
 use Rattle.rows_model.specs.Rows.{Tables, Fit, IsMember, joins, member_of, is_friend}
-use Rattle.rows_model.specs.Query.{answer, answer_of, friend_count, pending_count, id_list, profile_text, other_end, befriends, invites}
-use Rattle.rows_model.specs.Changes.{applies, changed, apply_from, apply_all, renamed, HasIds, is_member, is_linked, are_friends, foot_of, has_key, touches}
+use Rattle.rows_model.specs.Query.{answer, answer_of, friend_count, pending_count, id_list, profile_text, other_end, befriends, invites, is_by}
+use Rattle.rows_model.specs.Changes.{applies, changed, apply_from, apply_all, block_of, renamed, HasIds, are_friends, foot_of, has_key, touches}
 use Rattle.rows_model.specs.Refresh.{person_in, step_in, listed, counted, after_all, count_after, ids_after, named, person, person_after}
 use Rattle.rows_model.specs.Refresh.{person_text, refreshed, refreshed_of, refreshed_profile, refreshed_ids, refreshed_count}
 use Rattle.rows_model.specs.RefreshIsAnswer.{RefreshIsAnswer}
-use Rattle.rows_model.proofs.FitLemmas.{same_id, found_some, invited_parts}
+use Rattle.rows_model.proofs.FitLemmas.{same_id, found_some, invited_parts, invite_parts}
 use Rattle.rows_model.proofs.StayFitLemmas.{Fit-changed}
 use Rattle.rows_model.proofs.RefreshTextLemmas.{small_number-decimal, ids_in-id_list, Rises-from_pairs, person_in-person_text, no_dash}
 use Rattle.rows_model.proofs.RefreshStepLemmas.{ids_of, count_of, ids_ascend, few_ids, step_listed, step_counted}
@@ -55,7 +55,7 @@ law_from step view steps place (change ∷ changes) t after fit ids e =
     (λ kept made. law_from step view steps (place + 1) changes (changed change t) after kept (All-tail HasIds change changes ids) made)
 
 -- the ids and the count of a circle
-ids_law : (circle : Circle) (id : ℕ) (changes : List Change) (t after : Tables) → Fit t → All HasIds changes
+pub ids_law : (circle : Circle) (id : ℕ) (changes : List Change) (t after : Tables) → Fit t → All HasIds changes
     → apply_from 0 changes t ≡ Ok after → ids_after circle id changes (ids_of circle id t) ≡ Some (ids_of circle id after)
 ids_law circle id changes t after fit ids e =
     law_from (λ change. listed (step_in circle id change)) (ids_of circle id) (step_listed circle id) 0 changes t after fit ids e
@@ -90,13 +90,15 @@ found_id id (x ∷ members) all h =
     id_go id x members (x.id == id) refl (All-head (λ member. (1 ≤ member.id) × (member.id ≤ 100000)) x members all).1 h
     (found_id id members (All-tail (λ member. (1 ≤ member.id) × (member.id ≤ 100000)) x members all))
 
-small_mapped : (f : Link → ℕ) (links : List Link) → All (λ link. f link ≤ 100000) links → All (λ x. x < 2 ^ 32) (map f links)
-small_mapped f links all = λ k d l.
-    let e : Link = record { a = 0; b = 0; state = Friend } in
-    let within : k < length links = omega (arith, length-map links f) in
-    let at : get_or (map f links) k d ≡ f (get_or links k e) = get_or-map f links k e d within in
-    let h : f (get_or links k e) ≤ 100000 = all k e within in
+small_mapped : {X : Type 0} (e : X) (f : X → ℕ) (xs : List X) → All (λ x. f x ≤ 100000) xs → All (λ n. n < 2 ^ 32) (map f xs)
+small_mapped e f xs all = λ k d l.
+    let within : k < length xs = omega (arith, length-map xs f) in
+    let at : get_or (map f xs) k d ≡ f (get_or xs k e) = get_or-map f xs k e d within in
+    let h : f (get_or xs k e) ≤ 100000 = all k e within in
     omega (arith, at, h)
+
+some_link : Link
+some_link = record { a = 0; b = 0; state = Friend }
 
 other_go : (b : Bool) (m n : ℕ) → m ≤ 100000 → n ≤ 100000 → (if b then m else n) ≤ 100000
 other_go true m n one two = one
@@ -105,15 +107,19 @@ other_go false m n one two = two
 -- the ids of a circle are small
 small_ids : (circle : Circle) (id : ℕ) (t : Tables) → Fit t → All (λ x. x < 2 ^ 32) (ids_of circle id t)
 small_ids Befriended id t fit =
-    small_mapped (other_end id) (filter (befriends id) t.links)
+    small_mapped some_link (other_end id) (filter (befriends id) t.links)
     (All-filter (befriends id) (λ link. other_end id link ≤ 100000) t.links
     (λ k d l. other_go ((get_or t.links k d).a == id) (get_or t.links k d).b (get_or t.links k d).a
     (found_id (get_or t.links k d).b t.members fit.ids (fit.links_join k d l).to)
     (found_id (get_or t.links k d).a t.members fit.ids (fit.links_join k d l).from)))
 small_ids Inviting id t fit =
-    small_mapped (λ link. link.a) (filter (invites id) t.links)
+    small_mapped some_link (λ link. link.a) (filter (invites id) t.links)
     (All-filter (invites id) (λ link. link.a ≤ 100000) t.links
     (λ k d l. found_id (get_or t.links k d).a t.members fit.ids (fit.links_join k d l).from))
+small_ids Barred id t fit =
+    small_mapped (block_of 0 0) (λ block. block.blocked) (filter (is_by id) t.blocks)
+    (All-filter (is_by id) (λ block. block.blocked ≤ 100000) t.blocks
+    (λ k d l. found_id (get_or t.blocks k d).blocked t.members fit.ids (fit.blocks_join k d l).to))
 
 ids_refreshed : (circle : Circle) (id : ℕ) (changes : List Change) (t after : Tables) → Fit t → All HasIds changes
     → apply_from 0 changes t ≡ Ok after → refreshed_ids circle id (id_list (ids_of circle id t)) changes ≡ Some (id_list (ids_of circle id after))
@@ -159,6 +165,7 @@ step_named id (Accept a b) t = same_name (member_of id t)
 step_named id (Reject a b) t = same_name (member_of id t)
 step_named id (Thaw a b) t = same_name (member_of id t)
 step_named id (Rename a name) t = rename_named id a name t.members
+step_named id (Block a b) t = same_name (member_of id t)
 
 abbrev name_step : ℕ → Change → Option (List ℕ) → Option (Option (List ℕ))
 name_step id change o = Some (option_map (λ name. named id name change) o)
@@ -210,10 +217,7 @@ not_a_friend id a b t fit none takes =
 untouched_by : (id : ℕ) (change : Change) (t : Tables) → Fit t
     → applies change t ≡ true → member_of id t ≡ None → has_key (record { kind = Profile; id = id }) (foot_of change) ≡ false
 untouched_by id (Invite a b) t fit takes none =
-    let p4 = and_parts (not (a == b) && is_member a t && is_member b t && not (is_linked a b t)) (nat_lt (length t.links) 1000000) takes in
-    let p3 = and_parts (not (a == b) && is_member a t && is_member b t) (not (is_linked a b t)) p4.0 in
-    let p2 = and_parts (not (a == b) && is_member a t) (is_member b t) p3.0 in
-    let two = not_member id b t none (found_some (λ member. member.id == b) t.members p2.1) in
+    let two = not_member id b t none (invite_parts a b t takes).to in
     rw two refl
 untouched_by id (Accept a b) t fit takes none =
     let h = invited_parts t a b fit takes in
@@ -230,6 +234,7 @@ untouched_by id (Thaw a b) t fit takes none =
 untouched_by id (Rename a name) t fit takes none =
     let one = not_member id a t none (found_some (λ member. member.id == a) t.members takes) in
     rw one refl
+untouched_by id (Block a b) t fit takes none = refl
 
 no_name : (o : Option Member) → name_in o ≡ None → o ≡ None
 no_name None e = refl
@@ -314,6 +319,7 @@ kind_law Friends id changes t after fit ids e = ids_refreshed Befriended id chan
 kind_law Pending id changes t after fit ids e = ids_refreshed Inviting id changes t after fit ids e
 kind_law NFriends id changes t after fit ids e = count_refreshed Befriended id changes t after fit ids e
 kind_law NPending id changes t after fit ids e = count_refreshed Inviting id changes t after fit ids e
+kind_law Blocked id changes t after fit ids e = ids_refreshed Barred id changes t after fit ids e
 
 pub refreshed_is : RefreshIsAnswer
 unfolding apply_all answer refreshed

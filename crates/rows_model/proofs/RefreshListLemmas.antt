@@ -13,8 +13,7 @@ use Rattle.std.proofs.lemmas.Map.Views.{any-filter_same}
 use Rattle.rows_model.specs.declared.refreshing.IdStep.{IdStep}
 use Rattle.rows_model.specs.declared.refreshing.IdStep.TheVariants.{Stay, Put, Take}
 use Rattle.rows_model.specs.Refresh.{has_id, with_id, without_id, listed, counted}
-use Rattle.rows_model.proofs.FootprintLemmas.{any-insert}
-use Rattle.rows_model.proofs.FitLemmas.{pairs_head, pairs_tail, pairs_insert, none_passes}
+use Rattle.rows_model.proofs.FitLemmas.{pairs_head, pairs_tail, pairs_insert, none_passes, any-insert}
 
 -- the ids ascend
 abbrev pub Ascend : List ℕ → Type 0

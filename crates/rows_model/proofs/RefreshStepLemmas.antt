@@ -13,54 +13,59 @@ use Rattle.std.proofs.lemmas.Map.Views.{any-filter_same}
 use Rattle.rows_model.specs.declared.rows.LinkState.TheVariants.{Friend}
 use Rattle.rows_model.specs.declared.rows.Link.{Link}
 use Rattle.rows_model.specs.declared.changes.Change.{Change}
-use Rattle.rows_model.specs.declared.changes.Change.TheVariants.{Invite, Accept, Reject, Thaw, Rename}
+use Rattle.rows_model.specs.declared.changes.Change.TheVariants.{Invite, Accept, Reject, Thaw, Rename, Block}
 use Rattle.rows_model.specs.declared.refreshing.IdStep.TheVariants.{Stay, Put, Take}
 use Rattle.rows_model.specs.declared.refreshing.Circle.{Circle}
-use Rattle.rows_model.specs.declared.refreshing.Circle.TheVariants.{Befriended, Inviting}
-use Rattle.rows_model.specs.Rows.{Tables, Fit, joins, is_pending, is_friend}
-use Rattle.rows_model.specs.Query.{befriends, invites, friend_count, pending_count, friend_ids, inviter_ids, other_end}
-use Rattle.rows_model.specs.Changes.{without_link, invitation, friendship, applies, changed, is_linked, is_invited, are_friends, is_member, is_before, HasIds}
+use Rattle.rows_model.specs.declared.refreshing.Circle.TheVariants.{Befriended, Inviting, Barred}
+use Rattle.rows_model.specs.Rows.{Tables, BlockRow, Fit, joins, is_pending, is_friend}
+use Rattle.rows_model.specs.Query.{befriends, invites, is_by, friend_count, pending_count, friend_ids, inviter_ids, blocked_ids, other_end}
+use Rattle.rows_model.specs.Changes.{without_link, invitation, friendship, is_block_before, block_of, applies, changed}
+use Rattle.rows_model.specs.Changes.{is_linked, is_invited, are_friends, has_blocked, is_before, HasIds}
 use Rattle.rows_model.specs.Refresh.{step_in, has_id, listed, counted}
-use Rattle.rows_model.proofs.FitLemmas.{InPlace, in_place, not_true}
-use Rattle.rows_model.proofs.FootprintLemmas.{any-insert}
+use Rattle.rows_model.proofs.FitLemmas.{InPlace, in_place, any-insert, invite_parts, block_parts}
 use Rattle.rows_model.proofs.QueryLemmas.{answers_ascend_is}
 use Rattle.rows_model.proofs.StayFitLemmas.{Fit-changed}
 use Rattle.rows_model.proofs.UntouchedLemmas.{invite_friends, invite_invites, reject_friends, invited_invites, accept_friends}
-use Rattle.rows_model.proofs.UntouchedLemmas.{parted_friends, thaw_invites, filter_with, friendship_invites, friends_only, pending_joins}
+use Rattle.rows_model.proofs.UntouchedLemmas.{parted_friends, thaw_invites, filter_with, friendship_invites, friends_only, pending_joins, block_others}
 use Rattle.rows_model.proofs.RefreshListLemmas.{Ascend, listed_put, listed_take, counted_listed}
 
 -- the ids of a circle, and how many there are
 abbrev pub ids_of : Circle → ℕ → Tables → List ℕ
 ids_of Befriended id t = friend_ids id t
 ids_of Inviting id t = inviter_ids id t
+ids_of Barred id t = blocked_ids id t
 
 abbrev pub count_of : Circle → ℕ → Tables → ℕ
 count_of Befriended id t = friend_count id t
 count_of Inviting id t = pending_count id t
+count_of Barred id t = count_by (is_by id) t.blocks
 
 pub ids_ascend : (circle : Circle) (id : ℕ) (t : Tables) → Fit t → Ascend (ids_of circle id t)
 ids_ascend Befriended id t fit = AllPairs-from_increasing (friend_ids id t) (answers_ascend_is t id fit).friends
 ids_ascend Inviting id t fit = AllPairs-from_increasing (inviter_ids id t) (answers_ascend_is t id fit).inviters
+ids_ascend Barred id t fit = AllPairs-from_increasing (blocked_ids id t) (answers_ascend_is t id fit).blocked
 
 pub length-ids_of : (circle : Circle) (id : ℕ) (t : Tables) → length (ids_of circle id t) ≡ count_of circle id t
 length-ids_of Befriended id t = length-map (filter (befriends id) t.links) (other_end id) ∙ length-filter (befriends id) t.links
 length-ids_of Inviting id t = length-map (filter (invites id) t.links) (λ link. link.a) ∙ length-filter (invites id) t.links
+length-ids_of Barred id t = length-map (filter (is_by id) t.blocks) (λ block. block.blocked) ∙ length-filter (is_by id) t.blocks
 
 pub few_ids : (circle : Circle) (id : ℕ) (t : Tables) → Fit t → count_of circle id t ≤ 1000000
 few_ids Befriended id t fit = let le = count_by-le-length (befriends id) t.links in let most = fit.few_links in omega (arith, le, most)
 few_ids Inviting id t fit = let le = count_by-le-length (invites id) t.links in let most = fit.few_links in omega (arith, le, most)
+few_ids Barred id t fit = let le = count_by-le-length (is_by id) t.blocks in let most = fit.few_blocks in omega (arith, le, most)
 
--- which ids are there, told by the links
-mapped_go : (f : Link → ℕ) (x : ℕ) (l : Link) (ls : List Link) (b c : Bool)
+-- which ids are there, told by the rows
+mapped_go : {X : Type 0} (f : X → ℕ) (x : ℕ) (l : X) (ls : List X) (b c : Bool)
     → has_id x (cond b (f l ∷ map f ls) (map f ls)) ≡ ((b && (f l == x)) || has_id x (map f ls))
 mapped_go f x l ls true c = refl
 mapped_go f x l ls false c = refl
 
-cond_map : (f : Link → ℕ) (b : Bool) (l : Link) (ls : List Link) → map f (cond b (l ∷ ls) ls) ≡ cond b (f l ∷ map f ls) (map f ls)
+cond_map : {X : Type 0} (f : X → ℕ) (b : Bool) (l : X) (ls : List X) → map f (cond b (l ∷ ls) ls) ≡ cond b (f l ∷ map f ls) (map f ls)
 cond_map f true l ls = refl
 cond_map f false l ls = refl
 
-has_mapped : (f : Link → ℕ) (p : Link → Bool) (x : ℕ) (ls : List Link) → has_id x (map f (filter p ls)) ≡ list_any (λ l. p l && (f l == x)) ls
+pub has_mapped : {X : Type 0} (f : X → ℕ) (p : X → Bool) (x : ℕ) (ls : List X) → has_id x (map f (filter p ls)) ≡ list_any (λ l. p l && (f l == x)) ls
 has_mapped f p x [] = refl
 has_mapped f p x (l ∷ ls) =
     ap (has_id x) (cond_map f (p l) l (filter p ls))
@@ -261,11 +266,31 @@ thaw_go id a b t false true ea eb fit fit_after takes =
 thaw_go id a b t false false ea eb fit fit_after takes =
     same_friends id t (changed (Thaw a b) t) (parted_friends id a b t (differ a id ea) (differ b id eb))
 
+-- one more whom a member has blocked
+put_blocked : (a b : ℕ) (t : Tables) → Fit t → Fit (changed (Block a b) t) → has_blocked a b t ≡ false
+    → listed (Put b) (blocked_ids a t) ≡ Some (blocked_ids a (changed (Block a b) t))
+put_blocked a b t fit fit_after free =
+    let u = changed (Block a b) t in
+    let f : BlockRow → ℕ = λ block. block.blocked in
+    let none : has_id b (blocked_ids a t) ≡ false = has_mapped f (is_by a) b t.blocks ∙ free in
+    listed_put b (blocked_ids a t) (blocked_ids a u) (ids_ascend Barred a t fit)
+    (ids_ascend Barred a u fit_after) none (λ x. has_mapped f (is_by a) x u.blocks
+    ∙ (any-insert (λ block. is_by a block && (block.blocked == x)) t.blocks (count_by (is_block_before (block_of a b)) t.blocks) (block_of a b)
+    ∙ (ap (λ (c : Bool). list_any (λ block. is_by a block && (block.blocked == x)) t.blocks || (c && (b == x))) (eq-eqb a a refl)
+    ∙ ap (λ (c : Bool). c || (b == x)) (sym (has_mapped f (is_by a) x t.blocks)))))
+
+block_go : (id a b : ℕ) (t : Tables) (c : Bool) → (a == id) ≡ c → Fit t → Fit (changed (Block a b) t) → has_blocked a b t ≡ false
+    → listed (if c then Put b else Stay) (blocked_ids id t) ≡ Some (blocked_ids id (changed (Block a b) t))
+block_go id a b t true e fit fit_after free =
+    let P : ℕ → Type 0 = λ n. listed (Put b) (blocked_ids n t) ≡ Some (blocked_ids n (changed (Block a b) t)) in
+    subst P (eqb-true a id e) (put_blocked a b t fit fit_after free)
+block_go id a b t false e fit fit_after free =
+    ap (λ (bs : List BlockRow). Some (map (λ block. block.blocked) bs)) (sym (block_others id a b t e))
+
 -- an invitation that applies joins two whom no link joined
 pub invite_free : (a b : ℕ) (t : Tables) → applies (Invite a b) t ≡ true → is_linked a b t ≡ false
 invite_free a b t takes =
-    let p4 = and_parts (not (a == b) && is_member a t && is_member b t && not (is_linked a b t)) (nat_lt (length t.links) 1000000) takes in
-    not_true (is_linked a b t) (and_parts (not (a == b) && is_member a t && is_member b t) (not (is_linked a b t)) p4.0).1
+    (invite_parts a b t takes).free
 
 -- a change that applies makes its step in the ids of each circle
 pub step_listed : (circle : Circle) (id : ℕ) (change : Change) (t : Tables) → Fit t → HasIds change → applies change t ≡ true
@@ -276,6 +301,7 @@ step_listed Befriended id (Reject a b) t fit ids takes =
     same_friends id t (changed (Reject a b) t) (reject_friends id a b t (in_place t.links fit.links_ascend fit.one_link) takes)
 step_listed Befriended id (Thaw a b) t fit ids takes = thaw_go id a b t (a == id) (b == id) refl refl fit (Fit-changed (Thaw a b) t fit ids takes) takes
 step_listed Befriended id (Rename a name) t fit ids takes = refl
+step_listed Befriended id (Block a b) t fit ids takes = refl
 step_listed Inviting id (Invite a b) t fit ids takes =
     invite_go id a b t (b == id) refl fit (Fit-changed (Invite a b) t fit ids takes) (invite_free a b t takes)
 step_listed Inviting id (Accept a b) t fit ids takes =
@@ -284,6 +310,14 @@ step_listed Inviting id (Reject a b) t fit ids takes = reject_go id a b t (b == 
 step_listed Inviting id (Thaw a b) t fit ids takes =
     same_inviters id t (changed (Thaw a b) t) (thaw_invites id a b t (in_place t.links fit.links_ascend fit.one_link) takes)
 step_listed Inviting id (Rename a name) t fit ids takes = refl
+step_listed Inviting id (Block a b) t fit ids takes = refl
+step_listed Barred id (Invite a b) t fit ids takes = refl
+step_listed Barred id (Accept a b) t fit ids takes = refl
+step_listed Barred id (Reject a b) t fit ids takes = refl
+step_listed Barred id (Thaw a b) t fit ids takes = refl
+step_listed Barred id (Rename a name) t fit ids takes = refl
+step_listed Barred id (Block a b) t fit ids takes =
+    block_go id a b t (a == id) refl fit (Fit-changed (Block a b) t fit ids takes) (block_parts a b t takes).unblocked
 
 -- and in their counts
 pub step_counted : (circle : Circle) (id : ℕ) (change : Change) (t : Tables) → Fit t → HasIds change → applies change t ≡ true

@@ -21,7 +21,7 @@ at_start n k d l =
     (in_range, get_or-map-range_with_len start_member 1 n k (1 + k) d in_range refl)
 
 -- the rows of the start are fit
-pub Fit-start : (n : ℕ) → n ≤ 100000 → Fit (record { members = map start_member (range_with_len 1 n); links = [] })
+pub Fit-start : (n : ℕ) → n ≤ 100000 → Fit (record { members = map start_member (range_with_len 1 n); links = []; blocks = [] })
 Fit-start n few =
     let members = map start_member (range_with_len 1 n) in
     record {
@@ -35,10 +35,13 @@ Fit-start n few =
       links_ascend = λ i j d low l. absurd (omega arith);
       one_link = λ i j d low l. absurd (omega arith);
       few_links = omega arith;
+      blocks_join = λ k d l. absurd (omega arith);
+      blocks_ascend = λ i j d low l. absurd (omega arith);
+      few_blocks = omega arith;
     }
 
 -- the rows of the start, spelled out
-pub start_tables_is : (n : ℕ) → start_tables n ≡ record { members = map start_member (range_with_len 1 n); links = [] }
+pub start_tables_is : (n : ℕ) → start_tables n ≡ record { members = map start_member (range_with_len 1 n); links = []; blocks = [] }
 unfolding start_tables
 start_tables_is n = refl
 

@@ -3,7 +3,7 @@ use Rattle.std.proofs.Common.{◌≡◌, ℕ, zero, suc, true, ◌==◌, refl, s
 use Rattle.std.proofs.lemmas.Bool.{eqb-true, eq-eqb, and_parts, and_from}
 use Rattle.std.proofs.lemmas.Bool.Decides.{same_from_decides}
 use Rattle.rows_model.specs.declared.keys.Kind.{Kind}
-use Rattle.rows_model.specs.declared.keys.Kind.TheVariants.{Profile, Friends, Pending, NFriends, NPending}
+use Rattle.rows_model.specs.declared.keys.Kind.TheVariants.{Profile, Friends, Pending, NFriends, NPending, Blocked}
 use Rattle.rows_model.specs.declared.keys.QKey.{QKey}
 use Rattle.rows_model.specs.Key.{kind_number, same_key}
 
@@ -13,7 +13,8 @@ kind_at zero = Profile
 kind_at (suc zero) = Friends
 kind_at (suc (suc zero)) = Pending
 kind_at (suc (suc (suc zero))) = NFriends
-kind_at (suc (suc (suc (suc n)))) = NPending
+kind_at (suc (suc (suc (suc zero)))) = NPending
+kind_at (suc (suc (suc (suc (suc n))))) = Blocked
 
 kind_at-number : (k : Kind) → kind_at (kind_number k) ≡ k
 unfolding kind_at
@@ -22,6 +23,7 @@ kind_at-number Friends = refl
 kind_at-number Pending = refl
 kind_at-number NFriends = refl
 kind_at-number NPending = refl
+kind_at-number Blocked = refl
 
 same_kind : (a b : Kind) → kind_number a ≡ kind_number b → a ≡ b
 same_kind a b e = sym (kind_at-number a) ∙ ap kind_at e ∙ kind_at-number b

@@ -3,19 +3,20 @@ use Rattle.std.proofs.Common.{ℕ, ◌+◌, ◌≡◌, Bool, true, false, List, 
 use Rattle.std.specs.Prelude.{if◌then◌else◌}
 use Rattle.std.proofs.lemmas.List.Elements.{All-head, All-tail}
 use Rattle.rows_model.specs.declared.changes.Change.{Change}
-use Rattle.rows_model.specs.declared.changes.Change.TheVariants.{Invite, Accept, Reject, Thaw, Rename}
+use Rattle.rows_model.specs.declared.changes.Change.TheVariants.{Invite, Accept, Reject, Thaw, Rename, Block}
 use Rattle.rows_model.specs.Rows.{Tables, Fit}
 use Rattle.rows_model.specs.Changes.{HasIds, applies, changed, apply_from, apply_all}
 use Rattle.rows_model.specs.RowsStayFit.{RowsStayFit}
-use Rattle.rows_model.proofs.FitLemmas.{Fit-invited, Fit-accepted, Fit-without_link, Fit-renamed}
+use Rattle.rows_model.proofs.FitLemmas.{Fit-invited, Fit-accepted, Fit-without_link, Fit-renamed, Fit-blocked}
 
 -- after a change that applies
 pub Fit-changed : (change : Change) (t : Tables) → Fit t → HasIds change → applies change t ≡ true → Fit (changed change t)
-Fit-changed (Invite a b) t fit ids e = Fit-invited t.members t.links a b fit e
-Fit-changed (Accept a b) t fit ids e = Fit-accepted t.members t.links a b fit e
-Fit-changed (Reject a b) t fit ids e = Fit-without_link t.members t.links a b fit
-Fit-changed (Thaw a b) t fit ids e = Fit-without_link t.members t.links a b fit
-Fit-changed (Rename a name) t fit ids e = Fit-renamed t.members t.links a name fit ids.1
+Fit-changed (Invite a b) t fit ids e = Fit-invited t.members t.links t.blocks a b fit e
+Fit-changed (Accept a b) t fit ids e = Fit-accepted t.members t.links t.blocks a b fit e
+Fit-changed (Reject a b) t fit ids e = Fit-without_link t.members t.links t.blocks a b fit
+Fit-changed (Thaw a b) t fit ids e = Fit-without_link t.members t.links t.blocks a b fit
+Fit-changed (Rename a name) t fit ids e = Fit-renamed t.members t.links t.blocks a name fit ids.1
+Fit-changed (Block a b) t fit ids e = Fit-blocked t.members t.links t.blocks a b fit e
 
 fit_go : (place : ℕ) (change : Change) (changes : List Change) (t after : Tables) (b : Bool) → applies change t ≡ b → Fit t → HasIds change
     → (if b then apply_from (place + 1) changes (changed change t) else Err place) ≡ Ok after

@@ -2,6 +2,7 @@
 use Rattle.std.proofs.Common.{ℕ, ◌+◌, ◌<◌, ◌≡◌, ◌≢◌, Bool, true, false, not, List, [], ◌∷◌, ◌++◌, length, get_or, take, drop, map, filter}
 use Rattle.std.proofs.Common.{find, decimal, All, AllPairs, Option, Some, Ok, Err, inl, inr, refl, sym, ap, ◌∙◌, arith, take-append-drop}
 use Rattle.std.specs.Prelude.{count_by, ◌==◌, ◌&&◌, ◌||◌, nat_lt, cond, if◌then◌else◌}
+use Rattle.std.specs.List.{insert}
 use Rattle.std.proofs.lemmas.Bool.{false≢true, and_parts, eq-eqb, cases_order}
 use Rattle.std.proofs.lemmas.Bool.Decides.{nat_tests}
 use Rattle.std.proofs.lemmas.List.{get_or_default}
@@ -10,28 +11,30 @@ use Rattle.std.proofs.lemmas.List.Sums.{length-filter}
 use Rattle.std.proofs.lemmas.List.Elements.{filter-append, All-head, All-tail, filter_passes}
 use Rattle.std.proofs.lemmas.List.Kept.{AllPairs-filter}
 use Rattle.rows_model.specs.declared.keys.Kind.{Kind}
-use Rattle.rows_model.specs.declared.keys.Kind.TheVariants.{Profile, Friends, Pending, NFriends, NPending}
+use Rattle.rows_model.specs.declared.keys.Kind.TheVariants.{Profile, Friends, Pending, NFriends, NPending, Blocked}
 use Rattle.rows_model.specs.declared.rows.LinkState.{LinkState}
 use Rattle.rows_model.specs.declared.rows.LinkState.TheVariants.{Pending as Waiting, Friend}
 use Rattle.rows_model.specs.declared.rows.Link.{Link}
 use Rattle.rows_model.specs.declared.rows.Member.{Member}
 use Rattle.rows_model.specs.declared.changes.Change.{Change}
-use Rattle.rows_model.specs.declared.changes.Change.TheVariants.{Invite, Accept, Reject, Thaw, Rename}
-use Rattle.rows_model.specs.Rows.{Tables, joins, member_of, is_pending, is_friend}
-use Rattle.rows_model.specs.Query.{befriends, invites, answer, answer_of, friend_count, pending_count, other_end, id_list, profile_text}
+use Rattle.rows_model.specs.declared.changes.Change.TheVariants.{Invite, Accept, Reject, Thaw, Rename, Block}
+use Rattle.rows_model.specs.Rows.{Tables, BlockRow, joins, member_of, is_pending, is_friend}
+use Rattle.rows_model.specs.Query.{befriends, invites, is_by, answer, answer_of, friend_count, pending_count, other_end, id_list, profile_text}
 use Rattle.rows_model.specs.Changes.{with_link, without_link, invitation, friendship, renamed, applies, changed, apply_from, apply_all}
-use Rattle.rows_model.specs.Changes.{foot_of, has_key, touches, is_linked, is_invited, are_friends, is_member, is_before}
+use Rattle.rows_model.specs.Changes.{foot_of, has_key, touches, is_invited, are_friends, is_before, is_block_before, block_of}
 use Rattle.rows_model.specs.Untouched.{UntouchedKeepsItsAnswer}
-use Rattle.rows_model.proofs.FitLemmas.{InPlace, in_place, with_in_place, none_go, none_passes, not_true, friend_free}
+use Rattle.rows_model.proofs.FitLemmas.{InPlace, in_place, with_in_place, none_go, none_passes, not_true, friend_free, invite_parts}
 
--- a link that doesn't pass leaves those that do
+-- an element that doesn't pass, wherever it is put, leaves those that do
+pub filter_insert : {X : Type 0} (p : X → Bool) (xs : List X) (k : ℕ) (new : X) → p new ≡ false → filter p (insert xs k new) ≡ filter p xs
+filter_insert {X} p xs k new e =
+    let back : filter p (new ∷ drop k xs) ≡ filter p (drop k xs) = ap (λ b. cond b (new ∷ filter p (drop k xs)) (filter p (drop k xs))) e in
+    filter-append p (take k xs) (new ∷ drop k xs)
+    ∙ (ap (λ (rest : List X). filter p (take k xs) ++ rest) back
+    ∙ (sym (filter-append p (take k xs) (drop k xs)) ∙ ap (filter p) (take-append-drop k xs)))
+
 pub filter_with : (p : Link → Bool) (new : Link) (links : List Link) → p new ≡ false → filter p (with_link new links) ≡ filter p links
-filter_with p new links e =
-    let k = count_by (is_before new) links in
-    let back : filter p (new ∷ drop k links) ≡ filter p (drop k links) = ap (λ b. cond b (new ∷ filter p (drop k links)) (filter p (drop k links))) e in
-    filter-append p (take k links) (new ∷ drop k links)
-    ∙ (ap (λ (rest : List Link). filter p (take k links) ++ rest) back
-    ∙ (sym (filter-append p (take k links) (drop k links)) ∙ ap (filter p) (take-append-drop k links)))
+filter_with p new links e = filter_insert p links (count_by (is_before new) links) new e
 
 both_go : (p q : Link → Bool) (x : Link) (xs : List Link) (b c : Bool) → q x ≡ b → p x ≡ c → (q x ≡ false → p x ≡ false)
     → filter p (filter q xs) ≡ filter p xs → filter p (cond b (x ∷ filter q xs) (filter q xs)) ≡ cond c (x ∷ filter p xs) (filter p xs)
@@ -146,12 +149,16 @@ SameFriends id t u = filter (befriends id) u.links ≡ filter (befriends id) t.l
 abbrev SameInvites : ℕ → Tables → Tables → Type 0
 SameInvites id t u = filter (invites id) u.links ≡ filter (invites id) t.links
 
+abbrev SameBlocks : ℕ → Tables → Tables → Type 0
+SameBlocks id t u = filter (is_by id) u.blocks ≡ filter (is_by id) t.blocks
+
 abbrev SameRows : Kind → ℕ → Tables → Tables → Type 0
 SameRows Profile id t u = (member_of id u ≡ member_of id t) × SameFriends id t u × SameInvites id t u
 SameRows Friends id t u = SameFriends id t u
 SameRows Pending id t u = SameInvites id t u
 SameRows NFriends id t u = SameFriends id t u
 SameRows NPending id t u = SameInvites id t u
+SameRows Blocked id t u = SameBlocks id t u
 
 same_count : (p : Link → Bool) (xs ys : List Link) → filter p xs ≡ filter p ys → count_by p xs ≡ count_by p ys
 same_count p xs ys e = sym (length-filter p xs) ∙ (ap length e ∙ length-filter p ys)
@@ -165,6 +172,7 @@ same_answer Friends id t u h = ap (λ (ls : List Link). id_list (map (other_end 
 same_answer Pending id t u h = ap (λ (ls : List Link). id_list (map (λ link. link.a) ls)) h
 same_answer NFriends id t u h = ap decimal (same_count (befriends id) u.links t.links h)
 same_answer NPending id t u h = ap decimal (same_count (invites id) u.links t.links h)
+same_answer Blocked id t u h = ap (λ (bs : List BlockRow). id_list (map (λ block. block.blocked) bs)) h
 
 -- a key that isn't in a footprint is of another member
 apart : (id b : ℕ) (rest : Bool) → ((id == b) || rest) ≡ false → b ≢ id
@@ -208,6 +216,9 @@ pub thaw_invites : (id a b : ℕ) (t : Tables) → AllPairs InPlace t.links → 
 thaw_invites id a b t pairs takes =
     filter_without (invites id) a b t.links (λ k d l e. friend_invites id (get_or t.links k d) (friends_only a b t pairs takes k d l e))
 
+pub block_others : (id a b : ℕ) (t : Tables) → (a == id) ≡ false → SameBlocks id t (changed (Block a b) t)
+block_others id a b t e = filter_insert (is_by id) t.blocks (count_by (is_block_before (block_of a b)) t.blocks) (block_of a b) e
+
 -- a change leaves the rows that the answer to an untouched key reads
 rows_kept : (change : Change) (kind : Kind) (id : ℕ) (t : Tables) → AllPairs InPlace t.links
     → applies change t ≡ true → has_key (record { kind = kind; id = id }) (foot_of change) ≡ false → SameRows kind id t (changed change t)
@@ -216,36 +227,45 @@ rows_kept (Invite a b) Friends id t pairs takes e = invite_friends id a b t
 rows_kept (Invite a b) Pending id t pairs takes e = invite_invites id a b t (apart id b _ e)
 rows_kept (Invite a b) NFriends id t pairs takes e = invite_friends id a b t
 rows_kept (Invite a b) NPending id t pairs takes e = invite_invites id a b t (apart id b _ e)
+rows_kept (Invite a b) Blocked id t pairs takes e = refl
 rows_kept (Accept a b) Profile id t pairs takes e =
     let n = apart_two id a b _ e in (refl, accept_friends id a b t n.0 n.1, accept_invites id a b t pairs takes n.1)
 rows_kept (Accept a b) Friends id t pairs takes e = let n = apart_two id a b _ e in accept_friends id a b t n.0 n.1
 rows_kept (Accept a b) Pending id t pairs takes e = accept_invites id a b t pairs takes (apart id b _ e)
 rows_kept (Accept a b) NFriends id t pairs takes e = let n = apart_two id a b _ e in accept_friends id a b t n.0 n.1
 rows_kept (Accept a b) NPending id t pairs takes e = accept_invites id a b t pairs takes (apart id b _ e)
+rows_kept (Accept a b) Blocked id t pairs takes e = refl
 rows_kept (Reject a b) Profile id t pairs takes e =
     (refl, reject_friends id a b t pairs takes, invited_invites id a b t pairs takes (apart id b _ e))
 rows_kept (Reject a b) Friends id t pairs takes e = reject_friends id a b t pairs takes
 rows_kept (Reject a b) Pending id t pairs takes e = invited_invites id a b t pairs takes (apart id b _ e)
 rows_kept (Reject a b) NFriends id t pairs takes e = reject_friends id a b t pairs takes
 rows_kept (Reject a b) NPending id t pairs takes e = invited_invites id a b t pairs takes (apart id b _ e)
+rows_kept (Reject a b) Blocked id t pairs takes e = refl
 rows_kept (Thaw a b) Profile id t pairs takes e =
     let n = apart_two id a b _ e in (refl, parted_friends id a b t n.0 n.1, thaw_invites id a b t pairs takes)
 rows_kept (Thaw a b) Friends id t pairs takes e = let n = apart_two id a b _ e in parted_friends id a b t n.0 n.1
 rows_kept (Thaw a b) Pending id t pairs takes e = thaw_invites id a b t pairs takes
 rows_kept (Thaw a b) NFriends id t pairs takes e = let n = apart_two id a b _ e in parted_friends id a b t n.0 n.1
 rows_kept (Thaw a b) NPending id t pairs takes e = thaw_invites id a b t pairs takes
+rows_kept (Thaw a b) Blocked id t pairs takes e = refl
 rows_kept (Rename a name) Profile id t pairs takes e = (other_member a name id t.members (apart id a _ e), refl, refl)
 rows_kept (Rename a name) Friends id t pairs takes e = refl
 rows_kept (Rename a name) Pending id t pairs takes e = refl
 rows_kept (Rename a name) NFriends id t pairs takes e = refl
 rows_kept (Rename a name) NPending id t pairs takes e = refl
+rows_kept (Rename a name) Blocked id t pairs takes e = refl
+rows_kept (Block a b) Profile id t pairs takes e = (refl, refl, refl)
+rows_kept (Block a b) Friends id t pairs takes e = refl
+rows_kept (Block a b) Pending id t pairs takes e = refl
+rows_kept (Block a b) NFriends id t pairs takes e = refl
+rows_kept (Block a b) NPending id t pairs takes e = refl
+rows_kept (Block a b) Blocked id t pairs takes e = block_others id a b t (unequal a id (apart id a _ e))
 
 -- a change keeps the links in their places
 pairs_kept : (change : Change) (t : Tables) → AllPairs InPlace t.links → applies change t ≡ true → AllPairs InPlace (changed change t).links
 pairs_kept (Invite a b) t pairs takes =
-    let p4 = and_parts (not (a == b) && is_member a t && is_member b t && not (is_linked a b t)) (nat_lt (length t.links) 1000000) takes in
-    let p3 = and_parts (not (a == b) && is_member a t && is_member b t) (not (is_linked a b t)) p4.0 in
-    with_in_place (invitation a b) t.links pairs (none_passes (joins a b) t.links (not_true (is_linked a b t) p3.1))
+    with_in_place (invitation a b) t.links pairs (none_passes (joins a b) t.links (invite_parts a b t takes).free)
 pairs_kept (Accept a b) t pairs takes =
     let p : Link → Bool = λ link. not (joins a b link) in
     let passes = filter_passes p t.links in
@@ -254,6 +274,7 @@ pairs_kept (Accept a b) t pairs takes =
 pairs_kept (Reject a b) t pairs takes = AllPairs-filter InPlace (λ link. not (joins a b link)) t.links pairs
 pairs_kept (Thaw a b) t pairs takes = AllPairs-filter InPlace (λ link. not (joins a b link)) t.links pairs
 pairs_kept (Rename a name) t pairs takes = pairs
+pairs_kept (Block a b) t pairs takes = pairs
 
 untouched_go : (place : ℕ) (change : Change) (changes : List Change) (kind : Kind) (id : ℕ) (t after : Tables) (b : Bool) → applies change t ≡ b
     → AllPairs InPlace t.links → (if b then apply_from (place + 1) changes (changed change t) else Err place) ≡ Ok after

@@ -1,6 +1,6 @@
 use Rattle.std.specs.Prelude.{ℕ, ℤ, pos, negsuc, ◌+ℤ◌, Bool, true, false, List, map, fold}
 use Rattle.rows_model.specs.declared.keys.Kind.{Kind}
-use Rattle.rows_model.specs.declared.keys.Kind.TheVariants.{Profile, Friends, Pending, NFriends, NPending}
+use Rattle.rows_model.specs.declared.keys.Kind.TheVariants.{Profile, Friends, Pending, NFriends, NPending, Blocked}
 use Rattle.rows_model.specs.declared.keys.QKey.{QKey}
 use Rattle.rows_model.specs.declared.changes.Change.{Change}
 use Rattle.rows_model.specs.declared.refreshing.Circle.{Circle}
@@ -16,6 +16,7 @@ is_counting Friends = false
 is_counting Pending = false
 is_counting NFriends = true
 is_counting NPending = true
+is_counting Blocked = false
 
 -- Whether the answer to a key is a count.
 abbrev pub is_count : QKey → Bool
@@ -38,6 +39,7 @@ delta_by Friends id changes = pos 0
 delta_by Pending id changes = pos 0
 delta_by NFriends id changes = sum_of Befriended id changes
 delta_by NPending id changes = sum_of Inviting id changes
+delta_by Blocked id changes = pos 0
 
 -- What changes add to the answer to a key that is a count, and 0 for another key.
 unfoldable pub delta_of : QKey → List Change → ℤ

@@ -1,6 +1,6 @@
 use Rattle.std.specs.Prelude.{ℕ, Bool, ◌==◌, ◌&&◌, ◌≡◌, ◌<◌, ◌≤◌, ◌^◌, List, ◌∷◌, ◌++◌, codes, decimal}
 use Rattle.rows_model.specs.declared.keys.Kind.{Kind}
-use Rattle.rows_model.specs.declared.keys.Kind.TheVariants.{Profile, Friends, Pending, NFriends, NPending}
+use Rattle.rows_model.specs.declared.keys.Kind.TheVariants.{Profile, Friends, Pending, NFriends, NPending, Blocked}
 use Rattle.rows_model.specs.declared.keys.QKey.{QKey}
 
 -- the place of a kind in the order of keys
@@ -10,6 +10,7 @@ kind_number Friends = 1
 kind_number Pending = 2
 kind_number NFriends = 3
 kind_number NPending = 4
+kind_number Blocked = 5
 
 -- whether two keys are one
 abbrev pub same_key : QKey → QKey → Bool
@@ -22,6 +23,7 @@ word_of Friends = codes "friends"
 word_of Pending = codes "pending"
 word_of NFriends = codes "nfriends"
 word_of NPending = codes "npending"
+word_of Blocked = codes "blocked"
 
 -- the text of a key: the word of its kind, a colon and its id in decimal
 unfoldable pub key_text : QKey → List ℕ

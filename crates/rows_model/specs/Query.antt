@@ -2,11 +2,11 @@ use Rattle.std.specs.Prelude.{ℕ, Bool, ◌==◌, ◌&&◌, ◌||◌, if◌then
 use Rattle.std.specs.List.{join_with_byte}
 use Rattle.std.specs.List.Sorted.{IsStrictlyIncreasing}
 use Rattle.rows_model.specs.declared.keys.Kind.{Kind}
-use Rattle.rows_model.specs.declared.keys.Kind.TheVariants.{Profile, Friends, Pending, NFriends, NPending}
+use Rattle.rows_model.specs.declared.keys.Kind.TheVariants.{Profile, Friends, Pending, NFriends, NPending, Blocked}
 use Rattle.rows_model.specs.declared.keys.QKey.{QKey}
 use Rattle.rows_model.specs.declared.rows.Link.{Link}
 use Rattle.rows_model.specs.declared.rows.Member.{Member}
-use Rattle.rows_model.specs.Rows.{Tables, Fit, member_of, is_pending, is_friend}
+use Rattle.rows_model.specs.Rows.{Tables, BlockRow, Fit, member_of, is_pending, is_friend}
 
 -- whether a link is a pending invitation to this member
 abbrev pub invites : ℕ → Link → Bool
@@ -36,6 +36,14 @@ friend_ids id tables = map (other_end id) (filter (befriends id) tables.links)
 abbrev pub inviter_ids : ℕ → Tables → List ℕ
 inviter_ids id tables = map (λ link. link.a) (filter (invites id) tables.links)
 
+-- whether a block is by this member
+abbrev pub is_by : ℕ → BlockRow → Bool
+is_by id block = block.blocker == id
+
+-- the ids of those whom a member has blocked; the blocks' order makes them ascend
+abbrev pub blocked_ids : ℕ → Tables → List ℕ
+blocked_ids id tables = map (λ block. block.blocked) (filter (is_by id) tables.blocks)
+
 -- ids in decimal, with commas between
 abbrev pub id_list : List ℕ → List ℕ
 id_list ids = join_with_byte 44 (map decimal ids)
@@ -53,15 +61,17 @@ answer_of Friends id tables = id_list (friend_ids id tables)
 answer_of Pending id tables = id_list (inviter_ids id tables)
 answer_of NFriends id tables = decimal (friend_count id tables)
 answer_of NPending id tables = decimal (pending_count id tables)
+answer_of Blocked id tables = id_list (blocked_ids id tables)
 
 -- the answer to a key on these tables
 unfoldable pub answer : QKey → Tables → List ℕ
 answer key tables = answer_of key.kind key.id tables
 
--- the ids of both lists ascend
+-- the ids of the three lists ascend
 pub record IsAscendingFor (id : ℕ) (tables : Tables) : Type 0 where
   pub friends : IsStrictlyIncreasing (friend_ids id tables)
   pub inviters : IsStrictlyIncreasing (inviter_ids id tables)
+  pub blocked : IsStrictlyIncreasing (blocked_ids id tables)
 
 -- on fit rows the ids in the answers about each member ascend
 abbrev pub AnswersAscend : Type 0

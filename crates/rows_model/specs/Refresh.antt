@@ -3,12 +3,12 @@ use Rattle.std.specs.Prelude.{filter, fold, count_by, decimal, Option, Some, Non
 use Rattle.std.specs.Option.{option_and_then}
 use Rattle.std.specs.List.{list_all, list_any, insert, slice_split}
 use Rattle.rows_model.specs.declared.keys.Kind.{Kind}
-use Rattle.rows_model.specs.declared.keys.Kind.TheVariants.{Profile, Friends, Pending, NFriends, NPending}
+use Rattle.rows_model.specs.declared.keys.Kind.TheVariants.{Profile, Friends, Pending, NFriends, NPending, Blocked}
 use Rattle.rows_model.specs.declared.keys.QKey.{QKey}
 use Rattle.rows_model.specs.declared.changes.Change.{Change}
-use Rattle.rows_model.specs.declared.changes.Change.TheVariants.{Invite, Accept, Reject, Thaw, Rename}
+use Rattle.rows_model.specs.declared.changes.Change.TheVariants.{Invite, Accept, Reject, Thaw, Rename, Block}
 use Rattle.rows_model.specs.declared.refreshing.Circle.{Circle}
-use Rattle.rows_model.specs.declared.refreshing.Circle.TheVariants.{Befriended, Inviting}
+use Rattle.rows_model.specs.declared.refreshing.Circle.TheVariants.{Befriended, Inviting, Barred}
 use Rattle.rows_model.specs.declared.refreshing.IdStep.{IdStep}
 use Rattle.rows_model.specs.declared.refreshing.IdStep.TheVariants.{Stay, Put, Take}
 use Rattle.rows_model.specs.declared.refreshing.Person.{Person}
@@ -65,11 +65,19 @@ step_in Befriended id (Thaw a b) = if a == id then Take b else (if b == id then 
 step_in Befriended id (Invite a b) = Stay
 step_in Befriended id (Reject a b) = Stay
 step_in Befriended id (Rename a name) = Stay
+step_in Befriended id (Block a b) = Stay
 step_in Inviting id (Invite a b) = if b == id then Put a else Stay
 step_in Inviting id (Accept a b) = if b == id then Take a else Stay
 step_in Inviting id (Reject a b) = if b == id then Take a else Stay
 step_in Inviting id (Thaw a b) = Stay
 step_in Inviting id (Rename a name) = Stay
+step_in Inviting id (Block a b) = Stay
+step_in Barred id (Invite a b) = Stay
+step_in Barred id (Accept a b) = Stay
+step_in Barred id (Reject a b) = Stay
+step_in Barred id (Thaw a b) = Stay
+step_in Barred id (Rename a name) = Stay
+step_in Barred id (Block a b) = if a == id then Put b else Stay
 
 -- a count after a step, or none where it would pass below 0 or reach 2^32
 abbrev pub counted : IdStep → ℕ → Option ℕ
@@ -115,6 +123,7 @@ named id name (Invite a b) = name
 named id name (Accept a b) = name
 named id name (Reject a b) = name
 named id name (Thaw a b) = name
+named id name (Block a b) = name
 
 -- a person after changes in turn
 abbrev pub person_after : ℕ → List Change → Person → Option Person
@@ -153,6 +162,7 @@ refreshed_of Friends id old changes = refreshed_ids Befriended id old changes
 refreshed_of Pending id old changes = refreshed_ids Inviting id old changes
 refreshed_of NFriends id old changes = refreshed_count Befriended id old changes
 refreshed_of NPending id old changes = refreshed_count Inviting id old changes
+refreshed_of Blocked id old changes = refreshed_ids Barred id old changes
 
 -- what a key's old value becomes by changes in turn, or none where it isn't of the key's form or a change doesn't fit it
 unfoldable pub refreshed : QKey → List ℕ → List Change → Option (List ℕ)

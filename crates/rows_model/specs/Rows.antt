@@ -1,16 +1,22 @@
 use Rattle.std.specs.Prelude.{ℕ, Bool, true, false, ◌==◌, ◌&&◌, ◌||◌, ◌≡◌, ◌≢◌, ◌<◌, ◌≤◌, List, [], ◌∷◌, length, map, Option, IsSome, find}
 use Rattle.std.specs.Prelude.{All, AllPairs, decimal}
-use Rattle.std.specs.List.{range_with_len}
+use Rattle.std.specs.List.{range_with_len, list_any}
 use Rattle.rows_model.specs.declared.rows.LinkState.{LinkState}
 use Rattle.rows_model.specs.declared.rows.LinkState.TheVariants.{Pending, Friend}
 use Rattle.rows_model.specs.declared.rows.Link.{Link}
 use Rattle.rows_model.specs.declared.rows.Member.{Member}
 use Rattle.rows_model.specs.Name.{IsName}
 
--- the rows: who is a member, and which members are linked
+-- a block: one member has blocked another
+pub record BlockRow : Type 0 where
+  pub blocker : ℕ
+  pub blocked : ℕ
+
+-- the rows: who is a member, which members are linked, and who has blocked whom
 pub record Tables : Type 0 where
   pub members : List Member
   pub links : List Link
+  pub blocks : List BlockRow
 
 -- the member with this id, if there is one
 abbrev pub member_of : ℕ → Tables → Option Member
@@ -45,6 +51,17 @@ pub record IsLink (tables : Tables) (link : Link) : Type 0 where
   pub different : link.a ≢ link.b
   pub smaller_first : is_friend link.state ≡ true → link.a < link.b
 
+-- one block stands before another: by its blocker, and then by the one that is blocked
+abbrev pub IsBlockBefore : BlockRow → BlockRow → Type 0
+IsBlockBefore block later = (block.blocker ≤ later.blocker) × (block.blocker ≡ later.blocker → block.blocked < later.blocked)
+
+-- a block of these tables joins two different members between whom no link stands
+pub record IsBlock (tables : Tables) (block : BlockRow) : Type 0 where
+  pub from : IsMember block.blocker tables
+  pub to : IsMember block.blocked tables
+  pub different : block.blocker ≢ block.blocked
+  pub unlinked : list_any (joins block.blocker block.blocked) tables.links ≡ false
+
 -- the tables are rows of the store
 pub record Fit (tables : Tables) : Type 0 where
   pub ids : All (λ member. (1 ≤ member.id) × (member.id ≤ 100000)) tables.members
@@ -54,11 +71,14 @@ pub record Fit (tables : Tables) : Type 0 where
   pub links_ascend : AllPairs IsBefore tables.links
   pub one_link : AllPairs (λ link later. joins later.a later.b link ≡ false) tables.links
   pub few_links : length tables.links ≤ 1000000
+  pub blocks_join : All (λ block. IsBlock tables block) tables.blocks
+  pub blocks_ascend : AllPairs IsBlockBefore tables.blocks
+  pub few_blocks : length tables.blocks ≤ 1000000
 
 -- the member with this id at the start, named `m` and the id
 abbrev pub start_member : ℕ → Member
 start_member id = record { id = id; name = 109 ∷ decimal id }
 
--- members 1 to n, and no links
+-- members 1 to n, no links and no blocks
 unfoldable pub start_tables : ℕ → Tables
-start_tables n = record { members = map start_member (range_with_len 1 n); links = [] }
+start_tables n = record { members = map start_member (range_with_len 1 n); links = []; blocks = [] }

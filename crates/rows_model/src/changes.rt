@@ -20,6 +20,8 @@ pub enum Change {
     Thaw { a: u32, b: u32 },
     /// `a` takes another name.
     Rename { a: u32, name: Name },
+    /// `a` blocks `b`, and no invitation passes between the two any more.
+    Block { a: u32, b: u32 },
 }
 
 /// A transaction: 1 to 8 changes, which are made all or not at all. Contracts see the list.

@@ -15,7 +15,7 @@ pub fn delta_of(key: &QKey, txn: &Txn) -> i32
     match key.kind {
         Kind::NFriends => sum_of(Circle::Befriended, key.id, txn.changes()),
         Kind::NPending => sum_of(Circle::Inviting, key.id, txn.changes()),
-        Kind::Profile | Kind::Friends | Kind::Pending => 0,
+        Kind::Profile | Kind::Friends | Kind::Pending | Kind::Blocked => 0,
     }
 }
 

@@ -17,7 +17,8 @@ const FRIENDS: &[Kind] = &[Kind::Profile, Kind::Friends, Kind::NFriends];
 // The kinds of keys in which an invitation to the member is seen.
 const PENDING: &[Kind] = &[Kind::Profile, Kind::Pending, Kind::NPending];
 
-const ALL: &[Kind] = &[
+// The kinds of keys in which it is seen that an invitation to the member is accepted.
+const ACCEPTED: &[Kind] = &[
     Kind::Profile,
     Kind::Friends,
     Kind::Pending,
@@ -78,9 +79,10 @@ impl Foot {
     {
         match *change {
             Change::Invite { a, b } | Change::Reject { a, b } => Foot::new(a, &[], b, PENDING),
-            Change::Accept { a, b } => Foot::new(a, FRIENDS, b, ALL),
+            Change::Accept { a, b } => Foot::new(a, FRIENDS, b, ACCEPTED),
             Change::Thaw { a, b } => Foot::new(a, FRIENDS, b, FRIENDS),
             Change::Rename { a, .. } => Foot::new(a, &[Kind::Profile], a, &[]),
+            Change::Block { a, .. } => Foot::new(a, &[Kind::Blocked], a, &[]),
         }
     }
 

@@ -1,15 +1,18 @@
 // Whether changes apply in turn, told before any is made.
-ghost use Rattle.std.specs.Prelude.{◌≡◌, ◌≤◌, ◌+◌, ◌==◌, ◌&&◌, not, Ok, Err, length, fold, count_by, nat_lt, All, IfSome, IfNone};
+ghost use Rattle.std.specs.Prelude.{◌≡◌, ◌≤◌, ◌+◌, ◌==◌, ◌&&◌, ◌||◌, not, Ok, Err, length, fold, count_by, nat_lt, All, IfSome, IfNone};
 ghost use Rattle.std.specs.List.{list_any};
 ghost use Rattle.rows_model.specs.Rows.{Tables, Fit, joins};
-ghost use Rattle.rows_model.specs.Changes.{HasIds, applies, apply_all, is_member};
+ghost use Rattle.rows_model.specs.Changes.{HasIds, applies, apply_all, is_member, has_blocked};
 ghost use Rattle.rows_model.specs.ApplyFaults.{AllApply};
-ghost use Rattle.rows_model.specs.Judge.{bonds, still_bonds, adds, ends};
+ghost use Rattle.rows_model.specs.Judge.{bonds, still_bonds, adds, ends, is_block_of, adds_block};
 
 use crate::changes::Change;
+use crate::refreshing::has_id;
 use crate::rows::{Link, Rows};
 
 const MOST_LINKS: usize = 1_000_000;
+
+const MOST_BLOCKS: usize = 1_000_000;
 
 // What a change asks of the links between two members.
 #[derive(Clone, Copy)]
@@ -61,7 +64,7 @@ impl Bond {
             Change::Reject { a: c, b: d } | Change::Thaw { a: c, b: d } => {
                 !Link::invitation(c, d).joins(a, b) && stood
             }
-            Change::Rename { .. } => stood,
+            Change::Rename { .. } | Change::Block { .. } => stood,
         }
     }
 }
@@ -99,6 +102,7 @@ fn applies_after(rows: &Rows, count: usize, earlier: &[Change], change: &Change)
         }
         Change::Thaw { a, b } => has_bond(rows, earlier, Bond::Friendship, a, b),
         Change::Rename { a, .. } => has_member(rows, a),
+        Change::Block { a, b } => can_block(rows, rows.block_count(), earlier, a, b),
     }
 }
 
@@ -108,13 +112,34 @@ fn can_invite(rows: &Rows, count: usize, earlier: &[Change], a: u32, b: u32) -> 
     requires few { length earlier.now ≤ 8 }
     ensures { result ≡ (not (a == b) && is_member a rows.now && is_member b rows.now
         && not (fold (still_bonds Bond.Any a b) (list_any (joins a b) rows.now.links) earlier.now)
+        && not (has_blocked a b rows.now || list_any (is_block_of a b) earlier.now)
+        && not (has_blocked b a rows.now || list_any (is_block_of b a) earlier.now)
         && nat_lt (count + count_by adds earlier.now) (1000000 + count_by ends earlier.now)) }
 {
     a != b
         && has_member(rows, a)
         && has_member(rows, b)
         && !has_bond(rows, earlier, Bond::Any, a, b)
+        && !has_block(rows, earlier, a, b)
+        && !has_block(rows, earlier, b, a)
         && count + adding(earlier) < MOST_LINKS + ending(earlier)
+}
+
+// Whether `a` may block `b` after the earlier changes, where there are so many blocks.
+fn can_block(rows: &Rows, blocks: usize, earlier: &[Change], a: u32, b: u32) -> bool
+    requires blocks { blocks ≤ 1000000 }
+    requires few { length earlier.now ≤ 8 }
+    ensures { result ≡ (not (a == b) && is_member a rows.now && is_member b rows.now
+        && not (fold (still_bonds Bond.Any a b) (list_any (joins a b) rows.now.links) earlier.now)
+        && not (has_blocked a b rows.now || list_any (is_block_of a b) earlier.now)
+        && nat_lt (blocks + count_by adds_block earlier.now) 1000000) }
+{
+    a != b
+        && has_member(rows, a)
+        && has_member(rows, b)
+        && !has_bond(rows, earlier, Bond::Any, a, b)
+        && !has_block(rows, earlier, a, b)
+        && blocks + blocking(earlier) < MOST_BLOCKS
 }
 
 // Whether some member has this id.
@@ -131,6 +156,37 @@ fn has_bond(rows: &Rows, earlier: &[Change], bond: Bond, a: u32, b: u32) -> bool
 {
     let stood = bond.is_among(a, b, rows.links_of(a));
     bond.holds_after(a, b, stood, earlier)
+}
+
+// Whether `a` has blocked `b`, after the earlier changes.
+fn has_block(rows: &Rows, earlier: &[Change], a: u32, b: u32) -> bool
+    ensures { result ≡ (has_blocked a b rows.now || list_any (is_block_of a b) earlier.now) }
+{
+    has_blocked(rows, a, b) || blocks(earlier, a, b)
+}
+
+// Whether one of the changes is the block of `b` by `a`.
+fn blocks(changes: &[Change], a: u32, b: u32) -> bool
+    ensures { result ≡ list_any (is_block_of a b) changes.now }
+{
+    changes.iter().any(|change| is_block_of(change, a, b))
+}
+
+// Whether `a` has blocked `b`.
+fn has_blocked(rows: &Rows, a: u32, b: u32) -> bool
+    ensures { result ≡ has_blocked a b rows.now }
+{
+    has_id(rows.blocked_by(a), b)
+}
+
+// Whether the change is the block of `b` by `a`.
+fn is_block_of(change: &Change, a: u32, b: u32) -> bool
+    ensures { result ≡ is_block_of a b change.now }
+{
+    match *change {
+        Change::Block { a: c, b: d } => c == a && d == b,
+        _ => false,
+    }
 }
 
 // How many of the changes make the links one more.
@@ -152,5 +208,16 @@ pub(crate) fn ending(changes: &[Change]) -> usize
     changes
         .iter()
         .filter(|change| matches!(change, Change::Reject { .. } | Change::Thaw { .. }))
+        .count()
+}
+
+// How many of the changes make the blocks one more.
+pub(crate) fn blocking(changes: &[Change]) -> usize
+    ensures count { result ≡ count_by adds_block changes.now }
+    ensures bound { result ≤ length changes.now }
+{
+    changes
+        .iter()
+        .filter(|change| matches!(change, Change::Block { .. }))
         .count()
 }

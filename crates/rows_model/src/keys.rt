@@ -25,6 +25,8 @@ pub enum Kind {
     NFriends,
     /// How many invitations to the member are pending.
     NPending,
+    /// The ids of those whom the member has blocked.
+    Blocked,
 }
 
 /// A key of the cache: one query, of one member.
@@ -46,6 +48,7 @@ impl Kind {
             Kind::Pending => b"pending",
             Kind::NFriends => b"nfriends",
             Kind::NPending => b"npending",
+            Kind::Blocked => b"blocked",
         }
     }
 
@@ -60,6 +63,7 @@ impl Kind {
             b"pending" => Some(Kind::Pending),
             b"nfriends" => Some(Kind::NFriends),
             b"npending" => Some(Kind::NPending),
+            b"blocked" => Some(Kind::Blocked),
             _ => None,
         }
     }

@@ -21,6 +21,7 @@ pub fn ask(alloc: Global, rows: &Rows, key: &QKey) -> Result<Value, Memory>
         Kind::Pending => id_list(alloc, inviter_ids(alloc, rows, key.id)?.as_slice()),
         Kind::NFriends => number(alloc, rows.friend_count(key.id)),
         Kind::NPending => number(alloc, rows.pending_count(key.id)),
+        Kind::Blocked => id_list(alloc, rows.blocked_by(key.id)),
     }
 }
 
@@ -118,7 +119,7 @@ pub(crate) fn number(alloc: Global, number: u64) -> Result<Value, Memory>
     Value::shared(text)
 }
 
-/// The ids in the answers about a member ascend, since the links are in order.
+/// The ids in the answers about a member ascend, since the links and the blocks are in order.
 pub fn answers_ascend()
     ensures { AnswersAscend }
 {}

@@ -27,16 +27,19 @@ pub fn refresh(alloc: Global, key: &QKey, old: &Value, txn: &Txn) -> Result<Opti
         Kind::Pending => refresh_ids(alloc, Circle::Inviting, key.id, old, txn),
         Kind::NFriends => refresh_count(alloc, Circle::Befriended, key.id, old, txn),
         Kind::NPending => refresh_count(alloc, Circle::Inviting, key.id, old, txn),
+        Kind::Blocked => refresh_ids(alloc, Circle::Barred, key.id, old, txn),
     }
 }
 
-// The members with whom a member is linked in one way.
+// The members with whom a member has to do in one way.
 #[derive(Clone, Copy)]
 pub(crate) enum Circle {
     // Its friends.
     Befriended,
     // Those who invited it and wait for an answer.
     Inviting,
+    // Those whom it has blocked.
+    Barred,
 }
 
 // What a change does to the ids of a circle.
@@ -68,6 +71,7 @@ impl Circle {
             (Circle::Inviting, Change::Invite { a, b }) if b == id => IdStep::Put { id: a },
             (Circle::Inviting, Change::Accept { a, b }) if b == id => IdStep::Take { id: a },
             (Circle::Inviting, Change::Reject { a, b }) if b == id => IdStep::Take { id: a },
+            (Circle::Barred, Change::Block { a, b }) if a == id => IdStep::Put { id: b },
             _ => IdStep::Stay,
         }
     }
@@ -112,7 +116,7 @@ impl IdStep {
 }
 
 // Whether the id is among the ids.
-fn has_id(ids: &[u32], id: u32) -> bool
+pub(crate) fn has_id(ids: &[u32], id: u32) -> bool
     ensures { result ≡ has_id id ids.now }
 {
     ids.iter().any(|other| *other == id)

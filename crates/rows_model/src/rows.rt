@@ -3,11 +3,11 @@ ghost use Rattle.std.specs.Option.{option_copied};
 ghost use Rattle.rows_model.specs.Rows.{Fit, start_tables, member_of, joins, is_pending, is_friend};
 ghost use Rattle.rows_model.specs.Changes.{HasIds, is_before, invitation, friendship, apply_all};
 ghost use Rattle.rows_model.specs.ApplyFaults.{IsRejection, AllApply};
-ghost use Rattle.rows_model.specs.Query.{invites, befriends, other_end, friend_count, pending_count};
+ghost use Rattle.rows_model.specs.Query.{invites, befriends, other_end, friend_count, pending_count, blocked_ids};
 ghost use Rattle.rows_model.specs.Near.{is_end};
 
 use crate::changes::Txn;
-use crate::judging::{adding, ending, first_refused};
+use crate::judging::{adding, blocking, ending, first_refused};
 use crate::names::Name;
 use crate::near::{Near, copied, make_all, make_room, no_links, place_of};
 use crate::refusals::{ApplyFault, Memory};
@@ -114,31 +114,32 @@ impl Link {
     }
 }
 
-/// The rows of the store. Contracts see the two lists: the members by id, and the links by their
-/// two ids.
+/// The rows of the store. Contracts see the three lists: the members by id, the links by their two
+/// ids, and the blocks by the one who blocks and the one who is blocked.
 ///
-/// The links are kept twice, in the lists of their two members, so that an answer about a member walks
-/// its links alone.
+/// The links are kept twice, in the lists of their two members, and a block in the list of the one who
+/// blocks, so that an answer about a member walks its links or its blocks alone.
 #[derive(Drop)]
 pub struct Rows {
     members: Vec<Member>,
     near: Vec<Near>,
     count: usize,
+    blocks: usize,
 }
 
 impl Model for Rows {
     ghost use Rattle.rows_model.specs.Rows.{Tables};
-    ghost use Rattle.rows_model.specs.Near.{whole, AreKept};
+    ghost use Rattle.rows_model.specs.Near.{tables_in, AreKept};
 
     ghost Value = { Tables };
 
-    ghost view = { λ r. record { members = r.members.items; links = whole r.near.items } };
+    ghost view = { λ r. tables_in r.members.items r.near.items };
 
-    ghost invariant = { λ r. AreKept r.members.items r.near.items r.count };
+    ghost invariant = { λ r. AreKept r.members.items r.near.items r.count r.blocks };
 }
 
 impl Rows {
-    /// The members 1 to `members`, named `m1`, `m2` and so on, and no links.
+    /// The members 1 to `members`, named `m1`, `m2` and so on, no links and no blocks.
     pub fn start(alloc: Global, members: u32) -> Result<Rows, Memory>
         requires some { 1 ≤ members }
         requires few { members ≤ 100000 }
@@ -155,6 +156,7 @@ impl Rows {
             near: no_links(alloc, rows.as_slice())?,
             members: rows,
             count: 0,
+            blocks: 0,
         })
     }
 
@@ -167,6 +169,7 @@ impl Rows {
             members: Vec::from_slice(alloc, self.members.as_slice())?,
             near: copied(alloc, self.near.as_slice())?,
             count: self.count,
+            blocks: self.blocks,
         })
     }
 
@@ -184,6 +187,24 @@ impl Rows {
         ensures fit { Fit self.now }
     {
         self.count
+    }
+
+    /// How many blocks there are.
+    pub fn block_count(&self) -> usize
+        ensures count { result ≡ length self.now.blocks }
+        ensures fit { Fit self.now }
+    {
+        self.blocks
+    }
+
+    // The ids of those whom this member has blocked, ascending.
+    pub(crate) fn blocked_by(&self, id: u32) -> &[u32]
+        ensures { result.now ≡ blocked_ids id self.now }
+    {
+        match place_of(self.near.as_slice(), id) {
+            Some(place) => self.near[place].blocked.as_slice(),
+            None => &[],
+        }
     }
 
     // The links of which this member is an end, by their two ids.
@@ -228,7 +249,7 @@ impl Rows {
 
     /// The place of the first change of the transaction that doesn't apply in its turn, or `None`
     /// where all apply. It takes no memory, and looks at the members that the transaction names and
-    /// their links alone.
+    /// their links and blocks alone.
     pub fn judge(&self, txn: &Txn) -> Option<u32>
         ensures first { IfSome result (λ index. apply_all txn.now self.now ≡ Err index) }
         ensures none { IfNone result (AllApply txn.now self.now) }
@@ -240,8 +261,8 @@ impl Rows {
 
     /// Makes the changes of the transaction in turn, all or none. `Rejected` comes exactly where a
     /// change doesn't apply, with the place of the first. Memory is asked for only once all are judged,
-    /// where links are added, so `Memory` comes only where the transaction applies. After a fault the
-    /// rows are as before. No row is written but those that the changes alter.
+    /// where links or blocks are added, so `Memory` comes only where the transaction applies. After a
+    /// fault the rows are as before. No row is written but those that the changes alter.
     pub fn apply(&mut self, txn: &Txn) -> Result<(), ApplyFault>
         ensures made { OnOk result (apply_all txn.now self.old ≡ Ok self.new) }
         ensures fault { IfErr result (λ fault. IsRejection txn.now self.old fault) }
@@ -259,6 +280,7 @@ impl Rows {
             changes,
         );
         self.count = self.count + adding(changes) - ending(changes);
+        self.blocks += blocking(changes);
         Ok(())
     }
 }

@@ -6,7 +6,7 @@ use Rattle.std.proofs.lemmas.List.Edits.{length-insert}
 use Rattle.std.proofs.lemmas.List.Sums.{count_by-le-length, length-filter}
 use Rattle.rows_model.specs.declared.keys.QKey.{QKey}
 use Rattle.rows_model.specs.declared.changes.Change.{Change}
-use Rattle.rows_model.specs.declared.changes.Change.TheVariants.{Invite, Accept, Reject, Thaw, Rename}
+use Rattle.rows_model.specs.declared.changes.Change.TheVariants.{Invite, Accept, Reject, Thaw, Rename, Block}
 use Rattle.rows_model.specs.Key.{same_key}
 use Rattle.rows_model.specs.Changes.{foot_of, footprint, has_key, is_key_before, with_key, IsTxn}
 use Rattle.session_client.specs.Plans.{without_key}
@@ -17,6 +17,7 @@ foot_few (Accept a b) = omega arith
 foot_few (Reject a b) = omega arith
 foot_few (Thaw a b) = omega arith
 foot_few (Rename a name) = omega arith
+foot_few (Block a b) = omega arith
 
 feet_few : (changes : List Change) → length (flat_map foot_of changes) ≤ 8 * length changes
 feet_few [] = omega arith

@@ -10,7 +10,8 @@ fn is_same(change: &Change, other: &Change) -> bool
         (Change::Invite { a, b }, Change::Invite { a: c, b: d })
         | (Change::Accept { a, b }, Change::Accept { a: c, b: d })
         | (Change::Reject { a, b }, Change::Reject { a: c, b: d })
-        | (Change::Thaw { a, b }, Change::Thaw { a: c, b: d }) => a == c && b == d,
+        | (Change::Thaw { a, b }, Change::Thaw { a: c, b: d })
+        | (Change::Block { a, b }, Change::Block { a: c, b: d }) => a == c && b == d,
         (Change::Rename { a, name }, Change::Rename { a: c, name: d }) => {
             a == c && name.bytes() == d.bytes()
         }

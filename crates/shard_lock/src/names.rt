@@ -29,7 +29,7 @@ impl HubName for Brand {
 
     ghost terms = { λ no. record { no = no; count = 1; room = 1; life = 1; first = 1; keep = None } };
 
-    ghost opening = { record { members = []; links = [] } };
+    ghost opening = { record { members = []; links = []; blocks = [] } };
 
     ghost cap = { 0 };
 

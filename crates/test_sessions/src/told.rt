@@ -15,6 +15,7 @@ fn change_told(alloc: Global, change: &Change) -> Result<String, AllocError> {
                 String::from_utf8_lossy(alloc, name.bytes())?
             )
         }
+        Change::Block { a, b } => format!(in alloc; "block {a} {b}"),
     }
 }
 

@@ -40,12 +40,13 @@ fn check(rt: &impl Abort, alloc: Global, cases: &[(&str, Added)]) {
     }
 }
 
-const ALONE: [(&str, Added); 5] = [
+const ALONE: [(&str, Added); 6] = [
     ("invite 3 7", [(0, 0), (0, 1), (0, 0)]),
     ("accept 3 7", [(1, 0), (1, -1), (0, 0)]),
     ("reject 3 7", [(0, 0), (0, -1), (0, 0)]),
     ("thaw 3 7", [(-1, 0), (-1, 0), (0, 0)]),
     ("rename 7 ann", [(0, 0), (0, 0), (0, 0)]),
+    ("block 3 7", [(0, 0), (0, 0), (0, 0)]),
 ];
 
 #[test]
@@ -80,12 +81,13 @@ fn changes_add_up(rt: HostRuntime) {
 }
 
 /// Whether the answers of a kind are counts, and what is added to that of member 7.
-const KINDS: [(Kind, bool, i32); 5] = [
+const KINDS: [(Kind, bool, i32); 6] = [
     (Kind::Profile, false, 0),
     (Kind::Friends, false, 0),
     (Kind::Pending, false, 0),
     (Kind::NFriends, true, 2),
     (Kind::NPending, true, -1),
+    (Kind::Blocked, false, 0),
 ];
 
 #[test]

@@ -12,16 +12,17 @@ fn is_written(rt: &impl Abort, alloc: Global, key: QKey, want: &str) {
 }
 
 /// The texts of keys, and the kind and the id that each says.
-const KEYS: [(&str, Kind, u32); 5] = [
+const KEYS: [(&str, Kind, u32); 6] = [
     ("profile:1", Kind::Profile, 1),
     ("friends:2", Kind::Friends, 2),
     ("pending:30", Kind::Pending, 30),
     ("nfriends:100000", Kind::NFriends, 100_000),
     ("npending:4294967295", Kind::NPending, 4_294_967_295),
+    ("blocked:7", Kind::Blocked, 7),
 ];
 
 /// Texts that are no key's.
-const NO_KEYS: [&str; 18] = [
+const NO_KEYS: [&str; 20] = [
     "npending:4294967296",
     "profile:99999999999999999999",
     "profile:0",
@@ -40,6 +41,8 @@ const NO_KEYS: [&str; 18] = [
     "profiles:1",
     "friend:1",
     "nprofile:1",
+    "nblocked:1",
+    "block:1",
 ];
 
 #[test]

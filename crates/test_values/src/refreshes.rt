@@ -45,7 +45,7 @@ fn refreshes_profiles(rt: HostRuntime) {
 }
 
 /// The kind, the changes, the old list and the new one.
-const LISTS: [(Kind, &str, &str, &str); 12] = [
+const LISTS: [(Kind, &str, &str, &str); 17] = [
     (Kind::Friends, "accept 3 7", "", "3"),
     (Kind::Friends, "accept 3 7", "0", "0,3"),
     (Kind::Friends, "accept 3 7", "2,10", "2,3,10"),
@@ -58,6 +58,11 @@ const LISTS: [(Kind, &str, &str, &str); 12] = [
     (Kind::Pending, "reject 3 7", "3", ""),
     (Kind::Pending, "reject 3 7", "", "none"),
     (Kind::Pending, "accept 3 7,invite 3 7", "3", "3"),
+    (Kind::Pending, "block 7 3,block 3 7", "2", "2"),
+    (Kind::Blocked, "block 7 3", "2,10", "2,3,10"),
+    (Kind::Blocked, "block 7 3", "3", "none"),
+    (Kind::Blocked, "block 3 7", "3", "3"),
+    (Kind::Blocked, "block 7 3,invite 7 9,block 7 1", "", "1,3"),
 ];
 
 #[test]
@@ -90,7 +95,7 @@ fn refreshes_counts(rt: HostRuntime) {
 }
 
 /// Old values of the key of a kind, and whether they are of its form, so that they stay.
-const FORMS: [(Kind, &str, bool); 34] = [
+const FORMS: [(Kind, &str, bool); 37] = [
     (Kind::Profile, "-", true),
     (Kind::Profile, "- 1 1", true),
     (Kind::Profile, "m7 1", false),
@@ -125,6 +130,9 @@ const FORMS: [(Kind, &str, bool); 34] = [
     (Kind::NPending, "", false),
     (Kind::NPending, "00", false),
     (Kind::NPending, "4294967296", false),
+    (Kind::Blocked, "0,1,20", true),
+    (Kind::Blocked, "2,1", false),
+    (Kind::Blocked, "4294967296", false),
 ];
 
 /// The value of member 7's key stays as it is after changes of others, where it is of its form.

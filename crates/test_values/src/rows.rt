@@ -57,6 +57,7 @@ fn answers_profiles_of_the_start(rt: HostRuntime) {
     }
 }
 
+/// The kinds of keys that are answered from members and links.
 const KINDS: [Kind; 5] = [
     Kind::Profile,
     Kind::Friends,
@@ -65,12 +66,13 @@ const KINDS: [Kind; 5] = [
     Kind::NPending,
 ];
 
-const OF_KINDS: [(Kind, &str); 5] = [
+const OF_KINDS: [(Kind, &str); 6] = [
     (Kind::Profile, "m2 0 0"),
     (Kind::Friends, ""),
     (Kind::Pending, ""),
     (Kind::NFriends, "0"),
     (Kind::NPending, "0"),
+    (Kind::Blocked, ""),
 ];
 
 #[test]
@@ -92,7 +94,7 @@ fn copies_values(rt: HostRuntime) {
     assert!(rt; value_of(&rt, rt.alloc(), "m2 0 1") != value);
 }
 
-/// The answers of all kinds about a member, each with `/` behind it.
+/// The answers about a member from members and links, each with `/` behind it.
 fn tell(alloc: Global, rows: &Rows, id: u32, all: &mut Vec<u8>) -> Result<(), Memory> {
     for kind in KINDS.iter() {
         let value = ask(alloc, rows, &QKey { kind: *kind, id })?;
@@ -180,6 +182,64 @@ fn each_member_answers_by_its_own_links(rt: HostRuntime) {
         assert!(rt; rows.members().len() == 4);
         tells(&rt, rt.alloc(), &rows, 1, 5, want);
         tells(&rt, rt.alloc(), &copied(&rt, &rows), 1, 5, want);
+    }
+}
+
+fn blocked(id: u32) -> QKey {
+    QKey {
+        kind: Kind::Blocked,
+        id,
+    }
+}
+
+/// What is applied in turn, and whom members 1 and 2 have blocked and the number of blocks after it.
+const BLOCKS: [(&str, &str, &str, usize); 4] = [
+    ("block 1 3", "3", "", 1),
+    ("block 1 2,block 2 1", "2,3", "1", 3),
+    ("rename 1 ann,block 1 4", "2,3,4", "1", 4),
+    (
+        "invite 2 4,accept 2 4,thaw 2 4,block 2 4",
+        "2,3,4",
+        "1,4",
+        5,
+    ),
+];
+
+#[test]
+fn a_member_answers_whom_it_has_blocked(rt: HostRuntime) {
+    let mut rows = started(&rt, rt.alloc(), 4);
+    for (changes, first, second, blocks) in BLOCKS.iter() {
+        applies(&rt, rt.alloc(), &mut rows, changes, None);
+        assert!(rt; rows.block_count() == *blocks && rows.link_count() == 0);
+        answers(&rt, rt.alloc(), &rows, &blocked(1), first);
+        answers(&rt, rt.alloc(), &copied(&rt, &rows), &blocked(2), second);
+    }
+}
+
+/// Transactions where 1 and 3 are friends and 1 has blocked 2, and the place of the change that is rejected.
+const BARRED: [(&str, u32); 11] = [
+    ("invite 1 2", 0),
+    ("invite 2 1", 0),
+    ("block 1 2", 0),
+    ("block 1 3", 0),
+    ("block 3 1", 0),
+    ("block 2 2", 0),
+    ("block 2 4", 0),
+    ("block 2 1,block 2 1", 1),
+    ("thaw 1 3,block 1 3,invite 3 1", 2),
+    ("invite 2 3,block 3 2", 1),
+    ("block 2 3,invite 3 2", 1),
+];
+
+#[test]
+fn a_block_bars_invitations_both_ways(rt: HostRuntime) {
+    let mut rows = started(&rt, rt.alloc(), 3);
+    let before = "invite 1 3,accept 1 3,block 1 2";
+    applies(&rt, rt.alloc(), &mut rows, before, None);
+    for (changes, index) in BARRED.iter() {
+        applies(&rt, rt.alloc(), &mut rows, changes, Some(*index));
+        answers(&rt, rt.alloc(), &rows, &blocked(1), "2");
+        answers(&rt, rt.alloc(), &rows, &blocked(2), "");
     }
 }
 

@@ -1,6 +1,7 @@
 use Rattle.std.proofs.Common.{◌≡◌, ◌+◌, ◌∷◌, All, length, arith, rules}
-use Rattle.rows_model.specs.NearSteps.{HasRoomFor}
+use Rattle.rows_model.specs.NearSteps.{HasRoomFor, HasBlockRoomFor}
 use Rattle.rows_model.proofs.NearLemmas.{grown_itself, grown_on, grown_ascends, room_for_all, on_ok}
+use Rattle.rows_model.proofs.BlockLemmas.{block_room_for_all}
 use Rattle.rows_model.proofs.near.+make_room.Goals as goal
 
 pub returns-in_default-clause-grown : goal.returns-in_default-clause-grown
@@ -20,3 +21,11 @@ returns-clause-room t c =
     on_ok c.make_room.result (λ (room : All (HasRoomFor c.in-Some.rest.now c.args.more) c.make_room.new.near).
     room_for_all c.in-Some.change.now c.in-Some.rest.now c.args.changes.now
     c.args.more c.make_room_of.new.near c.make_room.new.near parts c.make_room.ensures.grown c.in_ok-make_room_of.ensures.room room) c.make_room.ensures.room
+
+pub returns-clause-block_room : goal.returns-clause-block_room
+returns-clause-block_room t c =
+    let parts : c.args.changes.now ≡ c.in-Some.change.now ∷ c.in-Some.rest.now = search rules in
+    on_ok c.make_room.result (λ (room : All (HasBlockRoomFor c.in-Some.rest.now c.args.more) c.make_room.new.near).
+    block_room_for_all c.in-Some.change.now c.in-Some.rest.now c.args.changes.now
+    c.args.more c.make_room_of.new.near c.make_room.new.near parts c.make_room.ensures.grown c.in_ok-make_room_of.ensures.block_room room)
+    c.make_room.ensures.block_room

@@ -5,4 +5,5 @@ abbrev pub invariant-loop-member : goal.invariant-loop-member
 invariant-loop-member l = record {
   ids : map (λ one. one.id) l.near.items ≡ map (λ member. member.id) (take l.member-index l.members);
   none : All (λ one. length one.links.items ≡ 0) l.near.items;
+  free : All (λ one. length one.blocked.items ≡ 0) l.near.items;
 }

@@ -8,8 +8,8 @@ returns-in-Some-clause-grown c =
     let d = c.index-near-place.result in
     let at = c.in-Some.ensures.at in
     zip_at IsGrown c.args.near.now c.args.id c.in-Some.place d _ c.requires.ascend at.within (at.passes d)
-    (record { id = refl; links = c.reserve.ensures.items; room = c.reserve.ensures.capacity })
-    (λ y other. record { id = refl; links = refl; room = omega arith })
+    (record { id = refl; links = c.reserve.ensures.items; room = c.reserve.ensures.capacity; blocked = refl; block_room = omega arith })
+    (λ y other. record { id = refl; links = refl; room = omega arith; blocked = refl; block_room = omega arith })
 
 pub returns-in-Some-clause-room : goal.returns-in-Some-clause-room
 returns-in-Some-clause-room c =
@@ -23,4 +23,4 @@ returns-in-Some-clause-room c =
 
 pub returns-in-None-clause-grown : goal.returns-in-None-clause-grown
 returns-in-None-clause-grown c =
-    zip_none IsGrown c.args.near.now c.args.id c.in-None.ensures.none (λ y other. record { id = refl; links = refl; room = omega arith })
+    zip_none IsGrown c.args.near.now c.args.id c.in-None.ensures.none (λ y other. record { id = refl; links = refl; room = omega arith; blocked = refl; block_room = omega arith })
