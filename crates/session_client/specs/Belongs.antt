@@ -7,6 +7,8 @@ use Rattle.lease_table.specs.declared.records.Mode.TheVariants.{Invalidate, Refr
 use Rattle.key_shard.specs.Permit.{Permit}
 use Rattle.key_shard.specs.declared.replies.QAnswer.{QAnswer}
 use Rattle.key_shard.specs.declared.replies.QAnswer.TheVariants as quarantine
+use Rattle.key_shard.specs.declared.replies.Raising.{Raising}
+use Rattle.key_shard.specs.declared.replies.Raising.TheVariants as raising
 use Rattle.session_client.specs.Grants.{GrantsView}
 use Rattle.session_client.specs.declared.replies.Fault.{Fault}
 use Rattle.session_client.specs.declared.replies.Fault.TheVariants as faults
@@ -45,6 +47,19 @@ IsQuarantineOf who key mode (quarantine.Granted grant old) = IsGrantOf who key m
 IsQuarantineOf who key mode quarantine.Held = Unit {0}
 IsQuarantineOf who key mode (quarantine.Refused holder held) = Unit {0}
 
+-- The grant of a quarantine that was raised: its key, its session and its token stay, and it is to refresh.
+pub record IsRaised (lent back : Permit) : Type 0 where
+  pub same_key : back.key ≡ lent.key
+  pub same_session : back.sid ≡ lent.sid
+  pub same_token : back.token ≡ lent.token
+  pub refreshes : back.mode ≡ Refresh
+
+-- An answer to a raise of this grant, which comes back where it isn't raised and its quarantine stands.
+abbrev pub IsRaiseOf : Permit → Raising → Type 0
+IsRaiseOf lent (raising.Raised grant old) = IsRaised lent grant
+IsRaiseOf lent (raising.Shared grant holder) = grant ≡ lent
+IsRaiseOf lent raising.Gone = Unit {0}
+
 -- The same grants come back, with no less room.
 pub record AreBack (lent back : GrantsView) : Type 0 where
   pub same : back.items ≡ lent.items
@@ -66,6 +81,9 @@ Belongs who (wanted.QaRead key) (reply.Quar told) = IsQuarantineOf who key Refre
 Belongs who (wanted.QaRead key) (reply.Fault fault) = IsShardFault fault
 Belongs who (wanted.Delta key by) (reply.Quar told) = IsQuarantineOf who key Delta told
 Belongs who (wanted.Delta key by) (reply.Fault fault) = IsShardFault fault
+Belongs who (wanted.Raise grant) (reply.Raise told) = IsRaiseOf grant told
+Belongs who (wanted.Raise grant) (reply.RaiseBack back) = back ≡ grant
+Belongs who (wanted.Renew grant) (reply.Renew back told) = back ≡ grant
 Belongs who (wanted.Commit txn grants) (reply.Committed number changes back) =
     (changes ≡ txn) × AreBack grants back
 Belongs who (wanted.Commit txn grants) (reply.NotCommitted fault changes back) =

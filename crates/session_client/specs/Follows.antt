@@ -1,6 +1,6 @@
 -- How a session's stage follows from what it was told. A session keeps no list of that.
 use Rattle.std.specs.Prelude.{ℕ, ◌≡◌, ◌+◌, Bool, true, false, not, ◌||◌, IsTrue, List, map, length, drop, count_by, Option, Some, None, slice_get}
-use Rattle.std.specs.List.{Any}
+use Rattle.std.specs.List.{Any, remove}
 use Rattle.rows_model.specs.declared.keys.QKey.{QKey}
 use Rattle.rows_model.specs.declared.keys.Sid.{Sid}
 use Rattle.rows_model.specs.declared.changes.Change.{Change}
@@ -10,9 +10,9 @@ use Rattle.key_shard.specs.Permit.{Permit}
 use Rattle.sql_keeper.specs.declared.stores.Answer.{Answer}
 use Rattle.session_client.specs.Grants.{GrantsView}
 use Rattle.session_client.specs.Plans.{changes_of, mode_on}
-use Rattle.session_client.specs.Belongs.{IsShardFault, IsStoreFault, IsQuarantineOf, AreBack}
-use Rattle.session_client.specs.Wants.{agains, set_after, read_wants, is_had, given, granted, released, number_of, Writing, Given, Looks}
-use Rattle.session_client.specs.Wants.{Drops, commit_with, quarantine_next, has_all, release_after, release_of, write_wants, wants}
+use Rattle.session_client.specs.Belongs.{IsShardFault, IsStoreFault, IsQuarantineOf, IsRaiseOf, AreBack}
+use Rattle.session_client.specs.Wants.{agains, set_after, read_wants, is_had, given, granted, released, turned, number_of, Writing, Given, Looks}
+use Rattle.session_client.specs.Wants.{Drops, commit_with, quarantine_next, raise_next, renew_next, has_all, release_after, release_of, write_wants, wants}
 use Rattle.session_client.specs.Wants.{read_outcome, write_outcome, writing_outcome, outcome_of}
 use Rattle.session_client.specs.Writers.{HandView, WriterView, writing_as, release_as, old_value, new_values}
 use Rattle.session_client.specs.declared.plans.Plan.{Plan}
@@ -78,6 +78,12 @@ IsOpen writing hand short heard =
     (hand.grants.items ≡ granted heard) × (hand.grants.room ≡ length writing.keys) × (hand.values ≡ map old_value (given heard))
     × (released heard ≡ 0) × (number_of heard ≡ None) × (write_outcome writing short heard ≡ None) × (short ≡ false)
 
+-- Nothing is decided yet either, and the grant at this place is out.
+abbrev pub IsLent : Writing → HandView → ℕ → Bool → List Reply → Type 0
+IsLent writing hand place short heard =
+    (hand.grants.items ≡ remove (granted heard) place) × (hand.grants.room ≡ length writing.keys) × (hand.values ≡ map old_value (given heard))
+    × (released heard ≡ 0) × (number_of heard ≡ None) × (write_outcome writing short heard ≡ None) × (short ≡ false)
+
 -- The grants are out to be committed.
 abbrev pub IsOut : HandView → Bool → List Reply → Type 0
 IsOut hand short heard =
@@ -104,13 +110,23 @@ IsNext (Some grant) heard = slice_get (granted heard) (released heard) ≡ Some 
 abbrev pub PartsFollow : Writing → HandView → WriteStage → Bool → List Reply → Type 0
 PartsFollow writing hand (writes.Quarantining count txn) short heard =
     (write_wants writing short heard ≡ quarantine_next writing heard) × (count_by is_had heard ≡ count)
-    × (txn ≡ writing.txn) × IsOpen writing hand short heard
+    × (turned heard ≡ 0) × (txn ≡ writing.txn) × IsOpen writing hand short heard
 PartsFollow writing hand (writes.Getting key txn) short heard =
     (write_wants writing short heard ≡ wanted.Get key 0) × (writing.next ≡ Looks key) × (has_all writing heard ≡ true)
     × (txn ≡ writing.txn) × IsOpen writing hand short heard
 PartsFollow writing hand (writes.Staging key txn) short heard =
     (write_wants writing short heard ≡ wanted.Staged key writing.txn) × (txn ≡ writing.txn) × IsOpen writing hand short heard
 PartsFollow writing hand writes.Asking short heard = IsOpen writing hand short heard
+PartsFollow writing hand (writes.Raising place txn) short heard =
+    (write_wants writing short heard ≡ raise_next writing heard) × (turned heard ≡ place) × (txn ≡ writing.txn)
+    × IsOpen writing hand short heard
+PartsFollow writing hand (writes.Raised place txn) short heard =
+    (turned heard ≡ place) × (txn ≡ writing.txn) × IsLent writing hand place short heard
+PartsFollow writing hand (writes.Renewing place txn) short heard =
+    (write_wants writing short heard ≡ renew_next writing heard) × (turned heard ≡ place) × (txn ≡ writing.txn)
+    × IsOpen writing hand short heard
+PartsFollow writing hand (writes.Renewed place txn) short heard =
+    (turned heard ≡ place) × (txn ≡ writing.txn) × IsLent writing hand place short heard
 PartsFollow writing hand (writes.Ready txn) short heard =
     (write_wants writing short heard ≡ commit_with writing heard) × (txn ≡ writing.txn) × IsOpen writing hand short heard
 PartsFollow writing hand writes.Committing short heard = IsOut hand short heard
@@ -136,6 +152,8 @@ WriteFollows changes writer short heard =
 -- Neither the transaction nor a grant is out.
 abbrev pub WriteIsReady : WriteStage → Type 0
 WriteIsReady writes.Asking = ⊥
+WriteIsReady (writes.Raised place txn) = ⊥
+WriteIsReady (writes.Renewed place txn) = ⊥
 WriteIsReady writes.Committing = ⊥
 WriteIsReady (writes.Returning ended how back) = ⊥
 WriteIsReady stage = Unit {0}
@@ -158,6 +176,17 @@ StagedAwaits changes (reply.Staged value txn) = txn ≡ changes
 StagedAwaits changes (reply.NotStaged fault txn) = txn ≡ changes
 StagedAwaits changes told = ⊥
 
+-- The replies to a raise of this grant.
+abbrev pub RaiseAwaits : Option Permit → Reply → Type 0
+RaiseAwaits (Some lent) (reply.Raise told) = IsRaiseOf lent told
+RaiseAwaits (Some lent) (reply.RaiseBack grant) = grant ≡ lent
+RaiseAwaits lent told = ⊥
+
+-- The replies to a renewal of this grant.
+abbrev pub RenewAwaits : Option Permit → Reply → Type 0
+RenewAwaits (Some lent) (reply.Renew grant told) = grant ≡ lent
+RenewAwaits lent told = ⊥
+
 -- The answers to a commit of this transaction with these grants.
 abbrev pub CommitAwaits : List Change → GrantsView → Reply → Type 0
 CommitAwaits changes lent (reply.Committed number txn grants) = (txn ≡ changes) × AreBack lent grants
@@ -176,6 +205,8 @@ StageAwaits who writing given (writes.Quarantining count txn) told =
     QuarantineAwaits who writing.mode (slice_get writing.keys count) told
 StageAwaits who writing given (writes.Getting key txn) told = GetAwaits told
 StageAwaits who writing given writes.Asking told = StagedAwaits writing.txn told
+StageAwaits who writing given (writes.Raised place txn) told = RaiseAwaits (slice_get given place) told
+StageAwaits who writing given (writes.Renewed place txn) told = RenewAwaits (slice_get given place) told
 StageAwaits who writing given writes.Committing told =
     CommitAwaits writing.txn (record { items = given; room = length writing.keys }) told
 StageAwaits who writing given (writes.Ending ended) (reply.End was) = Unit {0}

@@ -9,7 +9,7 @@ use Rattle.rows_model.specs.Changes.{touches, footprint, IsTxn}
 use Rattle.rows_model.specs.Delta.{is_count, delta_of}
 use Rattle.session_client.specs.declared.plans.Shape.{Shape}
 use Rattle.session_client.specs.declared.plans.Plan.{Plan}
-use Rattle.session_client.specs.declared.plans.Plan.TheVariants.{Read, Write, Look, Quit, Skip}
+use Rattle.session_client.specs.declared.plans.Plan.TheVariants.{Read, Write, Look, Quit, Skip, Raise, Renew}
 
 -- The limits of a shape.
 pub record IsShape (shape : Shape) : Type 0 where
@@ -28,6 +28,8 @@ IsPlan (Write mode txn) = IsTxn txn
 IsPlan (Look mode key txn) = IsTxn txn × (touches txn key ≡ true)
 IsPlan (Quit mode txn) = IsTxn txn
 IsPlan (Skip key txn) = IsTxn txn × (touches txn key ≡ true)
+IsPlan (Raise txn) = IsTxn txn
+IsPlan (Renew mode txn) = IsTxn txn
 
 -- Whether a session of this plan may commit.
 abbrev pub writes : Plan → Bool
@@ -36,6 +38,8 @@ writes (Write mode txn) = true
 writes (Look mode key txn) = true
 writes (Quit mode txn) = true
 writes (Skip key txn) = true
+writes (Raise txn) = true
+writes (Renew mode txn) = true
 
 -- The changes that a session of this plan is to commit: none of a reader.
 abbrev pub changes_of : Plan → List Change
@@ -44,6 +48,8 @@ changes_of (Write mode txn) = txn
 changes_of (Look mode key txn) = txn
 changes_of (Quit mode txn) = txn
 changes_of (Skip key txn) = txn
+changes_of (Raise txn) = txn
+changes_of (Renew mode txn) = txn
 
 -- The mode in which a session of this plan writes.
 abbrev pub mode_of : Plan → Mode
@@ -52,6 +58,8 @@ mode_of (Write mode txn) = mode
 mode_of (Look mode key txn) = mode
 mode_of (Quit mode txn) = mode
 mode_of (Skip key txn) = Invalidate
+mode_of (Raise txn) = Invalidate
+mode_of (Renew mode txn) = mode
 
 -- The keys without one of them.
 abbrev pub without_key : QKey → List QKey → List QKey
@@ -64,6 +72,8 @@ keys_of (Write mode txn) = footprint txn
 keys_of (Look mode key txn) = footprint txn
 keys_of (Quit mode txn) = footprint txn
 keys_of (Skip key txn) = without_key key (footprint txn)
+keys_of (Raise txn) = footprint txn
+keys_of (Renew mode txn) = footprint txn
 
 -- The mode in which a session that writes in this mode quarantines a key: a delta is of a count alone, and any other key is invalidated beside it.
 abbrev pub mode_on : Mode → QKey → Mode

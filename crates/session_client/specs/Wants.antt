@@ -1,6 +1,6 @@
 -- What a session wants next, read off its plan and what it was told, the latest first.
-use Rattle.std.specs.Prelude.{ℕ, ◌+◌, Bool, true, false, nat_lt, if◌then◌else◌, List, [], ◌∷◌, ◌++◌, length, count_by, Option, Some, None, slice_get}
-use Rattle.std.specs.List.{list_any}
+use Rattle.std.specs.Prelude.{ℕ, ◌+◌, Bool, true, false, nat_lt, if◌then◌else◌, List, [], ◌∷◌, ◌++◌, length, set, count_by, Option, Some, None, slice_get}
+use Rattle.std.specs.List.{list_any, remove}
 use Rattle.rows_model.specs.declared.keys.QKey.{QKey}
 use Rattle.rows_model.specs.declared.changes.Change.{Change}
 use Rattle.rows_model.specs.Delta.{delta_of}
@@ -12,9 +12,10 @@ use Rattle.key_shard.specs.declared.replies.Got.{Got}
 use Rattle.key_shard.specs.declared.replies.Got.TheVariants as got
 use Rattle.key_shard.specs.declared.replies.SetAnswer.TheVariants as set
 use Rattle.key_shard.specs.declared.replies.QAnswer.TheVariants as quarantine
+use Rattle.key_shard.specs.declared.replies.Raising.TheVariants as raising
 use Rattle.sql_keeper.specs.declared.stores.Answer.{Answer}
 use Rattle.session_client.specs.declared.plans.Plan.{Plan}
-use Rattle.session_client.specs.declared.plans.Plan.TheVariants.{Read, Write, Look, Quit, Skip}
+use Rattle.session_client.specs.declared.plans.Plan.TheVariants.{Read, Write, Look, Quit, Skip, Raise, Renew}
 use Rattle.session_client.specs.declared.replies.Fault.TheVariants as causes
 use Rattle.session_client.specs.declared.replies.Reply.{Reply}
 use Rattle.session_client.specs.declared.replies.Reply.TheVariants as reply
@@ -60,25 +61,49 @@ pub record Given : Type 0 where
   pub permit : Permit
   pub old : Option (List ℕ × ℕ)
 
--- What a reply gives, if it brings a grant.
+-- Whether a reply ends the turn of a grant that was to be raised or renewed, and that the session still has.
+abbrev pub is_turn : Reply → Bool
+is_turn (reply.Raise (raising.Raised grant old)) = true
+is_turn (reply.Raise (raising.Shared grant holder)) = true
+is_turn (reply.RaiseBack grant) = true
+is_turn (reply.Renew grant told) = true
+is_turn other = false
+
+-- How many such grants there were: the place of the next, from 0.
+abbrev pub turned : List Reply → ℕ
+turned heard = count_by is_turn heard
+
+-- What was given, after a reply to the turn of the one at this place: a raised grant comes with the old value, and one whose quarantine stands no longer is spent.
+abbrev pub given_by : Reply → ℕ → List Given → List Given
+given_by (reply.Raise (raising.Raised grant old)) place ones = set ones place (record { permit = grant; old = old })
+given_by (reply.Raise raising.Gone) place ones = remove ones place
+given_by other place ones = ones
+
+-- What a reply gives, if it brings a new grant.
 abbrev pub given_in : Reply → List Given
 given_in (reply.Quar (quarantine.Granted grant old)) = record { permit = grant; old = old } ∷ []
 given_in other = []
 
--- What a session was given, in its order.
+-- What a session was given, in its order, without what a raise spent.
 abbrev pub given : List Reply → List Given
 given [] = []
-given (told ∷ heard) = given heard ++ given_in told
+given (told ∷ heard) = given_by told (turned heard) (given heard) ++ given_in told
 
--- The grant that a reply brings, if it brings one.
+-- The grants alone, after such a reply.
+abbrev pub granted_by : Reply → ℕ → List Permit → List Permit
+granted_by (reply.Raise (raising.Raised grant old)) place grants = set grants place grant
+granted_by (reply.Raise raising.Gone) place grants = remove grants place
+granted_by other place grants = grants
+
+-- The grant that a reply brings, if it brings a new one.
 abbrev pub grants_in : Reply → List Permit
 grants_in (reply.Quar (quarantine.Granted grant old)) = grant ∷ []
 grants_in other = []
 
--- The grants that a session was given, in their order.
+-- The grants that a session was given, in their order, without those that a raise spent.
 abbrev pub granted : List Reply → List Permit
 granted [] = []
-granted (told ∷ heard) = granted heard ++ grants_in told
+granted (told ∷ heard) = granted_by told (turned heard) (granted heard) ++ grants_in told
 
 -- Whether a reply is that of a release.
 abbrev pub is_release : Reply → Bool
@@ -104,11 +129,13 @@ number_of [] = None
 number_of (reply.Committed number txn grants ∷ heard) = Some number
 number_of (other ∷ heard) = number_of heard
 
--- What a session does once its keys are quarantined: it commits, gets a key first, or quits.
+-- What a session does once its keys are quarantined: it commits, gets a key first, quits, or raises or renews each quarantine first.
 pub data Then : Type 0 where
   Commits : Then
   Looks : (key : QKey) → Then
   Quits : Then
+  Raises : Then
+  Renews : Then
 
 -- What a session of this plan does then.
 abbrev pub then_of : Plan → Then
@@ -117,6 +144,8 @@ then_of (Write mode txn) = Commits
 then_of (Look mode key txn) = Looks key
 then_of (Quit mode txn) = Quits
 then_of (Skip key txn) = Commits
+then_of (Raise txn) = Raises
+then_of (Renew mode txn) = Renews
 
 -- How a session writes: the keys that it quarantines, in which mode, for which transaction, and what it does then.
 pub record Writing : Type 0 where
@@ -141,11 +170,31 @@ abbrev pub commit_with : Writing → List Reply → Wanted
 commit_with writing heard =
     wanted.Commit writing.txn (record { items = granted heard; room = length writing.keys })
 
+-- A grant is to be raised, if there is one, and else the session commits.
+abbrev pub raise_or_commit : Writing → List Reply → Option Permit → Wanted
+raise_or_commit writing heard (Some grant) = wanted.Raise grant
+raise_or_commit writing heard None = commit_with writing heard
+
+-- What a session wants that raises its quarantines in turn: the next one, and after the last to commit.
+abbrev pub raise_next : Writing → List Reply → Wanted
+raise_next writing heard = raise_or_commit writing heard (slice_get (granted heard) (turned heard))
+
+-- A grant is to be renewed, if there is one, and else the session commits.
+abbrev pub renew_or_commit : Writing → List Reply → Option Permit → Wanted
+renew_or_commit writing heard (Some grant) = wanted.Renew grant
+renew_or_commit writing heard None = commit_with writing heard
+
+-- What a session wants that renews its quarantines in turn: the next one, and after the last to commit.
+abbrev pub renew_next : Writing → List Reply → Wanted
+renew_next writing heard = renew_or_commit writing heard (slice_get (granted heard) (turned heard))
+
 -- What is wanted once the keys are quarantined.
 abbrev pub then_wants : Then → Writing → List Reply → Wanted
 then_wants Commits writing heard = commit_with writing heard
 then_wants (Looks key) writing heard = wanted.Get key 0
 then_wants Quits writing heard = wanted.End
+then_wants Raises writing heard = raise_next writing heard
+then_wants Renews writing heard = renew_next writing heard
 
 -- A writer quarantines the next key, in the mode that it has for that key, and goes on after the last one.
 abbrev pub quarantine_or_then : Writing → List Reply → Option QKey → Wanted
@@ -225,6 +274,9 @@ write_wants writing short (reply.Fault fault ∷ heard) = after_fault (has_all w
 write_wants writing short (reply.Got found ∷ heard) = look_after writing.next writing found heard
 write_wants writing short (reply.Staged value txn ∷ heard) = commit_with writing heard
 write_wants writing short (reply.NotStaged fault txn ∷ heard) = commit_with writing heard
+write_wants writing short (reply.Raise told ∷ heard) = raise_next writing (reply.Raise told ∷ heard)
+write_wants writing short (reply.RaiseBack grant ∷ heard) = raise_next writing (reply.RaiseBack grant ∷ heard)
+write_wants writing short (reply.Renew grant told ∷ heard) = renew_next writing (reply.Renew grant told ∷ heard)
 write_wants writing short (reply.NotCommitted fault txn grants ∷ heard) = wanted.End
 write_wants writing short (reply.Committed number txn grants ∷ heard) =
     release_next writing short (reply.Committed number txn grants ∷ heard)
@@ -241,6 +293,8 @@ wants (Write mode txn) short heard = write_wants (writing_of (Write mode txn)) s
 wants (Look mode key txn) short heard = write_wants (writing_of (Look mode key txn)) short heard
 wants (Quit mode txn) short heard = write_wants (writing_of (Quit mode txn)) short heard
 wants (Skip key txn) short heard = write_wants (writing_of (Skip key txn)) short heard
+wants (Raise txn) short heard = write_wants (writing_of (Raise txn)) short heard
+wants (Renew mode txn) short heard = write_wants (writing_of (Renew mode txn)) short heard
 
 -- How a reader ended, by the last reply that it was told; a turn of a session that is done tells nothing.
 abbrev pub read_outcome : List Reply → Option Outcome
@@ -289,6 +343,8 @@ outcome_of (Write mode txn) short heard = writing_outcome (writing_of (Write mod
 outcome_of (Look mode key txn) short heard = writing_outcome (writing_of (Look mode key txn)) short heard
 outcome_of (Quit mode txn) short heard = writing_outcome (writing_of (Quit mode txn)) short heard
 outcome_of (Skip key txn) short heard = writing_outcome (writing_of (Skip key txn)) short heard
+outcome_of (Raise txn) short heard = writing_outcome (writing_of (Raise txn)) short heard
+outcome_of (Renew mode txn) short heard = writing_outcome (writing_of (Renew mode txn)) short heard
 
 -- Whether nothing is wanted.
 abbrev pub is_nothing : Wanted → Bool

@@ -1,5 +1,5 @@
 -- What contracts see of a writer, and what always holds of it.
-use Rattle.std.specs.Prelude.{ℕ, ◌≡◌, ◌≤◌, ◌<◌, ◌+◌, List, [], ◌∷◌, length, map, Option}
+use Rattle.std.specs.Prelude.{ℕ, ◌≡◌, ◌≤◌, ◌<◌, ◌+◌, List, [], ◌∷◌, All, length, map, drop, Option}
 use Rattle.std.specs.Option.{option_map, option_and_then}
 use Rattle.rows_model.specs.declared.keys.QKey.{QKey}
 use Rattle.rows_model.specs.declared.changes.Change.{Change}
@@ -8,7 +8,7 @@ use Rattle.lease_table.specs.declared.records.Mode.{Mode}
 use Rattle.lease_table.specs.declared.records.Mode.TheVariants as modes
 use Rattle.key_shard.specs.Permit.{Permit}
 use Rattle.session_client.specs.Grants.{GrantsView}
-use Rattle.session_client.specs.Wants.{Given, Then, Commits, Looks, Quits, Writing, Keeps, Drops, Finishes}
+use Rattle.session_client.specs.Wants.{Given, Then, Commits, Looks, Quits, Raises, Renews, Writing, Keeps, Drops, Finishes}
 use Rattle.session_client.specs.Wants as wants
 use Rattle.session_client.specs.declared.stages.Next.{Next}
 use Rattle.session_client.specs.declared.stages.Next.TheVariants as nexts
@@ -37,6 +37,8 @@ abbrev pub then_as : Next → Then
 then_as nexts.Commit = Commits
 then_as (nexts.Look key) = Looks key
 then_as nexts.Quit = Quits
+then_as nexts.Raise = Raises
+then_as nexts.Renew = Renews
 
 -- How a writer releases its grants, in the same words.
 abbrev pub release_as : Release → wants.Release
@@ -90,21 +92,46 @@ abbrev pub IsPaired : HandView → Type 0
 IsPaired hand =
     (length hand.values ≡ length hand.grants.items) × (length hand.grants.items ≤ hand.grants.room)
 
--- There is room for the grants of the keys to come, and a grant is there to be released.
-abbrev pub HasRoom : List QKey → HandView → WriteStage → Type 0
-HasRoom keys hand (stages.Quarantining count txn) =
+-- The same, but that the grant at this place is out.
+abbrev pub LacksOne : HandView → ℕ → Type 0
+LacksOne hand place =
+    (place < length hand.given) × (length hand.grants.items + 1 ≡ length hand.given) × (length hand.values ≡ length hand.given)
+    × (length hand.given ≤ hand.room) × (hand.room ≤ hand.grants.room)
+
+-- A writer that is to raise its quarantines makes them in mode invalidate.
+abbrev pub Suits : Next → Mode → Type 0
+Suits nexts.Raise mode = mode ≡ modes.Invalidate
+Suits next mode = Unit {0}
+
+-- Each of these grants is to invalidate.
+abbrev pub AreToInvalidate : List Permit → Type 0
+AreToInvalidate grants = All (λ grant. grant.mode ≡ modes.Invalidate) grants
+
+-- And so each grant of its is to invalidate until it raises it.
+abbrev pub AreFor : Next → List Permit → Type 0
+AreFor nexts.Raise grants = AreToInvalidate grants
+AreFor next grants = Unit {0}
+
+-- There is room for the grants of the keys to come, and a grant is there to be released. What is still to be raised is to invalidate.
+abbrev pub HasRoom : Next → List QKey → HandView → WriteStage → Type 0
+HasRoom next keys hand (stages.Quarantining count txn) =
     (count < length keys) × (length hand.given ≤ count) × HoldsAll hand × (hand.grants.room ≡ length keys)
-HasRoom keys hand (stages.Getting key txn) = HoldsAll hand
-HasRoom keys hand (stages.Staging key txn) = HoldsAll hand
-HasRoom keys hand stages.Asking = HoldsAll hand
-HasRoom keys hand (stages.Ready txn) = HoldsAll hand
-HasRoom keys hand stages.Committing =
+    × AreFor next hand.grants.items
+HasRoom next keys hand (stages.Getting key txn) = HoldsAll hand
+HasRoom next keys hand (stages.Staging key txn) = HoldsAll hand
+HasRoom next keys hand stages.Asking = HoldsAll hand
+HasRoom next keys hand (stages.Raising place txn) = HoldsAll hand × AreToInvalidate (drop place hand.grants.items)
+HasRoom next keys hand (stages.Raised place txn) = LacksOne hand place × AreToInvalidate (drop place hand.grants.items)
+HasRoom next keys hand (stages.Renewing place txn) = HoldsAll hand
+HasRoom next keys hand (stages.Renewed place txn) = LacksOne hand place
+HasRoom next keys hand (stages.Ready txn) = HoldsAll hand
+HasRoom next keys hand stages.Committing =
     (length hand.values ≡ length hand.given) × (length hand.given ≤ hand.room)
-HasRoom keys hand (stages.Ending ended) = IsPaired hand
-HasRoom keys hand (stages.Releasing ended how) = (1 ≤ length hand.grants.items) × IsPaired hand
-HasRoom keys hand (stages.Returning ended how back) =
+HasRoom next keys hand (stages.Ending ended) = IsPaired hand
+HasRoom next keys hand (stages.Releasing ended how) = (1 ≤ length hand.grants.items) × IsPaired hand
+HasRoom next keys hand (stages.Returning ended how back) =
     (length hand.values ≡ length hand.grants.items) × (length hand.grants.items < hand.grants.room)
-HasRoom keys hand (stages.Dropping ended how) =
+HasRoom next keys hand (stages.Dropping ended how) =
     (1 ≤ length hand.grants.items) × (length hand.values + 1 ≡ length hand.grants.items)
     × (length hand.grants.items ≤ hand.grants.room)
-HasRoom keys hand (stages.Done ended) = Unit {0}
+HasRoom next keys hand (stages.Done ended) = Unit {0}

@@ -22,6 +22,11 @@ pub enum Plan {
     /// Write in mode invalidate, and leave out the quarantine of this key, which the transaction
     /// touches. So the store refuses the commit.
     Skip { key: QKey, txn: Txn },
+    /// Write in mode invalidate, and before the commit raise each quarantine to refresh its key. A
+    /// quarantine beside which another session's stands stays as it is.
+    Raise { txn: Txn },
+    /// Write in this mode, and before the commit give each quarantine a new deadline.
+    Renew { mode: Mode, txn: Txn },
 }
 
 impl Plan {
@@ -31,7 +36,12 @@ impl Plan {
     {
         match self {
             Plan::Read { .. } => false,
-            Plan::Write { .. } | Plan::Look { .. } | Plan::Quit { .. } | Plan::Skip { .. } => true,
+            Plan::Write { .. }
+            | Plan::Look { .. }
+            | Plan::Quit { .. }
+            | Plan::Skip { .. }
+            | Plan::Raise { .. }
+            | Plan::Renew { .. } => true,
         }
     }
 
@@ -61,6 +71,11 @@ impl Plan {
                 key: *key,
                 txn: txn.copy()?,
             },
+            Plan::Raise { txn } => Plan::Raise { txn: txn.copy()? },
+            Plan::Renew { mode, txn } => Plan::Renew {
+                mode: *mode,
+                txn: txn.copy()?,
+            },
         })
     }
 
@@ -77,7 +92,9 @@ impl Plan {
                 txn,
             }
             | Plan::Quit { mode: _, txn }
-            | Plan::Skip { key: _, txn } => txn.changes(),
+            | Plan::Skip { key: _, txn }
+            | Plan::Raise { txn }
+            | Plan::Renew { mode: _, txn } => txn.changes(),
         }
     }
 }

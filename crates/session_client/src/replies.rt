@@ -1,5 +1,5 @@
 use crate::grant_lists::Grants;
-use key_shard::{Got, Grant, QAnswer, Rel, SetAnswer};
+use key_shard::{Got, Grant, QAnswer, Raising, Rel, Renewal, SetAnswer};
 use lease_table::Mode;
 use rows_model::{QKey, Sid, Txn, Value};
 use sql_keeper::{AfterFault, Answer, CommitFault};
@@ -40,6 +40,14 @@ pub enum Wanted {
     Delta {
         key: QKey,
         by: i32,
+    },
+    /// To raise a quarantine, which is to invalidate, to one that refreshes.
+    Raise {
+        grant: Grant,
+    },
+    /// To give a quarantine a new deadline.
+    Renew {
+        grant: Grant,
     },
     /// To commit the transaction, with these grants on the keys that it touches.
     Commit {
@@ -86,6 +94,8 @@ impl Wanted {
             } => grant.let_go(),
             Wanted::Apply { grant, stamp: _ } => grant.let_go(),
             Wanted::Abort { grant } => grant.let_go(),
+            Wanted::Raise { grant } => grant.let_go(),
+            Wanted::Renew { grant } => grant.let_go(),
             Wanted::Get { key: _, floor: _ } => {}
             Wanted::Ask { key: _ } => {}
             Wanted::Staged { key: _, txn: _ } => {}
@@ -158,6 +168,20 @@ pub enum Reply {
     Quar {
         told: QAnswer,
     },
+    /// The answer to a raise. The grant comes back in its new mode with the key's entry, or as it was, or
+    /// it is spent.
+    Raise {
+        told: Raising,
+    },
+    /// There was no memory to raise the quarantine: it stands as it did, and the grant comes back.
+    RaiseBack {
+        grant: Grant,
+    },
+    /// The answer to a renewal, or `None` where there was no memory for it. The grant comes back.
+    Renew {
+        grant: Grant,
+        told: Option<Renewal>,
+    },
     /// What the store would answer after the transaction, which comes back.
     Staged {
         value: Value,
@@ -210,6 +234,13 @@ impl Reply {
                 QAnswer::Held => {}
                 QAnswer::Refused { holder: _, mode: _ } => {}
             },
+            Reply::Raise { told } => match told {
+                Raising::Raised { grant, old: _ } => grant.let_go(),
+                Raising::Shared { grant, holder: _ } => grant.let_go(),
+                Raising::Gone => {}
+            },
+            Reply::RaiseBack { grant } => grant.let_go(),
+            Reply::Renew { grant, told: _ } => grant.let_go(),
             Reply::Committed {
                 number: _,
                 txn: _,

@@ -11,6 +11,10 @@ pub enum Next {
     Look { key: QKey },
     /// It gives up.
     Quit,
+    /// It raises its quarantines in turn, and commits after that.
+    Raise,
+    /// It renews its quarantines in turn, and commits after that.
+    Renew,
 }
 
 /// How a writer releases its grants.
@@ -44,6 +48,26 @@ pub enum WriteStage {
     },
     /// It has handed out its transaction for such an answer.
     Asking,
+    /// It wants the quarantine raised of the grant at this place, or to commit where there is none.
+    Raising {
+        place: usize,
+        txn: Txn,
+    },
+    /// It has handed out the grant at this place to be raised.
+    Raised {
+        place: usize,
+        txn: Txn,
+    },
+    /// It wants the quarantine renewed of the grant at this place, or to commit where there is none.
+    Renewing {
+        place: usize,
+        txn: Txn,
+    },
+    /// It has handed out the grant at this place to be renewed.
+    Renewed {
+        place: usize,
+        txn: Txn,
+    },
     /// It wants to commit.
     Ready {
         txn: Txn,
