@@ -9,7 +9,7 @@ use Rattle.session_client.specs.Plans.{IsShape}
 use Rattle.run_inputs.specs.declared.lines.Part.TheVariants.{Members, Shards, Room, Life}
 use Rattle.run_inputs.specs.declared.lines.Verb.{Verb}
 use Rattle.run_inputs.specs.declared.lines.Verb.TheVariants as verb
-use Rattle.run_inputs.specs.declared.lines.Job.TheVariants.{Read, Write, Look, Quit, Skip}
+use Rattle.run_inputs.specs.declared.lines.Job.TheVariants.{Read, Write, Look, Quit, Skip, Raise, Renew}
 use Rattle.run_inputs.specs.declared.lines.Line.{Line}
 use Rattle.run_inputs.specs.declared.lines.Line.TheVariants.{Head, Session, Turn, Tick, Sweep, End}
 use Rattle.run_inputs.specs.declared.stages.Stage.{Stage}
@@ -137,6 +137,9 @@ fit_before begun (Session number (Quit mode txn)) (word ∷ []) acts k a b h = a
 fit_before begun (Session number (Quit mode txn)) (word ∷ next ∷ words) acts k a b h = (k.1.1.0, h)
 fit_before begun (Session number (Skip key txn)) (word ∷ []) acts k a b h = absurd k.1
 fit_before begun (Session number (Skip key txn)) (word ∷ next ∷ words) acts k a b h = ((k.1.1.0, b), h)
+fit_before begun (Session number (Raise txn)) (word ∷ words) acts k a b h = (k.1.0, h)
+fit_before begun (Session number (Renew mode txn)) (word ∷ []) acts k a b h = absurd k.1
+fit_before begun (Session number (Renew mode txn)) (word ∷ next ∷ words) acts k a b h = (k.1.1.0, h)
 fit_before begun (Turn None count) words acts k a b h = absurd (false≢true a)
 fit_before begun (Turn (Some number) count) words acts k a b h =
     ((grind (arith, nat_tests), grind (arith, nat_tests)), subst (λ (n : ℕ). AreFit n acts) (omega arith) h)
@@ -167,6 +170,8 @@ turns_at_most (Session number (Write mode txn)) = omega arith
 turns_at_most (Session number (Look mode key txn)) = omega arith
 turns_at_most (Session number (Quit mode txn)) = omega arith
 turns_at_most (Session number (Skip key txn)) = omega arith
+turns_at_most (Session number (Raise txn)) = omega arith
+turns_at_most (Session number (Renew mode txn)) = omega arith
 turns_at_most (Turn None count) = omega arith
 turns_at_most (Turn (Some number) count) = omega arith
 turns_at_most (Tick ticks) = omega arith

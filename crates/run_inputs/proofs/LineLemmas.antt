@@ -14,25 +14,27 @@ use Rattle.run_inputs.specs.Texts.{words_in}
 use Rattle.run_inputs.specs.Lines.{verb_word, verb_of, AreWords}
 use Rattle.run_inputs.specs.Script.{is_in_place, Says, MayStand, IsFaulty, fault_of}
 
--- the first two letters of a word, as one number
+-- the first three letters of a word, as one number
 abbrev letters : List ℕ → ℕ
-letters word = 256 * get_or word 0 0 + get_or word 1 0
+letters word = 65536 * get_or word 0 0 + 256 * get_or word 1 0 + get_or word 2 0
 
 -- the verb whose word begins with these letters
 verb_with : ℕ → Verb
 verb_with n =
-    if n == 28005 then verb.Head Members else
-    if n == 29544 then verb.Head Shards else
-    if n == 29295 then verb.Head Room else
-    if n == 27753 then verb.Head Life else
-    if n == 29285 then verb.Session task.Read else
-    if n == 30578 then verb.Session task.Write else
-    if n == 27759 then verb.Session task.Look else
-    if n == 29045 then verb.Session task.Quit else
-    if n == 29547 then verb.Session task.Skip else
-    if n == 29813 then verb.Turn else
-    if n == 29801 then verb.Tick else
-    if n == 29559 then verb.Sweep else verb.End
+    if n == 7169389 then verb.Head Members else
+    if n == 7563361 then verb.Head Shards else
+    if n == 7499631 then verb.Head Room else
+    if n == 7104870 then verb.Head Life else
+    if n == 7497057 then verb.Session task.Read else
+    if n == 7828073 then verb.Session task.Write else
+    if n == 7106415 then verb.Session task.Look else
+    if n == 7435625 then verb.Session task.Quit else
+    if n == 7564137 then verb.Session task.Skip else
+    if n == 7496041 then verb.Session task.Raise else
+    if n == 7497070 then verb.Session task.Renew else
+    if n == 7632242 then verb.Turn else
+    if n == 7629155 then verb.Tick else
+    if n == 7567205 then verb.Sweep else verb.End
 
 verb_back : (v : Verb) → verb_with (letters (verb_word v)) ≡ v
 unfolding verb_with
@@ -45,6 +47,8 @@ verb_back (verb.Session task.Write) = refl
 verb_back (verb.Session task.Look) = refl
 verb_back (verb.Session task.Quit) = refl
 verb_back (verb.Session task.Skip) = refl
+verb_back (verb.Session task.Raise) = refl
+verb_back (verb.Session task.Renew) = refl
 verb_back verb.Turn = refl
 verb_back verb.Tick = refl
 verb_back verb.Sweep = refl

@@ -8,7 +8,7 @@ use Rattle.rows_model.specs.Key.{IsKeyText}
 use Rattle.rows_model.proofs.KeyLemmas.{key_text_injective}
 use Rattle.change_words.proofs.OnceLemmas.{nothing, txn_once}
 use Rattle.run_inputs.specs.declared.lines.Job.{Job}
-use Rattle.run_inputs.specs.declared.lines.Job.TheVariants.{Read, Write, Look, Quit, Skip}
+use Rattle.run_inputs.specs.declared.lines.Job.TheVariants.{Read, Write, Look, Quit, Skip, Raise, Renew}
 use Rattle.run_inputs.specs.declared.lines.Line.{Line}
 use Rattle.run_inputs.specs.declared.lines.Line.TheVariants.{Head, Session, Turn, Tick, Sweep, End}
 use Rattle.run_inputs.specs.Lines.{AreNumber, AreCount, AreFloor, mode_word, AreJobWords, AreArgs, AreWords, task_of, verb_of}
@@ -63,12 +63,17 @@ job_once (Quit mode txn) (Quit mode' txn') (word ∷ words) e h k =
     let f = mode_once mode mode' word h.0 k.0 in let g = txn_once txn txn' words h.1 k.1 in cc
 job_once (Skip key txn) (Skip key' txn') (word ∷ words) e h k =
     let f = key_once key key' word h.0 k.0 in let g = txn_once txn txn' words h.1 k.1 in cc
+job_once (Raise txn) (Raise txn') words e h k =
+    let g = txn_once txn txn' words h k in cc
+job_once (Renew mode txn) (Renew mode' txn') (word ∷ words) e h k =
+    let f = mode_once mode mode' word h.0 k.0 in let g = txn_once txn txn' words h.1 k.1 in cc
 job_once (Read key floor) (Read key' floor') [] e h k = absurd h
 job_once (Write mode txn) (Write mode' txn') [] e h k = absurd h
 job_once (Look mode key txn) (Look mode' key' txn') [] e h k = absurd h
 job_once (Look mode key txn) (Look mode' key' txn') (word ∷ []) e h k = absurd h
 job_once (Quit mode txn) (Quit mode' txn') [] e h k = absurd h
 job_once (Skip key txn) (Skip key' txn') [] e h k = absurd h
+job_once (Renew mode txn) (Renew mode' txn') [] e h k = absurd h
 job_once a b words e h k = absurd cc
 
 args_once : (a b : Line) (words : List (List ℕ)) → verb_of a ≡ verb_of b → AreArgs a words → AreArgs b words → a ≡ b

@@ -7,7 +7,11 @@ use Rattle.run_inputs.specs.declared.lines.Verb.TheVariants as verb
 use Rattle.run_inputs.specs.declared.lines.Line.TheVariants.{Head, Tick, End}
 use Rattle.run_inputs.specs.Texts.{parts_at}
 use Rattle.run_inputs.specs.Lines.{AreNumber, AreCount, AreFloor, AreArgs}
-use Rattle.run_inputs.specs.Parsing.{IsNoLine}
+use Rattle.run_inputs.specs.Parsing.{IsNoJob, IsNoLine}
+use Rattle.rows_model.specs.declared.changes.Change.{Change}
+use Rattle.change_words.specs.Txns.{AreTxnWords}
+use Rattle.run_inputs.specs.declared.lines.Task.{Task}
+use Rattle.run_inputs.specs.declared.lines.Job.TheVariants.{Read, Write, Look, Quit, Skip, Raise, Renew}
 
 -- what an option's absence gives
 pub if_none : {A : Type 0} (o : Option A) (P : Type 0) → (o ≡ None → P) → IfNone o P
@@ -52,3 +56,17 @@ no_tick words none line h = let e = h.verb_is in cc
 pub no_end : (words : List (List ℕ)) → (words ≡ [] → ⊥) → IsNoLine verb.End words
 no_end words none End h = none h.args
 no_end words none line h = let e = h.verb_is in cc
+
+-- no words are those of no transaction, and so of no job
+no_txn : (txn : List Change) → AreTxnWords txn [] → ⊥
+no_txn [] h = let some = h.0.some in omega (arith, some)
+no_txn (change ∷ txn) h = h.1
+
+pub no_job : (task : Task) → IsNoJob task []
+no_job task (Read key floor) h = h.says
+no_job task (Write mode txn) h = h.says
+no_job task (Look mode key txn) h = h.says
+no_job task (Quit mode txn) h = h.says
+no_job task (Skip key txn) h = h.says
+no_job task (Raise txn) h = no_txn txn h.says
+no_job task (Renew mode txn) h = h.says

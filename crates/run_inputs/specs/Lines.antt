@@ -12,7 +12,7 @@ use Rattle.run_inputs.specs.declared.lines.Task.TheVariants as task
 use Rattle.run_inputs.specs.declared.lines.Verb.{Verb}
 use Rattle.run_inputs.specs.declared.lines.Verb.TheVariants as verb
 use Rattle.run_inputs.specs.declared.lines.Job.{Job}
-use Rattle.run_inputs.specs.declared.lines.Job.TheVariants.{Read, Write, Look, Quit, Skip}
+use Rattle.run_inputs.specs.declared.lines.Job.TheVariants.{Read, Write, Look, Quit, Skip, Raise, Renew}
 use Rattle.run_inputs.specs.declared.lines.Line.{Line}
 use Rattle.run_inputs.specs.declared.lines.Line.TheVariants.{Head, Session, Turn, Tick, Sweep, End}
 
@@ -50,6 +50,8 @@ AreJobWords (Write mode txn) (word ∷ words) = (word ≡ mode_word mode) × Are
 AreJobWords (Look mode key txn) (word ∷ next ∷ words) = (word ≡ mode_word mode) × IsKeyText next key × AreTxnWords txn words
 AreJobWords (Quit mode txn) (word ∷ words) = (word ≡ mode_word mode) × AreTxnWords txn words
 AreJobWords (Skip key txn) (word ∷ words) = IsKeyText word key × AreTxnWords txn words
+AreJobWords (Raise txn) words = AreTxnWords txn words
+AreJobWords (Renew mode txn) (word ∷ words) = (word ≡ mode_word mode) × AreTxnWords txn words
 AreJobWords job fewer = ⊥
 
 -- The most that a number of the head may be.
@@ -76,6 +78,8 @@ task_of (Write mode txn) = task.Write
 task_of (Look mode key txn) = task.Look
 task_of (Quit mode txn) = task.Quit
 task_of (Skip key txn) = task.Skip
+task_of (Raise txn) = task.Raise
+task_of (Renew mode txn) = task.Renew
 
 -- The verb of a line.
 abbrev pub verb_of : Line → Verb
@@ -97,6 +101,8 @@ verb_word (verb.Session task.Write) = codes "write"
 verb_word (verb.Session task.Look) = codes "look"
 verb_word (verb.Session task.Quit) = codes "quit"
 verb_word (verb.Session task.Skip) = codes "skip"
+verb_word (verb.Session task.Raise) = codes "raise"
+verb_word (verb.Session task.Renew) = codes "renew"
 verb_word verb.Turn = codes "turn"
 verb_word verb.Tick = codes "tick"
 verb_word verb.Sweep = codes "sweep"

@@ -11,7 +11,7 @@ use Rattle.run_inputs.specs.declared.lines.Part.TheVariants.{Members, Shards, Ro
 use Rattle.run_inputs.specs.declared.lines.Verb.{Verb}
 use Rattle.run_inputs.specs.declared.lines.Verb.TheVariants as verb
 use Rattle.run_inputs.specs.declared.lines.Job.{Job}
-use Rattle.run_inputs.specs.declared.lines.Job.TheVariants.{Read, Write, Look, Quit, Skip}
+use Rattle.run_inputs.specs.declared.lines.Job.TheVariants.{Read, Write, Look, Quit, Skip, Raise, Renew}
 use Rattle.run_inputs.specs.declared.lines.Line.{Line}
 use Rattle.run_inputs.specs.declared.lines.Line.TheVariants.{Head, Session, Turn, Tick, Sweep, End}
 use Rattle.run_inputs.specs.declared.stages.Stage.{Stage}
@@ -152,6 +152,8 @@ plan_of (Write mode txn) = plan.Write mode txn
 plan_of (Look mode key txn) = plan.Look mode key txn
 plan_of (Quit mode txn) = plan.Quit mode txn
 plan_of (Skip key txn) = plan.Skip key txn
+plan_of (Raise txn) = plan.Raise txn
+plan_of (Renew mode txn) = plan.Renew mode txn
 
 -- The acts of a line.
 abbrev pub acts_in : Line → List Act

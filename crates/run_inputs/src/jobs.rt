@@ -1,5 +1,5 @@
 // What the words behind a session's number say.
-ghost use Rattle.std.specs.Prelude.{◌≡◌, ℕ, List, [], ◌∷◌, Option, IfSome, IfNone, IfOk};
+ghost use Rattle.std.specs.Prelude.{◌≡◌, ℕ, List, [], ◌∷◌, Option, Some, IfSome, IfNone, IfOk};
 ghost use Rattle.std.specs.Option.{option_copied};
 ghost use Rattle.lease_table.specs.declared.records.Mode.{Mode};
 ghost use Rattle.rows_model.specs.declared.changes.Change.{Change};
@@ -23,16 +23,18 @@ pub(crate) fn job_of(alloc: Global, task: Task, args: Option<&[u8]>) -> Result<O
     ensures none { IfOk result (λ read. IfNone read
         (IsNoJob task (words_behind (option_copied args.entry)))) }
 {
-    let Some(args) = args else {
+    let Some(text) = args else {
         return Ok(None);
     };
-    let (word, more) = cut(args, b' ');
+    let (word, more) = cut(text, b' ');
     match task {
         Task::Read => Ok(read_of(word, more)),
         Task::Write => write_of(alloc, word, more),
         Task::Look => look_of(alloc, word, more),
         Task::Quit => quit_of(alloc, word, more),
         Task::Skip => skip_of(alloc, word, more),
+        Task::Raise => raise_of(alloc, text),
+        Task::Renew => renew_of(alloc, word, more),
     }
 }
 
@@ -110,6 +112,33 @@ fn skip_of(alloc: Global, word: &[u8], more: Option<&[u8]>) -> Result<Option<Job
     };
     match txn_of(alloc, more)? {
         Some(txn) => Ok(Some(Job::Skip { key, txn })),
+        None => Ok(None),
+    }
+}
+
+fn raise_of(alloc: Global, text: &[u8]) -> Result<Option<Job>, Memory>
+    ensures found { IfOk result (λ read. IfSome read
+        (λ job. IsJobOf task.Raise (words_behind (Some text.now)) job)) }
+    ensures none { IfOk result (λ read. IfNone read
+        (IsNoJob task.Raise (words_behind (Some text.now)))) }
+{
+    match txn_of(alloc, Some(text))? {
+        Some(txn) => Ok(Some(Job::Raise { txn })),
+        None => Ok(None),
+    }
+}
+
+fn renew_of(alloc: Global, word: &[u8], more: Option<&[u8]>) -> Result<Option<Job>, Memory>
+    ensures found { IfOk result (λ read. IfSome read
+        (λ job. IsJobOf task.Renew (word.now ∷ words_behind (option_copied more.entry)) job)) }
+    ensures none { IfOk result (λ read. IfNone read
+        (IsNoJob task.Renew (word.now ∷ words_behind (option_copied more.entry)))) }
+{
+    let Some(mode) = mode_of(word) else {
+        return Ok(None);
+    };
+    match txn_of(alloc, more)? {
+        Some(txn) => Ok(Some(Job::Renew { mode, txn })),
         None => Ok(None),
     }
 }

@@ -31,6 +31,8 @@ pub enum Task {
     Look,
     Quit,
     Skip,
+    Raise,
+    Renew,
 }
 
 /// The first word of a line.
@@ -57,6 +59,10 @@ pub enum Job {
     Quit { mode: Mode, txn: Txn },
     /// Write in mode invalidate, without the quarantine of this key.
     Skip { key: QKey, txn: Txn },
+    /// Write in mode invalidate, and raise each quarantine before the commit.
+    Raise { txn: Txn },
+    /// Write in this mode, and renew each quarantine before the commit.
+    Renew { mode: Mode, txn: Txn },
 }
 
 /// What a line says. The number of a session is told if it is below 2^64; no session has a greater
@@ -143,6 +149,8 @@ impl Verb {
             b"look" => Some(Verb::Session { task: Task::Look }),
             b"quit" => Some(Verb::Session { task: Task::Quit }),
             b"skip" => Some(Verb::Session { task: Task::Skip }),
+            b"raise" => Some(Verb::Session { task: Task::Raise }),
+            b"renew" => Some(Verb::Session { task: Task::Renew }),
             b"turn" => Some(Verb::Turn),
             b"tick" => Some(Verb::Tick),
             b"sweep" => Some(Verb::Sweep),

@@ -162,5 +162,7 @@ fn plan_of(job: Job) -> Plan
         Job::Look { mode, key, txn } => Plan::Look { mode, key, txn },
         Job::Quit { mode, txn } => Plan::Quit { mode, txn },
         Job::Skip { key, txn } => Plan::Skip { key, txn },
+        Job::Raise { txn } => Plan::Raise { txn },
+        Job::Renew { mode, txn } => Plan::Renew { mode, txn },
     }
 }

@@ -13,14 +13,15 @@ use Rattle.session_client.specs.declared.replies.Reply.{Reply}
 use Rattle.session_client.specs.declared.replies.Reply.TheVariants as reply
 use Rattle.session_client.specs.declared.replies.Wanted.{Wanted}
 use Rattle.session_client.specs.declared.replies.Wanted.TheVariants as wanted
+use Rattle.session_client.specs.declared.stages.Next.{Next}
 use Rattle.session_client.specs.declared.stages.Release.{Release}
 use Rattle.session_client.specs.declared.stages.Release.TheVariants as releases
 use Rattle.session_client.specs.declared.stages.WriteStage.{WriteStage}
 use Rattle.session_client.specs.declared.stages.WriteStage.TheVariants as stages
 use Rattle.session_client.specs.Follows.{CommitAwaits, HasNew, IsEnding, IsNext, IsOut, PartsFollow, WriteIsReady, write_is_over}
 use Rattle.session_client.specs.Plans.{mode_on}
-use Rattle.session_client.specs.Wants.{Given, Writing, Then, Commits, Looks, Quits, Drops, given, granted, released, is_had, is_nothing}
-use Rattle.session_client.specs.Wants.{quarantine_as, quarantine_next, quarantine_or_then, release_after, release_of, finish, write_wants}
+use Rattle.session_client.specs.Wants.{Given, Writing, Then, Commits, Looks, Quits, Raises, Renews, Drops, given, granted, released, is_had, is_nothing}
+use Rattle.session_client.specs.Wants.{quarantine_as, quarantine_next, quarantine_or_then, raise_or_commit, renew_or_commit, turned, release_after, release_of, finish, write_wants}
 use Rattle.session_client.specs.Wants.{commit_outcome, end_outcome}
 use Rattle.session_client.specs.Grants.{GrantsView}
 use Rattle.session_client.specs.Wants as wants
@@ -157,6 +158,14 @@ lets_go wants.Keeps txn one = refl
 lets_go wants.Drops txn one = refl
 lets_go (wants.Finishes number) txn one = finishes one.permit.mode txn number one
 
+raises : (writing : Writing) (heard : List Reply) (o : Option Permit) → is_nothing (raise_or_commit writing heard o) ≡ false
+raises writing heard (Some grant) = refl
+raises writing heard None = refl
+
+renews : (writing : Writing) (heard : List Reply) (o : Option Permit) → is_nothing (renew_or_commit writing heard o) ≡ false
+renews writing heard (Some grant) = refl
+renews writing heard None = refl
+
 asks : (writing : Writing) (heard : List Reply) (o : Option QKey)
     → slice_get writing.keys (count_by is_had heard) ≡ o → count_by is_had heard < length writing.keys
     → is_nothing (quarantine_or_then writing heard o) ≡ false
@@ -181,25 +190,31 @@ goes_on txn how heard items left some =
     subst (λ o. is_nothing (release_of txn how o) ≡ false) (sym next.at) (lets_go how txn next.one)
 
 -- a writer that isn't at its end wants something
-pub wants_more : (writing : Writing) (hand : HandView) (stage : WriteStage) (short : Bool) (heard : List Reply)
-    → HasRoom writing.keys hand stage → WriteIsReady stage → write_is_over stage ≡ false
+pub wants_more : (next : Next) (writing : Writing) (hand : HandView) (stage : WriteStage) (short : Bool) (heard : List Reply)
+    → HasRoom next writing.keys hand stage → WriteIsReady stage → write_is_over stage ≡ false
     → PartsFollow writing hand stage short heard → is_nothing (write_wants writing short heard) ≡ false
-wants_more writing hand (stages.Quarantining count txn) short heard room ready over h =
+wants_more next writing hand (stages.Quarantining count txn) short heard room ready over h =
     let less = room.0 in
     let counted = h.1 in
     ap is_nothing h.0 ∙ asks writing heard (slice_get writing.keys (count_by is_had heard)) refl (omega (arith, less, counted))
-wants_more writing hand (stages.Getting key txn) short heard room ready over h = ap is_nothing h.0
-wants_more writing hand (stages.Staging key txn) short heard room ready over h = ap is_nothing h.0
-wants_more writing hand stages.Asking short heard room ready over h = absurd ready
-wants_more writing hand (stages.Ready txn) short heard room ready over h = ap is_nothing h.0
-wants_more writing hand stages.Committing short heard room ready over h = absurd ready
-wants_more writing hand (stages.Ending ended) short heard room ready over h = ap is_nothing h.0
-wants_more writing hand (stages.Releasing ended how) short heard room ready over h =
+wants_more next writing hand (stages.Getting key txn) short heard room ready over h = ap is_nothing h.0
+wants_more next writing hand (stages.Staging key txn) short heard room ready over h = ap is_nothing h.0
+wants_more next writing hand stages.Asking short heard room ready over h = absurd ready
+wants_more next writing hand (stages.Raising place txn) short heard room ready over h =
+    ap is_nothing h.0 ∙ raises writing heard (slice_get (granted heard) (turned heard))
+wants_more next writing hand (stages.Raised place txn) short heard room ready over h = absurd ready
+wants_more next writing hand (stages.Renewing place txn) short heard room ready over h =
+    ap is_nothing h.0 ∙ renews writing heard (slice_get (granted heard) (turned heard))
+wants_more next writing hand (stages.Renewed place txn) short heard room ready over h = absurd ready
+wants_more next writing hand (stages.Ready txn) short heard room ready over h = ap is_nothing h.0
+wants_more next writing hand stages.Committing short heard room ready over h = absurd ready
+wants_more next writing hand (stages.Ending ended) short heard room ready over h = ap is_nothing h.0
+wants_more next writing hand (stages.Releasing ended how) short heard room ready over h =
     ap is_nothing h.0 ∙ goes_on writing.txn (release_as how) heard hand.grants.items h.1.0 room.0
-wants_more writing hand (stages.Returning ended how back) short heard room ready over h = absurd ready
-wants_more writing hand (stages.Dropping ended how) short heard room ready over h =
+wants_more next writing hand (stages.Returning ended how back) short heard room ready over h = absurd ready
+wants_more next writing hand (stages.Dropping ended how) short heard room ready over h =
     ap is_nothing h.0 ∙ goes_on writing.txn wants.Drops heard hand.grants.items h.1.0 room.0
-wants_more writing hand (stages.Done ended) short heard room ready over h = cc
+wants_more next writing hand (stages.Done ended) short heard room ready over h = cc
 
 -- a writer that isn't done isn't at its end
 pub not_over : (stage : WriteStage) → ((ended : Outcome) → stage ≡ stages.Done ended → ⊥) → write_is_over stage ≡ false
@@ -308,6 +323,8 @@ ended_so : (next : Then) (ended : Outcome) → end_outcome next (Some ended) ≡
 ended_so Commits ended = refl
 ended_so (Looks key) ended = refl
 ended_so Quits ended = refl
+ended_so Raises ended = refl
+ended_so Renews ended = refl
 
 -- a writer that was told of its commit, with memory for the new values, finishes its grants
 pub committed_wants : (writing : Writing) (number : ℕ) (txn : List Change) (back : GrantsView) (short : Bool) (heard : List Reply) → short ≡ false

@@ -7,11 +7,14 @@ use Rattle.lease_table.specs.declared.records.Mode.{Mode}
 use Rattle.key_shard.specs.Permit.{Permit}
 use Rattle.session_client.specs.declared.replies.Reply.{Reply}
 use Rattle.session_client.specs.Follows.{QuarantineAwaits}
-use Rattle.session_client.specs.Wants.{granted, grants_in}
+use Rattle.session_client.specs.Wants.{granted, granted_by, grants_in, turned}
 
--- a reply that brings no grant adds none
-pub granted_none : (told : Reply) (heard : List Reply) → grants_in told ≡ [] → granted (told ∷ heard) ≡ granted heard
-granted_none told heard e = ap (λ (more : List Permit). granted heard ++ more) e ∙ append-nil (granted heard)
+-- a reply that brings no grant and changes none leaves what was granted
+pub granted_none : (told : Reply) (heard : List Reply) → grants_in told ≡ []
+    → granted_by told (turned heard) (granted heard) ≡ granted heard → granted (told ∷ heard) ≡ granted heard
+granted_none told heard e same =
+    ap (λ (more : List Permit). granted_by told (turned heard) (granted heard) ++ more) e
+    ∙ append-nil (granted_by told (turned heard) (granted heard)) ∙ same
 
 -- a quarantine of a key that is there
 pub record OfKey (who : Sid) (mode : Mode) (key : Option QKey) (told : Reply) : Type 0 where

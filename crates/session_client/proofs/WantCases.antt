@@ -1,6 +1,6 @@
 -- What a session wants, by cases of what it was told, and which keys it quarantines.
 use Rattle.std.proofs.Common.{append-nil, ℕ, zero, suc, ◌≡◌, ◌+◌, ◌<◌, Bool, true, false, not, nat_lt, List, [], ◌∷◌, ◌++◌, length}
-use Rattle.std.proofs.Common.{append_assoc, count_by, map, Option, Some, None, slice_get, get_or, AllPairs, refl, sym, ap, subst, ◌∙◌, inl}
+use Rattle.std.proofs.Common.{append_assoc, count_by, map, Option, Some, None, slice_get, get_or, All, AllPairs, refl, sym, ap, subst, ◌∙◌, inl}
 use Rattle.std.proofs.Common.{inr, ◌⊎◌, arith}
 use Rattle.std.proofs.lemmas.Bool.{cases_order, cond_both}
 use Rattle.std.proofs.lemmas.Bool.Decides.{nat_tests}
@@ -17,29 +17,52 @@ use Rattle.key_shard.specs.Permit.{Permit}
 use Rattle.key_shard.specs.declared.replies.Got.{Got}
 use Rattle.key_shard.specs.declared.replies.Got.TheVariants as got
 use Rattle.key_shard.specs.declared.replies.QAnswer.TheVariants as quarantine
+use Rattle.key_shard.specs.declared.replies.Raising.TheVariants as raising
 use Rattle.sql_keeper.specs.declared.stores.Answer.{Answer}
 use Rattle.session_client.specs.declared.plans.Plan.{Plan}
-use Rattle.session_client.specs.declared.plans.Plan.TheVariants.{Read, Write, Look, Quit, Skip}
+use Rattle.session_client.specs.declared.plans.Plan.TheVariants.{Read, Write, Look, Quit, Skip, Raise, Renew}
 use Rattle.session_client.specs.declared.replies.Fault.{Fault}
 use Rattle.session_client.specs.declared.replies.Reply.{Reply}
 use Rattle.session_client.specs.declared.replies.Reply.TheVariants as reply
 use Rattle.session_client.specs.declared.replies.Wanted.{Wanted}
 use Rattle.session_client.specs.declared.replies.Wanted.TheVariants as wanted
 use Rattle.session_client.specs.Plans.{keys_of, mode_on, without_key}
+use Rattle.session_client.proofs.TurnLemmas.{map_set, map_remove}
+use Rattle.session_client.specs.Wants.{given_by, granted_by, turned, Raises, Renews, raise_or_commit, raise_next, renew_or_commit, renew_next}
 use Rattle.session_client.specs.Wants.{Given, given, given_in, granted, grants_in, is_had, released, was_committed, number_of, Then}
 use Rattle.session_client.specs.Wants.{Commits, Looks, Quits, Writing, quarantine_as, commit_with, then_wants, quarantine_or_then}
 use Rattle.session_client.specs.Wants.{quarantine_next, has_all, look_after, after_fault, Release, Keeps, Drops, Finishes, release_after}
 use Rattle.session_client.specs.Wants.{release_by, new_value, finish, release_of, release_next, write_wants, read_wants, set_after, agains}
 
--- the grants of what was heard later follow those of what was heard before
-pub grants-append : (new heard : List Reply) → granted (new ++ heard) ≡ granted heard ++ granted new
-grants-append [] heard = sym (append-nil (granted heard))
-grants-append (told ∷ new) heard = ap (λ l. l ++ grants_in told) (grants-append new heard) ∙ append_assoc (granted heard) (granted new) (grants_in told)
+-- a reply to a raise
+abbrev pub is_raise : Reply → Bool
+is_raise (reply.Raise told) = true
+is_raise other = false
 
--- what was given later follows what was given before
-pub given-append : (new heard : List Reply) → given (new ++ heard) ≡ given heard ++ given new
-given-append [] heard = sym (append-nil (given heard))
-given-append (told ∷ new) heard = ap (λ l. l ++ given_in told) (given-append new heard) ∙ append_assoc (given heard) (given new) (given_in told)
+-- such a reply alone changes what was granted before
+pub granted-kept : (told : Reply) (place : ℕ) (grants : List Permit) → is_raise told ≡ false → granted_by told place grants ≡ grants
+granted-kept (reply.Raise told) place grants e = cc
+granted-kept other place grants e = refl
+
+pub given-kept : (told : Reply) (place : ℕ) (ones : List Given) → is_raise told ≡ false → given_by told place ones ≡ ones
+given-kept (reply.Raise told) place ones e = cc
+given-kept other place ones e = refl
+
+-- without such a reply, the grants of what was heard later follow those of what was heard before
+pub grants-append : (new heard : List Reply) → All (λ told. is_raise told ≡ false) new → granted (new ++ heard) ≡ granted heard ++ granted new
+grants-append [] heard none = sym (append-nil (granted heard))
+grants-append (told ∷ new) heard none =
+    ap (λ l. l ++ grants_in told) (granted-kept told (turned (new ++ heard)) (granted (new ++ heard)) none.0 ∙ grants-append new heard none.1)
+    ∙ append_assoc (granted heard) (granted new) (grants_in told)
+    ∙ ap (λ l. granted heard ++ l ++ grants_in told) (sym (granted-kept told (turned new) (granted new) none.0))
+
+-- and so what was given later follows what was given before
+pub given-append : (new heard : List Reply) → All (λ told. is_raise told ≡ false) new → given (new ++ heard) ≡ given heard ++ given new
+given-append [] heard none = sym (append-nil (given heard))
+given-append (told ∷ new) heard none =
+    ap (λ l. l ++ given_in told) (given-kept told (turned (new ++ heard)) (given (new ++ heard)) none.0 ∙ given-append new heard none.1)
+    ∙ append_assoc (given heard) (given new) (given_in told)
+    ∙ ap (λ l. given heard ++ l ++ given_in told) (sym (given-kept told (turned new) (given new) none.0))
 
 -- the grants of what was given
 abbrev pub permits : List Given → List Permit
@@ -53,12 +76,21 @@ permits-in : (told : Reply) → grants_in told ≡ permits (given_in told)
 permits-in (reply.Quar (quarantine.Granted grant old)) = refl
 permits-in other = refl
 
+permits-by : (told : Reply) (place : ℕ) (ones : List Given) → granted_by told place (permits ones) ≡ permits (given_by told place ones)
+permits-by (reply.Raise (raising.Raised grant old)) place ones =
+    sym (map_set (λ (one : Given). one.permit) ones place (record { permit = grant; old = old }))
+permits-by (reply.Raise (raising.Shared grant holder)) place ones = refl
+permits-by (reply.Raise raising.Gone) place ones = sym (map_remove (λ (one : Given). one.permit) ones place)
+permits-by other place ones = refl
+
 -- the grants that a session was given are those of what it was given
 pub granted-given : (heard : List Reply) → granted heard ≡ permits (given heard)
 granted-given [] = refl
 granted-given (told ∷ heard) =
-    ap (λ l. l ++ grants_in told) (granted-given heard) ∙ ap (λ l. permits (given heard) ++ l) (permits-in told)
-    ∙ sym (permits-append (given heard) (given_in told))
+    ap (λ l. granted_by told (turned heard) l ++ grants_in told) (granted-given heard)
+    ∙ ap (λ l. l ++ grants_in told) (permits-by told (turned heard) (given heard))
+    ∙ ap (λ l. permits (given_by told (turned heard) (given heard)) ++ l) (permits-in told)
+    ∙ sym (permits-append (given_by told (turned heard) (given heard)) (given_in told))
 
 some_same : {X : Type 0} {a b : X} → Some a ≡ Some b → a ≡ b
 some_same e = cc
@@ -91,6 +123,9 @@ committed_told (reply.End was ∷ heard) = committed_told heard
 committed_told (reply.Rel told ∷ heard) = committed_told heard
 committed_told (reply.SarBack grant ∷ heard) = committed_told heard
 committed_told (reply.Fault fault ∷ heard) = committed_told heard
+committed_told (reply.Raise told ∷ heard) = committed_told heard
+committed_told (reply.RaiseBack grant ∷ heard) = committed_told heard
+committed_told (reply.Renew grant told ∷ heard) = committed_told heard
 committed_told (reply.Nothing ∷ heard) = committed_told heard
 
 pub uncommitted-none : (heard : List Reply) → was_committed heard ≡ false → number_of heard ≡ None
@@ -132,6 +167,9 @@ asking-goes (reply.Staged value txn ∷ heard) e = refl
 asking-goes (reply.NotStaged fault txn ∷ heard) e = refl
 asking-goes (reply.NotCommitted fault txn grants ∷ heard) e = refl
 asking-goes (reply.Fault fault ∷ heard) e = refl
+asking-goes (reply.Raise told ∷ heard) e = refl
+asking-goes (reply.RaiseBack grant ∷ heard) e = refl
+asking-goes (reply.Renew grant told ∷ heard) e = refl
 asking-goes (reply.Nothing ∷ heard) e = refl
 asking-goes (other ∷ heard) e = cc
 
@@ -139,18 +177,42 @@ asking-goes (other ∷ heard) e = cc
 abbrev pub AreOnce : List QKey → Type 0
 AreOnce keys = (i j : ℕ) (key : QKey) → slice_get keys i ≡ Some key → slice_get keys j ≡ Some key → i ≡ j
 
+-- what a writer wants that raises its quarantines, or renews them
+raise_cases : (P : Wanted → Type 0) (writing : Writing) (heard : List Reply)
+    → ((grant : Permit) → slice_get (granted heard) (turned heard) ≡ Some grant → P (wanted.Raise grant))
+    → P (commit_with writing heard) → P (raise_next writing heard)
+raise_cases P writing heard raise commit = by (slice_get (granted heard) (turned heard)) refl
+  where
+    by : (o : Option Permit) → slice_get (granted heard) (turned heard) ≡ o → P (raise_or_commit writing heard o)
+    by (Some grant) e = raise grant e
+    by None e = commit
+
+renew_cases : (P : Wanted → Type 0) (writing : Writing) (heard : List Reply)
+    → ((grant : Permit) → slice_get (granted heard) (turned heard) ≡ Some grant → P (wanted.Renew grant))
+    → P (commit_with writing heard) → P (renew_next writing heard)
+renew_cases P writing heard renew commit = by (slice_get (granted heard) (turned heard)) refl
+  where
+    by : (o : Option Permit) → slice_get (granted heard) (turned heard) ≡ o → P (renew_or_commit writing heard o)
+    by (Some grant) e = renew grant e
+    by None e = commit
+
 -- what a writer wants that quarantines its keys
 next_cases : (P : Wanted → Type 0) (writing : Writing) (heard : List Reply)
     → ((key : QKey) → slice_get writing.keys (count_by is_had heard) ≡ Some key → P (quarantine_as (mode_on writing.mode key) key writing.txn))
     → P (commit_with writing heard)
     → ((key : QKey) → writing.next ≡ Looks key → slice_get writing.keys (count_by is_had heard) ≡ None → P (wanted.Get key 0))
-    → P wanted.End → P (quarantine_next writing heard)
-next_cases P writing heard ask commit get end = by (slice_get writing.keys (count_by is_had heard)) refl
+    → P wanted.End
+    → ((grant : Permit) → slice_get (granted heard) (turned heard) ≡ Some grant → P (wanted.Raise grant))
+    → ((grant : Permit) → slice_get (granted heard) (turned heard) ≡ Some grant → P (wanted.Renew grant))
+    → P (quarantine_next writing heard)
+next_cases P writing heard ask commit get end raise renew = by (slice_get writing.keys (count_by is_had heard)) refl
   where
     after : slice_get writing.keys (count_by is_had heard) ≡ None → (next : Then) → writing.next ≡ next → P (then_wants next writing heard)
     after none Commits e = commit
     after none (Looks key) e = get key e none
     after none Quits e = end
+    after none Raises e = raise_cases P writing heard raise commit
+    after none Renews e = renew_cases P writing heard renew commit
 
     by : (o : Option QKey) → slice_get writing.keys (count_by is_had heard) ≡ o → P (quarantine_or_then writing heard o)
     by (Some key) e = ask key e
@@ -211,10 +273,13 @@ release_cases P writing short heard abort dar sar apply nothing = by heard refl
     by (reply.End was ∷ rest) e = kept (reply.End was ∷ rest) refl e
     by (reply.Rel told ∷ rest) e = kept (reply.Rel told ∷ rest) refl e
     by (reply.Fault fault ∷ rest) e = kept (reply.Fault fault ∷ rest) refl e
+    by (reply.Raise told ∷ rest) e = kept (reply.Raise told ∷ rest) refl e
+    by (reply.RaiseBack grant ∷ rest) e = kept (reply.RaiseBack grant ∷ rest) refl e
+    by (reply.Renew grant told ∷ rest) e = kept (reply.Renew grant told ∷ rest) refl e
     by (reply.Nothing ∷ rest) e = kept (reply.Nothing ∷ rest) refl e
 
--- what a writer wants: a quarantine, a commit, its own key, the store's answer after
--- its transaction, to be ended, one of four releases of the next grant, or nothing
+-- what a writer wants: a quarantine, a commit, its own key, the store's answer after its transaction,
+-- to be ended, a raise or a renewal of the next grant, one of four releases of the next grant, or nothing
 pub write_cases : (P : Wanted → Type 0) (writing : Writing) (short : Bool) (heard : List Reply)
     → ((key : QKey) → slice_get writing.keys (count_by is_had heard) ≡ Some key
     → is_asking heard ≡ true → P (quarantine_as (mode_on writing.mode key) key writing.txn))
@@ -222,6 +287,8 @@ pub write_cases : (P : Wanted → Type 0) (writing : Writing) (short : Bool) (he
     → ((key : QKey) → writing.next ≡ Looks key → is_asking heard ≡ true → slice_get writing.keys (count_by is_had heard) ≡ None → P (wanted.Get key 0))
     → ((key : QKey) → writing.next ≡ Looks key → is_ending heard ≡ false → P (wanted.Staged key writing.txn))
     → (is_ending heard ≡ false → P wanted.End)
+    → ((grant : Permit) → slice_get (granted heard) (turned heard) ≡ Some grant → is_ending heard ≡ false → P (wanted.Raise grant))
+    → ((grant : Permit) → slice_get (granted heard) (turned heard) ≡ Some grant → is_ending heard ≡ false → P (wanted.Renew grant))
     → ((one : Given) → slice_get (given heard) (released heard) ≡ Some one → is_ending heard ≡ true → number_of heard ≡ None → P (wanted.Abort one.permit))
     → ((one : Given) → slice_get (given heard) (released heard) ≡ Some one → is_ending heard ≡ true → P (wanted.Dar one.permit))
     → ((one : Given) (number : ℕ) → slice_get (given heard) (released heard) ≡ Some one
@@ -231,7 +298,7 @@ pub write_cases : (P : Wanted → Type 0) (writing : Writing) (short : Bool) (he
     → is_ending heard ≡ true → number_of heard ≡ Some number → one.permit.mode ≡ mode.Delta
     → P (wanted.Apply one.permit number))
     → P wanted.Nothing → P (write_wants writing short heard)
-write_cases P writing short heard ask commit get staged end abort dar sar apply nothing = by heard refl
+write_cases P writing short heard ask commit get staged end raise renew abort dar sar apply nothing = by heard refl
   where
     due : (told : Reply) (rest : List Reply) → heard ≡ told ∷ rest → is_ending (told ∷ rest) ≡ true → P (release_next writing short (told ∷ rest))
     due told rest e ending =
@@ -243,9 +310,20 @@ write_cases P writing short heard ask commit get staged end abort dar sar apply 
 
     next : is_asking heard ≡ true → is_ending heard ≡ false → P (quarantine_next writing heard)
     next asks going = next_cases P writing heard (λ key at. ask key at asks) (commit going) (λ key looks none. get key looks asks none) (end going)
+        (λ grant at. raise grant at going) (λ grant at. renew grant at going)
 
     more : (l : List Reply) → heard ≡ l → is_asking l ≡ true → is_ending l ≡ false → P (quarantine_next writing l)
     more l e asks going = subst (λ l. P (quarantine_next writing l)) e (next (ap is_asking e ∙ asks) (ap is_ending e ∙ going))
+
+    raises : (l : List Reply) → heard ≡ l → is_ending l ≡ false → P (raise_next writing l)
+    raises l e going =
+        let goes : is_ending heard ≡ false = ap is_ending e ∙ going in
+        subst (λ l. P (raise_next writing l)) e (raise_cases P writing heard (λ grant at. raise grant at goes) (commit goes))
+
+    renews : (l : List Reply) → heard ≡ l → is_ending l ≡ false → P (renew_next writing l)
+    renews l e going =
+        let goes : is_ending heard ≡ false = ap is_ending e ∙ going in
+        subst (λ l. P (renew_next writing l)) e (renew_cases P writing heard (λ grant at. renew grant at goes) (commit goes))
 
     committing : (told : Reply) (rest : List Reply) → heard ≡ told ∷ rest
         → is_ending (told ∷ rest) ≡ false → granted (told ∷ rest) ≡ granted rest → P (commit_with writing rest)
@@ -260,6 +338,8 @@ write_cases P writing short heard ask commit get staged end abort dar sar apply 
     looked (got.Again stands) rest e (Looks key) looks = committing (reply.Got (got.Again stands)) rest e refl (append-nil (granted rest))
     looked found rest e Commits looks = committing (reply.Got found) rest e refl (append-nil (granted rest))
     looked found rest e Quits looks = committing (reply.Got found) rest e refl (append-nil (granted rest))
+    looked found rest e Raises looks = committing (reply.Got found) rest e refl (append-nil (granted rest))
+    looked found rest e Renews looks = committing (reply.Got found) rest e refl (append-nil (granted rest))
 
     faulty : (fault : Fault) (rest : List Reply) → heard ≡ reply.Fault fault ∷ rest → (b : Bool) → P (after_fault b writing rest)
     faulty fault rest e true = committing (reply.Fault fault) rest e refl (append-nil (granted rest))
@@ -274,6 +354,9 @@ write_cases P writing short heard ask commit get staged end abort dar sar apply 
     by (reply.Got found ∷ rest) e = looked found rest e writing.next refl
     by (reply.Staged value txn ∷ rest) e = committing (reply.Staged value txn) rest e refl (append-nil (granted rest))
     by (reply.NotStaged fault txn ∷ rest) e = committing (reply.NotStaged fault txn) rest e refl (append-nil (granted rest))
+    by (reply.Raise told ∷ rest) e = raises (reply.Raise told ∷ rest) e refl
+    by (reply.RaiseBack grant ∷ rest) e = raises (reply.RaiseBack grant ∷ rest) e refl
+    by (reply.Renew grant told ∷ rest) e = renews (reply.Renew grant told ∷ rest) e refl
     by (reply.NotCommitted fault txn grants ∷ rest) e = end (ap is_ending e)
     by (reply.Committed number txn grants ∷ rest) e = due (reply.Committed number txn grants) rest e refl
     by (reply.End was ∷ rest) e = due (reply.End was) rest e refl
@@ -337,3 +420,5 @@ plan-once (Write mode txn) = footprint-once txn
 plan-once (Look mode key txn) = footprint-once txn
 plan-once (Quit mode txn) = footprint-once txn
 plan-once (Skip key txn) = skipped-once key txn
+plan-once (Raise txn) = footprint-once txn
+plan-once (Renew mode txn) = footprint-once txn

@@ -1,5 +1,5 @@
-ghost use Rattle.std.specs.Prelude.{◌≡◌, ◌↔◌, ◌<◌, ◌≤◌, ◌+◌, List, [], ◌∷◌, ◌++◌, Option, Some, ℕ, length, drop, slice_get, IsTrue, IfOk, OnErr, OnOk};
-ghost use Rattle.std.specs.List.{Any};
+ghost use Rattle.std.specs.Prelude.{◌≡◌, ◌↔◌, ◌<◌, ◌≤◌, ◌+◌, List, [], ◌∷◌, ◌++◌, Option, Some, ℕ, length, drop, set, slice_get, IsTrue, IfOk, OnErr, OnOk};
+ghost use Rattle.std.specs.List.{Any, insert, remove};
 ghost use Rattle.std.specs.Option.{option_map};
 ghost use Rattle.key_shard.specs.Permit.{Permit};
 ghost use Rattle.session_client.specs.Belongs.{AreBack};
@@ -58,6 +58,30 @@ impl Hand {
         ensures { result.now ≡ self.now.grants }
     {
         &self.grants
+    }
+
+    /// How many grants are in hand.
+    pub fn len(&self) -> usize
+        ensures { result ≡ length self.now.grants.items }
+    {
+        self.grants.len()
+    }
+
+    /// What the grant at this place, from 0, says.
+    pub fn note(&self, place: usize) -> &Note
+        requires { place < length self.now.given }
+        ensures { slice_get self.now.given place ≡ Some result.now }
+    {
+        &self.notes[place]
+    }
+
+    /// The place behind this one.
+    pub fn behind(&self, place: usize) -> usize
+        requires { place < length self.now.given }
+        ensures { result ≡ place + 1 }
+    {
+        let count = self.notes.len();
+        if place < count { place + 1 } else { count }
     }
 
     /// Puts a grant last, and beside it the old value that came along.
@@ -176,6 +200,67 @@ impl Hand {
         } }
     {
         self.grants.put_back(0, grant);
+    }
+
+    /// Takes out the grant at this place.
+    pub fn take_at(&mut self, place: usize) -> Grant
+        requires { place < length self.old.grants.items }
+        ensures grant { slice_get self.old.grants.items place ≡ Some result }
+        ensures hand { self.new ≡ record {
+          room = self.old.room;
+          given = self.old.given;
+          grants = record { items = remove self.old.grants.items place; room = self.old.grants.room };
+          values = self.old.values;
+        } }
+    {
+        self.grants.take(place)
+    }
+
+    /// Puts a grant back in at this place.
+    pub fn put_at(&mut self, place: usize, grant: Grant)
+        requires room { length self.old.grants.items < self.old.grants.room }
+        requires place { place ≤ length self.old.grants.items }
+        ensures { self.new ≡ record {
+          room = self.old.room;
+          given = self.old.given;
+          grants = record { items = insert self.old.grants.items place grant; room = self.old.grants.room };
+          values = self.old.values;
+        } }
+    {
+        self.grants.put_back(place, grant);
+    }
+
+    /// Puts a grant that was raised back in at this place, and beside it the old value that came along.
+    pub fn put_raised(&mut self, place: usize, grant: Grant, old: Option<(Value, u64)>)
+        requires room { length self.old.grants.items < self.old.grants.room }
+        requires place { place ≤ length self.old.grants.items }
+        requires given { place < length self.old.given }
+        requires values { place < length self.old.values }
+        ensures { self.new ≡ record {
+          room = self.old.room;
+          given = set self.old.given place grant;
+          grants = record { items = insert self.old.grants.items place grant; room = self.old.grants.room };
+          values = set self.old.values place (option_map (λ (o : List ℕ × ℕ). o.0) old);
+        } }
+    {
+        self.notes[place] = Note::of(&grant);
+        self.grants.put_back(place, grant);
+        self.values[place] = old.map(|(value, _)| value);
+    }
+
+    /// Forgets the grant at this place, which is spent, and the value beside it.
+    pub fn forget(&mut self, place: usize)
+        requires given { place < length self.old.given }
+        requires values { place < length self.old.values }
+        ensures { self.new ≡ record {
+          room = self.old.room;
+          given = remove self.old.given place;
+          grants = self.old.grants;
+          values = remove self.old.values place;
+        } }
+    {
+        self.notes.remove(place);
+        self.values.remove(place);
     }
 
     /// Lets go of the grants. Their quarantines are not ended by that, and stand until others end them.

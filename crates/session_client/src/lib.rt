@@ -15,6 +15,7 @@ mod looks;
 mod notes;
 pub mod plans;
 mod quarantines;
+mod raises;
 mod readers;
 mod releases;
 pub mod replies;

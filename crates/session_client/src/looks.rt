@@ -6,6 +6,7 @@ ghost use Rattle.session_client.specs.Writers.{HandView, HasRoom, HoldsAll};
 ghost use Rattle.rows_model.specs.declared.keys.QKey.{QKey};
 ghost use Rattle.session_client.specs.declared.replies.Reply.{Reply};
 ghost use Rattle.session_client.specs.declared.replies.Reply.TheVariants as Reply;
+ghost use Rattle.session_client.specs.declared.stages.Next.{Next};
 ghost use Rattle.session_client.specs.declared.stages.WriteStage.TheVariants as WriteStage;
 
 use crate::changes::are_same;
@@ -24,6 +25,9 @@ pub fn answers_get(reply: &Reply) -> bool
         Reply::Answer { .. }
         | Reply::Set { .. }
         | Reply::Quar { .. }
+        | Reply::Raise { .. }
+        | Reply::RaiseBack { .. }
+        | Reply::Renew { .. }
         | Reply::Staged { .. }
         | Reply::NotStaged { .. }
         | Reply::Committed { .. }
@@ -47,6 +51,9 @@ pub fn answers_staged(changes: &[Change], reply: &Reply) -> bool
         | Reply::Answer { .. }
         | Reply::Set { .. }
         | Reply::Quar { .. }
+        | Reply::Raise { .. }
+        | Reply::RaiseBack { .. }
+        | Reply::Renew { .. }
         | Reply::Committed { .. }
         | Reply::NotCommitted { .. }
         | Reply::End { .. }
@@ -61,7 +68,8 @@ pub fn answers_staged(changes: &[Change], reply: &Reply) -> bool
 /// expire.
 fn stage_after_got(key: QKey, txn: Txn, got: Got) -> WriteStage
     ensures ready { WriteIsReady result }
-    ensures room { (keys : List QKey) (hand : HandView) → HoldsAll hand → HasRoom keys hand result }
+    ensures room { (next : Next) (keys : List QKey) (hand : HandView) → HoldsAll hand →
+        HasRoom next keys hand result }
     ensures follows { (writing : Writing) (hand : HandView) (short : Bool) (heard : List Reply) →
         PartsFollow writing hand (WriteStage.Getting key txn) short heard →
         PartsFollow writing hand result short (Reply.Got got ∷ heard) }
@@ -76,7 +84,8 @@ fn stage_after_got(key: QKey, txn: Txn, got: Got) -> WriteStage
 pub fn stage_after_get(key: QKey, txn: Txn, reply: Reply) -> WriteStage
     requires { GetAwaits reply }
     ensures ready { WriteIsReady result }
-    ensures room { (keys : List QKey) (hand : HandView) → HoldsAll hand → HasRoom keys hand result }
+    ensures room { (next : Next) (keys : List QKey) (hand : HandView) → HoldsAll hand →
+        HasRoom next keys hand result }
     ensures given { (heard : List Reply) → granted (reply ∷ heard) ≡ granted heard }
     ensures follows { (writing : Writing) (hand : HandView) (short : Bool) (heard : List Reply) →
         PartsFollow writing hand (WriteStage.Getting key txn) short heard →
@@ -88,6 +97,9 @@ pub fn stage_after_get(key: QKey, txn: Txn, reply: Reply) -> WriteStage
         other @ (Reply::Answer { .. }
         | Reply::Set { .. }
         | Reply::Quar { .. }
+        | Reply::Raise { .. }
+        | Reply::RaiseBack { .. }
+        | Reply::Renew { .. }
         | Reply::Staged { .. }
         | Reply::NotStaged { .. }
         | Reply::Committed { .. }
@@ -106,7 +118,8 @@ pub fn stage_after_get(key: QKey, txn: Txn, reply: Reply) -> WriteStage
 pub fn stage_after_staged(reply: Reply) -> WriteStage
     requires { (changes : List Change) × StagedAwaits changes reply }
     ensures ready { WriteIsReady result }
-    ensures room { (keys : List QKey) (hand : HandView) → HoldsAll hand → HasRoom keys hand result }
+    ensures room { (next : Next) (keys : List QKey) (hand : HandView) → HoldsAll hand →
+        HasRoom next keys hand result }
     ensures given { (heard : List Reply) → granted (reply ∷ heard) ≡ granted heard }
     ensures follows { (writing : Writing) (hand : HandView) (short : Bool) (heard : List Reply) →
         StagedAwaits writing.txn reply →
@@ -120,6 +133,9 @@ pub fn stage_after_staged(reply: Reply) -> WriteStage
         | Reply::Answer { .. }
         | Reply::Set { .. }
         | Reply::Quar { .. }
+        | Reply::Raise { .. }
+        | Reply::RaiseBack { .. }
+        | Reply::Renew { .. }
         | Reply::Committed { .. }
         | Reply::NotCommitted { .. }
         | Reply::End { .. }

@@ -26,6 +26,8 @@ impl Model for Note {
 }
 
 impl Note {
+    ghost use Rattle.session_client.specs.Belongs.{IsRaised};
+
     /// What the grant says.
     pub fn of(grant: &Grant) -> Note
         ensures { result ≡ grant.now }
@@ -62,6 +64,16 @@ impl Note {
             && self.sid == grant.sid()
             && self.mode == grant.mode()
             && self.token == grant.token()
+    }
+
+    /// Whether the grant is the one that said this, once its quarantine is raised.
+    pub fn is_raised_to(&self, grant: &Grant) -> bool
+        ensures { IsTrue result ↔ IsRaised self.now grant.now }
+    {
+        self.key == grant.key()
+            && self.sid == grant.sid()
+            && self.token == grant.token()
+            && grant.mode() == Mode::Refresh
     }
 }
 

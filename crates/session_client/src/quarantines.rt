@@ -1,11 +1,11 @@
 ghost use Rattle.std.specs.Prelude.{◌≡◌, ◌<◌, ◌≤◌, ◌↔◌, List, ◌∷◌, Bool, Some, slice_get, length, count_by, IsTrue};
 ghost use Rattle.rows_model.specs.declared.changes.Change.{Change};
-ghost use Rattle.session_client.specs.Belongs.{Belongs};
+ghost use Rattle.session_client.specs.Belongs.{Belongs, IsQuarantineOf};
 ghost use Rattle.session_client.specs.Desks.{IsProper};
 ghost use Rattle.session_client.specs.Follows.{IsOpen, PartsFollow, QuarantineAwaits, WriteIsReady};
 ghost use Rattle.session_client.specs.Plans.{mode_on};
-ghost use Rattle.session_client.specs.Wants.{Writing, granted, is_had, quarantine_as, quarantine_next, write_wants};
-ghost use Rattle.session_client.specs.Writers.{HasRoom, HandView, HoldsAll, then_as};
+ghost use Rattle.session_client.specs.Wants.{Writing, granted, is_had, turned, quarantine_as, quarantine_next, write_wants};
+ghost use Rattle.session_client.specs.Writers.{AreFor, HasRoom, HandView, HoldsAll, Suits, then_as};
 ghost use Rattle.session_client.specs.declared.replies.Reply.{Reply};
 ghost use Rattle.session_client.specs.declared.replies.Reply.TheVariants as Reply;
 ghost use Rattle.session_client.specs.declared.stages.WriteStage.TheVariants as WriteStage;
@@ -63,6 +63,9 @@ pub fn answers_quarantine(who: Sid, mode: Mode, key: &QKey, reply: &Reply) -> bo
         Reply::Got { .. }
         | Reply::Answer { .. }
         | Reply::Set { .. }
+        | Reply::Raise { .. }
+        | Reply::RaiseBack { .. }
+        | Reply::Renew { .. }
         | Reply::Staged { .. }
         | Reply::NotStaged { .. }
         | Reply::Committed { .. }
@@ -78,11 +81,13 @@ pub fn answers_quarantine(who: Sid, mode: Mode, key: &QKey, reply: &Reply) -> bo
 pub fn stage_with(keys: &[QKey], next: Next, count: usize, txn: Txn) -> WriteStage
     ensures ready { WriteIsReady result }
     ensures room { (hand : HandView) → HoldsAll hand → length hand.given ≤ count →
-        hand.grants.room ≡ length keys.now → HasRoom keys.now hand result }
+        hand.grants.room ≡ length keys.now → AreFor next hand.grants.items →
+        HasRoom next keys.now hand result }
     ensures follows { (writing : Writing) (hand : HandView) (short : Bool) (heard : List Reply) →
         writing.keys ≡ keys.now → writing.next ≡ then_as next →
         write_wants writing short heard ≡ quarantine_next writing heard →
-        count_by is_had heard ≡ count → txn ≡ writing.txn → IsOpen writing hand short heard →
+        count_by is_had heard ≡ count → turned heard ≡ 0 → txn ≡ writing.txn →
+        IsOpen writing hand short heard →
         PartsFollow writing hand result short heard }
 {
     if count < keys.len() {
@@ -94,6 +99,8 @@ pub fn stage_with(keys: &[QKey], next: Next, count: usize, txn: Txn) -> WriteSta
         Next::Quit => WriteStage::Ending {
             outcome: Outcome::Quit,
         },
+        Next::Raise => WriteStage::Raising { place: 0, txn },
+        Next::Renew => WriteStage::Renewing { place: 0, txn },
     }
 }
 
@@ -107,10 +114,12 @@ fn stage_after_answer(
     txn: Txn,
     told: QAnswer,
 ) -> WriteStage
-    requires room { HasRoom keys.now hand.old (WriteStage.Quarantining count txn) }
+    requires room { HasRoom next keys.now hand.old (WriteStage.Quarantining count txn) }
     requires as_long { hand.old.room ≡ length keys.now }
+    requires quarantine { (who : Sid) × (mode : Mode) × (key : QKey) × Suits next mode
+        × IsQuarantineOf who key (mode_on mode key) told }
     ensures ready { WriteIsReady result }
-    ensures room { HasRoom keys.now hand.new result }
+    ensures room { HasRoom next keys.now hand.new result }
     ensures as_long { hand.new.room ≡ hand.old.room }
     ensures given { (heard : List Reply) → hand.old.given ≡ granted heard →
         hand.new.given ≡ granted (Reply.Quar told ∷ heard) }
@@ -141,12 +150,12 @@ pub fn stage_after_quarantine(
     txn: Txn,
     reply: Reply,
 ) -> WriteStage
-    requires room { HasRoom keys.now hand.old (WriteStage.Quarantining count txn) }
+    requires room { HasRoom next keys.now hand.old (WriteStage.Quarantining count txn) }
     requires as_long { hand.old.room ≡ length keys.now }
-    requires quarantine { (who : Sid) × (mode : Mode) × (key : QKey)
+    requires quarantine { (who : Sid) × (mode : Mode) × (key : QKey) × Suits next mode
         × QuarantineAwaits who mode (Some key) reply }
     ensures ready { WriteIsReady result }
-    ensures room { HasRoom keys.now hand.new result }
+    ensures room { HasRoom next keys.now hand.new result }
     ensures as_long { hand.new.room ≡ hand.old.room }
     ensures given { (heard : List Reply) → hand.old.given ≡ granted heard →
         hand.new.given ≡ granted (reply ∷ heard) }
@@ -163,6 +172,9 @@ pub fn stage_after_quarantine(
         other @ (Reply::Got { .. }
         | Reply::Answer { .. }
         | Reply::Set { .. }
+        | Reply::Raise { .. }
+        | Reply::RaiseBack { .. }
+        | Reply::Renew { .. }
         | Reply::Staged { .. }
         | Reply::NotStaged { .. }
         | Reply::Committed { .. }

@@ -111,6 +111,9 @@ impl Reader {
             },
             Reply::Nothing => matches!(self.stage, ReadStage::Done { .. }),
             Reply::Quar { .. }
+            | Reply::Raise { .. }
+            | Reply::RaiseBack { .. }
+            | Reply::Renew { .. }
             | Reply::Staged { .. }
             | Reply::NotStaged { .. }
             | Reply::Committed { .. }
@@ -188,6 +191,9 @@ fn next_stage(key: QKey, stage: ReadStage, reply: Reply) -> ReadStage
             outcome: Outcome::Failed { fault },
         },
         other @ (Reply::Quar { .. }
+        | Reply::Raise { .. }
+        | Reply::RaiseBack { .. }
+        | Reply::Renew { .. }
         | Reply::Staged { .. }
         | Reply::NotStaged { .. }
         | Reply::Committed { .. }

@@ -10,6 +10,7 @@ ghost use Rattle.session_client.specs.Follows.{CommitAwaits, IsEnding, IsRefresh
 ghost use Rattle.session_client.specs.Wants.{Given, Writing, given, granted, released, release_of, finish, write_wants};
 ghost use Rattle.session_client.specs.Writers.{HandView, HasRoom, IsNewBeside, IsPaired, release_as};
 ghost use Rattle.session_client.specs.declared.replies.Reply.{Reply};
+ghost use Rattle.session_client.specs.declared.stages.Next.{Next};
 ghost use Rattle.session_client.specs.declared.stages.Release.TheVariants as Release;
 ghost use Rattle.session_client.specs.declared.stages.WriteStage.TheVariants as WriteStage;
 
@@ -43,6 +44,9 @@ pub fn answers_commit(hand: &Hand, changes: &[Change], reply: &Reply) -> bool
         | Reply::Answer { .. }
         | Reply::Set { .. }
         | Reply::Quar { .. }
+        | Reply::Raise { .. }
+        | Reply::RaiseBack { .. }
+        | Reply::Renew { .. }
         | Reply::Staged { .. }
         | Reply::NotStaged { .. }
         | Reply::End { .. }
@@ -67,6 +71,9 @@ pub fn answers_release(back: &Option<Note>, reply: &Reply) -> bool
         | Reply::Answer { .. }
         | Reply::Set { .. }
         | Reply::Quar { .. }
+        | Reply::Raise { .. }
+        | Reply::RaiseBack { .. }
+        | Reply::Renew { .. }
         | Reply::Staged { .. }
         | Reply::NotStaged { .. }
         | Reply::Committed { .. }
@@ -131,7 +138,7 @@ pub fn release(how: Release, grant: Grant, value: Option<Value>) -> (Wanted, Opt
 fn releasing(hand: &Hand, outcome: Outcome, how: Release) -> WriteStage
     requires { IsPaired hand.now }
     ensures ready { WriteIsReady result }
-    ensures room { (keys : List QKey) → HasRoom keys hand.now result }
+    ensures room { (next : Next) (keys : List QKey) → HasRoom next keys hand.now result }
     ensures follows { (writing : Writing) (short : Bool) (heard : List Reply) →
         write_wants writing short heard
         ≡ release_of writing.txn (release_as how) (slice_get (given heard) (released heard)) →
@@ -157,7 +164,7 @@ pub fn stage_after_commit(
     requires awaits { (changes : List Change)
         × CommitAwaits changes (record { items = hand.old.given; room = hand.old.room }) reply }
     ensures ready { WriteIsReady result.0 }
-    ensures room { (keys : List QKey) → HasRoom keys hand.new result.0 }
+    ensures room { (next : Next) (keys : List QKey) → HasRoom next keys hand.new result.0 }
     ensures as_long { hand.new.room ≡ hand.old.room }
     ensures given { hand.new.given ≡ hand.old.given }
     ensures granted { (heard : List Reply) → granted (reply ∷ heard) ≡ granted heard }
@@ -205,6 +212,9 @@ pub fn stage_after_commit(
         | Reply::Answer { .. }
         | Reply::Set { .. }
         | Reply::Quar { .. }
+        | Reply::Raise { .. }
+        | Reply::RaiseBack { .. }
+        | Reply::Renew { .. }
         | Reply::Staged { .. }
         | Reply::NotStaged { .. }
         | Reply::End { .. }
@@ -224,7 +234,7 @@ pub fn stage_after_end(hand: &Hand, outcome: Outcome, reply: Reply) -> WriteStag
     requires awaits { (who : Sid) × (writing : Writing) × (given : List Permit)
         × StageAwaits who writing given (WriteStage.Ending outcome) reply }
     ensures ready { WriteIsReady result }
-    ensures room { (keys : List QKey) → HasRoom keys hand.now result }
+    ensures room { (next : Next) (keys : List QKey) → HasRoom next keys hand.now result }
     ensures granted { (heard : List Reply) → granted (reply ∷ heard) ≡ granted heard }
     ensures follows { (writing : Writing) (short : Bool) (heard : List Reply) →
         PartsFollow writing hand.now (WriteStage.Ending outcome) short heard →
@@ -236,6 +246,9 @@ pub fn stage_after_end(hand: &Hand, outcome: Outcome, reply: Reply) -> WriteStag
         | Reply::Answer { .. }
         | Reply::Set { .. }
         | Reply::Quar { .. }
+        | Reply::Raise { .. }
+        | Reply::RaiseBack { .. }
+        | Reply::Renew { .. }
         | Reply::Staged { .. }
         | Reply::NotStaged { .. }
         | Reply::Committed { .. }
@@ -262,7 +275,7 @@ pub fn stage_after_release(
     requires room { length hand.old.grants.items < hand.old.grants.room }
     requires awaits { (back : Option Permit) × ReleaseAwaits back reply }
     ensures ready { WriteIsReady result }
-    ensures room { (keys : List QKey) → HasRoom keys hand.new result }
+    ensures room { (next : Next) (keys : List QKey) → HasRoom next keys hand.new result }
     ensures as_long { hand.new.room ≡ hand.old.room }
     ensures given { hand.new.given ≡ hand.old.given }
     ensures granted { (heard : List Reply) → granted (reply ∷ heard) ≡ granted heard }
@@ -281,6 +294,9 @@ pub fn stage_after_release(
         | Reply::Answer { .. }
         | Reply::Set { .. }
         | Reply::Quar { .. }
+        | Reply::Raise { .. }
+        | Reply::RaiseBack { .. }
+        | Reply::Renew { .. }
         | Reply::Staged { .. }
         | Reply::NotStaged { .. }
         | Reply::Committed { .. }

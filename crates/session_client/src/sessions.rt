@@ -169,7 +169,7 @@ impl Session {
 ghost use Rattle.std.specs.Prelude.{◌<◌, ◌^◌, length};
 ghost use Rattle.session_client.specs.Follows.{Goes, CourseIsReady, is_over};
 ghost use Rattle.session_client.specs.Wants.{Writing, writing_of};
-ghost use Rattle.session_client.specs.Writers.{then_as};
+ghost use Rattle.session_client.specs.Writers.{Suits, then_as};
 ghost use Rattle.session_client.specs.declared.plans.Plan.{Plan};
 
 /// The keys without one of them.
@@ -192,7 +192,8 @@ fn writing(
     next: Next,
     txn: &Txn,
 ) -> Result<Course, Memory>
-    requires { length keys.items < 2 ^ 32 }
+    requires few { length keys.items < 2 ^ 32 }
+    requires suits { Suits next mode }
     ensures ready { IfOk result CourseIsReady }
     ensures goes { let way : Writing = record {
       mode = mode;
@@ -229,6 +230,13 @@ fn course_of(alloc: Global, plan: &Plan) -> Result<Course, Memory>
             let keys = footprint(alloc, txn)?;
             let keys = without_key(alloc, key, keys.as_slice())?;
             writing(alloc, Mode::Invalidate, keys, Next::Commit, txn)
+        }
+        Plan::Raise { txn } => {
+            let keys = footprint(alloc, txn)?;
+            writing(alloc, Mode::Invalidate, keys, Next::Raise, txn)
+        }
+        Plan::Renew { mode, txn } => {
+            writing(alloc, *mode, footprint(alloc, txn)?, Next::Renew, txn)
         }
     }
 }

@@ -10,6 +10,7 @@ ghost use Rattle.session_client.specs.declared.replies.Reply.{Reply};
 use crate::hands::Hand;
 use crate::looks::{answers_get, answers_staged, stage_after_get, stage_after_staged};
 use crate::quarantines::{answers_quarantine, quarantine_as, stage_after_quarantine, stage_with};
+use crate::raises::{answers_raise, answers_renewal, stage_after_raise, stage_after_renewal};
 use crate::releases::{
     answers_commit, answers_release, release, stage_after_commit, stage_after_end,
     stage_after_release,
@@ -35,18 +36,18 @@ pub struct Writer {
 
 impl Model for Writer {
     ghost use Rattle.std.specs.Prelude.{◌≡◌, length};
-    ghost use Rattle.session_client.specs.Writers.{HasRoom, WriterView};
+    ghost use Rattle.session_client.specs.Writers.{HasRoom, Suits, WriterView};
 
     ghost Value = { WriterView };
 
     ghost view = { λ w. record { mode = w.mode; keys = w.keys.items; next = w.next; hand = w.hand; stage = w.stage } };
 
-    ghost invariant = { λ w. (w.hand.room ≡ length w.keys.items) × HasRoom w.keys.items w.hand w.stage };
+    ghost invariant = { λ w. (w.hand.room ≡ length w.keys.items) × HasRoom w.next w.keys.items w.hand w.stage × Suits w.next w.mode };
 }
 
 impl Writer {
     ghost use Rattle.session_client.specs.Follows.{IsRefreshing, WriteAwaits, WriteFollows, WriteIsReady};
-    ghost use Rattle.session_client.specs.Writers.{then_as, writing_as};
+    ghost use Rattle.session_client.specs.Writers.{Suits, then_as, writing_as};
 
     /// A writer that was told nothing so far. It takes the room for its grants and the values beside
     /// them.
@@ -57,7 +58,8 @@ impl Writer {
         next: Next,
         txn: Txn,
     ) -> Result<Writer, Memory>
-        requires { length keys.items < 2 ^ 32 }
+        requires few { length keys.items < 2 ^ 32 }
+        requires suits { Suits next mode }
         ensures mode { IfOk result (λ writer. writer.mode ≡ mode) }
         ensures keys { IfOk result (λ writer. writer.keys ≡ keys.items) }
         ensures next { IfOk result (λ writer. writer.next ≡ next) }
@@ -105,7 +107,21 @@ impl Writer {
                 self.stage = WriteStage::Asking;
                 Wanted::Staged { key, txn }
             }
-            WriteStage::Ready { txn } => Wanted::Commit {
+            WriteStage::Raising { place, txn } if place < self.hand.len() => {
+                self.stage = WriteStage::Raised { place, txn };
+                Wanted::Raise {
+                    grant: self.hand.take_at(place),
+                }
+            }
+            WriteStage::Renewing { place, txn } if place < self.hand.len() => {
+                self.stage = WriteStage::Renewed { place, txn };
+                Wanted::Renew {
+                    grant: self.hand.take_at(place),
+                }
+            }
+            WriteStage::Raising { place: _, txn }
+            | WriteStage::Renewing { place: _, txn }
+            | WriteStage::Ready { txn } => Wanted::Commit {
                 txn,
                 grants: self.hand.lend(self.alloc),
             },
@@ -133,9 +149,11 @@ impl Writer {
                 self.stage = WriteStage::Done { outcome };
                 Wanted::Nothing
             }
-            WriteStage::Asking | WriteStage::Committing | WriteStage::Returning { .. } => {
-                Wanted::Nothing
-            }
+            WriteStage::Asking
+            | WriteStage::Raised { .. }
+            | WriteStage::Renewed { .. }
+            | WriteStage::Committing
+            | WriteStage::Returning { .. } => Wanted::Nothing,
         }
     }
 
@@ -149,11 +167,17 @@ impl Writer {
             }
             WriteStage::Getting { .. } => answers_get(reply),
             WriteStage::Asking => answers_staged(changes, reply),
+            WriteStage::Raised { place, txn: _ } => answers_raise(self.hand.note(*place), reply),
+            WriteStage::Renewed { place, txn: _ } => {
+                answers_renewal(self.hand.note(*place), reply)
+            }
             WriteStage::Committing => answers_commit(&self.hand, changes, reply),
             WriteStage::Ending { .. } => matches!(reply, Reply::End { .. }),
             WriteStage::Returning { back, .. } => answers_release(back, reply),
             WriteStage::Done { .. } => matches!(reply, Reply::Nothing),
             WriteStage::Staging { .. }
+            | WriteStage::Raising { .. }
+            | WriteStage::Renewing { .. }
             | WriteStage::Ready { .. }
             | WriteStage::Releasing { .. }
             | WriteStage::Dropping { .. } => false,
@@ -232,7 +256,7 @@ ghost use Rattle.std.specs.Prelude.{◌≢◌};
 ghost use Rattle.session_client.specs.declared.stages.WriteStage.TheVariants as WriteStage;
 ghost use Rattle.session_client.specs.Follows.{PartsFollow, StageAwaits, WriteIsReady, write_is_over};
 ghost use Rattle.session_client.specs.Wants.{Writing, granted};
-ghost use Rattle.session_client.specs.Writers.{HasRoom, then_as};
+ghost use Rattle.session_client.specs.Writers.{HasRoom, Suits, then_as};
 
 /// Where a writer of these keys that stands here stands after the reply to its request, but for the
 /// answer to a commit.
@@ -244,18 +268,19 @@ fn next_stage(
     reply: Reply,
 ) -> WriteStage
     requires as_long { hand.old.room ≡ length keys.now }
-    requires room { HasRoom keys.now hand.old stage }
+    requires room { HasRoom next keys.now hand.old stage }
     requires apart { stage ≢ WriteStage.Committing }
     requires awaits { (who : Sid) × (writing : Writing) × (writing.keys ≡ keys.now)
-        × StageAwaits who writing hand.old.given stage reply }
+        × Suits next writing.mode × StageAwaits who writing hand.old.given stage reply }
     ensures ready { WriteIsReady result }
     ensures as_long { hand.new.room ≡ hand.old.room }
-    ensures room { HasRoom keys.now hand.new result }
-    ensures given { (heard : List Reply) → hand.old.given ≡ granted heard →
+    ensures room { HasRoom next keys.now hand.new result }
+    ensures given { (writing : Writing) (short : Bool) (heard : List Reply) →
+        hand.old.given ≡ granted heard → PartsFollow writing hand.old stage short heard →
         hand.new.given ≡ granted (reply ∷ heard) }
     ensures follows { (who : Sid) (writing : Writing) (short : Bool) (heard : List Reply) →
         writing.keys ≡ keys.now → writing.next ≡ then_as next →
-        StageAwaits who writing hand.old.given stage reply →
+        StageAwaits who writing hand.old.given stage reply → hand.old.given ≡ granted heard →
         PartsFollow writing hand.old stage short heard →
         PartsFollow writing hand.new result short (reply ∷ heard) }
 {
@@ -265,6 +290,8 @@ fn next_stage(
         }
         WriteStage::Getting { key, txn } => stage_after_get(key, txn, reply),
         WriteStage::Asking => stage_after_staged(reply),
+        WriteStage::Raised { place, txn } => stage_after_raise(hand, place, txn, reply),
+        WriteStage::Renewed { place, txn } => stage_after_renewal(hand, place, txn, reply),
         WriteStage::Ending { outcome } => stage_after_end(hand, outcome, reply),
         WriteStage::Returning {
             outcome,
@@ -272,6 +299,8 @@ fn next_stage(
             back: _,
         } => stage_after_release(hand, outcome, how, reply),
         other @ (WriteStage::Staging { .. }
+        | WriteStage::Raising { .. }
+        | WriteStage::Renewing { .. }
         | WriteStage::Ready { .. }
         | WriteStage::Committing
         | WriteStage::Releasing { .. }

@@ -2,11 +2,15 @@
 use Rattle.std.specs.Prelude.{ℕ, ◌≡◌, ◌-◌, ◌^◌, Bool, ◌==◌, ◌&&◌, IsTrue, MatchBool, Option, Some, None}
 use Rattle.std.specs.Bool.{IsFalse}
 use Rattle.rows_model.specs.declared.keys.Sid.{Sid}
-use Rattle.key_shard.specs.Answers.{IsAtHome, get_step, set_step}
+use Rattle.key_shard.specs.Answers.{IsAtHome, get_step, set_step, raise_step, renew_step}
 use Rattle.key_shard.specs.Past.{Terms, draws, next_token}
 use Rattle.key_shard.specs.Permit.{Permit}
-use Rattle.key_shard.specs.Replies.{ShowsGot, ShowsSet, ShowsQuarantine, ShowsRelease}
-use Rattle.key_shard.specs.Shards.{ShardView, past_of, is_out, rolled, stepped, returned}
+use Rattle.key_shard.specs.Replies.{ShowsGot, ShowsSet, ShowsQuarantine, ShowsRelease, ShowsRaise, ShowsRenewal}
+use Rattle.key_shard.specs.Shards.{ShardView, past_of, is_out, rolled, stepped, returned, after_raise}
+use Rattle.key_shard.specs.declared.replies.Raising.{Raising}
+use Rattle.key_shard.specs.declared.replies.Raising.TheVariants as raisings
+use Rattle.key_shard.specs.declared.replies.Renewal.{Renewal}
+use Rattle.key_shard.specs.declared.replies.Renewal.TheVariants as renewals
 use Rattle.key_shard.specs.declared.replies.Rel.{Rel}
 use Rattle.key_shard.specs.declared.replies.Rel.TheVariants as rels
 use Rattle.key_shard.specs.declared.replies.ShardFault.{ShardFault}
@@ -34,6 +38,8 @@ IsFor terms (wanted.Dar grant) = IsAtHome terms grant.key
 IsFor terms (wanted.Sar grant value stamp) = IsAtHome terms grant.key
 IsFor terms (wanted.Apply grant stamp) = IsAtHome terms grant.key
 IsFor terms (wanted.Abort grant) = IsAtHome terms grant.key
+IsFor terms (wanted.Raise grant) = IsAtHome terms grant.key
+IsFor terms (wanted.Renew grant) = IsAtHome terms grant.key
 IsFor terms other = ⊥
 
 -- Whether the step would take the last number there is as its token.
@@ -89,6 +95,30 @@ TellsPut old grant step new (reply.Rel told) = Returns old grant step new told
 TellsPut old grant step new (reply.SarBack back) = (new ≡ old) × (back ≡ grant)
 TellsPut old grant step new other = ⊥
 
+-- A grant that is out was raised, or not, as its step shows, and the shard stands after that step. One that isn't out is Gone, and the shard is as before.
+abbrev pub Raises : ShardView → Permit → Step → ShardView → Raising → Type 0
+Raises old grant step new told =
+    MatchBool (is_out old grant) ((new ≡ after_raise old grant step) × ShowsRaise (past_of old) grant step told)
+    ((new ≡ old) × (told ≡ raisings.Gone))
+
+-- A raise was made so; or memory ran out, the grant comes back, and the shard is as before.
+abbrev pub TellsRaise : ShardView → Permit → Step → ShardView → Reply → Type 0
+TellsRaise old grant step new (reply.Raise told) = Raises old grant step new told
+TellsRaise old grant step new (reply.RaiseBack back) = (new ≡ old) × (back ≡ grant)
+TellsRaise old grant step new other = ⊥
+
+-- The quarantine of a grant that is out was renewed, or not, as its step shows, and the shard stands after that step. One that isn't out is Gone, and the shard is as before.
+abbrev pub Renews : ShardView → Permit → Step → ShardView → Renewal → Type 0
+Renews old grant step new told =
+    MatchBool (is_out old grant) ((new ≡ stepped old step) × ShowsRenewal step told)
+    ((new ≡ old) × (told ≡ renewals.Gone))
+
+-- A renewal was made so, or memory ran out and the shard is as before. The grant comes back in any case.
+abbrev pub TellsRenewal : ShardView → Permit → Step → ShardView → Reply → Type 0
+TellsRenewal old grant step new (reply.Renew back (Some told)) = (back ≡ grant) × Renews old grant step new told
+TellsRenewal old grant step new (reply.Renew back None) = (back ≡ grant) × (new ≡ old)
+TellsRenewal old grant step new other = ⊥
+
 -- What a session's request at this time makes of a shard, and what the session is told.
 abbrev pub MakesOnShard : ShardView → Sid → Wanted → ℕ → ShardView → Reply → Type 0
 MakesOnShard old who (wanted.Get key floor) now new told =
@@ -108,6 +138,10 @@ MakesOnShard old who (wanted.Apply grant stamp) now new told =
     TellsRelease old grant (apply_step old grant stamp) new told
 MakesOnShard old who (wanted.Abort grant) now new told =
     TellsRelease old grant (abort_step old grant) new told
+MakesOnShard old who (wanted.Raise grant) now new told =
+    TellsRaise old grant (raise_step (past_of old) grant) new told
+MakesOnShard old who (wanted.Renew grant) now new told =
+    TellsRenewal old grant (renew_step old.terms (past_of old) grant now) new told
 MakesOnShard old who other now new told = ⊥
 
 -- What a sweeper is told of a shard that it scans: the first quarantine that is due, or that there is none.

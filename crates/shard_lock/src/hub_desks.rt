@@ -136,6 +136,7 @@ fn key_of(request: &Wanted) -> Option<QKey>
         Wanted::Sar { grant, .. } => Some(grant.key()),
         Wanted::Apply { grant, stamp: _ } => Some(grant.key()),
         Wanted::Abort { grant } => Some(grant.key()),
+        Wanted::Raise { grant } | Wanted::Renew { grant } => Some(grant.key()),
         Wanted::Ask { .. }
         | Wanted::Staged { .. }
         | Wanted::Commit { .. }

@@ -1,7 +1,7 @@
 // Requests on a shard that is lent, each one step of its history or none.
 ghost use Rattle.std.specs.Prelude.{ℕ, ◌≡◌, ◌≢◌, Some, None, IsTrue, IfOk, OnOk, OnErr};
 ghost use Rattle.rows_model.specs.Delta.{is_count};
-ghost use Rattle.key_shard.specs.Answers.{IsAtHome, get_step, set_step};
+ghost use Rattle.key_shard.specs.Answers.{IsAtHome, get_step, set_step, raise_step, renew_step};
 ghost use Rattle.key_shard.specs.Replies.{ShowsQuarantine};
 ghost use Rattle.key_shard.specs.Shards.{past_of, rolled, stepped, refusal, Refuses};
 ghost use Rattle.session_client.specs.Belongs.{Belongs, IsShardFault};
@@ -9,7 +9,7 @@ ghost use Rattle.session_client.specs.Desks.{IsProper};
 ghost use Rattle.session_client.specs.declared.replies.Reply.TheVariants as reply;
 ghost use Rattle.session_client.specs.declared.replies.Wanted.TheVariants as wanted;
 ghost use Rattle.write_ops.specs.Releases.{qa_step, read_step, delta_step, dar_step, abort_step, sar_step, apply_step};
-ghost use Rattle.shard_lock.specs.OnShard.{IsFor, fault_of, MakesOnShard, TellsGot, TellsSet, TellsQuarantine, TellsRelease, TellsPut};
+ghost use Rattle.shard_lock.specs.OnShard.{IsFor, fault_of, MakesOnShard, TellsGot, TellsSet, TellsQuarantine, TellsRelease, TellsPut, TellsRaise, TellsRenewal};
 
 use key_shard::{Back, Grant, QAnswer, Shard, ShardFault};
 use lease_table::Mode;
@@ -53,6 +53,8 @@ pub fn on_shard(shard: &mut Shard, who: Sid, request: Wanted, now: u64) -> Reply
         Wanted::Abort { grant } => Reply::Rel {
             told: abort(shard, grant),
         },
+        Wanted::Raise { grant } => raise(shard, grant),
+        Wanted::Renew { grant } => renew(shard, grant, now),
         Wanted::Ask { .. }
         | Wanted::Staged { .. }
         | Wanted::Commit { .. }
@@ -167,6 +169,32 @@ fn put(shard: &mut Shard, grant: Grant, value: Value, stamp: u64) -> Reply
     match sar(shard, grant, Some(value), stamp) {
         Ok(told) => Reply::Rel { told },
         Err(Back { grant, value: _ }) => Reply::SarBack { grant },
+    }
+}
+
+fn raise(shard: &mut Shard, grant: Grant) -> Reply
+    requires { grant.mode ≡ Mode.Invalidate }
+    ensures makes { TellsRaise shard.old grant (raise_step (past_of shard.old) grant)
+        shard.new result }
+    ensures belongs { (who : Sid) → Belongs who (wanted.Raise grant) result }
+{
+    match shard.raise(grant) {
+        Ok(told) => Reply::Raise { told },
+        Err(grant) => Reply::RaiseBack { grant },
+    }
+}
+
+fn renew(shard: &mut Shard, grant: Grant, now: u64) -> Reply
+    ensures makes { TellsRenewal shard.old grant (renew_step shard.old.terms (past_of shard.old) grant now)
+        shard.new result }
+    ensures belongs { (who : Sid) → Belongs who (wanted.Renew grant) result }
+{
+    match shard.renew(&grant, now) {
+        Ok(told) => Reply::Renew {
+            grant,
+            told: Some(told),
+        },
+        Err(_) => Reply::Renew { grant, told: None },
     }
 }
 

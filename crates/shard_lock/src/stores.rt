@@ -35,6 +35,8 @@ pub fn on_store<K: Keeper, N: Start>(store: &mut Store<K, N>, who: Sid, request:
         | Wanted::Sar { .. }
         | Wanted::Apply { .. }
         | Wanted::Abort { .. }
+        | Wanted::Raise { .. }
+        | Wanted::Renew { .. }
         | Wanted::Nothing => unreachable!(),
     }
 }

@@ -24,3 +24,12 @@ pub returns-in-Dropping-clause-follows : goal.returns-in-Dropping-clause-follows
 returns-in-Dropping-clause-follows c = λ changes short heard follows.
     let h = rw (← c.self.view_is, ← c.replace.ensures.value, c.in-Dropping.is) at follows in
     rw c.take_alone.ensures.hand (h.0, after_take_alone _ c.self.inside.hand c.in-Dropping.outcome c.in-Dropping.how short heard h.1)
+
+pub invariant_of-self-in-Raising : goal.invariant_of-self-in-Raising
+invariant_of-self-in-Raising c = ?
+
+pub returns-in-Raising-clause-proper : goal.returns-in-Raising-clause-proper
+returns-in-Raising-clause-proper c = ?
+
+pub returns-in-Raising-2-clause-wanted : goal.returns-in-Raising-2-clause-wanted
+returns-in-Raising-2-clause-wanted c = ?
