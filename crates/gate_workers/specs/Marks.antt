@@ -3,6 +3,7 @@ use Rattle.std.specs.Prelude.{List, [], ◌∷◌, ◌++◌}
 use Rattle.key_shard.specs.declared.replies.Got.TheVariants as got
 use Rattle.key_shard.specs.declared.replies.SetAnswer.TheVariants as set
 use Rattle.key_shard.specs.declared.replies.QAnswer.TheVariants as quarantine
+use Rattle.key_shard.specs.declared.replies.Raising.TheVariants as raising
 use Rattle.session_client.specs.Desks.{Call, Began, Asked}
 use Rattle.session_client.specs.declared.replies.Wanted.{Wanted}
 use Rattle.session_client.specs.declared.replies.Wanted.TheVariants as wanted
@@ -14,7 +15,7 @@ use Rattle.gate_workers.specs.declared.marks.Request.TheVariants as request
 use Rattle.gate_workers.specs.declared.marks.Response.{Response}
 use Rattle.gate_workers.specs.declared.marks.Response.TheVariants as response
 
--- A request without its value, its transaction and its list of grants. Of a grant that is released the key and the token are left.
+-- A request without its value, its transaction and its list of grants. Of a grant that is released, raised or renewed the key and the token are left.
 abbrev pub request_of : Wanted → Request
 request_of (wanted.Get key floor) = request.Get key floor
 request_of (wanted.Ask key) = request.Ask key
@@ -29,6 +30,8 @@ request_of (wanted.Dar grant) = request.Dar grant.key grant.token
 request_of (wanted.Sar grant value stamp) = request.Sar grant.key grant.token stamp
 request_of (wanted.Apply grant stamp) = request.Apply grant.key grant.token stamp
 request_of (wanted.Abort grant) = request.Abort grant.key grant.token
+request_of (wanted.Raise grant) = request.Raise grant.key grant.token
+request_of (wanted.Renew grant) = request.Renew grant.key grant.token
 request_of wanted.Nothing = request.Nothing
 
 -- A reply without values, the transaction and grants. Of a grant that is given the token is left.
@@ -43,6 +46,11 @@ response_of (reply.Set set.Void) = response.Void
 response_of (reply.Quar (quarantine.Granted grant old)) = response.Granted grant.token
 response_of (reply.Quar quarantine.Held) = response.Held
 response_of (reply.Quar (quarantine.Refused holder held)) = response.Refused holder held
+response_of (reply.Raise (raising.Raised grant old)) = response.Raised grant.token
+response_of (reply.Raise (raising.Shared grant holder)) = response.Shared holder
+response_of (reply.Raise raising.Gone) = response.RaiseGone
+response_of (reply.RaiseBack grant) = response.RaiseBack
+response_of (reply.Renew grant told) = response.Renew told
 response_of (reply.Staged value txn) = response.Staged
 response_of (reply.NotStaged fault txn) = response.NotStaged fault
 response_of (reply.Committed number txn grants) = response.Committed number

@@ -1,11 +1,11 @@
-use key_shard::{Got, QAnswer, Rel, SetAnswer, Stands};
+use key_shard::{Got, QAnswer, Raising, Rel, Renewal, SetAnswer, Stands};
 use lease_table::Mode;
 use rows_model::{QKey, Sid};
 use session_client::{Fault, Reply, Wanted};
 use sql_keeper::{AfterFault, CommitFault};
 
 /// A request in its bare form: without its value, its transaction and its list of grants. Of a grant
-/// that is released the key and the token are left.
+/// that is released, raised or renewed the key and the token are left.
 #[derive(Clone, Copy, PartialEq, Eq)]
 pub enum Request {
     /// The key's entry, with a stamp of at least the floor.
@@ -22,6 +22,10 @@ pub enum Request {
     QaRead { key: QKey },
     /// A quarantine of the key, to shift it by this much.
     Delta { key: QKey, by: i32 },
+    /// To raise a quarantine to one that refreshes.
+    Raise { key: QKey, token: u64 },
+    /// To give a quarantine a new deadline.
+    Renew { key: QKey, token: u64 },
     /// To commit the transaction.
     Commit,
     /// To be ended at the store.
@@ -90,6 +94,14 @@ impl Request {
                 key: grant.key(),
                 token: grant.token(),
             },
+            Wanted::Raise { grant } => Request::Raise {
+                key: grant.key(),
+                token: grant.token(),
+            },
+            Wanted::Renew { grant } => Request::Renew {
+                key: grant.key(),
+                token: grant.token(),
+            },
             Wanted::Nothing => Request::Nothing,
         }
     }
@@ -119,6 +131,16 @@ pub enum Response {
     Held,
     /// A quarantine of this session, in this mode, stands in the way.
     Refused { holder: Sid, mode: Mode },
+    /// The quarantine of this token is raised.
+    Raised { token: u64 },
+    /// The quarantine is not raised: one of this session stands beside it.
+    Shared { holder: Sid },
+    /// The quarantine that was to be raised stood no longer.
+    RaiseGone,
+    /// There was no memory to raise the quarantine.
+    RaiseBack,
+    /// The answer to a renewal, or that there was no memory for it.
+    Renew { told: Option<Renewal> },
     /// The store told what it would answer.
     Staged,
     /// The store has no such answer.
@@ -154,6 +176,9 @@ impl Response {
             },
             Reply::Set { told } => of_set(*told),
             Reply::Quar { told } => of_quarantine(told),
+            Reply::Raise { told } => of_raise(told),
+            Reply::RaiseBack { grant: _ } => Response::RaiseBack,
+            Reply::Renew { grant: _, told } => Response::Renew { told: *told },
             Reply::Staged { value: _, txn: _ } => Response::Staged,
             Reply::NotStaged { fault, txn: _ } => Response::NotStaged { fault: *fault },
             Reply::Committed {
@@ -216,6 +241,19 @@ fn of_quarantine(told: &QAnswer) -> Response
             holder: *holder,
             mode: *mode,
         },
+    }
+}
+
+/// The bare form of the answer to a raise.
+fn of_raise(told: &Raising) -> Response
+    ensures { result ≡ response_of (replies.Raise told.now) }
+{
+    match told {
+        Raising::Raised { grant, old: _ } => Response::Raised {
+            token: grant.token(),
+        },
+        Raising::Shared { grant: _, holder } => Response::Shared { holder: *holder },
+        Raising::Gone => Response::RaiseGone,
     }
 }
 

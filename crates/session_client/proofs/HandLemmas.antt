@@ -21,7 +21,7 @@ use Rattle.session_client.specs.declared.stages.WriteStage.TheVariants as stages
 use Rattle.session_client.specs.Follows.{CommitAwaits, HasNew, IsEnding, IsNext, IsOut, PartsFollow, WriteIsReady, write_is_over}
 use Rattle.session_client.specs.Plans.{mode_on}
 use Rattle.session_client.specs.Wants.{Given, Writing, Then, Commits, Looks, Quits, Raises, Renews, Drops, given, granted, released, is_had, is_nothing}
-use Rattle.session_client.specs.Wants.{quarantine_as, quarantine_next, quarantine_or_then, raise_or_commit, renew_or_commit, turned, release_after, release_of, finish, write_wants}
+use Rattle.session_client.specs.Wants.{quarantine_as, quarantine_next, quarantine_or_then, raise_or_commit, renew_or_commit, turned, release_after, release_of, finish, write_wants, commit_with}
 use Rattle.session_client.specs.Wants.{commit_outcome, end_outcome}
 use Rattle.session_client.specs.Grants.{GrantsView}
 use Rattle.session_client.specs.Wants as wants
@@ -359,3 +359,33 @@ pub with_fact : {T E : Type 0} (r : Result T E) (A : Type 0) (P : T → Type 0) 
     → A → MatchResult r P Q → MatchResult r (λ x. A × P x) (λ e. A × Q e)
 with_fact (Ok x) A P Q a h = (a, h)
 with_fact (Err e) A P Q a h = (a, h)
+
+-- past its end a list has nothing
+none_past_end : {X : Type 0} (xs : List X) (n : ℕ) → length xs ≤ n → slice_get xs n ≡ None
+none_past_end [] n h = refl
+none_past_end (x ∷ xs) zero h = absurd (omega (arith, h))
+none_past_end (x ∷ xs) (suc n) h = none_past_end xs n (omega (arith, h))
+
+commit_is : (writing : Writing) (hand : HandView) (txn : List Change) (heard : List Reply)
+    → txn ≡ writing.txn → hand.grants.items ≡ granted heard → hand.grants.room ≡ length writing.keys
+    → wanted.Commit txn hand.grants ≡ commit_with writing heard
+commit_is writing hand txn heard same items roomy = λ i. wanted.Commit (same i) (record { items = items i; room = roomy i })
+
+-- a writer that has raised its last quarantine commits, and so does one that has renewed its last
+pub commits_raised : (writing : Writing) (hand : HandView) (place : ℕ) (txn : List Change) (short : Bool) (heard : List Reply)
+    → length hand.grants.items ≤ place → PartsFollow writing hand (stages.Raising place txn) short heard
+    → wanted.Commit txn hand.grants ≡ write_wants writing short heard
+commits_raised writing hand place txn short heard past (wants, turn, same, hands) =
+    let (items, roomy, values, kept, number, outcome, ample) = hands in
+    let long = ap (λ (l : List Permit). length l) items in
+    let over = none_past_end (granted heard) (turned heard) (omega (arith, past, turn, long)) in
+    commit_is writing hand txn heard same items roomy ∙ ap (raise_or_commit writing heard) (sym over) ∙ sym wants
+
+pub commits_renewed : (writing : Writing) (hand : HandView) (place : ℕ) (txn : List Change) (short : Bool) (heard : List Reply)
+    → length hand.grants.items ≤ place → PartsFollow writing hand (stages.Renewing place txn) short heard
+    → wanted.Commit txn hand.grants ≡ write_wants writing short heard
+commits_renewed writing hand place txn short heard past (wants, turn, same, hands) =
+    let (items, roomy, values, kept, number, outcome, ample) = hands in
+    let long = ap (λ (l : List Permit). length l) items in
+    let over = none_past_end (granted heard) (turned heard) (omega (arith, past, turn, long)) in
+    commit_is writing hand txn heard same items roomy ∙ ap (renew_or_commit writing heard) (sym over) ∙ sym wants

@@ -1,6 +1,9 @@
 -- What is told of a quarantine belongs to the request for it.
-use Rattle.std.proofs.Common.{◌≡◌, ℕ, List, Some, None, refl, sym, subst}
-use Rattle.std.specs.Prelude.{ℤ, Option}
+use Rattle.std.proofs.Common.{◌≡◌, ℕ, Bool, true, false, List, Some, None, refl, sym, subst, eq-eqb}
+use Rattle.std.proofs.lemmas.Bool.{and_from}
+use Rattle.std.specs.Prelude.{ℤ, Option, ◌==◌, ◌&&◌, if◌then◌else◌}
+use Rattle.rows_model.specs.Key.{same_key}
+use Rattle.rows_model.proofs.SameKey.{same_key-refl}
 use Rattle.rows_model.specs.declared.keys.QKey.{QKey}
 use Rattle.rows_model.specs.declared.keys.Sid.{Sid}
 use Rattle.case_tables.specs.declared.grids.Verdict.{Verdict}
@@ -15,8 +18,12 @@ use Rattle.key_shard.specs.declared.replies.QAnswer.{QAnswer}
 use Rattle.key_shard.specs.declared.replies.QAnswer.TheVariants as told
 use Rattle.key_shard.specs.Past.{Terms, seen_by, holder_of, entry}
 use Rattle.key_shard.specs.Answers.{quarantine_step, quarantine_by, refused_step}
-use Rattle.key_shard.specs.Replies.{ShowsQuarantine, old_value}
-use Rattle.session_client.specs.Belongs.{FitsOld, IsQuarantineOf}
+use Rattle.key_shard.specs.Replies.{ShowsQuarantine, ShowsRaise, old_value}
+use Rattle.key_shard.specs.Permit.{Permit}
+use Rattle.key_shard.specs.Shards.{raised_permit}
+use Rattle.key_shard.specs.declared.steps.Step.TheVariants.{Gone, Raised, Shared}
+use Rattle.key_shard.specs.declared.replies.Raising.{Raising}
+use Rattle.session_client.specs.Belongs.{FitsOld, IsQuarantineOf, IsRaised, IsRaiseOf}
 
 -- an old value comes along with a grant to refresh alone
 fits_old : (mode : Mode) (found : Option (List ℕ × ℕ)) → FitsOld mode (old_value mode found)
@@ -59,3 +66,21 @@ pub quarantine_belongs_in : (terms : Terms) (past : List Step) (key : QKey) (who
     → ShowsQuarantine terms past (quarantine_step terms past key who mode by now) answer → mode ≡ known → IsQuarantineOf who key known answer
 quarantine_belongs_in terms past key who mode known by now answer shows is =
     subst (λ m. IsQuarantineOf who key m answer) is (quarantine_belongs terms past key who mode by now answer shows)
+
+raised_by : (grant : Permit) (b : Bool) → b ≡ true → IsRaised grant
+    (if b then record { shard = grant.shard; key = grant.key; sid = grant.sid; mode = Refresh; token = grant.token } else grant)
+raised_by grant true e = record { same_key = refl; same_session = refl; same_token = refl; refreshes = refl }
+raised_by grant false e = cc
+
+-- a grant as it is once it is raised
+pub raised_is : (grant : Permit) → IsRaised grant (raised_permit grant.key grant.token grant)
+raised_is grant =
+    raised_by grant (same_key grant.key grant.key && (grant.token == grant.token))
+    (and_from _ _ (same_key-refl grant.key) (eq-eqb grant.token grant.token refl))
+
+-- what is told of a raise belongs to the request for it
+pub raise_belongs : (past : List Step) (grant : Permit) (step : Step) (answer : Raising) → ShowsRaise past grant step answer → IsRaiseOf grant answer
+raise_belongs past grant (Raised key sid token) answer h = subst (IsRaiseOf grant) (sym h) (raised_is grant)
+raise_belongs past grant (Shared key sid token holder) answer h = subst (IsRaiseOf grant) (sym h) refl
+raise_belongs past grant (Gone key sid token) answer h = subst (IsRaiseOf grant) (sym h) tt
+raise_belongs past grant step answer h = absurd h

@@ -117,8 +117,8 @@ renew_lent None told h = elim h [ ]
 
 -- the next place is one behind
 pub turned_next : (told : Reply) (heard : List Reply) (place : ℕ) → is_turn told ≡ true → turned heard ≡ place → turned (told ∷ heard) ≡ place + 1
-turned_next told heard place yes e =
-    sum_by-cons (λ (t : Reply). cond (is_turn t) 1 0) told heard ∙ ap (λ b. cond b 1 0 + turned heard) yes ∙ omega (arith, e)
+turned_next told heard place on e =
+    sum_by-cons (λ (t : Reply). cond (is_turn t) 1 0) told heard ∙ ap (λ b. cond b 1 0 + turned heard) on ∙ omega (arith, e)
 
 -- a grant that was lent and came back is among the others as it was
 pub same_items : (items grants : List Permit) (place : ℕ) (lent back : Permit)

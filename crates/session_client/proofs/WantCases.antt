@@ -48,21 +48,27 @@ pub given-kept : (told : Reply) (place : ℕ) (ones : List Given) → is_raise t
 given-kept (reply.Raise told) place ones e = cc
 given-kept other place ones e = refl
 
+first_none : (told : Reply) (new : List Reply) → All (λ told. is_raise told ≡ false) (told ∷ new) → is_raise told ≡ false
+first_none told new none = none 0 told (omega arith)
+
+rest_none : (told : Reply) (new : List Reply) → All (λ told. is_raise told ≡ false) (told ∷ new) → All (λ told. is_raise told ≡ false) new
+rest_none told new none = λ k d less. none (suc k) d (omega (arith, less))
+
 -- without such a reply, the grants of what was heard later follow those of what was heard before
 pub grants-append : (new heard : List Reply) → All (λ told. is_raise told ≡ false) new → granted (new ++ heard) ≡ granted heard ++ granted new
 grants-append [] heard none = sym (append-nil (granted heard))
 grants-append (told ∷ new) heard none =
-    ap (λ l. l ++ grants_in told) (granted-kept told (turned (new ++ heard)) (granted (new ++ heard)) none.0 ∙ grants-append new heard none.1)
+    ap (λ l. l ++ grants_in told) (granted-kept told (turned (new ++ heard)) (granted (new ++ heard)) (first_none told new none) ∙ grants-append new heard (rest_none told new none))
     ∙ append_assoc (granted heard) (granted new) (grants_in told)
-    ∙ ap (λ l. granted heard ++ l ++ grants_in told) (sym (granted-kept told (turned new) (granted new) none.0))
+    ∙ ap (λ l. granted heard ++ (l ++ grants_in told)) (sym (granted-kept told (turned new) (granted new) (first_none told new none)))
 
 -- and so what was given later follows what was given before
 pub given-append : (new heard : List Reply) → All (λ told. is_raise told ≡ false) new → given (new ++ heard) ≡ given heard ++ given new
 given-append [] heard none = sym (append-nil (given heard))
 given-append (told ∷ new) heard none =
-    ap (λ l. l ++ given_in told) (given-kept told (turned (new ++ heard)) (given (new ++ heard)) none.0 ∙ given-append new heard none.1)
+    ap (λ l. l ++ given_in told) (given-kept told (turned (new ++ heard)) (given (new ++ heard)) (first_none told new none) ∙ given-append new heard (rest_none told new none))
     ∙ append_assoc (given heard) (given new) (given_in told)
-    ∙ ap (λ l. given heard ++ l ++ given_in told) (sym (given-kept told (turned new) (given new) none.0))
+    ∙ ap (λ l. given heard ++ (l ++ given_in told)) (sym (given-kept told (turned new) (given new) (first_none told new none)))
 
 -- the grants of what was given
 abbrev pub permits : List Given → List Permit

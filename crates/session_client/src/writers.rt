@@ -107,21 +107,33 @@ impl Writer {
                 self.stage = WriteStage::Asking;
                 Wanted::Staged { key, txn }
             }
-            WriteStage::Raising { place, txn } if place < self.hand.len() => {
-                self.stage = WriteStage::Raised { place, txn };
-                Wanted::Raise {
-                    grant: self.hand.take_at(place),
+            WriteStage::Raising { place, txn } => {
+                if place < self.hand.len() {
+                    self.stage = WriteStage::Raised { place, txn };
+                    Wanted::Raise {
+                        grant: self.hand.take_at(place),
+                    }
+                } else {
+                    Wanted::Commit {
+                        txn,
+                        grants: self.hand.lend(self.alloc),
+                    }
                 }
             }
-            WriteStage::Renewing { place, txn } if place < self.hand.len() => {
-                self.stage = WriteStage::Renewed { place, txn };
-                Wanted::Renew {
-                    grant: self.hand.take_at(place),
+            WriteStage::Renewing { place, txn } => {
+                if place < self.hand.len() {
+                    self.stage = WriteStage::Renewed { place, txn };
+                    Wanted::Renew {
+                        grant: self.hand.take_at(place),
+                    }
+                } else {
+                    Wanted::Commit {
+                        txn,
+                        grants: self.hand.lend(self.alloc),
+                    }
                 }
             }
-            WriteStage::Raising { place: _, txn }
-            | WriteStage::Renewing { place: _, txn }
-            | WriteStage::Ready { txn } => Wanted::Commit {
+            WriteStage::Ready { txn } => Wanted::Commit {
                 txn,
                 grants: self.hand.lend(self.alloc),
             },

@@ -17,6 +17,8 @@ pub fn key_asked(asked: Request) -> Option<QKey> {
         | Request::Dar { key, .. }
         | Request::Abort { key, .. }
         | Request::Apply { key, .. }
+        | Request::Raise { key, .. }
+        | Request::Renew { key, .. }
         | Request::Sar { key, .. } => Some(key),
         Request::Ask { key: _ }
         | Request::Staged { key: _ }

@@ -1,4 +1,5 @@
 use Rattle.std.proofs.Common.{inl, inr}
+use Rattle.session_client.proofs.HeardLemmas.{awaited_key}
 use Rattle.session_client.proofs.writers.next_stage.Goals as goal
 
 pub returns-in-Getting-clause-room : goal.returns-in-Getting-clause-room
@@ -31,3 +32,9 @@ returns-in-Staging c =
       | inr (inr (inr (inr (inr (inl (ended, how, e)))))) ↦ rw e at awaits
       | inr (inr (inr (inr (inr (inr (ended, how, e)))))) ↦ rw e at awaits
     ])
+
+pub stage_after_quarantine-requires-clause-quarantine : goal.stage_after_quarantine-requires-clause-quarantine
+stage_after_quarantine-requires-clause-quarantine c =
+    let (who, writing, keys, suits, awaits) = c.requires.awaits in
+    let found = awaited_key who writing.mode writing.keys c.in-Quarantining.count c.args.reply (rw c.in-Quarantining.is at awaits) in
+    (who, writing.mode, found.key, suits, found.awaits)
