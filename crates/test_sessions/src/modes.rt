@@ -323,3 +323,63 @@ fn is_refused_before_it_quits(rt: HostRuntime) {
     let line = "quit 1 refresh invite 1 2";
     plays(&rt, rt.alloc(), &mut shard, line, REFUSED, refused);
 }
+
+const RAISES: &[(&str, &str)] = &[
+    ("qareg profile:2", "shard"),
+    ("qareg pending:2", "shard"),
+    ("qareg npending:2", "shard"),
+    ("raise profile:2", "shard"),
+    ("raise pending:2", "shard"),
+    ("raise npending:2", "back"),
+    ("commit 3 4 5", "made"),
+    ("sar profile:2 1 [m2 0 1]", "gone"),
+    ("dar pending:2", "gone"),
+    ("dar npending:2", "gone"),
+];
+
+/// The first key has a value, the second is shared, and for the third there is no memory.
+#[test]
+fn raises_what_it_has_alone(rt: HostRuntime) {
+    let alloc = rt.alloc();
+    let mut shard = new_shard(&rt, alloc);
+    store(&rt, alloc, &mut shard, PROFILE, "m2 0 0");
+    hold(&rt, &mut shard, PENDING, OTHER, Mode::Invalidate);
+    let line = "raise 1 invite 1 2";
+    plays(&rt, alloc, &mut shard, line, RAISES, COMMITTED);
+}
+
+const SPENT: &[(&str, &str)] = &[
+    ("qareg profile:2", "shard"),
+    ("qareg pending:2", "shard"),
+    ("qareg npending:2", "shard"),
+    ("raise profile:2", "shard"),
+    ("raise pending:2", "gone"),
+    ("raise npending:2", "shard"),
+    ("commit 1 3", "rejected"),
+    ("end", "ended"),
+    ("abort profile:2", "gone"),
+    ("abort npending:2", "gone"),
+];
+
+#[test]
+fn goes_on_without_a_grant_that_is_spent(rt: HostRuntime) {
+    plays_anew(&rt, rt.alloc(), "raise 1 invite 1 2", SPENT, REJECTED);
+}
+
+const RENEWS: &[(&str, &str)] = &[
+    ("qareg profile:2", "shard"),
+    ("qareg pending:2", "shard"),
+    ("delta npending:2 1", "shard"),
+    ("renew profile:2", "shard"),
+    ("renew pending:2", "memory"),
+    ("renew npending:2", "shard"),
+    ("commit 1 2 3", "made"),
+    ("dar profile:2", "gone"),
+    ("dar pending:2", "gone"),
+    ("apply npending:2 1", "gone"),
+];
+
+#[test]
+fn renews_each_quarantine(rt: HostRuntime) {
+    plays_anew(&rt, rt.alloc(), "renew 1 delta invite 1 2", RENEWS, COMMITTED);
+}

@@ -5,7 +5,7 @@ ghost use Rattle.session_client.specs.Follows.{IsReady};
 ghost use Rattle.session_client.specs.Plans.{IsPlan};
 
 use crate::told::wanted_told;
-use key_shard::{Got, Grant, Rel, SetAnswer, Shard};
+use key_shard::{Got, Grant, Raising, Rel, SetAnswer, Shard};
 use lease_table::Mode;
 use rows_model::{Kind, QKey, Sid, Txn, Value, touches};
 use run_inputs::{Act, Script};
@@ -68,6 +68,8 @@ fn fit(plan: Plan) -> Option<Plan>
         Plan::Read { key, floor } => Some(Plan::Read { key, floor }),
         Plan::Write { mode, txn } => Some(Plan::Write { mode, txn }),
         Plan::Quit { mode, txn } => Some(Plan::Quit { mode, txn }),
+        Plan::Raise { txn } => Some(Plan::Raise { txn }),
+        Plan::Renew { mode, txn } => Some(Plan::Renew { mode, txn }),
         Plan::Look { mode, key, txn } => {
             if touches(&txn, &key) {
                 Some(Plan::Look { mode, key, txn })
@@ -224,6 +226,43 @@ fn replace(grant: Grant, told: &str) -> Reply {
     release(grant)
 }
 
+/// What the shard answers to a raise, or that the quarantine is gone, or that memory ran out.
+fn raise(rt: &impl Abort, shard: &mut Shard, grant: Grant, told: &str) -> Reply {
+    if told == "back" {
+        return Reply::RaiseBack { grant };
+    }
+    if told == "gone" {
+        grant.let_go();
+        return Reply::Raise {
+            told: Raising::Gone,
+        };
+    }
+    if grant.mode() != Mode::Invalidate {
+        grant.let_go();
+        panic!(rt; "not to invalidate");
+    }
+    match shard.raise(grant) {
+        Ok(told) => Reply::Raise { told },
+        Err(grant) => {
+            grant.let_go();
+            panic!(rt; "memory")
+        }
+    }
+}
+
+/// What the shard answers to a renewal, or that memory ran out.
+fn renew(shard: &mut Shard, grant: Grant, told: &str) -> Reply {
+    let answer = if told == "memory" {
+        None
+    } else {
+        shard.renew(&grant, 0).ok()
+    };
+    Reply::Renew {
+        grant,
+        told: answer,
+    }
+}
+
 /// What a request is told: by a shard, or as a word says.
 fn reply_to(
     rt: &impl Abort,
@@ -255,6 +294,8 @@ fn reply_to(
             value: _,
             stamp: _,
         } => replace(grant, told),
+        Wanted::Raise { grant } => raise(rt, shard, grant, told),
+        Wanted::Renew { grant } => renew(shard, grant, told),
         Wanted::Nothing => Reply::Nothing,
     }
 }

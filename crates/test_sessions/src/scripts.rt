@@ -123,6 +123,17 @@ const FAULTY: [(&str, u64, ScriptKind); 90] = [
     ("members 3\nquit 1 rename 2 bob\nend", 2, Form),
     ("members 3\nquit 1 Delta rename 2 bob\nend", 2, Form),
     ("members 3\nquit 1 delta\nend", 2, Form),
+    // Raises and renewals.
+    (
+        "members 3\nraise 1 invalidate rename 2 bob\nend",
+        2,
+        Form,
+    ),
+    ("members 3\nraise 1\nend", 2, Form),
+    ("members 3\nraise 2 rename 2 bob\nend", 2, Number),
+    ("members 3\nrenew 1 rename 2 bob\nend", 2, Form),
+    ("members 3\nrenew 1 raise rename 2 bob\nend", 2, Form),
+    ("members 3\nrenew 1 delta\nend", 2, Form),
     // Turns.
     ("members 3\nturn 0\nend", 2, Number),
     ("members 3\nturn 18446744073709551616\nend", 2, Number),
@@ -264,7 +275,7 @@ fn act_told(alloc: Global, act: &Act) -> Result<String, AllocError> {
 }
 
 /// Scripts, and for each its members, shards, room and life, and its acts.
-const SCRIPTS: [(&str, &str); 10] = [
+const SCRIPTS: [(&str, &str); 11] = [
     ("members 1\nend", "1 1 16 100; "),
     (
         "members 100000\nshards 64\nroom 65536\nlife 18446744073709551615\nend\n",
@@ -291,6 +302,10 @@ const SCRIPTS: [(&str, &str); 10] = [
     (
         "members 7\nlook 1 invalidate pending:2 reject 1 2\nlook 2 refresh profile:3 thaw 5 6 + rename 3 refresh\nlook 3 delta nfriends:1 accept 1 2\nturn 3\nend",
         "7 1 16 100; look Invalidate Pending:2 + reject 1 2; look Refresh Profile:3 + thaw 5 6 + rename 3 refresh; look Delta NFriends:1 + accept 1 2; run 3 1; ",
+    ),
+    (
+        "members 7\nraise 1 rename 2 bob + thaw 6 7\nrenew 2 invalidate reject 1 2\nrenew 3 refresh rename 2 bob\nrenew 4 delta thaw 6 7\nturn 4 2\nend",
+        "7 1 16 100; raise + rename 2 bob + thaw 6 7; renew Invalidate + reject 1 2; renew Refresh + rename 2 bob; renew Delta + thaw 6 7; run 4 2; ",
     ),
     (
         "members 7\ntick 0\nread 1 profile:7\nsweep\ntick 18446744073709551615\nturn 1 2\nsweep 1000\nend",

@@ -49,6 +49,8 @@ pub fn plan_told(alloc: Global, plan: &Plan) -> Result<String, AllocError> {
         Plan::Skip { key, txn } => {
             format!(in alloc; "skip {}{}", key_told(alloc, key)?, txn_told(alloc, txn)?)
         }
+        Plan::Raise { txn } => format!(in alloc; "raise{}", txn_told(alloc, txn)?),
+        Plan::Renew { mode, txn } => format!(in alloc; "renew {mode:?}{}", txn_told(alloc, txn)?),
     }
 }
 
@@ -68,6 +70,8 @@ fn verb_of(wanted: &Wanted) -> &'static str {
         Wanted::Sar { .. } => "sar",
         Wanted::Apply { .. } => "apply",
         Wanted::Abort { .. } => "abort",
+        Wanted::Raise { .. } => "raise",
+        Wanted::Renew { .. } => "renew",
         Wanted::Nothing => "nothing",
     }
 }
@@ -85,7 +89,9 @@ fn key_of(wanted: &Wanted) -> Option<QKey> {
         Wanted::Dar { grant }
         | Wanted::Sar { grant, .. }
         | Wanted::Apply { grant, .. }
-        | Wanted::Abort { grant } => Some(grant.key()),
+        | Wanted::Abort { grant }
+        | Wanted::Raise { grant }
+        | Wanted::Renew { grant } => Some(grant.key()),
         Wanted::Commit { .. } | Wanted::End | Wanted::Nothing => None,
     }
 }
