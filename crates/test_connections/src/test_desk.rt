@@ -236,6 +236,9 @@ impl Desk for TestDesk {
             } => self.replace(grant, value, stamp),
             Wanted::Apply { grant, stamp } => self.release(grant, How::Shift { stamp }),
             Wanted::Abort { grant } => self.release(grant, How::Keep),
+            // No connection asks for these.
+            Wanted::Raise { grant } => Reply::RaiseBack { grant },
+            Wanted::Renew { grant } => Reply::Renew { grant, told: None },
             Wanted::Nothing => Reply::Nothing,
         }
     }

@@ -2,7 +2,7 @@
 
 use crate::kept_desks::Call;
 use gate_workers::{Mark, Request, Response};
-use key_shard::{Ended, Rel, Step};
+use key_shard::{Ended, Rel, Renewal, Step};
 use lease_table::Mode;
 use rows_model::{QKey, Sid, Value};
 
@@ -42,7 +42,10 @@ pub fn sid_of(step: &Step, holders: &[Sid]) -> Option<Sid> {
         | Step::Held { sid, .. }
         | Step::Refused { sid, .. }
         | Step::Released { sid, .. }
-        | Step::Gone { sid, .. } => Some(*sid),
+        | Step::Gone { sid, .. }
+        | Step::Raised { sid, .. }
+        | Step::Shared { sid, .. }
+        | Step::Renewed { sid, .. } => Some(*sid),
     }
 }
 
@@ -111,11 +114,60 @@ fn mark_of(step: &Step, asked: Request) -> Mark {
             how,
             ..
         } => ended(*key, *token, how, asked),
-        Step::Gone { key, token, .. } => Mark {
-            asked: release(*key, *token, asked),
-            told: Response::Rel { told: Rel::Gone },
+        Step::Gone { key, token, .. } => gone(*key, *token, asked),
+        Step::Raised { key, token, .. } => Mark {
+            asked: Request::Raise {
+                key: *key,
+                token: *token,
+            },
+            told: Response::Raised { token: *token },
+        },
+        Step::Shared {
+            key, token, holder, ..
+        } => Mark {
+            asked: Request::Raise {
+                key: *key,
+                token: *token,
+            },
+            told: Response::Shared { holder: *holder },
+        },
+        Step::Renewed {
+            key,
+            token,
+            deadline,
+            ..
+        } => Mark {
+            asked: Request::Renew {
+                key: *key,
+                token: *token,
+            },
+            told: Response::Renew {
+                told: Some(Renewal::Renewed {
+                    deadline: *deadline,
+                }),
+            },
         },
         _ => read(step, asked),
+    }
+}
+
+/// The mark of a request for a quarantine that stood no longer.
+fn gone(key: QKey, token: u64, asked: Request) -> Mark {
+    match asked {
+        Request::Raise { .. } => Mark {
+            asked: Request::Raise { key, token },
+            told: Response::RaiseGone,
+        },
+        Request::Renew { .. } => Mark {
+            asked: Request::Renew { key, token },
+            told: Response::Renew {
+                told: Some(Renewal::Gone),
+            },
+        },
+        _ => Mark {
+            asked: release(key, token, asked),
+            told: Response::Rel { told: Rel::Gone },
+        },
     }
 }
 

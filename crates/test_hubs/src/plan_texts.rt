@@ -52,7 +52,10 @@ fn is_plan(plan: &Plan) -> bool
 {
     match plan {
         Plan::Read { .. } => true,
-        Plan::Write { mode: _, txn } | Plan::Quit { mode: _, txn } => has_changes(txn),
+        Plan::Write { mode: _, txn }
+        | Plan::Quit { mode: _, txn }
+        | Plan::Raise { txn }
+        | Plan::Renew { mode: _, txn } => has_changes(txn),
         Plan::Look { mode: _, key, txn } | Plan::Skip { key, txn } => {
             has_changes(txn) && touches(txn, key)
         }

@@ -17,7 +17,7 @@ fn tells(rt: &impl Abort, alloc: Global, text: &[u8], want: Option<(u64, ScriptK
 }
 
 /// Faulty texts, and the line and kind of the first fault of each.
-const FAULTY: [(&str, u64, ScriptKind); 90] = [
+const FAULTY: [(&str, u64, ScriptKind); 96] = [
     ("members 3\nturn 1\nend", 2, Number),
     ("members 3", 2, NoEnd),
     ("members 0\nend", 1, Form),
