@@ -43,6 +43,7 @@ use Rattle.session_client.specs.Belongs.{Belongs, IsQuarantineOf}
 use Rattle.session_client.proofs.QuarantineLemmas.{quarantine_belongs}
 use Rattle.session_client.specs.Follows.{plan_of, sid_of, IsReady, Follows, IsRefreshing}
 use Rattle.session_client.specs.Plans.{mode_on}
+use Rattle.session_client.specs.Wants.{granted, turned, raise_or_commit, renew_or_commit}
 use Rattle.session_client.specs.Wants.{Given, Release, Keeps, Drops, Finishes, is_had, given, released, number_of, has_all, quarantine_as}
 use Rattle.session_client.specs.Wants.{quarantine_or_then, after_fault, finish, release_after, release_of, release_by, writing_of, wants}
 use Rattle.callers.specs.Quits.{IsQuit, IsGivingUp, AreReplies, IsUnderWay, IsQuarantineReply, HasSameEntries}
@@ -137,6 +138,16 @@ unfolding IsAsking
 no-fault true m txn heard ask = ask
 no-fault false m txn heard ask = ask
 
+no-raise : (m : Mode) (txn : List Change) (heard : List Reply) (o : Option Permit) → IsAsking (raise_or_commit (writing_of (Quit m txn)) heard o) → ⊥
+unfolding IsAsking
+no-raise m txn heard (Some grant) ask = ask
+no-raise m txn heard None ask = ask
+
+no-renewal : (m : Mode) (txn : List Change) (heard : List Reply) (o : Option Permit) → IsAsking (renew_or_commit (writing_of (Quit m txn)) heard o) → ⊥
+unfolding IsAsking
+no-renewal m txn heard (Some grant) ask = ask
+no-renewal m txn heard None ask = ask
+
 -- a quarantine is wanted while not all keys are quarantined
 asking : (m : Mode) (txn : List Change) (heard : List Reply) → IsAsking (wants (Quit m txn) false heard) → has_all (writing_of (Quit m txn)) heard ≡ false
 unfolding IsAsking
@@ -153,6 +164,15 @@ asking m txn (reply.Got found ∷ heard) ask = absurd ask
 asking m txn (reply.Staged value changes ∷ heard) ask = absurd ask
 asking m txn (reply.NotStaged fault changes ∷ heard) ask = absurd ask
 asking m txn (reply.NotCommitted fault changes grants ∷ heard) ask = absurd ask
+asking m txn (reply.Raise told ∷ heard) ask =
+    let all = reply.Raise told ∷ heard in
+    absurd (no-raise m txn all (slice_get (granted all) (turned all)) ask)
+asking m txn (reply.RaiseBack grant ∷ heard) ask =
+    let all = reply.RaiseBack grant ∷ heard in
+    absurd (no-raise m txn all (slice_get (granted all) (turned all)) ask)
+asking m txn (reply.Renew grant told ∷ heard) ask =
+    let all = reply.Renew grant told ∷ heard in
+    absurd (no-renewal m txn all (slice_get (granted all) (turned all)) ask)
 asking m txn (reply.Committed number changes grants ∷ heard) ask =
     absurd (no-release txn (release_by false (reply.Committed number changes grants ∷ heard))
     (slice_get (given (reply.Committed number changes grants ∷ heard)) (released (reply.Committed number changes grants ∷ heard))) ask)

@@ -11,3 +11,7 @@ returns-in-Sar-clause-makes c =
 pub returns-in-Sar-clause-belongs : goal.returns-in-Sar-clause-belongs
 returns-in-Sar-clause-belongs c =
     subst (λ request. Belongs c.args.who request c.put_or_drop.result) (sym c.in-Sar.is) (c.put_or_drop.ensures.belongs c.args.who)
+
+pub returns-in-Raise-clause-belongs : goal.returns-in-Raise-clause-belongs
+returns-in-Raise-clause-belongs c =
+    subst (λ request. Belongs c.args.who request c.raise.result) (sym c.in-Raise.is) (c.raise.ensures.belongs c.args.who)
