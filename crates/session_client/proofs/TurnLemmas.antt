@@ -1,18 +1,14 @@
 -- What a list is after the grant at a place was taken out, and put back or spent.
-use Rattle.std.proofs.Common.{◌≡◌, ◌+◌, ◌<◌, ◌≤◌, ℕ, zero, suc, Bool, true, false, List, [], ◌∷◌, ◌++◌, All, length, map, take, drop, set}
-use Rattle.std.proofs.Common.{Option, Some, None, slice_get, count_by, refl, ap, sym, subst, ◌∙◌, arith, append-nil}
+use Rattle.std.proofs.Common.{◌≡◌, ◌+◌, ◌<◌, ◌≤◌, ℕ, zero, suc, true, List, [], ◌∷◌, ◌++◌, length, map, drop, set}
+use Rattle.std.proofs.Common.{Option, Some, None, slice_get, refl, ap, sym, subst, ◌∙◌, arith, append-nil}
 use Rattle.std.proofs.Common.{cond}
 use Rattle.std.specs.List.{insert, remove}
-use Rattle.std.specs.Option.{option_map}
 use Rattle.std.proofs.lemmas.List.Elements.{All-drop, All-push}
 use Rattle.std.proofs.lemmas.List.Sums.{sum_by-cons}
-use Rattle.session_client.specs.Belongs.{IsRaiseOf}
-use Rattle.session_client.specs.Follows.{IsLent, IsOpen, RaiseAwaits, RenewAwaits}
-use Rattle.session_client.specs.Wants.{Given, Writing, given, granted, is_turn, turned}
-use Rattle.session_client.specs.Writers.{HandView, old_value}
+use Rattle.session_client.specs.Follows.{RaiseAwaits, RenewAwaits}
+use Rattle.session_client.specs.Wants.{Given, is_turn, turned}
+use Rattle.session_client.specs.Writers.{old_value}
 use Rattle.session_client.specs.declared.replies.Reply.{Reply}
-use Rattle.session_client.specs.declared.replies.Reply.TheVariants as reply
-use Rattle.key_shard.specs.declared.replies.Raising.TheVariants as raising
 use Rattle.key_shard.specs.Permit.{Permit}
 use Rattle.lease_table.specs.declared.records.Mode.TheVariants as modes
 use Rattle.lease_table.specs.declared.records.Mode.{Mode}

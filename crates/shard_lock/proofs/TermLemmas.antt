@@ -1,12 +1,10 @@
 -- A request on a shard leaves the shard's terms.
-use Rattle.std.proofs.Common.{ℕ, ◌≡◌, Bool, true, false, Option, Some, None, refl, sym, ap, subst, ◌∙◌}
+use Rattle.std.proofs.Common.{ℕ, ◌≡◌, Bool, true, false, Some, None, refl, sym, ap, subst, ◌∙◌}
 use Rattle.std.specs.Prelude.{MatchBool}
 use Rattle.rows_model.specs.declared.keys.Sid.{Sid}
 use Rattle.key_shard.specs.Past.{Terms}
 use Rattle.key_shard.specs.Permit.{Permit}
 use Rattle.key_shard.specs.Shards.{ShardView, is_out, rolled, stepped, returned, after_raise}
-use Rattle.key_shard.specs.declared.replies.Raising.{Raising}
-use Rattle.key_shard.specs.declared.replies.Renewal.{Renewal}
 use Rattle.key_shard.specs.declared.replies.Rel.{Rel}
 use Rattle.key_shard.specs.declared.steps.Step.{Step}
 use Rattle.key_shard.specs.declared.steps.Step.TheVariants.{Gone}
@@ -15,7 +13,7 @@ use Rattle.session_client.specs.declared.replies.Reply.TheVariants as reply
 use Rattle.session_client.specs.declared.replies.Wanted.{Wanted}
 use Rattle.session_client.specs.declared.replies.Wanted.TheVariants as wanted
 use Rattle.shard_lock.specs.Names.{IsNamed, IsTokenOf}
-use Rattle.shard_lock.specs.OnShard.{TellsGot, TellsQuarantine, TellsSet, Returns, TellsRelease, TellsPut, Raises, TellsRaise, Renews, TellsRenewal, MakesOnShard}
+use Rattle.shard_lock.specs.OnShard.{TellsGot, TellsQuarantine, TellsSet, Returns, TellsRelease, TellsPut, TellsRaise, TellsRenewal, MakesOnShard}
 
 same_terms : (new old : ShardView) → new ≡ old → new.terms ≡ old.terms
 same_terms new old same = ap (λ (shard : ShardView). shard.terms) same

@@ -13,9 +13,10 @@ returns-in-Raised-clause-room c = λ next keys.
     let more = length-insert c.args.hand.now.grants.items c.args.place c.in-Raised.grant (omega (arith, less, items)) in
     let same = length-set c.args.hand.now.given c.args.place c.in-Raised.grant in
     let value = length-set c.args.hand.now.values c.args.place (option_map (λ (o : List ℕ × ℕ). o.0) c.in-Raised.old) in
-    rw (c.put_raised.ensures, c.behind-behind.ensures)
-    ((omega (arith, more, same, items), omega (arith, value, same, values), omega (arith, same, room), long),
-    back_invalid c.args.hand.now.grants.items c.args.place c.in-Raised.grant (omega (arith, less, items)) c.requires.rest)
+    rw (c.put_raised.ensures, c.behind-behind.ensures) (
+      (omega (arith, more, same, items), omega (arith, value, same, values), omega (arith, same, room), long),
+      back_invalid c.args.hand.now.grants.items c.args.place c.in-Raised.grant (omega (arith, less, items)) c.requires.rest,
+    )
 
 pub returns-in-Raised-clause-follows : goal.returns-in-Raised-clause-follows
 returns-in-Raised-clause-follows c = λ writing short heard told follows.
@@ -42,9 +43,10 @@ pub returns-in-Shared-clause-room : goal.returns-in-Shared-clause-room
 returns-in-Shared-clause-room c = λ next keys.
     let (less, items, values, room, long) = c.requires.room in
     let more = length-insert c.args.hand.now.grants.items c.args.place c.in-Shared.grant (omega (arith, less, items)) in
-    rw (c.put_at.ensures, c.behind-behind-in-Shared.ensures)
-    ((omega (arith, more, items), values, room, long),
-    back_invalid c.args.hand.now.grants.items c.args.place c.in-Shared.grant (omega (arith, less, items)) c.requires.rest)
+    rw (c.put_at.ensures, c.behind-behind-in-Shared.ensures) (
+      (omega (arith, more, items), values, room, long),
+      back_invalid c.args.hand.now.grants.items c.args.place c.in-Shared.grant (omega (arith, less, items)) c.requires.rest,
+    )
 
 pub returns-in-Shared-clause-follows : goal.returns-in-Shared-clause-follows
 returns-in-Shared-clause-follows c = λ writing short heard told follows.

@@ -1,4 +1,4 @@
-use Rattle.std.proofs.Common.{arith, ap}
+use Rattle.std.proofs.Common.{arith}
 use Rattle.std.proofs.lemmas.List.Edits.{length-remove}
 use Rattle.session_client.proofs.HandLemmas.{after_take, after_take_alone, commits_raised, commits_renewed, next_drop, next_release}
 use Rattle.session_client.proofs.TurnLemmas.{first_invalid, taken_invalid}
