@@ -106,10 +106,11 @@ class Reader(unittest.TestCase):
 
     def test_a_lost_connection_is_replaced(self) -> None:
         anew = [READ, (GET, VALUE)]
-        for steps in (
+        losses: List[List[Tuple[str, str]]] = [
             [(GET, Cut("VALUE profile:2 0 6 4\nm2"))],
             [(GET, "LEASE 9"), ("ask profile:2 1", Cut(""))],
-        ):
+        ]
+        for steps in losses:
             with FakeServer([READ, *steps], anew) as server, Pool(server.address) as pool:
                 self.assertEqual(pool.read("profile:2").origin, Origin.HIT)
 
@@ -236,7 +237,11 @@ class Writer(unittest.TestCase):
 
     def test_lost_before_the_commit(self) -> None:
         anew = [WRITE, QUARANTINE, COMMIT, ("dar profile:2 1", "DELETED")]
-        for lost in ([("begin write", Cut(""))], [WRITE, ("qareg profile:2 1", Cut("GRA"))]):
+        losses: List[List[Tuple[str, str]]] = [
+            [("begin write", Cut(""))],
+            [WRITE, ("qareg profile:2 1", Cut("GRA"))],
+        ]
+        for lost in losses:
             with FakeServer(lost, anew) as server, Pool(server.address) as pool:
                 self.assertEqual(pool.write("rename 2 bob"), 8)
 

@@ -5,6 +5,7 @@ from __future__ import annotations
 import threading
 import time
 import unittest
+from typing import Callable, List
 from unittest import mock
 
 from silamoven import (
@@ -82,14 +83,15 @@ class Lending(unittest.TestCase):
 
     def test_what_is_wrong_is_not_sent(self) -> None:
         pool = Pool(("127.0.0.1", free_port()))
-        for wrong in (
+        wrongs: List[Callable[[], object]] = [
             lambda: pool.read("profile:x"),
             lambda: pool.read("profile:2", floor=-1),
             lambda: pool.read("profile:2", floor=1 << 64),
             lambda: pool.ask("profile"),
             lambda: pool.write("rename 2"),
             lambda: Pool("localhost"),
-        ):
+        ]
+        for wrong in wrongs:
             with self.assertRaises(InvalidInputError):
                 wrong()
         with self.assertRaises(ValueError):
@@ -131,7 +133,8 @@ class ComingBack(unittest.TestCase):
     def test_given_up_when_the_time_is_over(self) -> None:
         began = time.monotonic()
         with Pool(("127.0.0.1", free_port()), backoff=Backoff(first=0.05, total=0.4)) as pool:
-            for call in (lambda: pool.read("profile:2"), lambda: pool.write("rename 2 bob")):
+            calls: List[Callable[[], object]] = [lambda: pool.read("profile:2"), lambda: pool.write("rename 2 bob")]
+            for call in calls:
                 with self.assertRaises(ConnectError):
                     call()
             with self.assertRaises(ConnectError), pool.lend():

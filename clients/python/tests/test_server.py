@@ -343,13 +343,14 @@ class Races(WithServer):
         sid = other.begin(Role.READ)
         lease = other.call(commands.iqget(key, sid, 0))
         assert isinstance(lease, Lease)
+        token = lease.token
         waits: List[float] = []
 
         def sleep(seconds: float) -> None:
             waits.append(seconds)
             if len(waits) == 3:
                 reply = other.call(commands.ask(key, sid))
-                other.call(commands.iqset(key, reply.data, lease.token, reply.stamp))
+                other.call(commands.iqset(key, reply.data, token, reply.stamp))
 
         with mock.patch("silamoven.reading.sleep", sleep):
             self.assertEqual(self.pool(1).read(key).origin, Origin.HIT)

@@ -3,9 +3,11 @@
 from __future__ import annotations
 
 import unittest
+from typing import Callable, List, Sequence, Union
 
 from silamoven import (
     Accept,
+    Change,
     InvalidInputError,
     Invite,
     Key,
@@ -77,7 +79,9 @@ class Transactions(unittest.TestCase):
         changes = (Invite(1, 2), Accept(1, 2), Reject(3, 2), Thaw(1, 2), Rename(2, "bob"))
         text = "invite 1 2 + accept 1 2 + reject 3 2 + thaw 1 2 + rename 2 bob"
         self.assertEqual(str(Txn(changes)), text)
-        for given in (text, text.replace(" ", "  "), changes, list(changes), Txn(changes)):
+        texts = (text, text.replace(" ", "  "))
+        givens: List[Union[Txn, str, Sequence[Change]]] = [*texts, changes, list(changes), Txn(changes)]
+        for given in givens:
             self.assertEqual(Txn.of(given), Txn(changes))
         self.assertEqual(Txn.of(Rename(2, "bob")), Txn.of("rename 2 bob"))
 
@@ -93,7 +97,8 @@ class Transactions(unittest.TestCase):
         for none in ((), [Invite(1, 2)] * 9):
             with self.assertRaises(InvalidInputError):
                 Txn.of(none)
-        for make in (lambda: Invite(0, 1), lambda: Rename(1, ""), lambda: Rename(1, "a b")):
+        makes: List[Callable[[], Change]] = [lambda: Invite(0, 1), lambda: Rename(1, ""), lambda: Rename(1, "a b")]
+        for make in makes:
             with self.assertRaises(InvalidInputError):
                 make()
 

@@ -1,5 +1,5 @@
 -- What is legal from a base, and what is legal as a whole.
-use Rattle.std.proofs.Common.{ℕ, ◌≡◌, ◌+◌, ◌<◌, ◌≤◌, ◌==◌, ◌&&◌, Bool, true, not, filter, reverse, take, drop, List, [], ◌∷◌, ◌++◌, find, Option, Some, None, inl, inr, refl, sym, ap, subst, ◌∙◌, arith}
+use Rattle.std.proofs.Common.{ℕ, ◌≡◌, ◌+◌, ◌<◌, ◌≤◌, ◌==◌, ◌&&◌, Bool, true, false, not, cond, map, filter, reverse, take, drop, List, [], ◌∷◌, ◌++◌, find, Option, Some, None, inl, inr, refl, sym, ap, subst, ◌∙◌, arith}
 use Rattle.std.specs.Prelude.{ℤ}
 use Rattle.std.specs.List.{AllByRecursion, list_any}
 use Rattle.std.proofs.lemmas.Bool.{cond_both, false≢true, eq-eqb, eqb-true, and_from, and_parts, or_cases, or_left, or_right}
@@ -8,25 +8,33 @@ use Rattle.std.proofs.lemmas.List.Folds.{list_any-append}
 use Rattle.rows_model.specs.declared.keys.QKey.{QKey}
 use Rattle.rows_model.specs.declared.keys.Sid.{Sid}
 use Rattle.rows_model.specs.Key.{same_key}
-use Rattle.rows_model.proofs.SameKey.{same_key-true}
+use Rattle.rows_model.proofs.SameKey.{same_key-true, same_key-refl}
 use Rattle.lease_table.specs.declared.records.Mode.{Mode}
 use Rattle.lease_table.specs.declared.records.Quar.{Quar}
 use Rattle.lease_table.specs.declared.records.ReadLease.{ReadLease}
-use Rattle.lease_table.specs.Leases.{has_token}
+use Rattle.lease_table.specs.Leases.{has_token, is_of, is_raisable, first, others_in, raised, renewed}
+use Rattle.lease_table.proofs.ListLemmas.{find-none}
+use Rattle.case_tables.specs.Compatibility.{is_invalidate, verdict, raise}
+use Rattle.case_tables.specs.declared.grids.Verdict.TheVariants as verdicts
+use Rattle.lease_table.specs.Leases.{way_of, holding_of}
 use Rattle.key_shard.specs.declared.replies.How.{How}
 use Rattle.key_shard.specs.declared.steps.Step.{Step}
-use Rattle.key_shard.specs.declared.steps.Step.TheVariants.{Hit, Lease, Again, Own, Stored, Void, Granted, Held, Refused, Released, Gone}
+use Rattle.key_shard.specs.declared.steps.Step.TheVariants.{Hit, Lease, Again, Own, Stored, Void, Granted, Held, Refused, Released, Gone, Raised, Shared, Renewed}
 use Rattle.key_shard.specs.Permit.{Permit}
 use Rattle.key_shard.specs.Past.{Terms, standing, recorded, entry, order, quar_of, next_token, grants}
 use Rattle.key_shard.specs.OneStep.{step_key, standing_after, recorded_after, entry_after, order_after, next_after}
-use Rattle.key_shard.specs.Answers.{Request, Get, Set, Quarantine, Release, Replace, Answers, IsLegalPast, IsOwed, OwesRelease, OwesReplace, WasGranted, key_of, step_of, release_by}
+use Rattle.key_shard.specs.Answers.{Request, Get, Set, Quarantine, Release, Replace, Raise, Renew, Answers, IsLegalPast, IsOwed}
+use Rattle.key_shard.specs.Answers.{OwesRelease, OwesReplace, OwesRaise, OwesRenew, WasGranted, key_of, step_of, release_by, raise_by, raise_among, renew_by}
 use Rattle.key_shard.specs.Sights.{Sight, sight_of, step_at, replaced_at}
 use Rattle.key_shard.specs.Base.{BaseView, IsBase, standing_from, recorded_from, entry_from, order_from, next_from, sight_from, GrantedBefore, WasGrantedFrom}
-use Rattle.key_shard.specs.Base.{OwesReleaseFrom, OwesReplaceFrom, IsOwedFrom, GoneFrom, LegalFrom, BaseLaw, BaseLawBack}
-use Rattle.key_shard.proofs.CaseLemmas.{got_cases, set_cases, quarantine_cases, release_cases, replace_cases}
+use Rattle.key_shard.specs.Base.{OwesReleaseFrom, OwesReplaceFrom, OwesRaiseFrom, OwesRenewFrom, IsOwedFrom, GoneFrom, LegalFrom, BaseLaw, BaseLawBack}
+use Rattle.key_shard.proofs.CaseLemmas.{got_cases, set_cases, quarantine_cases, release_cases, replace_cases, raise_cases, renew_cases}
 use Rattle.key_shard.proofs.LegalLemmas.{every-append, every-filter, every-weaker}
 use Rattle.key_shard.proofs.OneStepLemmas.{next_drawn, readers_by_one_step}
 use Rattle.key_shard.proofs.SightLemmas.{step_by_sight}
+use Rattle.key_shard.proofs.RaiseLemmas.{every-mapped, raised-same, renewed-same}
+use Rattle.std.proofs.lemmas.List.Folds.{list_any_none}
+use Rattle.std.proofs.lemmas.List.Elements.{All-weaker}
 
 -- from a base and the steps behind it the same is read as from the whole
 record Sees (terms : Terms) (base : BaseView) (late whole : List Step) : Type 0 where
@@ -87,6 +95,8 @@ drawn-now terms past s a = subst P (sym a.answer) (by a.request)
     by (Quarantine key who mode shift now) = quarantine_cases P terms past key who mode shift now (λ _. refl) tt (λ _ _. tt)
     by (Release permit how) = release_cases P past permit how (λ _ _. tt) (λ _. tt)
     by (Replace permit value stamp) = replace_cases P terms past permit value stamp (λ _ _. tt) (λ _. tt)
+    by (Raise permit) = raise_cases P past permit (λ _. tt) (λ _ _. tt) tt
+    by (Renew permit now) = renew_cases P terms past permit now (λ _ _. tt) (λ _. tt)
 
 -- a step that grants what a permit speaks of draws its token, on its key, for its session
 record GrantsIt (permit : Permit) (key : QKey) (sid : Sid) (token : ℕ) : Type 0 where
@@ -124,6 +134,25 @@ grants-cases P permit h (Held on sid mode) e = absurd (false≢true e)
 grants-cases P permit h (Refused on sid mode holder held) e = absurd (false≢true e)
 grants-cases P permit h (Released on sid token how) e = absurd (false≢true e)
 grants-cases P permit h (Gone on sid token) e = absurd (false≢true e)
+grants-cases P permit h (Raised on sid token) e = absurd (false≢true e)
+grants-cases P permit h (Shared on sid token holder) e = absurd (false≢true e)
+grants-cases P permit h (Renewed on sid token now deadline) e = absurd (false≢true e)
+
+-- a grant of the same key, session and token is one of the same quarantine
+grants-same : (p q : Permit) → q.key ≡ p.key → q.sid ≡ p.sid → q.token ≡ p.token → (s : Step) → grants p s ≡ true → grants q s ≡ true
+grants-same p q key sid token =
+    grants-cases (λ s. grants q s ≡ true) p (λ on who mode shift now drawn deadline it.
+    and_from (same_key q.key on && (q.sid.number == who.number)) (q.token == drawn)
+    (and_from (same_key q.key on) (q.sid.number == who.number) (ap (same_key q.key) (sym (key ∙ it.same)) ∙ same_key-refl q.key)
+    (eq-eqb q.sid.number who.number (ap (λ (x : Sid). x.number) (sid ∙ it.whose)))) (eq-eqb q.token drawn (token ∙ it.drawn)))
+
+pub granted-same : (p q : Permit) → q.key ≡ p.key → q.sid ≡ p.sid → q.token ≡ p.token → (past : List Step) → WasGranted past p → WasGranted past q
+granted-same p q key sid token [] e = absurd (false≢true e)
+granted-same p q key sid token (s ∷ past) e =
+    elim (or_cases (grants p s) (list_any (grants p) past) e) [
+      | inl here ↦ or_left (grants q s) (list_any (grants q) past) (grants-same p q key sid token s here)
+      | inr there ↦ or_right (grants q s) (list_any (grants q) past) (granted-same p q key sid token past there)
+    ]
 
 -- the token of a grant that is made now is the next one
 token-now : (terms : Terms) (past : List Step) (permit : Permit) (s : Step)
@@ -196,6 +225,16 @@ granted-still key s past quars h =
     every-weaker (λ quar. WasGranted past (as-granted key quar)) (λ quar. WasGranted (s ∷ past) (as-granted key quar)) quars
     (λ quar e. or_right (grants (as-granted key quar) s) (list_any (grants (as-granted key quar)) past) e) h
 
+granted-changed : (key : QKey) (s : Step) (past : List Step) (b : Bool) (f : Quar → Quar) → ((quar : Quar) → (f quar).sid ≡ quar.sid)
+    → ((quar : Quar) → (f quar).token ≡ quar.token)
+    → AreGranted key past (standing key past) → AreGranted key (s ∷ past) (cond b (map f (standing key past)) (standing key past))
+granted-changed key s past b f sids tokens h =
+    let old = granted-still key s past (standing key past) h in
+    cond_both b (map f (standing key past)) (standing key past) (AreGranted key (s ∷ past))
+    (λ _. every-mapped (λ quar. WasGranted (s ∷ past) (as-granted key quar)) (λ quar. WasGranted (s ∷ past) (as-granted key quar)) f
+    (λ quar was. granted-same (as-granted key quar) (as-granted key (f quar)) refl (sids quar) (tokens quar) (s ∷ past) was) (standing key past) old)
+    (λ _. old)
+
 -- each quarantine that stands was granted
 all-granted : (key : QKey) (past : List Step) → AreGranted key past (standing key past)
 all-granted key [] = tt
@@ -235,6 +274,14 @@ all-granted key (Refused on sid mode holder held ∷ past) =
     granted-still key (Refused on sid mode holder held) past (standing key past) (all-granted key past)
 all-granted key (Gone on sid token ∷ past) =
     granted-still key (Gone on sid token) past (standing key past) (all-granted key past)
+all-granted key (Shared on sid token holder ∷ past) =
+    granted-still key (Shared on sid token holder) past (standing key past) (all-granted key past)
+all-granted key (Raised on sid token ∷ past) =
+    granted-changed key (Raised on sid token) past (same_key key on) (raised token) (λ quar. raised-same (λ q. q.sid) token quar refl)
+    (λ quar. raised-same (λ q. q.token) token quar refl) (all-granted key past)
+all-granted key (Renewed on sid token now deadline ∷ past) =
+    granted-changed key (Renewed on sid token now deadline) past (same_key key on) (renewed token deadline)
+    (λ quar. renewed-same (λ q. q.sid) token deadline quar refl) (λ quar. renewed-same (λ q. q.token) token deadline quar refl) (all-granted key past)
 
 -- ---- forth
 
@@ -268,6 +315,16 @@ replaced-from : (terms : Terms) (late early : List Step) (base : BaseView) (perm
 replaced-from terms late early base permit (Some quar) h legal owed = owed
 replaced-from terms late early base permit None h legal owed = since-or-before terms late early base permit h legal owed
 
+raised-from : (terms : Terms) (late early : List Step) (base : BaseView) (permit : Permit) (o : Option Quar)
+    → IsBase terms early base → IsLegalPast terms early → OwesRaise (late ++ early) permit o → OwesRaiseFrom base late permit o
+raised-from terms late early base permit (Some quar) h legal owed = owed
+raised-from terms late early base permit None h legal owed = since-or-before terms late early base permit h legal owed
+
+renewed-from : (terms : Terms) (late early : List Step) (base : BaseView) (permit : Permit) (o : Option Quar)
+    → IsBase terms early base → IsLegalPast terms early → OwesRenew (late ++ early) permit o → OwesRenewFrom base late permit o
+renewed-from terms late early base permit (Some quar) h legal owed = owed
+renewed-from terms late early base permit None h legal owed = since-or-before terms late early base permit h legal owed
+
 owed-from : (terms : Terms) (late early : List Step) (base : BaseView) (request : Request)
     → IsBase terms early base → IsLegalPast terms early → IsOwed (late ++ early) request → IsOwedFrom base late request
 owed-from terms late early base (Get key who floor now) h legal owed = tt
@@ -281,6 +338,14 @@ owed-from terms late early base (Replace permit value stamp) h legal owed =
     subst (λ quars. OwesReplaceFrom base late permit (find (has_token permit.token) quars))
     (sym ((sees terms base late early h).quars permit.key))
     (replaced-from terms late early base permit (quar_of permit.key permit.token (late ++ early)) h legal owed)
+owed-from terms late early base (Raise permit) h legal owed =
+    subst (λ quars. OwesRaiseFrom base late permit (find (has_token permit.token) quars))
+    (sym ((sees terms base late early h).quars permit.key))
+    (raised-from terms late early base permit (quar_of permit.key permit.token (late ++ early)) h legal owed)
+owed-from terms late early base (Renew permit now) h legal owed =
+    subst (λ quars. OwesRenewFrom base late permit (find (has_token permit.token) quars))
+    (sym ((sees terms base late early h).quars permit.key))
+    (renewed-from terms late early base permit (quar_of permit.key permit.token (late ++ early)) h legal owed)
 
 pub base_law : BaseLaw
 base_law terms [] early base h legal = (legal, tt)
@@ -318,6 +383,31 @@ replaced-back : (terms : Terms) (sight : Sight) (late early : List Step) (base :
 replaced-back terms sight late early base permit value stamp (Some quar) above owed = owed
 replaced-back terms sight late early base permit value stamp None above owed = granted-since late early base permit above owed
 
+-- where no quarantine of its token stands a raise is gone
+no-second : (a c : Bool) → (a && (false && c)) ≡ false
+no-second true c = refl
+no-second false c = refl
+
+pub raise-gone : (permit : Permit) (quars : List Quar) → find (has_token permit.token) quars ≡ None
+    → raise_among permit quars ≡ Gone permit.key permit.sid permit.token
+raise-gone permit quars none =
+    ap (λ b. raise_by permit (first (others_in permit.sid quars)) (cond b (verdict (holding_of permit.sid 0 None quars) raise) verdicts.Gone))
+    (list_any_none (is_raisable permit.sid permit.token) quars
+    (All-weaker (λ quar. has_token permit.token quar ≡ false) (λ quar. is_raisable permit.sid permit.token quar ≡ false)
+    (λ quar other. ap (λ b. is_of permit.sid quar && (b && is_invalidate (way_of quar.mode))) other
+    ∙ no-second (is_of permit.sid quar) (is_invalidate (way_of quar.mode))) quars (find-none (has_token permit.token) quars none)))
+
+raised-back : (late early : List Step) (base : BaseView) (permit : Permit) (quars : List Quar) (o : Option Quar) → find (has_token permit.token) quars ≡ o
+    → GoneFrom base.next (raise_among permit quars) → OwesRaiseFrom base late permit o → OwesRaise (late ++ early) permit o
+raised-back late early base permit quars (Some quar) stands above owed = owed
+raised-back late early base permit quars None stands above owed =
+    granted-since late early base permit (subst (GoneFrom base.next) (raise-gone permit quars stands) above) owed
+
+renewed-back : (terms : Terms) (late early : List Step) (base : BaseView) (permit : Permit) (now : ℕ) (o : Option Quar)
+    → GoneFrom base.next (renew_by terms permit now o) → OwesRenewFrom base late permit o → OwesRenew (late ++ early) permit o
+renewed-back terms late early base permit now (Some quar) above owed = owed
+renewed-back terms late early base permit now None above owed = granted-since late early base permit above owed
+
 owed-back : (terms : Terms) (late early : List Step) (base : BaseView) (request : Request) → IsBase terms early base
     → GoneFrom base.next (step_at terms (sight_from base (key_of request) late) request) → IsOwedFrom base late request → IsOwed (late ++ early) request
 owed-back terms late early base (Get key who floor now) h above owed = tt
@@ -329,6 +419,14 @@ owed-back terms late early base (Release permit how) h above owed =
 owed-back terms late early base (Replace permit value stamp) h above owed =
     subst (λ quars. OwesReplace (late ++ early) permit (find (has_token permit.token) quars)) ((sees terms base late early h).quars permit.key)
     (replaced-back terms (sight_from base permit.key late) late early base permit value stamp
+    (find (has_token permit.token) (standing_from base permit.key late)) above owed)
+owed-back terms late early base (Raise permit) h above owed =
+    subst (λ quars. OwesRaise (late ++ early) permit (find (has_token permit.token) quars)) ((sees terms base late early h).quars permit.key)
+    (raised-back late early base permit (standing_from base permit.key late)
+    (find (has_token permit.token) (standing_from base permit.key late)) refl above owed)
+owed-back terms late early base (Renew permit now) h above owed =
+    subst (λ quars. OwesRenew (late ++ early) permit (find (has_token permit.token) quars)) ((sees terms base late early h).quars permit.key)
+    (renewed-back terms late early base permit now
     (find (has_token permit.token) (standing_from base permit.key late)) above owed)
 
 pub base_law_back : BaseLawBack

@@ -13,7 +13,8 @@ use Rattle.key_shard.specs.Past.{Terms}
 use Rattle.key_shard.specs.Histories.{is_due}
 use Rattle.key_shard.specs.declared.bodies.Body.{Body}
 use Rattle.key_shard.specs.Kept.{Ties, IsKept, shown, terms_of}
-use Rattle.key_shard.specs.Shards.{is_out, swept, ShardView, past_of, rolled, stepped, returned, without_permit, out_after, RollsShort}
+use Rattle.key_shard.specs.declared.steps.Step.TheVariants.{Gone}
+use Rattle.key_shard.specs.Shards.{is_out, after_raise, swept, ShardView, past_of, rolled, stepped, returned, without_permit, out_after, RollsShort}
 use Rattle.key_shard.specs.Base.{BaseView, IsBase, IsRolled}
 
 -- what a shard keeps is a base of its past
@@ -98,6 +99,33 @@ pub IsRolled-replaced : {X Y : Type 0} (old new : ShardView) (permit : Permit) (
     → OnErr result (new ≡ old) → IsRolled new base
 IsRolled-replaced old new permit step base (Ok x) h out unknown err = IsRolled-released old new permit step base h out unknown
 IsRolled-replaced old new permit step base (Err y) h out unknown err = subst (λ s. IsRolled s base) (sym err) h
+
+-- and behind a raise, and behind a renewal
+IsRolled-after_raise : (shard : ShardView) (permit : Permit) (step : Step) (base : BaseView) → IsRolled shard base → IsRolled (after_raise shard permit step) base
+IsRolled-after_raise shard permit (Gone key sid token) base h = IsRolled-returned shard permit (Gone key sid token) base h
+IsRolled-after_raise shard permit step base h = IsRolled-stepped shard step base h
+
+-- what a call leaves of a grant that was out, and of one that was not, or for want of memory
+IsRolled-called : {X Y : Type 0} (old new after : ShardView) (permit : Permit) (base : BaseView) (result : Result X Y) → IsRolled old base → IsRolled after base
+    → (IsTrue (is_out old permit) → OnOk result (new ≡ after)) → (IsFalse (is_out old permit) → new ≡ old) → OnErr result (new ≡ old) → IsRolled new base
+IsRolled-called old new after permit base (Err y) h behind out unknown err = subst (λ s. IsRolled s base) (sym err) h
+IsRolled-called old new after permit base (Ok x) h behind out unknown err = by (is_out old permit) refl
+  where
+    by : (b : Bool) → is_out old permit ≡ b → IsRolled new base
+    by true e = subst (λ s. IsRolled s base) (sym (out e)) behind
+    by false e = subst (λ s. IsRolled s base) (sym (unknown e)) h
+
+pub IsRolled-raised : {X Y : Type 0} (old new : ShardView) (permit : Permit) (step : Step) (base : BaseView) (result : Result X Y) → IsRolled old base
+    → (IsTrue (is_out old permit) → OnOk result (new ≡ after_raise old permit step)) → (IsFalse (is_out old permit) → new ≡ old)
+    → OnErr result (new ≡ old) → IsRolled new base
+IsRolled-raised old new permit step base result h out unknown err =
+    IsRolled-called old new (after_raise old permit step) permit base result h (IsRolled-after_raise old permit step base h) out unknown err
+
+pub IsRolled-renewed : {X Y : Type 0} (old new : ShardView) (permit : Permit) (step : Step) (base : BaseView) (result : Result X Y) → IsRolled old base
+    → (IsTrue (is_out old permit) → OnOk result (new ≡ stepped old step)) → (IsFalse (is_out old permit) → new ≡ old)
+    → OnErr result (new ≡ old) → IsRolled new base
+IsRolled-renewed old new permit step base result h out unknown err =
+    IsRolled-called old new (stepped old step) permit base result h (IsRolled-stepped old step base h) out unknown err
 
 -- and behind a sweep
 pub IsRolled-swept : (shard : ShardView) (swept_by : Option Step) (base : BaseView) → IsRolled shard base → IsRolled (swept shard swept_by) base

@@ -8,10 +8,11 @@ use Rattle.std.proofs.lemmas.Bool.{cond_both}
 use Rattle.rows_model.specs.declared.keys.QKey.{QKey}
 use Rattle.rows_model.specs.declared.keys.Sid.{Sid}
 use Rattle.case_tables.specs.Compatibility.{Way, is_invalidate, is_any, same_way, quarantine_verdict}
+use Rattle.case_tables.specs.declared.grids.Verdict.{Verdict}
 use Rattle.case_tables.specs.declared.grids.Verdict.TheVariants as verdicts
 use Rattle.lease_table.specs.declared.records.Mode.{Mode}
 use Rattle.lease_table.specs.declared.records.Quar.{Quar}
-use Rattle.lease_table.specs.Leases.{way_of, is_of, is_current, is_unexpired, first, own_in, others_in}
+use Rattle.lease_table.specs.Leases.{way_of, is_of, is_current, is_unexpired, first, own_in, others_in, raise_in}
 use Rattle.lease_table.proofs.ListLemmas.{find-none, filter-not-all}
 use Rattle.key_shard.specs.Permit.{Permit}
 use Rattle.key_shard.specs.declared.replies.How.{How}
@@ -21,7 +22,7 @@ use Rattle.key_shard.specs.declared.steps.Step.{Step}
 use Rattle.key_shard.specs.declared.steps.Step.TheVariants as step
 use Rattle.key_shard.specs.Past.{Terms, standing, recorded, entry, evicts, own_of, others_of, holder_of, quar_of, next_token, deadline_at}
 use Rattle.key_shard.specs.Answers.{get_step, get_by, found_step, miss_by, miss_step, set_step, granted_step, refused_step, quarantine_by, quarantine_step}
-use Rattle.key_shard.specs.Answers.{ended_as, release_step, release_by, replace_step, replace_by}
+use Rattle.key_shard.specs.Answers.{ended_as, release_step, release_by, replace_step, replace_by, raise_step, raise_by, shared_step, renew_step, renew_by}
 
 -- where none of the quarantines is one's own, the others' are all of them
 pub others_all : (who : Sid) (quars : List Quar) → own_in who quars ≡ None → others_in who quars ≡ quars
@@ -144,4 +145,40 @@ replace_cases P terms past permit value stamp ends gone = by (quar_of permit.key
   where
     by : (o : Option Quar) → quar_of permit.key permit.token past ≡ o → P (replace_by terms past permit value stamp o)
     by (Some quar) e = ends quar e
+    by None e = gone e
+
+-- a raise raises a quarantine that may be raised, or names the session of another's, or is gone
+pub raise_cases : (P : Step → Type 0) (past : List Step) (permit : Permit) →
+    (raise_in permit.sid permit.token (standing permit.key past) ≡ verdicts.Raise → P (step.Raised permit.key permit.sid permit.token)) →
+    ((other : Quar) → first (others_in permit.sid (standing permit.key past)) ≡ Some other
+    → P (step.Shared permit.key permit.sid permit.token other.sid)) →
+    P (step.Gone permit.key permit.sid permit.token) → P (raise_step past permit)
+raise_cases P past permit raises shared gone =
+    by (raise_in permit.sid permit.token (standing permit.key past)) refl
+  where
+    named : (o : Option Quar) → first (others_in permit.sid (standing permit.key past)) ≡ o → P (shared_step permit o)
+    named (Some other) e = shared other e
+    named None e = gone
+
+    by : (v : Verdict) → raise_in permit.sid permit.token (standing permit.key past) ≡ v
+        → P (raise_by permit (first (others_in permit.sid (standing permit.key past))) v)
+    by verdicts.Raise e = raises e
+    by verdicts.Refuse e = named (first (others_in permit.sid (standing permit.key past))) refl
+    by verdicts.Gone e = gone
+    by verdicts.Give e = gone
+    by verdicts.Void e = gone
+    by verdicts.Join e = gone
+    by verdicts.Wait e = gone
+    by verdicts.Same e = gone
+    by verdicts.Own e = gone
+
+-- a renewal gives the quarantine of its token a new deadline, where one stands, and else that is gone
+pub renew_cases : (P : Step → Type 0) (terms : Terms) (past : List Step) (permit : Permit) (now : ℕ) →
+    ((quar : Quar) → quar_of permit.key permit.token past ≡ Some quar
+    → P (step.Renewed permit.key permit.sid permit.token now (deadline_at terms now))) →
+    (quar_of permit.key permit.token past ≡ None → P (step.Gone permit.key permit.sid permit.token)) → P (renew_step terms past permit now)
+renew_cases P terms past permit now renews gone = by (quar_of permit.key permit.token past) refl
+  where
+    by : (o : Option Quar) → quar_of permit.key permit.token past ≡ o → P (renew_by terms permit now o)
+    by (Some quar) e = renews quar e
     by None e = gone e

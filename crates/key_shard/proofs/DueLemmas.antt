@@ -1,5 +1,5 @@
 -- What a scan finds: the first quarantine whose deadline has come is the same however it is looked for.
-use Rattle.std.proofs.Common.{ℕ, ◌≡◌, ◌≢◌, ◌<◌, ◌≤◌, Bool, true, false, not, cond, zero, suc, List, [], ◌∷◌, ◌++◌, filter, find, length}
+use Rattle.std.proofs.Common.{ℕ, ◌≡◌, ◌≢◌, ◌<◌, ◌≤◌, Bool, true, false, not, cond, zero, suc, List, [], ◌∷◌, ◌++◌, map, filter, find, length}
 use Rattle.std.proofs.Common.{get_or, Option, Some, None, refl, sym, ap, subst, ◌∙◌, inl, inr, ◌⊎◌, arith}
 use Rattle.std.specs.Prelude.{Any, IfSome, IfNone, flat_map, nat_le}
 use Rattle.std.specs.List.{All, AllByRecursion}
@@ -12,13 +12,14 @@ use Rattle.rows_model.specs.Key.{same_key}
 use Rattle.rows_model.proofs.SameKey.{same_key-true}
 use Rattle.lease_table.specs.declared.records.Due.{Due}
 use Rattle.lease_table.specs.declared.records.Quar.{Quar}
-use Rattle.lease_table.specs.Leases.{has_token}
+use Rattle.lease_table.specs.Leases.{has_token, raised, renewed}
 use Rattle.lease_table.specs.Expiry.{comes_before, due_as, IsDue, StandsDue, NoneDueBefore, NoneDue}
 use Rattle.key_shard.specs.declared.steps.Step.{Step}
 use Rattle.key_shard.specs.declared.steps.Step.TheVariants as step
 use Rattle.key_shard.specs.Past.{Terms, standing, quar_of}
 use Rattle.key_shard.specs.Answers.{IsLegalPast}
 use Rattle.key_shard.specs.Dues.{due_now, due_by, sooner, first_of, first_due}
+use Rattle.key_shard.proofs.RaiseLemmas.{every-mapped, raised-same, renewed-same}
 use Rattle.key_shard.proofs.LegalLemmas.{AllOfOwnToken, distinct, every-append, every-filter, every-weaker, legal_stands_well}
 
 -- P holds of one of these
@@ -83,6 +84,17 @@ granted-later : (key : QKey) (s : Step) (past : List Step) (quars : List Quar) �
 granted-later key s past quars h =
     every-weaker (WasGrantedIn key past) (WasGrantedIn key (s ∷ past)) quars (λ quar was. inr was) h
 
+-- also where each was changed but for its token
+granted-changed : (key : QKey) (s : Step) (past : List Step) (b : Bool) (f : Quar → Quar) → ((quar : Quar) → (f quar).token ≡ quar.token)
+    → AllByRecursion (WasGrantedIn key past) (standing key past)
+    → AllByRecursion (WasGrantedIn key (s ∷ past)) (cond b (map f (standing key past)) (standing key past))
+granted-changed key s past b f tokens h =
+    let old = granted-later key s past (standing key past) h in
+    cond_both b (map f (standing key past)) (standing key past) (AllByRecursion (WasGrantedIn key (s ∷ past)))
+    (λ _. every-mapped (WasGrantedIn key (s ∷ past)) (WasGrantedIn key (s ∷ past)) f
+    (λ quar was. subst (λ n. OneOf (IsGrantOf key n) (s ∷ past)) (sym (tokens quar)) was) (standing key past) old)
+    (λ _. old)
+
 -- each quarantine that stands was granted by a step of the past
 pub standing-granted : (key : QKey) (past : List Step) → AllByRecursion (λ quar. OneOf (IsGrantOf key quar.token) past) (standing key past)
 standing-granted key [] = tt
@@ -114,6 +126,14 @@ standing-granted key (step.Held on sid mode ∷ past) = granted-later key (step.
 standing-granted key (step.Refused on sid mode holder held ∷ past) =
     granted-later key (step.Refused on sid mode holder held) past (standing key past) (standing-granted key past)
 standing-granted key (step.Gone on sid token ∷ past) = granted-later key (step.Gone on sid token) past (standing key past) (standing-granted key past)
+standing-granted key (step.Shared on sid token holder ∷ past) =
+    granted-later key (step.Shared on sid token holder) past (standing key past) (standing-granted key past)
+standing-granted key (step.Raised on sid token ∷ past) =
+    granted-changed key (step.Raised on sid token) past (same_key key on) (raised token) (λ quar. raised-same (λ q. q.token) token quar refl)
+    (standing-granted key past)
+standing-granted key (step.Renewed on sid token now deadline ∷ past) =
+    granted-changed key (step.Renewed on sid token now deadline) past (same_key key on) (renewed token deadline)
+    (λ quar. renewed-same (λ q. q.token) token deadline quar refl) (standing-granted key past)
 
 -- where each has a token of its own, each is the one that is found by its token
 pub found-own_token : (quars : List Quar) → AllOfOwnToken quars → AllByRecursion (λ quar. find (has_token quar.token) quars ≡ Some quar) quars
@@ -171,6 +191,9 @@ due-listed_by now past (step.Held on sid mode) key quar is stands late = absurd 
 due-listed_by now past (step.Refused on sid mode holder held) key quar is stands late = absurd is
 due-listed_by now past (step.Released on sid token how) key quar is stands late = absurd is
 due-listed_by now past (step.Gone on sid token) key quar is stands late = absurd is
+due-listed_by now past (step.Raised on sid token) key quar is stands late = absurd is
+due-listed_by now past (step.Shared on sid token holder) key quar is stands late = absurd is
+due-listed_by now past (step.Renewed on sid token at deadline) key quar is stands late = absurd is
 
 due-listed : (now : ℕ) (past steps : List Step) (key : QKey) (quar : Quar) → OneOf (IsGrantOf key quar.token) steps → quar_of key quar.token past ≡ Some quar
     → quar.deadline ≤ now
@@ -216,6 +239,9 @@ listed-due_by now past (step.Held on sid mode) = tt
 listed-due_by now past (step.Refused on sid mode holder held) = tt
 listed-due_by now past (step.Released on sid token how) = tt
 listed-due_by now past (step.Gone on sid token) = tt
+listed-due_by now past (step.Raised on sid token) = tt
+listed-due_by now past (step.Shared on sid token holder) = tt
+listed-due_by now past (step.Renewed on sid token at deadline) = tt
 
 listed-due : (now : ℕ) (past steps : List Step) → AllByRecursion (StandsListed now past) (listed now past steps)
 listed-due now past [] = tt

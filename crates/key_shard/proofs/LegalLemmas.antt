@@ -1,5 +1,5 @@
 -- What stands on a key after a legal past: by one step, by induction, and what follows of it.
-use Rattle.std.proofs.Common.{ℕ, ◌≡◌, ◌≢◌, ◌+◌, ◌<◌, ◌≤◌, ◌==◌, Bool, true, false, not, cond, ◌&&◌, ◌||◌, Option, Some, None, inl, inr, ◌⊎◌}
+use Rattle.std.proofs.Common.{ℕ, ◌≡◌, ◌≢◌, ◌+◌, ◌<◌, ◌≤◌, ◌==◌, Bool, true, false, not, cond, ◌&&◌, ◌||◌, Option, Some, None, option_map, inl, inr, ◌⊎◌}
 use Rattle.std.proofs.Common.{refl, sym, ap, subst, ◌∙◌, arith}
 use Rattle.std.proofs.Common.{List, [], ◌∷◌, ◌++◌, map, filter, find, length}
 use Rattle.std.specs.Prelude.{ℤ, IsTrue}
@@ -10,21 +10,24 @@ use Rattle.rows_model.specs.declared.keys.QKey.{QKey}
 use Rattle.rows_model.specs.declared.keys.Sid.{Sid}
 use Rattle.rows_model.specs.Key.{same_key}
 use Rattle.rows_model.proofs.SameKey.{same_key-true}
-use Rattle.case_tables.specs.Compatibility.{is_invalidate}
+use Rattle.case_tables.specs.Compatibility.{Way, invalidate, refresh, delta, is_invalidate, raise_verdict}
+use Rattle.case_tables.specs.declared.grids.Verdict.TheVariants as verdicts
 use Rattle.lease_table.specs.declared.records.Mode.{Mode}
 use Rattle.lease_table.specs.declared.records.Mode.TheVariants.{Invalidate, Refresh, Delta}
 use Rattle.lease_table.specs.declared.records.Quar.{Quar}
 use Rattle.lease_table.specs.declared.records.ReadLease.{ReadLease}
-use Rattle.lease_table.specs.Leases.{way_of, is_of, has_token, own_in, StandBeside}
+use Rattle.lease_table.specs.Leases.{way_of, is_of, has_token, own_in, others_in, is_raisable, raise_in, raised, renewed, StandBeside}
 use Rattle.lease_table.proofs.ListLemmas.{find-none}
 use Rattle.key_shard.specs.declared.steps.Ended.{Ended}
 use Rattle.key_shard.specs.declared.steps.Step.{Step}
 use Rattle.key_shard.specs.declared.steps.Step.TheVariants as step
 use Rattle.key_shard.specs.Past.{Terms, standing, recorded, own_of, quar_of, evicts, next_token, deadline_at}
-use Rattle.key_shard.specs.Answers.{Request, Get, Set, Quarantine, Release, Replace, Answers, step_of, ended_as}
+use Rattle.key_shard.specs.Permit.{Permit}
+use Rattle.key_shard.specs.Answers.{Request, Get, Set, Quarantine, Release, Replace, Raise, Renew, Answers, step_of, ended_as}
 use Rattle.key_shard.specs.LegalStands.{AllStandBeside, StandsWell, LegalStandsWell}
-use Rattle.key_shard.proofs.CaseLemmas.{MayJoin, got_cases, set_cases, verdict_cases, release_cases, replace_cases}
+use Rattle.key_shard.proofs.CaseLemmas.{MayJoin, map_none, got_cases, set_cases, verdict_cases, release_cases, replace_cases, raise_cases, renew_cases}
 use Rattle.key_shard.proofs.OneStepLemmas.{next_drawn}
+use Rattle.key_shard.proofs.RaiseLemmas.{every-mapped, raised-same, renewed-same}
 
 -- what holds of each of two lists holds of each of both, of some, and what is weaker holds too
 pub every-append : {X : Type 0} (P : X → Type 0) (xs ys : List X) → AllByRecursion P xs → AllByRecursion P ys → AllByRecursion P (xs ++ ys)
@@ -180,6 +183,113 @@ granted-well terms past on who mode shift now deadline none join h key =
         (well-push (next_token terms past) (standing key past) new (recorded key past) refl free joins (well-of (h key)))
     by false other = old-well terms past s key h
 
+-- a quarantine may be raised only where no other session's stands beside it
+raised-alone : (own : Option Way) (others : List Way) → raise_verdict own others ≡ verdicts.Raise → others ≡ []
+raised-alone None others e = cc
+raised-alone (Some invalidate) [] e = refl
+raised-alone (Some invalidate) (w ∷ ws) e = cc
+raised-alone (Some refresh) others e = cc
+raised-alone (Some delta) others e = cc
+
+raise-alone : (who : Sid) (token : ℕ) (quars : List Quar) → raise_in who token quars ≡ verdicts.Raise → others_in who quars ≡ []
+raise-alone who token quars = by (list_any (is_raisable who token) quars)
+  where
+    by : (b : Bool) → cond b (raise_verdict (option_map (λ quar. way_of quar.mode) (own_in who quars)) (map (λ quar. way_of quar.mode) (others_in who quars)))
+        verdicts.Gone ≡ verdicts.Raise → others_in who quars ≡ []
+    by true e = map_none (others_in who quars) (raised-alone _ _ e)
+    by false e = cc
+
+-- where no other session's stands, each is the session's own
+others-none : (who : Sid) (quar : Quar) (quars : List Quar) → others_in who (quar ∷ quars) ≡ [] → (is_of who quar ≡ true) × (others_in who quars ≡ [])
+others-none who quar quars = by (is_of who quar) refl
+  where
+    by : (b : Bool) → is_of who quar ≡ b → cond (not b) (quar ∷ others_in who quars) (others_in who quars) ≡ []
+        → (is_of who quar ≡ true) × (others_in who quars ≡ [])
+    by true e none = (e, none)
+    by false e none = cc
+
+-- of what stands beside one another two are of two sessions, so there is one at most, and any change of it stands well
+alone-mapped : (who : Sid) (f : Quar → Quar) (quars : List Quar) → others_in who quars ≡ [] → AllStandBeside quars → AllStandBeside (map f quars)
+alone-mapped who f [] none h = tt
+alone-mapped who f (one ∷ []) none h = (tt, tt)
+alone-mapped who f (one ∷ two ∷ quars) none h =
+    let first = others-none who one (two ∷ quars) none in
+    let second = others-none who two quars first.1 in
+    absurd (h.0.0.of_two (eqb-true one.sid.number who.number first.0 ∙ sym (eqb-true two.sid.number who.number second.0)))
+
+well-raised : (next : ℕ) (who : Sid) (token : ℕ) (quars : List Quar) (reader : Option ReadLease)
+    → raise_in who token quars ≡ verdicts.Raise → Well next quars reader → Well next (map (raised token) quars) reader
+well-raised next who token quars reader e h = (
+  every-mapped (λ quar. quar.token < next) (λ quar. quar.token < next) (raised token)
+      (λ quar low. subst (λ n. n < next) (sym (raised-same (λ q. q.token) token quar refl)) low) quars h.0,
+  alone-mapped who (raised token) quars (raise-alone who token quars e) h.1,
+  elim h.2 [ inl none ↦ inl none | inr none ↦ inr (ap (map (raised token)) none) ],
+)
+
+-- two that stand beside one another do so with other deadlines
+beside-renewed : (token deadline : ℕ) (a b : Quar) → StandBeside a b → StandBeside (renewed token deadline a) (renewed token deadline b)
+beside-renewed token deadline a b h = record {
+  in_order = subst (λ n. n < (renewed token deadline b).token) (sym (tokens a)) (subst (λ n. a.token < n) (sym (tokens b)) h.in_order);
+  of_two = λ same. h.of_two (sym (numbers a) ∙ same ∙ numbers b);
+  one_invalidates = subst (λ m. IsTrue (is_invalidate (way_of m))) (sym (modes a)) h.one_invalidates;
+  other_invalidates = subst (λ m. IsTrue (is_invalidate (way_of m))) (sym (modes b)) h.other_invalidates;
+}
+  where
+    tokens : (quar : Quar) → (renewed token deadline quar).token ≡ quar.token
+    tokens quar = renewed-same (λ q. q.token) token deadline quar refl
+
+    numbers : (quar : Quar) → (renewed token deadline quar).sid.number ≡ quar.sid.number
+    numbers quar = renewed-same (λ q. q.sid.number) token deadline quar refl
+
+    modes : (quar : Quar) → (renewed token deadline quar).mode ≡ quar.mode
+    modes quar = renewed-same (λ q. q.mode) token deadline quar refl
+
+all-renewed : (token deadline : ℕ) (quars : List Quar) → AllStandBeside quars → AllStandBeside (map (renewed token deadline) quars)
+all-renewed token deadline [] h = tt
+all-renewed token deadline (quar ∷ quars) h = (
+  every-mapped (StandBeside quar) (StandBeside (renewed token deadline quar)) (renewed token deadline)
+      (λ other beside. beside-renewed token deadline quar other beside) quars h.0,
+  all-renewed token deadline quars h.1,
+)
+
+well-renewed : (next : ℕ) (token deadline : ℕ) (quars : List Quar) (reader : Option ReadLease)
+    → Well next quars reader → Well next (map (renewed token deadline) quars) reader
+well-renewed next token deadline quars reader h = (
+  every-mapped (λ quar. quar.token < next) (λ quar. quar.token < next) (renewed token deadline)
+      (λ quar low. subst (λ n. n < next) (sym (renewed-same (λ q. q.token) token deadline quar refl)) low) quars h.0,
+  all-renewed token deadline quars h.1,
+  elim h.2 [ inl none ↦ inl none | inr none ↦ inr (ap (map (renewed token deadline)) none) ],
+)
+
+raise-well : (terms : Terms) (past : List Step) (on : QKey) (who : Sid) (token : ℕ)
+    → raise_in who token (standing on past) ≡ verdicts.Raise → AllWell terms past → AllWell terms (step.Raised on who token ∷ past)
+raise-well terms past on who token alone h key =
+    of-well terms (s ∷ past) key (by (same_key key on) refl)
+  where
+    s : Step
+    s = step.Raised on who token
+
+    by : (b : Bool) → same_key key on ≡ b
+        → Well (next_token terms (s ∷ past)) (cond b (map (raised token) (standing key past)) (standing key past)) (recorded key past)
+    by true same =
+        well-raised (next_token terms (s ∷ past)) who token (standing key past) (recorded key past)
+        (ap (λ k. raise_in who token (standing k past)) (same_key-true key on same) ∙ alone) (old-well terms past s key h)
+    by false other = old-well terms past s key h
+
+renew-well : (terms : Terms) (past : List Step) (on : QKey) (who : Sid) (token now deadline : ℕ)
+    → AllWell terms past → AllWell terms (step.Renewed on who token now deadline ∷ past)
+renew-well terms past on who token now deadline h key =
+    of-well terms (s ∷ past) key (by (same_key key on) refl)
+  where
+    s : Step
+    s = step.Renewed on who token now deadline
+
+    by : (b : Bool) → same_key key on ≡ b
+        → Well (next_token terms (s ∷ past)) (cond b (map (renewed token deadline) (standing key past)) (standing key past)) (recorded key past)
+    by true same =
+        well-renewed (next_token terms (s ∷ past)) token deadline (standing key past) (recorded key past) (old-well terms past s key h)
+    by false other = old-well terms past s key h
+
 -- a step that answers a request leaves each key standing well
 pub stands_well_step : (terms : Terms) (past : List Step) (s : Step)
     → Answers terms past s → ((key : QKey) → StandsWell terms past key) → (key : QKey) → StandsWell terms (s ∷ past) key
@@ -212,6 +322,16 @@ stands_well_step terms past s a h = subst P (sym a.answer) (by a.request)
     by (Replace permit value stamp) =
         replace_cases P terms past permit value stamp
         (λ quar _. released-well terms past permit.key quar.sid permit.token _ h)
+        (λ _ k. of-well terms (step.Gone permit.key permit.sid permit.token ∷ past) k (old-well terms past (step.Gone permit.key permit.sid permit.token) k h))
+    by (Raise permit) =
+        raise_cases P past permit
+        (λ alone. raise-well terms past permit.key permit.sid permit.token alone h)
+        (λ other _ k. of-well terms (step.Shared permit.key permit.sid permit.token other.sid
+        ∷ past) k (old-well terms past (step.Shared permit.key permit.sid permit.token other.sid) k h))
+        (λ k. of-well terms (step.Gone permit.key permit.sid permit.token ∷ past) k (old-well terms past (step.Gone permit.key permit.sid permit.token) k h))
+    by (Renew permit now) =
+        renew_cases P terms past permit now
+        (λ _ _. renew-well terms past permit.key permit.sid permit.token now (deadline_at terms now) h)
         (λ _ k. of-well terms (step.Gone permit.key permit.sid permit.token ∷ past) k (old-well terms past (step.Gone permit.key permit.sid permit.token) k h))
 
 -- nothing stands at the start

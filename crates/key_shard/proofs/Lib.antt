@@ -19,3 +19,4 @@ pub mod TiesLemmas
 pub mod TokenLemmas
 pub mod PermitLemmas
 pub mod RaiseLemmas
+pub mod OutRaises

@@ -1,10 +1,10 @@
 -- What a get finds, by the row of the grid and the entry.
-use Rattle.std.proofs.Common.{◌≡◌, ◌<◌, ◌≤◌, ℕ, Bool, true, false, not, cond, List, [], ◌∷◌, map, find, filter, Option, Some, None}
+use Rattle.std.proofs.Common.{◌≡◌, ◌<◌, ◌≤◌, ◌+◌, ◌&&◌, ℕ, Bool, true, false, not, cond, List, [], ◌∷◌, map, find, filter, Option, Some, None}
 use Rattle.std.proofs.Common.{option_map, refl, sym, ap, ◌∙◌, arith}
 use Rattle.std.specs.List.{list_all, list_any}
 use Rattle.rows_model.specs.declared.keys.QKey.{QKey}
 use Rattle.rows_model.specs.declared.keys.Sid.{Sid}
-use Rattle.case_tables.specs.Compatibility.{Way, Holding, is_invalidate, is_refresh, others_row, row_from, row_of, read_verdict, verdict, read}
+use Rattle.case_tables.specs.Compatibility.{Way, Holding, way_number, is_any, is_invalidate, is_refresh, others_row, row_from, row_of, read_verdict, verdict, read}
 use Rattle.case_tables.specs.declared.grids.Verdict.{Verdict}
 use Rattle.case_tables.specs.declared.grids.Verdict.TheVariants as verdicts
 use Rattle.lease_table.specs.declared.records.Lease.{Lease}
@@ -47,8 +47,14 @@ own-row terms past key who floor now (Some q) others reading h = refl
 own-row terms past key who floor now None others reading h =
     let below : others_row others reading < 5 = others-below others reading in absurd (omega arith)
 
+-- the rows where the asker holds one
+own-high : (b : Bool) (n : ℕ) → 5 ≤ cond b 8 (5 + n)
+own-high true n = omega arith
+own-high false n = omega arith
+
 none-own : (own : Option Quar) (others : List Way) (reading : Bool) → row_from (option_map (λ quar. way_of quar.mode) own) others reading < 5 → own ≡ None
-none-own (Some q) others reading h = absurd (omega arith)
+none-own (Some q) others reading h =
+    let high = own-high (is_invalidate (way_of q.mode) && is_any others) (way_number (way_of q.mode)) in absurd (omega (arith, high))
 none-own None others reading h = refl
 
 -- where the asker holds none: nothing stands, a lease to read, or quarantines

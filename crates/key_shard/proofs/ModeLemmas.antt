@@ -16,9 +16,10 @@ use Rattle.key_shard.specs.declared.replies.How.{How}
 use Rattle.key_shard.specs.declared.replies.How.TheVariants as hows
 use Rattle.key_shard.specs.Permit.{Permit}
 use Rattle.key_shard.specs.Past.{Terms, own_of, seen_by, holder_of, quar_of, recorded, entry, evicts}
-use Rattle.key_shard.specs.Answers.{FitsMode, IsOwed, OwesRelease, OwesReplace, Request, Get, Set, Quarantine, Release, Replace, ended_as}
+use Rattle.key_shard.specs.Answers.{FitsMode, IsOwed, OwesRelease, OwesReplace, Request, Get, Set, Quarantine, Release, Replace, Raise, Renew, ended_as}
 use Rattle.key_shard.specs.Answers.{found_step, get_by, get_step, miss_by, miss_step, quarantine_by, quarantine_step, refused_step}
-use Rattle.key_shard.specs.Answers.{release_by, replace_by, set_step, step_of}
+use Rattle.key_shard.specs.Answers.{release_by, replace_by, raise_step, renew_step, set_step, step_of}
+use Rattle.key_shard.proofs.CaseLemmas.{raise_cases, renew_cases}
 use Rattle.key_shard.specs.Modes.{AnswersEndByMode, LegalEndsByMode, MayEnd, StandsToEnd}
 
 -- whether a step ends a quarantine
@@ -39,6 +40,8 @@ ends-missed terms past key who floor now verdicts.Void = refl
 ends-missed terms past key who floor now verdicts.Join = refl
 ends-missed terms past key who floor now verdicts.Same = refl
 ends-missed terms past key who floor now verdicts.Refuse = refl
+ends-missed terms past key who floor now verdicts.Raise = refl
+ends-missed terms past key who floor now verdicts.Gone = refl
 
 ends-found : (terms : Terms) (past : List Step) (key : QKey) (who : Sid) (floor now : ℕ) (o : Option (List ℕ × ℕ))
     → ends (found_step terms past key who floor now o) ≡ false
@@ -70,6 +73,8 @@ ends-asked terms past key who mode shift now verdicts.Same = refl
 ends-asked terms past key who mode shift now verdicts.Refuse = ends-refused key who mode (holder_of key who past)
 ends-asked terms past key who mode shift now verdicts.Wait = refl
 ends-asked terms past key who mode shift now verdicts.Own = refl
+ends-asked terms past key who mode shift now verdicts.Raise = refl
+ends-asked terms past key who mode shift now verdicts.Gone = refl
 
 -- what a step that ends a quarantine is to show
 abbrev Shows : List Step → Step → Type 0
@@ -108,6 +113,10 @@ shown-by terms past step (Release permit how) e owed same =
     subst (Shows past) (sym same) (released past permit how (quar_of permit.key permit.token past) refl owed)
 shown-by terms past step (Replace permit value stamp) e owed same =
     subst (Shows past) (sym same) (replaced terms past permit value stamp (quar_of permit.key permit.token past) refl owed)
+shown-by terms past step (Raise permit) e owed same =
+    ends-none past step (raise_step past permit) e same (raise_cases (λ s. ends s ≡ false) past permit (λ _. refl) (λ _ _. refl) refl)
+shown-by terms past step (Renew permit now) e owed same =
+    ends-none past step (renew_step terms past permit now) e same (renew_cases (λ s. ends s ≡ false) terms past permit now (λ _ _. refl) (λ _. refl))
 
 pub answers_end_by_mode : AnswersEndByMode
 answers_end_by_mode terms past key sid token how a =

@@ -10,7 +10,7 @@ use Rattle.rows_model.proofs.SameKey.{same_key-true}
 use Rattle.key_shard.specs.declared.steps.Ended.{Ended}
 use Rattle.key_shard.specs.declared.steps.Ended.TheVariants.{Keep, Drop, Put, Shift}
 use Rattle.key_shard.specs.declared.steps.Step.{Step}
-use Rattle.key_shard.specs.declared.steps.Step.TheVariants.{Hit, Lease, Again, Own, Stored, Void, Granted, Held, Refused, Released, Gone}
+use Rattle.key_shard.specs.declared.steps.Step.TheVariants.{Hit, Lease, Again, Own, Stored, Void, Granted, Held, Refused, Released, Gone, Raised, Shared, Renewed}
 use Rattle.key_shard.specs.Past.{Terms, standing, recorded, entry, order, used, each_once, draws, next_token}
 use Rattle.key_shard.specs.OneStep.{step_key, standing_after, recorded_after, entry_after, other_keys, order_after, order_ended, next_after, ReadersByOneStep}
 use Rattle.key_shard.proofs.OrderLemmas.{filter-filter, filter_swap, order-hit, order-missed, order-put, order-ended}
@@ -19,6 +19,8 @@ use Rattle.key_shard.proofs.OrderLemmas.{filter-filter, filter_swap, order-hit, 
 pub standing_by : (s : Step) (key : QKey) (past : List Step) → standing key (s ∷ past) ≡ standing_after s key (standing key past)
 standing_by (Granted on sid mode shift now token deadline) key past = refl
 standing_by (Released on sid token how) key past = refl
+standing_by (Raised on sid token) key past = refl
+standing_by (Renewed on sid token now deadline) key past = refl
 standing_by s key past = refl
 
 pub recorded_by : (s : Step) (key : QKey) (past : List Step) → recorded key (s ∷ past) ≡ recorded_after s key (recorded key past)
@@ -46,6 +48,9 @@ next_by terms (Held on sid mode) past = let e = next_drawn terms (Held on sid mo
 next_by terms (Refused on sid mode holder held) past = let e = next_drawn terms (Refused on sid mode holder held) past in omega (arith, e)
 next_by terms (Released on sid token how) past = let e = next_drawn terms (Released on sid token how) past in omega (arith, e)
 next_by terms (Gone on sid token) past = let e = next_drawn terms (Gone on sid token) past in omega (arith, e)
+next_by terms (Raised on sid token) past = let e = next_drawn terms (Raised on sid token) past in omega (arith, e)
+next_by terms (Shared on sid token holder) past = let e = next_drawn terms (Shared on sid token holder) past in omega (arith, e)
+next_by terms (Renewed on sid token now deadline) past = let e = next_drawn terms (Renewed on sid token now deadline) past in omega (arith, e)
 
 -- a key that has no entry stands nowhere in the order
 pub order-without : (past : List Step) (key : QKey) → is_some (entry key past) ≡ false → other_keys key (order past) ≡ order past

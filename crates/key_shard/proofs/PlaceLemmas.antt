@@ -19,7 +19,7 @@ use Rattle.lease_table.specs.Leases.{has_token}
 use Rattle.key_shard.specs.declared.outs.Out.{Out}
 use Rattle.key_shard.specs.declared.steps.Ended.{Ended}
 use Rattle.key_shard.specs.declared.steps.Step.{Step}
-use Rattle.key_shard.specs.declared.steps.Step.TheVariants.{Hit, Lease, Again, Own, Stored, Void, Granted, Held, Refused, Released, Gone}
+use Rattle.key_shard.specs.declared.steps.Step.TheVariants.{Hit, Lease, Again, Own, Stored, Void, Granted, Held, Refused, Released, Gone, Raised, Shared, Renewed}
 use Rattle.key_shard.specs.Past.{Terms, standing, quar_of, draws, next_token}
 use Rattle.key_shard.specs.Kept.{IsOut, IsQuiet, is_for, places_for, places_of}
 
@@ -220,6 +220,23 @@ pub places-kept : (terms : Terms) (past : List Step) (step : Step)
 places-kept terms past step stood outs h =
     sum-le (places_for (step ∷ past)) (places_for past) (IsOut terms past) (places-later terms past step stood) outs h
 
+-- of each quarantine that stands after a step one of its token stood before it
+abbrev pub StoodSome : List Step → Step → Type 0
+StoodSome past step =
+    (key : QKey) (token : ℕ) (quar : Quar) → quar_of key token (step ∷ past) ≡ Some quar → (old : Quar) × (quar_of key token past ≡ Some old)
+
+no-more_some : (new old : Option Quar) → ((quar : Quar) → new ≡ Some quar → (other : Quar) × (old ≡ Some other)) → cond (is_some new) 2 1 ≤ cond (is_some old) 2 1
+no-more_some None None stood = omega arith
+no-more_some None (Some q) stood = omega arith
+no-more_some (Some p) None stood = let e = (stood p refl).1 in absurd cc
+no-more_some (Some p) (Some q) stood = omega arith
+
+pub places-some_kept : (terms : Terms) (past : List Step) (step : Step) → StoodSome past step
+    → (outs : List Out) → All (IsOut terms past) outs → places_of (step ∷ past) outs ≤ places_of past outs
+places-some_kept terms past step stood outs h =
+    sum-le (places_for (step ∷ past)) (places_for past) (IsOut terms past)
+    (λ out _. no-more_some (quar_of out.key out.token (step ∷ past)) (quar_of out.key out.token past) (stood out.key out.token)) outs h
+
 -- the places of the grants that are out less one, which could take so many
 pub places-less : (terms : Terms) (past : List Step) (step : Step) (p : Out → Bool) (n : ℕ) → StoodBefore terms past step
     → ((out : Out) → p out ≡ true → n ≤ places_for past out) → (outs : List Out)
@@ -304,3 +321,6 @@ quiet-adds_none past (Void key token now) quiet = λ k t q e. e
 quiet-adds_none past (Held key sid mode) quiet = λ k t q e. e
 quiet-adds_none past (Refused key sid mode holder held) quiet = λ k t q e. e
 quiet-adds_none past (Gone key sid token) quiet = λ k t q e. e
+quiet-adds_none past (Shared key sid token holder) quiet = λ k t q e. e
+quiet-adds_none past (Raised key sid token) quiet = absurd quiet
+quiet-adds_none past (Renewed key sid token now deadline) quiet = absurd quiet

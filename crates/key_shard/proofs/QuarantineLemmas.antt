@@ -9,7 +9,7 @@ use Rattle.rows_model.specs.declared.keys.Sid.{Sid}
 use Rattle.rows_model.specs.Placement.{shard_of}
 use Rattle.case_tables.specs.Compatibility.{Way, is_given, quarantine_verdict, verdict, quarantine}
 use Rattle.case_tables.specs.declared.grids.Verdict.{Verdict}
-use Rattle.case_tables.specs.declared.grids.Verdict.TheVariants.{Give, Wait, Void, Join, Same, Own, Refuse}
+use Rattle.case_tables.specs.declared.grids.Verdict.TheVariants.{Give, Wait, Void, Join, Same, Own, Refuse, Raise, Gone}
 use Rattle.lease_table.specs.declared.records.Lease.{Lease}
 use Rattle.lease_table.specs.declared.records.Mode.{Mode}
 use Rattle.lease_table.specs.declared.records.Quar.{Quar}
@@ -56,6 +56,8 @@ given-by terms past key who mode shift now Wait given = cc
 given-by terms past key who mode shift now Same given = cc
 given-by terms past key who mode shift now Own given = cc
 given-by terms past key who mode shift now Refuse given = cc
+given-by terms past key who mode shift now Raise given = cc
+given-by terms past key who mode shift now Gone given = cc
 
 pub step-granted : (terms : Terms) (past : List Step) (key : QKey) (who : Sid) (mode : Mode) (shift : ℤ) (now : ℕ)
     → is_given (verdict (seen_by key who now past) (quarantine (way_of mode))) ≡ true

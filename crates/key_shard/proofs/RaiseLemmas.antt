@@ -1,6 +1,7 @@
 -- What raising and renewing a quarantine leave of those that stand.
 use Rattle.std.proofs.Common.{◌≡◌, ◌||◌, ◌==◌, ℕ, Bool, true, false, not, cond, List, [], ◌∷◌, Option, Some, None, map, filter, find, option_map, refl, sym, ap, ◌∙◌}
-use Rattle.std.specs.List.{list_any}
+use Rattle.std.specs.List.{All, AllByRecursion, list_any}
+use Rattle.std.proofs.lemmas.List.Elements.{All-from_recursion, recursion_from_All}
 use Rattle.rows_model.specs.declared.keys.QKey.{QKey}
 use Rattle.rows_model.specs.declared.keys.Sid.{Sid}
 use Rattle.rows_model.specs.Key.{same_key}
@@ -99,3 +100,20 @@ renewed-mode token deadline false old quar e = ap (λ q. q.mode) e
 pub renewed-shift : (token deadline : ℕ) (b : Bool) (old quar : Quar) → cond b (renewed token deadline old) old ≡ quar → old.shift ≡ quar.shift
 renewed-shift token deadline true old quar e = sym (renewed-same (λ q. q.shift) token deadline old refl) ∙ ap (λ q. q.shift) e
 renewed-shift token deadline false old quar e = ap (λ q. q.shift) e
+
+-- what holds of each holds of each behind a map, where the map makes one of the other
+pub every-mapped : (P Q : Quar → Type 0) (f : Quar → Quar) → ((quar : Quar) → P quar → Q (f quar)) → (quars : List Quar)
+    → AllByRecursion P quars → AllByRecursion Q (map f quars)
+every-mapped P Q f more [] h = tt
+every-mapped P Q f more (quar ∷ quars) h = (more quar h.0, every-mapped P Q f more quars h.1)
+
+pub All-mapped : (P Q : Quar → Type 0) (f : Quar → Quar) → ((quar : Quar) → P quar → Q (f quar)) → (quars : List Quar) → All P quars → All Q (map f quars)
+All-mapped P Q f more quars h =
+    All-from_recursion Q (map f quars) (every-mapped P Q f more quars (recursion_from_All P quars h))
+
+-- the quarantine of the raised token is to refresh, and each other is as it was
+pub raised-here : (token : ℕ) (quar : Quar) → has_token token quar ≡ true → raised token quar ≡ lifted quar
+raised-here token quar e = ap (λ b. cond b (lifted quar) quar) e
+
+pub raised-apart : (token : ℕ) (quar : Quar) → has_token token quar ≡ false → raised token quar ≡ quar
+raised-apart token quar e = ap (λ b. cond b (lifted quar) quar) e

@@ -13,7 +13,7 @@ use Rattle.key_shard.specs.declared.steps.Step.{Step}
 use Rattle.key_shard.specs.declared.steps.Step.TheVariants.{Hit}
 use Rattle.key_shard.specs.Permit.{Permit}
 use Rattle.key_shard.specs.Past.{Terms, seen_by, own_of, quar_of, entry}
-use Rattle.key_shard.specs.Answers.{Get, Set, Quarantine, Release, Replace, miss_by, found_step, get_by, quarantine_by, replace_by}
+use Rattle.key_shard.specs.Answers.{Get, Set, Quarantine, Release, Replace, Raise, Renew, miss_by, found_step, get_by, quarantine_by, replace_by}
 use Rattle.key_shard.specs.Sights.{sight_of, miss_at, found_at, got_at, asked_at, replaced_at, StepBySight}
 
 missed : (terms : Terms) (past : List Step) (key : QKey) (who : Sid) (floor now : ℕ) (v : Verdict)
@@ -25,6 +25,8 @@ missed terms past key who floor now verdicts.Void = refl
 missed terms past key who floor now verdicts.Join = refl
 missed terms past key who floor now verdicts.Same = refl
 missed terms past key who floor now verdicts.Refuse = refl
+missed terms past key who floor now verdicts.Raise = refl
+missed terms past key who floor now verdicts.Gone = refl
 
 found : (terms : Terms) (past : List Step) (key : QKey) (who : Sid) (floor now : ℕ) (o : Option (List ℕ × ℕ))
     → found_step terms past key who floor now o ≡ found_at terms (sight_of terms key past) key who floor now o
@@ -46,6 +48,8 @@ asked terms past key who mode shift now verdicts.Same = refl
 asked terms past key who mode shift now verdicts.Refuse = refl
 asked terms past key who mode shift now verdicts.Wait = refl
 asked terms past key who mode shift now verdicts.Own = refl
+asked terms past key who mode shift now verdicts.Raise = refl
+asked terms past key who mode shift now verdicts.Gone = refl
 
 replaced : (terms : Terms) (past : List Step) (permit : Permit) (value : List ℕ) (stamp : ℕ) (o : Option Quar)
     → replace_by terms past permit value stamp o ≡ replaced_at terms (sight_of terms permit.key past) permit value stamp o
@@ -58,5 +62,7 @@ step_by_sight terms past (Set key token value stamp now) = refl
 step_by_sight terms past (Quarantine key who mode shift now) =
     asked terms past key who mode shift now (verdict (seen_by key who now past) (quarantine (way_of mode)))
 step_by_sight terms past (Release permit how) = refl
+step_by_sight terms past (Raise permit) = refl
+step_by_sight terms past (Renew permit now) = refl
 step_by_sight terms past (Replace permit value stamp) =
     replaced terms past permit value stamp (quar_of permit.key permit.token past)

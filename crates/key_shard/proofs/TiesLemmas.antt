@@ -1,5 +1,5 @@
 -- Each kind of step keeps what a shard holds tied to its past.
-use Rattle.std.proofs.Common.{◌≡◌, ◌<◌, ◌+◌, ℕ, true, not, cond, List, [], ◌∷◌, ◌++◌, filter, Option, Some, None, is_some, refl, sym, ap}
+use Rattle.std.proofs.Common.{◌≡◌, ◌<◌, ◌+◌, ℕ, true, not, cond, List, [], ◌∷◌, ◌++◌, map, filter, Option, Some, None, is_some, refl, sym, ap}
 use Rattle.std.proofs.Common.{subst, ◌∙◌, inl, inr, arith, ltb, length}
 use Rattle.std.specs.List.{All, count_by}
 use Rattle.std.specs.Prelude.{ℤ}
@@ -14,7 +14,7 @@ use Rattle.lease_table.specs.declared.records.Lease.{Lease}
 use Rattle.lease_table.specs.declared.records.Quar.{Quar}
 use Rattle.lease_table.specs.declared.records.ReadLease.{ReadLease}
 use Rattle.lease_table.specs.Leases as leases
-use Rattle.lease_table.specs.Leases.{Leaves, has_token}
+use Rattle.lease_table.specs.Leases.{Leaves, has_token, raised, renewed}
 use Rattle.lease_table.specs.declared.records.Mode.{Mode}
 use Rattle.entry_table.specs.Entries.{Item, Table, IsSound, lookup, without, keys, promoted}
 use Rattle.entry_table.proofs.EntriesLemmas.{keys-cons, lookup-without, lookup-promoted, promoted-absent, promoted-found, IsSound-without, IsSound-promoted}
@@ -22,12 +22,13 @@ use Rattle.key_shard.specs.declared.steps.Stands.{Stands}
 use Rattle.key_shard.specs.declared.steps.Ended.{Ended}
 use Rattle.key_shard.specs.declared.steps.Ended.TheVariants as ended
 use Rattle.key_shard.specs.declared.steps.Step.{Step}
-use Rattle.key_shard.specs.declared.steps.Step.TheVariants.{Hit, Lease as StepLease, Again, Own, Stored, Void, Granted, Held, Refused, Released, Gone}
+use Rattle.key_shard.specs.declared.steps.Step.TheVariants.{Hit, Lease as StepLease, Again, Own, Stored, Void, Granted, Held, Refused, Released, Gone, Raised, Shared, Renewed}
 use Rattle.key_shard.specs.Past.{Terms, standing, recorded, entry, entry_ended, order, evicts, is_evicted, last_key, draws}
 use Rattle.key_shard.specs.Answers.{Answers}
 use Rattle.key_shard.specs.Kept.{Ties, Puts, Ends, PutsNone, IsQuiet, makes_room}
 use Rattle.key_shard.proofs.OrderLemmas.{order-hit, order-missed, order-put, entry-ended, order-ended}
 use Rattle.key_shard.proofs.PutLemmas.{keys-without_key}
+use Rattle.key_shard.proofs.RaiseLemmas.{All-mapped, raised-same, renewed-same}
 
 -- the tokens are below a later number too
 below-later : (next : ℕ) (quars : List Quar) → All (λ quar. quar.token < next) quars → All (λ quar. quar.token < next + 1) quars
@@ -81,6 +82,19 @@ Ties-quiet terms past list table next (Again key sid floor now stands) quiet a h
 Ties-quiet terms past list table next (Stored key token now value stamp evicted) quiet a h = absurd quiet
 Ties-quiet terms past list table next (Granted key sid mode shift now token deadline) quiet a h = absurd quiet
 Ties-quiet terms past list table next (Released key sid token how) quiet a h = absurd quiet
+Ties-quiet terms past list table next (Raised key sid token) quiet a h = absurd quiet
+Ties-quiet terms past list table next (Renewed key sid token now deadline) quiet a h = absurd quiet
+Ties-quiet terms past list table next (Shared key sid token holder) quiet a h =
+    record {
+      entries = h.entries;
+      in_order = h.in_order;
+      sound = h.sound;
+      quars = h.quars;
+      reads = h.reads;
+      counted = omega (arith, h.counted);
+      below = h.below;
+      legal = (a, h.legal);
+    }
 Ties-quiet terms past list table next (Own key sid) quiet a h =
     record {
       entries = h.entries;
@@ -318,6 +332,40 @@ Ties-released terms past list table new next key sid token how put entries in_or
   counted = omega (arith, h.counted);
   below = λ k. cond_both (same_key k key) (filter (λ quar. not (has_token token quar)) (standing k past)) (standing k past)
       (All (λ q. q.token < next)) (λ _. All-filter (λ quar. not (has_token token quar)) (λ q. q.token < next) (standing k past) (h.below k)) (λ _. h.below k);
+  legal = (a, h.legal);
+}
+
+-- what a raise leaves, and a renewal
+pub Ties-raised : (terms : Terms) (past : List Step) (list : List Item) (table new : List Lease) (next : ℕ) (key : QKey) (sid : Sid) (token : ℕ)
+    → Leaves key (leases.recorded key table) (map (raised token) (leases.quars key table)) table new
+    → Answers terms past (Raised key sid token) → Ties terms past list table next → Ties terms (Raised key sid token ∷ past) list new next
+Ties-raised terms past list table new next key sid token leaves a h = record {
+  entries = h.entries;
+  in_order = h.in_order;
+  sound = h.sound;
+  quars = quars-by h key (leases.recorded key table) (map (raised token)) new leaves;
+  reads = reads-stay h key (map (raised token) (leases.quars key table)) new leaves;
+  counted = omega (arith, h.counted);
+  below = λ k. cond_both (same_key k key) (map (raised token) (standing k past)) (standing k past) (All (λ q. q.token < next))
+      (λ _. All-mapped (λ q. q.token < next) (λ q. q.token < next) (raised token)
+      (λ q low. subst (λ n. n < next) (sym (raised-same (λ r. r.token) token q refl)) low) (standing k past) (h.below k)) (λ _. h.below k);
+  legal = (a, h.legal);
+}
+
+pub Ties-renewed : (terms : Terms) (past : List Step) (list : List Item) (table new : List Lease) (next : ℕ) (key : QKey) (sid : Sid)
+    (token now deadline : ℕ) → Leaves key (leases.recorded key table) (map (renewed token deadline) (leases.quars key table)) table new
+    → Answers terms past (Renewed key sid token now deadline)
+    → Ties terms past list table next → Ties terms (Renewed key sid token now deadline ∷ past) list new next
+Ties-renewed terms past list table new next key sid token now deadline leaves a h = record {
+  entries = h.entries;
+  in_order = h.in_order;
+  sound = h.sound;
+  quars = quars-by h key (leases.recorded key table) (map (renewed token deadline)) new leaves;
+  reads = reads-stay h key (map (renewed token deadline) (leases.quars key table)) new leaves;
+  counted = omega (arith, h.counted);
+  below = λ k. cond_both (same_key k key) (map (renewed token deadline) (standing k past)) (standing k past) (All (λ q. q.token < next))
+      (λ _. All-mapped (λ q. q.token < next) (λ q. q.token < next) (renewed token deadline)
+      (λ q low. subst (λ n. n < next) (sym (renewed-same (λ r. r.token) token deadline q refl)) low) (standing k past) (h.below k)) (λ _. h.below k);
   legal = (a, h.legal);
 }
 

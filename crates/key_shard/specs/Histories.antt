@@ -9,11 +9,11 @@ pub record HistoryView : Type 0 where
   pub used : ℕ
   pub room : ℕ
 
--- whether the next step makes those in memory be given up, where so many make them be
+-- whether there are as many steps in memory as are kept
 abbrev pub is_due : Option ℕ → ℕ → List Step → Bool
 is_due None gone steps = false
 is_due (Some keep) gone steps = nat_le keep (length steps - gone)
 
--- how many are given up once that step is there
+-- how many are given up after the next call that may roll
 abbrev pub gone_after : Option ℕ → ℕ → List Step → ℕ
 gone_after keep gone steps = if is_due keep gone steps then length steps else gone

@@ -15,8 +15,8 @@ use Rattle.key_shard.specs.declared.steps.Ended.TheVariants.{Keep, Drop, Put, Sh
 use Rattle.key_shard.specs.declared.steps.Step.{Step}
 use Rattle.key_shard.specs.declared.steps.Step.TheVariants.{Hit, Lease, Again, Stored, Granted, Released, Raised, Renewed}
 
--- What a shard is made with: its number of so many, how many entries it has room for, how long a lease lives, its first token; and at
--- how many steps in memory these are given up, where it rolls.
+-- What a shard is made with: its number of so many, how many entries it has room for, how long a lease lives, its first token, and the
+-- number of steps in memory at which it rolls, if it does.
 pub record Terms : Type 0 where
   pub no : ℕ
   pub count : ℕ

@@ -21,7 +21,7 @@ pub struct Body {
     /// How long a lease lives, in ticks of the clock that is handed in.
     pub life: u64,
     pub first: u64,
-    /// At how many steps in memory the next one makes them be given up, where the shard rolls.
+    /// The number of steps in memory at which it rolls, if it does.
     pub keep: Option<u32>,
     /// The next token.
     pub next: u64,

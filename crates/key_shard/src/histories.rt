@@ -48,7 +48,7 @@ impl History {
         *self.steps.allocator()
     }
 
-    /// Whether the next step makes those in memory be given up, where so many make them be.
+    /// Whether there are as many steps in memory as a shard keeps, so that the next call may roll.
     pub fn is_due(&self, keep: Option<u32>) -> bool
         ensures { result ≡ is_due keep self.now.gone self.now.steps }
     {
@@ -79,7 +79,7 @@ impl History {
         Ok(())
     }
 
-    /// Adds a step in a free place. Those in memory are given up first, if they are so many.
+    /// Adds a step in a free place. The steps in memory are given up first, if the shard keeps no more.
     pub fn push(&mut self, keep: Option<u32>, step: Step)
         requires { self.old.used < self.old.room }
         ensures items { self.new.steps ≡ self.old.steps ++ step ∷ [] }
