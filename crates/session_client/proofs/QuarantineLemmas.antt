@@ -51,6 +51,8 @@ quarantine_belongs terms past key who mode by now answer =
     by_verdict verdicts.Void h = granted _ h
     by_verdict verdicts.Join h = granted _ h
     by_verdict verdicts.Own h = subst P (sym h) tt
+    by_verdict verdicts.Raise h = subst P (sym h) tt
+    by_verdict verdicts.Gone h = subst P (sym h) tt
 
 -- and so in a mode that is known
 pub quarantine_belongs_in : (terms : Terms) (past : List Step) (key : QKey) (who : Sid) (mode known : Mode) (by : ℤ) (now : ℕ) (answer : QAnswer)

@@ -99,7 +99,7 @@ impl<'a, K: Keeper, H: HubName, C: Clock, G: Gate, R: Wait> Desk for HubDesk<'a,
     fn tend(&mut self) {
         let told = match self.sweeper.wants() {
             SweepWanted::Scan { shard } => {
-                let kept = self.hub.lock_at(self.rt, shard);
+                let mut kept = self.hub.lock_at(self.rt, shard);
                 self.gate.at(self.worker, Point::Inside { shard });
                 kept.scan(self.clock.now())
             }

@@ -72,9 +72,10 @@ impl<H: HubName> KeptShard<H> {
         self.shard.no()
     }
 
-    /// Looks for the first quarantine, by key and then by token, whose deadline has come.
-    pub fn scan(&self, now: u64) -> SweepReply
-        ensures { result ≡ scanned (first_due now (past_of self.now)) }
+    /// Looks for the first quarantine, by key and then by token, whose deadline has come. The shard stays.
+    pub fn scan(&mut self, now: u64) -> SweepReply
+        ensures left { self.new ≡ self.old }
+        ensures found { result ≡ scanned (first_due now (past_of self.old)) }
     {
         match self.shard.expired(now) {
             Some(due) => SweepReply::Found { due },
