@@ -1,6 +1,6 @@
 -- Which steps leave what stands on a key, that what stands was granted, and which tokens steps draw.
 use Rattle.std.proofs.Common.{ℕ, ◌≡◌, ◌<◌, ◌≤◌, ◌+◌, ◌==◌, Bool, true, false, not, cond, ◌&&◌, ◌||◌, List, [], ◌∷◌, ◌++◌, map, filter, find}
-use Rattle.std.proofs.Common.{Option, Some, None, refl, sym, ap, subst, ◌∙◌, inl, inr, ◌⊎◌, arith}
+use Rattle.std.proofs.Common.{Some, refl, sym, ap, subst, ◌∙◌, inl, inr, ◌⊎◌, arith}
 use Rattle.std.specs.List.{AllByRecursion, list_any}
 use Rattle.std.proofs.lemmas.Bool.{false≢true, eqb-true}
 use Rattle.std.proofs.lemmas.List.Folds.{list_any-append}
@@ -8,27 +8,25 @@ use Rattle.rows_model.specs.declared.keys.QKey.{QKey}
 use Rattle.rows_model.specs.declared.keys.Sid.{Sid}
 use Rattle.rows_model.specs.Key.{same_key}
 use Rattle.rows_model.proofs.SameKey.{same_key-true}
-use Rattle.case_tables.specs.declared.grids.Verdict.{Verdict}
-use Rattle.case_tables.specs.declared.grids.Verdict.TheVariants as verdicts
 use Rattle.lease_table.specs.declared.records.Quar.{Quar}
-use Rattle.lease_table.specs.Leases.{is_of, has_token, first, others_in, raise_in, raised, renewed}
+use Rattle.lease_table.specs.Leases.{is_of, has_token, raised, renewed}
 use Rattle.key_shard.specs.Permit.{Permit}
 use Rattle.key_shard.specs.declared.steps.Step.{Step}
 use Rattle.key_shard.specs.declared.steps.Step.TheVariants as step
 use Rattle.key_shard.specs.Past.{Terms, standing, quar_of, draws, next_token, grants}
 use Rattle.key_shard.specs.Answers.{Request, Get, Set, Quarantine, Release, Replace, Raise, Renew, Answers, IsAtHome, IsLegalPast}
-use Rattle.key_shard.specs.Answers.{raise_by, renew_by, step_of, key_of}
+use Rattle.key_shard.specs.Answers.{step_of, key_of}
 use Rattle.key_shard.specs.Shards.{out_after}
-use Rattle.key_shard.proofs.CaseLemmas.{got_cases, set_cases, quarantine_cases, release_cases, replace_cases}
+use Rattle.key_shard.proofs.CaseLemmas.{got_cases, set_cases, quarantine_cases, release_cases, replace_cases, raise_cases, renew_cases}
 use Rattle.key_shard.proofs.LegalLemmas.{AllOfOwnToken}
 use Rattle.key_shard.proofs.OneStepLemmas.{next_drawn}
 use Rattle.key_shard.proofs.PermitLemmas.{is_of_permit, find_permit}
 use Rattle.key_shard.proofs.PlaceLemmas.{ended-adds_none}
-use Rattle.key_shard.proofs.RaiseLemmas.{any-mapped, raised-same, renewed-same, quar-raised, quar-renewed, raised-sid, renewed-sid}
+use Rattle.key_shard.proofs.RaiseLemmas.{any-mapped, every-mapped, raised-same, renewed-same, quar-raised, quar-renewed, raised-sid, renewed-sid}
 use Rattle.sql_keeper.specs.Fresh.{quarantines}
 use Rattle.core_history.specs.Facts.{grants_as}
 use Rattle.core_history.proofs.ListLemmas.{choose, or_inl, or_inr, or_elim, and_elim, not_true, any-filter, every-weaker, every-append}
-use Rattle.core_history.proofs.ListLemmas.{every-filter, every-map, every-found, find-front, count-append, every-any}
+use Rattle.core_history.proofs.ListLemmas.{every-filter, every-found, find-front, count-append, every-any}
 
 -- a step that neither grants nor ends a quarantine, and neither raises nor renews one
 abbrev pub IsQuietStep : Step → Type 0
@@ -169,15 +167,15 @@ standing-every P key (step.Gone on sid token ∷ past) h = standing-every P key 
 standing-every P key (step.Raised on sid token ∷ past) h =
     let old = standing-every P key past h.1 in
     choose (AllByRecursion (P key)) (same_key key on) (map (raised token) (standing key past)) (standing key past)
-    (λ same. every-map (P key) (raised token) (standing key past)
-    (λ q. subst (λ k. P k q → P k (raised token q)) (sym (same_key-true key on same)) (h.0 q)) old)
+    (λ same. every-mapped (P key) (P key) (raised token)
+    (λ q. subst (λ k. P k q → P k (raised token q)) (sym (same_key-true key on same)) (h.0 q)) (standing key past) old)
     (λ _. old)
 standing-every P key (step.Shared on sid token holder ∷ past) h = standing-every P key past h.1
 standing-every P key (step.Renewed on sid token now deadline ∷ past) h =
     let old = standing-every P key past h.1 in
     choose (AllByRecursion (P key)) (same_key key on) (map (renewed token deadline) (standing key past)) (standing key past)
-    (λ same. every-map (P key) (renewed token deadline) (standing key past)
-    (λ q. subst (λ k. P k q → P k (renewed token deadline q)) (sym (same_key-true key on same)) (h.0 q)) old)
+    (λ same. every-mapped (P key) (P key) (renewed token deadline)
+    (λ q. subst (λ k. P k q → P k (renewed token deadline q)) (sym (same_key-true key on same)) (h.0 q)) (standing key past) old)
     (λ _. old)
 
 pub quar-every : (P : QKey → Quar → Type 0) (key : QKey) (token : ℕ) (past : List Step) (quar : Quar)
@@ -249,23 +247,6 @@ DrawsNext terms next (step.Granted on sid mode shift now token deadline) = (toke
 DrawsNext terms next (step.Lease on sid floor now token deadline) = (token ≡ next) × IsAtHome terms on
 DrawsNext terms next other = Unit {0}
 
--- neither a raise nor a renewal gives one
-raise-draws : (terms : Terms) (next : ℕ) (permit : Permit) (other : Option Quar) (v : Verdict) → DrawsNext terms next (raise_by permit other v)
-raise-draws terms next permit other verdicts.Raise = tt
-raise-draws terms next permit (Some quar) verdicts.Refuse = tt
-raise-draws terms next permit None verdicts.Refuse = tt
-raise-draws terms next permit other verdicts.Gone = tt
-raise-draws terms next permit other verdicts.Give = tt
-raise-draws terms next permit other verdicts.Void = tt
-raise-draws terms next permit other verdicts.Join = tt
-raise-draws terms next permit other verdicts.Wait = tt
-raise-draws terms next permit other verdicts.Same = tt
-raise-draws terms next permit other verdicts.Own = tt
-
-renew-draws : (terms : Terms) (next : ℕ) (permit : Permit) (now : ℕ) (found : Option Quar) → DrawsNext terms next (renew_by terms permit now found)
-renew-draws terms next permit now (Some quar) = tt
-renew-draws terms next permit now None = tt
-
 pub answers-draw : (terms : Terms) (past : List Step) (s : Step) → Answers terms past s → DrawsNext terms (next_token terms past) s
 answers-draw terms past s a = subst P (sym a.answer) (by a.request a.at_home)
   where
@@ -278,10 +259,8 @@ answers-draw terms past s a = subst P (sym a.answer) (by a.request a.at_home)
     by (Quarantine key who mode shift now) home = quarantine_cases P terms past key who mode shift now (λ none. (refl, home)) tt (λ quar _. tt)
     by (Release permit how) home = release_cases P past permit how (λ quar _. tt) (λ _. tt)
     by (Replace permit value stamp) home = replace_cases P terms past permit value stamp (λ quar _. tt) (λ _. tt)
-    by (Raise permit) home =
-        let quars = standing permit.key past in
-        raise-draws terms (next_token terms past) permit (first (others_in permit.sid quars)) (raise_in permit.sid permit.token quars)
-    by (Renew permit now) home = renew-draws terms (next_token terms past) permit now (quar_of permit.key permit.token past)
+    by (Raise permit) home = raise_cases P past permit (λ _. tt) (λ other _. tt) tt
+    by (Renew permit now) home = renew_cases P terms past permit now (λ quar _. tt) (λ _. tt)
 
 -- the next token is no lower after more steps
 pub next-append : (terms : Terms) (new steps : List Step) → next_token terms steps ≤ next_token terms (new ++ steps)

@@ -1,5 +1,5 @@
 -- Tests, counts and places of lists.
-use Rattle.std.proofs.Common.{ℕ, zero, suc, ◌≡◌, ◌+◌, ◌≤◌, Bool, true, false, cond, ◌&&◌, ◌||◌, List, [], ◌∷◌, ◌++◌, length, map, filter, find}
+use Rattle.std.proofs.Common.{ℕ, zero, suc, ◌≡◌, ◌+◌, ◌≤◌, Bool, true, false, cond, ◌&&◌, ◌||◌, List, [], ◌∷◌, ◌++◌, length, filter, find}
 use Rattle.std.proofs.Common.{count_by, reverse, Some, None, slice_get, refl, sym, ap, subst, ◌∙◌, inl, inr, ◌⊎◌, arith}
 use Rattle.std.specs.List.{AllByRecursion, list_any}
 use Rattle.std.proofs.lemmas.Bool.{cases_Bool, false≢true}
@@ -51,10 +51,6 @@ pub every-filter : {X : Type 0} (P : X → Type 0) (p : X → Bool) (xs : List X
 every-filter P p [] h = tt
 every-filter P p (x ∷ xs) h =
     choose (AllByRecursion P) (p x) (x ∷ filter p xs) (filter p xs) (λ e. (h.0, every-filter P p xs h.1)) (λ e. every-filter P p xs h.1)
-
-pub every-map : {X : Type 0} (P : X → Type 0) (f : X → X) (xs : List X) → ((x : X) → P x → P (f x)) → AllByRecursion P xs → AllByRecursion P (map f xs)
-every-map P f [] keeps h = tt
-every-map P f (x ∷ xs) keeps h = (keeps x h.0, every-map P f xs keeps h.1)
 
 pub every-any : {X : Type 0} (P : X → Type 0) (p : X → Bool) (xs : List X) → AllByRecursion P xs → list_any p xs ≡ true → (x : X) × P x × (p x ≡ true)
 every-any P p [] h e = absurd (false≢true e)
