@@ -230,9 +230,13 @@ quar-old (step.Raised on sid given) key token past quar steady none = absurd ste
 quar-old (step.Shared on sid given holder) key token past quar steady none = λ h. h
 quar-old (step.Renewed on sid given now deadline) key token past quar steady none = absurd steady
 
--- whatever the step, a quarantine of a token that it doesn't grant stood before under that token, and was the same session's
-pub quar-was : (s : Step) (key : QKey) (token : ℕ) (past : List Step) (quar : Quar) → grants_as key token s ≡ false
-    → quar_of key token (s ∷ past) ≡ Some quar → (old : Quar) × (quar_of key token past ≡ Some old) × (old.sid ≡ quar.sid)
+-- a quarantine of the same session stands under the token
+abbrev pub StandsAs : QKey → ℕ → List Step → Quar → Type 0
+StandsAs key token past quar = (old : Quar) × (quar_of key token past ≡ Some old) × (old.sid ≡ quar.sid)
+
+-- whatever the step, a quarantine of a token that it doesn't grant stood before, in whichever mode and until whichever deadline
+pub quar-was : (s : Step) (key : QKey) (token : ℕ) (past : List Step) (quar : Quar)
+    → grants_as key token s ≡ false → quar_of key token (s ∷ past) ≡ Some quar → StandsAs key token past quar
 quar-was (step.Raised on sid given) key token past quar none h =
     let was = quar-raised past on sid given key token quar h in
     (was.0, was.1, raised-sid given (same_key key on) was.0 quar was.2)

@@ -4,7 +4,6 @@ use Rattle.rows_model.specs.declared.keys.QKey.{QKey}
 use Rattle.rows_model.specs.Placement.{shard_of}
 use Rattle.lease_table.specs.declared.records.Due.{Due}
 use Rattle.lease_table.specs.declared.records.Quar.{Quar}
-use Rattle.key_shard.specs.declared.steps.Step.{Step}
 use Rattle.key_shard.specs.Past.{quar_of, next_token}
 use Rattle.expiry_sweeper.specs.declared.replies.SweepReply.{SweepReply}
 use Rattle.expiry_sweeper.specs.declared.replies.SweepReply.TheVariants as sweeps
@@ -13,7 +12,7 @@ use Rattle.session_client.specs.declared.plans.Shape.{Shape}
 use Rattle.session_client.specs.Plans.{writes}
 use Rattle.core_history.specs.Events.{Event, Stepped, Called, Ticked, Swept, steps_in, steps_of}
 use Rattle.core_history.specs.Machine.{terms_of, plan_at}
-use Rattle.core_history.proofs.KeyLemmas.{quar-was, next-append}
+use Rattle.core_history.proofs.KeyLemmas.{StandsAs, quar-was, next-append}
 use Rattle.core_history.proofs.EventLemmas.{closed, closed-more, unmade-steps}
 use Rattle.core_history.proofs.SessionLemmas.{DrawsLate, maybe-step}
 use Rattle.core_history.proofs.PlannedLemmas.{plan-stays}
@@ -32,20 +31,16 @@ IsSweeping shape plans past (sweeps.Found due ∷ told) = IsDueOf shape plans pa
 IsSweeping shape plans past (sweeps.Ended was ∷ sweeps.Found due ∷ told) = IsDueOf shape plans past due × (closed due.sid.number past ≡ true)
 IsSweeping shape plans past told = Unit {0}
 
--- one stood under the token, of the same session
-abbrev pub StoodAs : QKey → ℕ → List Step → Quar → Type 0
-StoodAs key token past quar = (old : Quar) × (quar_of key token past ≡ Some old) × (old.sid ≡ quar.sid)
-
 -- a quarantine that stands after an event, of a token that was drawn before it, stood before it, and was the same session's
 pub quar-before : (shape : Shape) (event : Event) (past : List Event) (key : QKey) (token : ℕ) (quar : Quar) → DrawsLate shape past event
     → token < next_token (terms_of shape (shard_of key shape.shards)) (steps_of (shard_of key shape.shards) past)
     → quar_of key token (steps_of (shard_of key shape.shards) (event ∷ past)) ≡ Some quar
-    → StoodAs key token (steps_of (shard_of key shape.shards) past) quar
+    → StandsAs key token (steps_of (shard_of key shape.shards) past) quar
 quar-before shape (Stepped place who request s told) past key token quar late low =
     let home = shard_of key shape.shards in
     let steps = steps_of home past in
     maybe-step (λ l. quar_of key token l ≡ Some quar
-    → StoodAs key token steps quar) (place == home) s steps (λ _. quar-was s key token steps quar (late key token low).1) (λ _ h. (quar, h, refl))
+    → StandsAs key token steps quar) (place == home) s steps (λ _. quar-was s key token steps quar (late key token low).1) (λ _ h. (quar, h, refl))
 quar-before shape (Called who request told) past key token quar late low = λ h. (quar, h, refl)
 quar-before shape (Ticked now) past key token quar late low = λ h. (quar, h, refl)
 quar-before shape (Swept place request None told) past key token quar late low = λ h.
@@ -54,7 +49,7 @@ quar-before shape (Swept place request (Some s) told) past key token quar late l
     let home = shard_of key shape.shards in
     let steps = steps_of home past in
     maybe-step (λ l. quar_of key token l ≡ Some quar
-    → StoodAs key token steps quar) (place == home) s steps (λ _. quar-was s key token steps quar (late key token low).1) (λ _ h. (quar, h, refl))
+    → StandsAs key token steps quar) (place == home) s steps (λ _. quar-was s key token steps quar (late key token low).1) (λ _ h. (quar, h, refl))
 
 -- what is due stays so after an event
 pub due-more : (shape : Shape) (plans : List Plan) (event : Event) (past : List Event) (due : Due)

@@ -1,5 +1,4 @@
-use Rattle.std.proofs.Common.{Some, None, length, set, refl, sym, ap, ◌∙◌}
-use Rattle.std.proofs.lemmas.List.{set-get_or}
+use Rattle.std.proofs.Common.{Some, None, length, refl, sym, ◌∙◌}
 use Rattle.std.proofs.lemmas.Option.{slice_get_read}
 use Rattle.core_history.proofs.SweptLemmas.{scan_told_is}
 use Rattle.core_history.proofs.sweeps.scan.Goals as goal
