@@ -28,7 +28,8 @@ use Rattle.key_shard.specs.Answers.{ended_as, release_step, release_by, replace_
 pub others_all : (who : Sid) (quars : List Quar) → own_in who quars ≡ None → others_in who quars ≡ quars
 others_all who quars none = filter-not-all (is_of who) quars (find-none (is_of who) quars none)
 
-map_none : (quars : List Quar) → map (λ quar. way_of quar.mode) quars ≡ [] → quars ≡ []
+-- quarantines of which none has a way are none
+pub map_none : (quars : List Quar) → map (λ quar. way_of quar.mode) quars ≡ [] → quars ≡ []
 map_none [] e = refl
 map_none (quar ∷ quars) e = cc
 

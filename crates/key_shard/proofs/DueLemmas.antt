@@ -341,7 +341,7 @@ same-place a b h k =
     (same, grind (arith, nat_tests))
 
 -- of what stands on a key one is told this way at most
-same-told : (quars : List Quar) (key : QKey) (a b : Quar) → AllOfOwnToken quars → OneOf (λ quar. quar ≡ a) quars → OneOf (λ quar. quar ≡ b) quars
+pub same-told : (quars : List Quar) (key : QKey) (a b : Quar) → AllOfOwnToken quars → OneOf (λ quar. quar ≡ a) quars → OneOf (λ quar. quar ≡ b) quars
     → a.token ≡ b.token → a ≡ b
 same-told quars key a b own here there same =
     some_same (sym (find-there a here) ∙ ap (λ t. find (has_token t) quars) same ∙ find-there b there)

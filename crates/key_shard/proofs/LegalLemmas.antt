@@ -22,7 +22,6 @@ use Rattle.key_shard.specs.declared.steps.Ended.{Ended}
 use Rattle.key_shard.specs.declared.steps.Step.{Step}
 use Rattle.key_shard.specs.declared.steps.Step.TheVariants as step
 use Rattle.key_shard.specs.Past.{Terms, standing, recorded, own_of, quar_of, evicts, next_token, deadline_at}
-use Rattle.key_shard.specs.Permit.{Permit}
 use Rattle.key_shard.specs.Answers.{Request, Get, Set, Quarantine, Release, Replace, Raise, Renew, Answers, step_of, ended_as}
 use Rattle.key_shard.specs.LegalStands.{AllStandBeside, StandsWell, LegalStandsWell}
 use Rattle.key_shard.proofs.CaseLemmas.{MayJoin, map_none, got_cases, set_cases, verdict_cases, release_cases, replace_cases, raise_cases, renew_cases}
@@ -429,7 +428,7 @@ own_token terms past key who token quar h e found =
     sym (ap (λ q. q.sid.number) same) ∙ own.2
 
 -- what is found passes the test, and is there
-found-passes : (p q : Quar → Bool) (quars : List Quar) (quar : Quar) → (p quar ≡ true → q quar ≡ true) → find p quars ≡ Some quar → list_any q quars ≡ true
+pub found-passes : (p q : Quar → Bool) (quars : List Quar) (quar : Quar) → (p quar ≡ true → q quar ≡ true) → find p quars ≡ Some quar → list_any q quars ≡ true
 found-passes p q [] quar more e = cc
 found-passes p q (x ∷ xs) quar more e = by (p x) refl (found-passes p q xs quar more)
   where

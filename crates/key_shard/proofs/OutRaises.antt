@@ -1,29 +1,38 @@
 -- The grants that are out, behind a raise and behind a renewal.
-use Rattle.std.proofs.Common.{◌≡◌, ◌<◌, ◌≤◌, ◌+◌, ◌&&◌, ◌==◌, ℕ, Bool, true, false, cond, List, [], ◌∷◌, ◌++◌, Option, Some, None, map, find, refl, sym, ap, subst, ◌∙◌, arith}
+use Rattle.std.proofs.Common.{◌≡◌, ◌<◌, ◌≤◌, ◌&&◌, ◌==◌, ℕ, Bool, true, false, cond, List, [], ◌∷◌, ◌++◌, Option, Some, None, MatchBool, is_some, option_map, map, find, refl, sym, ap, subst, ◌∙◌, arith}
 use Rattle.std.specs.List.{All, list_any, sum_by}
-use Rattle.std.proofs.lemmas.Bool.{and_parts, and_from, eq-eqb, eqb-true, false≢true, or_right}
+use Rattle.std.proofs.lemmas.Bool.{and_parts, and_from, eq-eqb, eqb-true, or_right}
 use Rattle.std.proofs.lemmas.List.Elements.{All-nil, All-cons, All-head, All-tail, All-weaker}
 use Rattle.std.proofs.lemmas.List.Sums.{sum_by-cons}
 use Rattle.rows_model.specs.declared.keys.QKey.{QKey}
 use Rattle.rows_model.specs.declared.keys.Sid.{Sid}
 use Rattle.rows_model.specs.Key.{same_key}
-use Rattle.rows_model.proofs.SameKey.{same_key-true, same_key-swap}
+use Rattle.rows_model.proofs.SameKey.{same_key-swap}
 use Rattle.lease_table.specs.declared.records.Mode.TheVariants.{Invalidate, Refresh}
 use Rattle.lease_table.specs.declared.records.Quar.{Quar}
-use Rattle.lease_table.specs.Leases.{has_token, raised, renewed}
+use Rattle.lease_table.specs.Leases as leases
+use Rattle.lease_table.specs.Leases.{Leaves, first, has_token, is_of, is_raisable, holding_of, own_in, others_in, raise_in, raised, renewed, way_of}
+use Rattle.lease_table.specs.declared.records.Lease.{Lease}
+use Rattle.case_tables.specs.Compatibility.{Way, invalidate, refresh, delta, is_invalidate, is_raised, raise_verdict}
+use Rattle.case_tables.specs.declared.grids.Verdict.{Verdict}
+use Rattle.case_tables.specs.declared.grids.Verdict.TheVariants as verdicts
+use Rattle.entry_table.specs.Entries.{Item}
 use Rattle.key_shard.specs.declared.bodies.Body.{Body}
 use Rattle.key_shard.specs.declared.outs.Out.{Out}
 use Rattle.key_shard.specs.declared.steps.Step.{Step}
 use Rattle.key_shard.specs.declared.steps.Step.TheVariants.{Raised, Renewed}
 use Rattle.key_shard.specs.Permit.{Permit}
-use Rattle.key_shard.specs.Past.{Terms, standing, quar_of, next_token}
-use Rattle.key_shard.specs.Answers.{IsOf, OwesRaise, OwesRenew, WasGranted}
-use Rattle.key_shard.specs.Kept.{IsKept, IsOut, AreHeld, is_for, permit_of, places_for, places_of, raised_out, shown, steps_of, terms_of}
+use Rattle.key_shard.specs.Past.{Terms, standing, quar_of, next_token, grants}
+use Rattle.key_shard.specs.Answers.{IsOf, OwesRaise, OwesRenew}
+use Rattle.key_shard.specs.LegalStands.{StandsWell}
+use Rattle.key_shard.specs.Kept.{Ties, IsKept, IsOut, AreHeld, is_for, permit_of, places_for, places_of, raised_out, shown, steps_of, terms_of}
 use Rattle.key_shard.specs.Shards.{ShardView, is_out, raised_permit, stepped}
 use Rattle.key_shard.proofs.BaseLaws.{granted-same}
+use Rattle.key_shard.proofs.DueLemmas.{found-there, same-told}
+use Rattle.key_shard.proofs.LegalLemmas.{distinct, found_own, found-passes, token_stands}
 use Rattle.key_shard.proofs.OutLemmas.{any-map, out-granted, out-stands}
 use Rattle.key_shard.proofs.PlaceLemmas.{StoodSome, next-grows, places-some_kept}
-use Rattle.key_shard.proofs.RaiseLemmas.{quar-raised, quar-renewed, raised-here, raised-apart, raised-sid, renewed-sid, renewed-mode}
+use Rattle.key_shard.proofs.RaiseLemmas.{quar-raised, quar-renewed, raised-here, raised-apart, renewed-sid, renewed-mode}
 
 -- a grant in mode Refresh in the place of this one
 abbrev lifted_out : Out → Out
@@ -40,11 +49,12 @@ raised_out-same f key token out e = by (is_for key token out)
 -- what is found by its token has it
 found-token : (token : ℕ) (quars : List Quar) (quar : Quar) → find (has_token token) quars ≡ Some quar → quar.token ≡ token
 found-token token [] quar e = cc
-found-token token (one ∷ quars) quar = by (has_token token one) refl
+found-token token (one ∷ quars) quar e = by (has_token token one) refl (found-token token quars quar) e
   where
-    by : (b : Bool) → has_token token one ≡ b → cond b (Some one) (find (has_token token) quars) ≡ Some quar → quar.token ≡ token
-    by true here e = let same : one ≡ quar = cc in ap (λ q. q.token) (sym same) ∙ eqb-true one.token token here
-    by false apart e = found-token token quars quar e
+    by : (b : Bool) → has_token token one ≡ b → (find (has_token token) quars ≡ Some quar → quar.token ≡ token)
+        → cond b (Some one) (find (has_token token) quars) ≡ Some quar → quar.token ≡ token
+    by true here rest e = let same : one ≡ quar = cc in ap (λ q. q.token) (sym same) ∙ eqb-true one.token token here
+    by false apart rest e = rest e
 
 -- ---- behind a renewal
 
@@ -67,7 +77,7 @@ pub IsOut-renewed : (terms : Terms) (past : List Step) (on : QKey) (sid : Sid) (
 IsOut-renewed terms past on sid token now deadline outs h =
     All-weaker (IsOut terms past) (IsOut terms (step ∷ past)) (λ o was. record {
       at_home = was.at_home;
-      granted = or_right _ _ was.granted;
+      granted = or_right (grants (permit_of terms.no o) (Renewed on sid token now deadline)) (list_any (grants (permit_of terms.no o)) past) was.granted;
       drawn = omega (arith, grows, was.drawn);
       stands = λ quar e.
           let old = quar-renewed past on sid token now deadline o.key o.token quar e in
@@ -115,7 +125,7 @@ held-raised past on sid token outs held key of quar e =
 
 -- the one grant of the raised quarantine, and each other
 module _ (terms : Terms) (past : List Step) (on : QKey) (sid : Sid) (token : ℕ) (o : Out) (was : IsOut terms past o) where
-  step : Step
+  abbrev step : Step
   step = Raised on sid token
 
   drawn : o.token < next_token terms (step ∷ past)
@@ -153,13 +163,14 @@ module _ (terms : Terms) (past : List Step) (on : QKey) (sid : Sid) (token : ℕ
       by : (b : Bool) → is_for on token o ≡ b → IsOut terms (step ∷ past) (cond b (lifted_out o) o)
       by true for = record {
         at_home = was.at_home;
-        granted = or_right _ _ (granted-same (permit_of terms.no o) (permit_of terms.no (lifted_out o)) refl refl refl past was.granted);
+        granted = or_right (grants (permit_of terms.no (lifted_out o)) (Raised on sid token)) (list_any (grants (permit_of terms.no (lifted_out o))) past)
+            (granted-same (permit_of terms.no o) (permit_of terms.no (lifted_out o)) refl refl refl past was.granted);
         drawn = drawn;
         stands = of-raised for;
       }
       by false apart = record {
         at_home = was.at_home;
-        granted = or_right _ _ was.granted;
+        granted = or_right (grants (permit_of terms.no o) (Raised on sid token)) (list_any (grants (permit_of terms.no o)) past) was.granted;
         drawn = drawn;
         stands = of-other apart;
       }
@@ -204,11 +215,11 @@ view-raised old history outs gone key sid token pushed less stays =
 
 pub owes-raise : (body : Body) (grant : Permit) → IsKept body → is_out (shown body) grant ≡ true → grant.mode ≡ Invalidate
     → OwesRaise (steps_of body) grant (quar_of grant.key grant.token (steps_of body))
-owes-raise body grant kept out invalidate = by (quar_of grant.key grant.token (steps_of body)) refl
+owes-raise body grant kept out invalidates = by (quar_of grant.key grant.token (steps_of body)) refl
   where
     by : (o : Option Quar) → quar_of grant.key grant.token (steps_of body) ≡ o → OwesRaise (steps_of body) grant o
     by None is = (out-granted body grant kept out).0
-    by (Some quar) is = let of = out-stands body grant kept out quar is in (of, of.mode ∙ invalidate)
+    by (Some quar) is = let of = out-stands body grant kept out quar is in (of, of.mode ∙ invalidates)
 
 pub owes-renew : (body : Body) (grant : Permit) → IsKept body → is_out (shown body) grant ≡ true
     → OwesRenew (steps_of body) grant (quar_of grant.key grant.token (steps_of body))
@@ -217,3 +228,126 @@ owes-renew body grant kept out = by (quar_of grant.key grant.token (steps_of bod
     by : (o : Option Quar) → quar_of grant.key grant.token (steps_of body) ≡ o → OwesRenew (steps_of body) grant o
     by None is = (out-granted body grant kept out).0
     by (Some quar) is = out-stands body grant kept out quar is
+
+-- ---- the verdict on a raise
+
+-- as the past tells it
+pub raise-told : {terms : Terms} {past : List Step} {list : List Item} {table : List Lease} {next : ℕ} → Ties terms past list table next
+    → (key key' : QKey) (sid sid' : Sid) (token token' : ℕ) (v : Verdict) → key' ≡ key → sid' ≡ sid → token' ≡ token
+    → v ≡ raise_in sid' token' (leases.quars key' table) → raise_in sid token (standing key past) ≡ v
+raise-told {table = table} h key key' sid sid' token token' v keys sids tokens e =
+    sym (e ∙ ap (λ s. raise_in s token' (leases.quars key' table)) sids ∙ ap (λ t. raise_in sid t (leases.quars key' table)) tokens
+    ∙ ap (λ k. raise_in sid token (leases.quars k table)) keys ∙ ap (raise_in sid token) (h.quars key))
+
+-- the other session's quarantine, as the past tells it
+pub other-told : {terms : Terms} {past : List Step} {list : List Item} {table : List Lease} {next : ℕ} → Ties terms past list table next
+    → (key key' : QKey) (sid sid' : Sid) (told : Option Quar) → key' ≡ key → sid' ≡ sid
+    → told ≡ first (others_in sid' (leases.quars key' table)) → told ≡ first (others_in sid (standing key past))
+other-told {table = table} h key key' sid sid' told keys sids e =
+    e ∙ ap (λ s. first (others_in s (leases.quars key' table))) sids
+    ∙ ap (λ k. first (others_in sid (leases.quars k table))) keys ∙ ap (λ qs. first (others_in sid qs)) (h.quars key)
+
+-- what a raise leaves that is one
+pub raise-leaves : {terms : Terms} {past : List Step} {list : List Item} {table : List Lease} {next : ℕ} → Ties terms past list table next
+    → (key key' : QKey) (sid sid' : Sid) (token token' : ℕ) (v : Verdict) (new : List Lease) → key' ≡ key → sid' ≡ sid → token' ≡ token
+    → v ≡ raise_in sid' token' (leases.quars key' table)
+    → MatchBool (is_raised v) (Leaves key' (leases.recorded key' table) (map (raised token') (leases.quars key' table)) table new) (new ≡ table)
+    → raise_in sid token (standing key past) ≡ verdicts.Raise
+    → Leaves key (leases.recorded key table) (map (raised token) (leases.quars key table)) table new
+raise-leaves {table = table} h key key' sid sid' token token' v new keys sids tokens e after raises =
+    let is : v ≡ verdicts.Raise = sym (raise-told h key key' sid sid' token token' v keys sids tokens e) ∙ raises in
+    let leaves : Leaves key' (leases.recorded key' table) (map (raised token') (leases.quars key' table)) table new =
+    subst (λ x. MatchBool (is_raised x) (Leaves key' (leases.recorded key' table) (map (raised token') (leases.quars key' table)) table new)
+    (new ≡ table)) is after in
+    subst (λ t. Leaves key (leases.recorded key table) (map (raised t) (leases.quars key table)) table new) tokens
+    (subst (λ k. Leaves k (leases.recorded k table) (map (raised token') (leases.quars k table)) table new) keys leaves)
+
+-- what a renewal leaves of a quarantine that is there
+pub renew-leaves : {terms : Terms} {past : List Step} {list : List Item} {table : List Lease} {next : ℕ} → Ties terms past list table next
+    → (key key' : QKey) (token token' deadline deadline' : ℕ) (told : Bool) (new : List Lease) → key' ≡ key → token' ≡ token → deadline' ≡ deadline
+    → told ≡ is_some (find (has_token token') (leases.quars key' table))
+    → MatchBool told (Leaves key' (leases.recorded key' table) (map (renewed token' deadline') (leases.quars key' table)) table new) (new ≡ table)
+    → is_some (quar_of key token past) ≡ true
+    → Leaves key (leases.recorded key table) (map (renewed token deadline) (leases.quars key table)) table new
+renew-leaves {table = table} h key key' token token' deadline deadline' told new keys tokens until e after stands =
+    let is : told ≡ true =
+    e ∙ ap (λ t. is_some (find (has_token t) (leases.quars key' table))) tokens
+    ∙ ap (λ k. is_some (find (has_token token) (leases.quars k table))) keys ∙ ap (λ qs. is_some (find (has_token token) qs)) (h.quars key) ∙ stands in
+    let leaves : Leaves key' (leases.recorded key' table) (map (renewed token' deadline') (leases.quars key' table)) table new =
+    subst (λ b. MatchBool b (Leaves key' (leases.recorded key' table) (map (renewed token' deadline') (leases.quars key' table)) table new)
+    (new ≡ table)) is after in
+    subst (λ d. Leaves key (leases.recorded key table) (map (renewed token d) (leases.quars key table)) table new) until
+    (subst (λ t. Leaves key (leases.recorded key table) (map (renewed t deadline') (leases.quars key table)) table new) tokens
+    (subst (λ k. Leaves k (leases.recorded k table) (map (renewed token' deadline') (leases.quars k table)) table new) keys leaves))
+
+-- where it is refused another's is there
+refused-any : (own : Option Way) (others : List Way) → raise_verdict own others ≡ verdicts.Refuse → others ≡ [] → ⊥
+refused-any None others e none = cc
+refused-any (Some invalidate) [] e none = cc
+refused-any (Some invalidate) (w ∷ ws) e none = cc
+refused-any (Some refresh) others e none = cc
+refused-any (Some delta) others e none = cc
+
+some-first : (quars : List Quar) → (map (λ quar. way_of quar.mode) quars ≡ [] → ⊥) → is_some (first quars) ≡ true
+some-first [] h = absurd (h refl)
+some-first (quar ∷ quars) h = refl
+
+pub raise-beside : (who : Sid) (token : ℕ) (quars : List Quar) → raise_in who token quars ≡ verdicts.Refuse → is_some (first (others_in who quars)) ≡ true
+raise-beside who token quars = by (list_any (is_raisable who token) quars)
+  where
+    by : (b : Bool) → cond b (raise_verdict (option_map (λ quar. way_of quar.mode) (own_in who quars)) (map (λ quar. way_of quar.mode) (others_in who quars)))
+        verdicts.Gone ≡ verdicts.Refuse → is_some (first (others_in who quars)) ≡ true
+    by true e = some-first (others_in who quars) (refused-any _ _ e)
+    by false e = cc
+
+-- an own quarantine to invalidate is raised or refused
+invalidate-judged : (others : List Way) → (raise_verdict (Some invalidate) others ≡ verdicts.Raise → ⊥)
+    → (raise_verdict (Some invalidate) others ≡ verdicts.Refuse → ⊥) → ⊥
+invalidate-judged [] raise refuse = raise refl
+invalidate-judged (w ∷ ws) raise refuse = refuse refl
+
+some_same : {a b : Quar} → Some a ≡ Some b → a ≡ b
+some_same e = cc
+
+-- so where a raise is neither, the quarantine of a grant to invalidate is there no longer
+pub raise-none : (terms : Terms) (past : List Step) (permit : Permit) → StandsWell terms past permit.key
+    → ((quar : Quar) → quar_of permit.key permit.token past ≡ Some quar → IsOf permit quar) → permit.mode ≡ Invalidate
+    → (raise_in permit.sid permit.token (standing permit.key past) ≡ verdicts.Raise → ⊥)
+    → (raise_in permit.sid permit.token (standing permit.key past) ≡ verdicts.Refuse → ⊥) → quar_of permit.key permit.token past ≡ None
+raise-none terms past permit well of invalidates raise refuse = by (quar_of permit.key permit.token past) refl
+  where
+    quars : List Quar
+    quars = standing permit.key past
+
+    judged : (quar : Quar) → quar_of permit.key permit.token past ≡ Some quar
+        → raise_in permit.sid permit.token (standing permit.key past)
+        ≡ raise_verdict (Some invalidate) (map (λ q. way_of q.mode) (others_in permit.sid (standing permit.key past)))
+    judged quar e =
+        let is = of quar e in
+        let named : quar.token ≡ permit.token = found-token permit.token (standing permit.key past) quar e in
+        let mine : list_any (λ q. (q.sid.number == permit.sid.number) && (q.token == permit.token)) (standing permit.key past) ≡ true =
+        ap (λ n. list_any (λ q. (q.sid.number == n) && (q.token == permit.token)) (standing permit.key past)) (ap (λ (s : Sid). s.number) (sym is.sid))
+        ∙ token_stands permit.key permit.token past quar e in
+        let own = found_own terms past permit.key permit.sid permit.token well mine in
+        let one : own.0 ≡ quar =
+        same-told (standing permit.key past) permit.key own.0 quar (distinct terms past permit.key well)
+        (found-there (is_of permit.sid) (standing permit.key past) own.0 own.1)
+        (found-there (has_token permit.token) (standing permit.key past) quar e) (own.2 ∙ sym named) in
+        let way : way_of own.0.mode ≡ invalidate = ap (λ (q : Quar). way_of q.mode) one ∙ ap way_of (is.mode ∙ invalidates) in
+        let passes : is_raisable permit.sid permit.token quar ≡ true =
+        and_from (is_of permit.sid quar) (has_token permit.token quar && is_invalidate (way_of quar.mode))
+        (eq-eqb quar.sid.number permit.sid.number (ap (λ (s : Sid). s.number) is.sid))
+        (and_from (has_token permit.token quar) (is_invalidate (way_of quar.mode)) (eq-eqb quar.token permit.token named)
+        (ap (λ m. is_invalidate (way_of m)) (is.mode ∙ invalidates))) in
+        let any : list_any (is_raisable permit.sid permit.token) (standing permit.key past) ≡ true =
+        found-passes (has_token permit.token) (is_raisable permit.sid permit.token) (standing permit.key past) quar (λ _. passes) e in
+        ap (λ b. cond b (raise_verdict (option_map (λ q. way_of q.mode) (own_in permit.sid (standing permit.key past)))
+        (map (λ q. way_of q.mode) (others_in permit.sid (standing permit.key past)))) verdicts.Gone) any
+        ∙ ap (λ o. raise_verdict (option_map (λ q. way_of q.mode) o) (map (λ q. way_of q.mode) (others_in permit.sid (standing permit.key past)))) own.1
+        ∙ ap (λ w. raise_verdict (Some w) (map (λ q. way_of q.mode) (others_in permit.sid (standing permit.key past)))) way
+
+    by : (o : Option Quar) → quar_of permit.key permit.token past ≡ o → quar_of permit.key permit.token past ≡ None
+    by None e = e
+    by (Some quar) e =
+        let is = judged quar e in
+        absurd (invalidate-judged (map (λ q. way_of q.mode) (others_in permit.sid (standing permit.key past))) (λ r. raise (is ∙ r)) (λ r. refuse (is ∙ r)))

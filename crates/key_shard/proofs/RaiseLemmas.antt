@@ -1,5 +1,5 @@
 -- What raising and renewing a quarantine leave of those that stand.
-use Rattle.std.proofs.Common.{◌≡◌, ◌||◌, ◌==◌, ℕ, Bool, true, false, not, cond, List, [], ◌∷◌, Option, Some, None, map, filter, find, option_map, refl, sym, ap, ◌∙◌}
+use Rattle.std.proofs.Common.{◌≡◌, ◌||◌, ℕ, Bool, true, false, cond, List, [], ◌∷◌, Option, Some, None, map, find, option_map, refl, sym, ap, ◌∙◌}
 use Rattle.std.specs.List.{All, AllByRecursion, list_any}
 use Rattle.std.proofs.lemmas.List.Elements.{All-from_recursion, recursion_from_All}
 use Rattle.rows_model.specs.declared.keys.QKey.{QKey}

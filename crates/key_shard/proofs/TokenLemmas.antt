@@ -1,14 +1,14 @@
 -- The grants that are out, as the map that has each at its token keeps them.
-use Rattle.std.proofs.Common.{◌≡◌, ◌<◌, ◌&&◌, ◌||◌, ◌==◌, ℕ, Bool, true, false, not, cond, List, [], ◌∷◌, ◌++◌, Option, Some, None, filter}
+use Rattle.std.proofs.Common.{◌≡◌, ◌<◌, ◌&&◌, ◌||◌, ◌==◌, ℕ, Bool, true, false, not, cond, List, [], ◌∷◌, ◌++◌, Option, Some, None, map, filter}
 use Rattle.std.proofs.Common.{refl, sym, ap, subst, ◌∙◌, inl, inr, arith}
 use Rattle.std.specs.List.{All, AllByRecursion, list_any}
 use Rattle.std.specs.List.Sorted.{IsStrictlySortedBy}
-use Rattle.std.specs.Map.{keys_of, values_of, lookup, remove_entry}
+use Rattle.std.specs.Map.{keys_of, values_of, lookup, remove_entry, set_value}
 use Rattle.std.specs.BTreeMap.{BTreeMap, insert_entry, is_at}
 use Rattle.std.specs.Ordering.{nat_cmp, match_ordering}
 use Rattle.std.specs.declared.cmp.Ordering.TheVariants.{Less, Greater}
 use Rattle.std.specs.Cmp.{nat_cmp_is}
-use Rattle.std.proofs.lemmas.Bool.{cases_Bool, and_parts, eqb-true, false≢true}
+use Rattle.std.proofs.lemmas.Bool.{cases_Bool, and_from, and_parts, eq-eqb, eqb-true, false≢true}
 use Rattle.std.proofs.lemmas.Bool.Decides.{nat_tests}
 use Rattle.std.proofs.lemmas.Cmp.{ranked}
 use Rattle.std.proofs.lemmas.List.{map_push}
@@ -22,7 +22,9 @@ use Rattle.lease_table.specs.Leases.{way_of}
 use Rattle.lease_table.proofs.ListLemmas.{filter-not-all}
 use Rattle.key_shard.specs.declared.outs.Out.{Out}
 use Rattle.key_shard.specs.Permit.{Permit, same_permit}
-use Rattle.key_shard.specs.Kept.{permit_of}
+use Rattle.key_shard.specs.Kept.{permit_of, is_for, raised_out}
+use Rattle.rows_model.specs.declared.keys.QKey.{QKey}
+use Rattle.lease_table.specs.declared.records.Mode.TheVariants.{Refresh}
 use Rattle.key_shard.specs.Outs.{IsAtToken, AreByToken}
 
 abbrev Entries : Type 0
@@ -182,4 +184,92 @@ module _ (old new : BTreeMap ℕ Out) (out : Out) (by : AreByToken old)
   AreByToken-added ordered = record {
     in_order = ordered;
     at_token = subst (All IsAtToken) (sym grown) (All-push IsAtToken old.entries (out.token, out) by.at_token refl);
+  }
+
+-- ---- a grant is raised in its place
+
+-- what passes is there
+pub passes-some : (p : Out → Bool) (o : Option Out) → passes p o ≡ true → (out : Out) × (o ≡ Some out) × (p out ≡ true)
+passes-some p None e = absurd (false≢true e)
+passes-some p (Some out) e = (out, refl, e)
+
+-- what is for a key and token has the token
+for-named : (key : QKey) (token : ℕ) → Names (is_for key token) token
+for-named key token out for = eqb-true out.token token (and_parts (same_key key out.key) (out.token == token) for).1
+
+-- what says the same as a grant is for its key and token
+pub same-for : (number : ℕ) (grant : Permit) (out : Out) → same_permit grant (permit_of number out) ≡ true → is_for grant.key grant.token out ≡ true
+same-for number grant out same =
+    let last = and_parts ((grant.shard == number) && same_key grant.key out.key
+    && (grant.sid.number == out.sid.number) && same_way (way_of grant.mode) (way_of out.mode)) (grant.token == out.token) same in
+    let modes = and_parts ((grant.shard == number) && same_key grant.key out.key && (grant.sid.number == out.sid.number))
+    (same_way (way_of grant.mode) (way_of out.mode)) last.0 in
+    let sids = and_parts ((grant.shard == number) && same_key grant.key out.key) (grant.sid.number == out.sid.number) modes.0 in
+    and_from (same_key grant.key out.key) (out.token == grant.token) (and_parts (grant.shard == number) (same_key grant.key out.key) sids.0).1
+    (eq-eqb out.token grant.token (sym (eqb-true grant.token out.token last.1)))
+
+-- a grant in mode Refresh in the place of this one
+abbrev pub lifted : Out → Out
+lifted out = record { key = out.key; sid = out.sid; mode = Refresh; token = out.token }
+
+raised-apart : (key : QKey) (token : ℕ) (out : Out) → is_for key token out ≡ false → raised_out key token out ≡ out
+raised-apart key token out apart = ap (λ b. cond b (lifted out) out) apart
+
+all-apart : (key : QKey) (token : ℕ) (outs : List Out) → All (λ out. is_for key token out ≡ false) outs → map (raised_out key token) outs ≡ outs
+all-apart key token [] h = refl
+all-apart key token (out ∷ outs) h =
+    let here = raised-apart key token out (All-head (λ o. is_for key token o ≡ false) out outs h) in
+    let rest = all-apart key token outs (All-tail (λ o. is_for key token o ≡ false) out outs h) in
+    λ i. here i ∷ rest i
+
+some_one : {a b : Out} → Some a ≡ Some b → a ≡ b
+some_one e = cc
+
+raised-at : (key : QKey) (token : ℕ) (out : Out) (es : Entries) → IsInOrder es → All IsAtToken es
+    → lookup (is_at (nat_cmp token)) es ≡ Some out → is_for key token out ≡ true
+    → values_of (set_value (is_at (nat_cmp token)) es (lifted out)) ≡ map (raised_out key token) (values_of es)
+raised-at key token out [] ordered at found for = cc
+raised-at key token out (e ∷ es) ordered at found for =
+    let left : Bool → List Out = λ b. values_of (cond b ((e.0, lifted out) ∷ es) (e ∷ set_value (is_at (nat_cmp token)) es (lifted out))) in
+    elim (cases_Bool (is_at (nat_cmp token) e.0)) [
+      | inl here ↦
+          let same : e.1 ≡ out = some_one (sym (lookup_head (is_at (nat_cmp token)) e es here) ∙ found) in
+          let none = none-behind (is_for key token) token (for-named key token) e es ordered at (here-token token e.0 here) in
+          let first : raised_out key token e.1 ≡ lifted out = ap (raised_out key token) same ∙ ap (λ b. cond b (lifted out) out) for in
+          let rest = all-apart key token (values_of es) none in
+          ap left here ∙ sym (λ i. first i ∷ rest i)
+      | inr apart ↦
+          let other = not-first (is_for key token) token (for-named key token) e (All-head IsAtToken e es at) apart in
+          let first = raised-apart key token e.1 other in
+          let rest = raised-at key token out es (sorted_tail nat_cmp e.0 (keys_of es) ordered) (All-tail IsAtToken e es at)
+          (sym (lookup_tail (is_at (nat_cmp token)) e es apart) ∙ found) for in
+          ap left apart ∙ (λ i. sym first i ∷ rest i)
+    ]
+
+at_token-raised : (token : ℕ) (out : Out) (es : Entries) → All IsAtToken es
+    → lookup (is_at (nat_cmp token)) es ≡ Some out → All IsAtToken (set_value (is_at (nat_cmp token)) es (lifted out))
+at_token-raised token out [] at found = at
+at_token-raised token out (e ∷ es) at found =
+    let rest = All-tail IsAtToken e es at in
+    let left : Bool → Entries = λ b. cond b ((e.0, lifted out) ∷ es) (e ∷ set_value (is_at (nat_cmp token)) es (lifted out)) in
+    elim (cases_Bool (is_at (nat_cmp token) e.0)) [
+      | inl here ↦
+          let same : e.1 ≡ out = some_one (sym (lookup_head (is_at (nat_cmp token)) e es here) ∙ found) in
+          let first : IsAtToken (e.0, lifted out) = ap (λ (o : Out). o.token) (sym same) ∙ All-head IsAtToken e es at in
+          subst (All IsAtToken) (sym (ap left here)) (All-cons IsAtToken (e.0, lifted out) es first rest)
+      | inr apart ↦ subst (All IsAtToken) (sym (ap left apart))
+          (All-cons IsAtToken e (set_value (is_at (nat_cmp token)) es (lifted out)) (All-head IsAtToken e es at)
+          (at_token-raised token out es rest (sym (lookup_tail (is_at (nat_cmp token)) e es apart) ∙ found)))
+    ]
+
+-- the map, before and after the grant at a token was raised
+module _ (old new : BTreeMap ℕ Out) (key : QKey) (token : ℕ) (out : Out) (by : AreByToken old)
+    (found : lookup (is_at (nat_cmp token)) old.entries ≡ Some out) (writes : new.entries ≡ set_value (is_at (nat_cmp token)) old.entries (lifted out)) where
+  pub values-raised : is_for key token out ≡ true → values_of new.entries ≡ map (raised_out key token) (values_of old.entries)
+  values-raised for = ap values_of writes ∙ raised-at key token out old.entries by.in_order by.at_token found for
+
+  pub AreByToken-raised : IsInOrder new.entries → AreByToken new
+  AreByToken-raised ordered = record {
+    in_order = ordered;
+    at_token = subst (All IsAtToken) (sym writes) (at_token-raised token out old.entries by.at_token found);
   }

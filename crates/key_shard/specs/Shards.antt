@@ -50,7 +50,7 @@ without_permit permit out = filter (λ other. not (same_permit permit other)) ou
 abbrev pub raised_permit : QKey → ℕ → Permit → Permit
 raised_permit key token permit =
     if same_key key permit.key && (permit.token == token) then
-      record { shard = permit.shard; key = permit.key; sid = permit.sid; mode = modes.Refresh; token = permit.token }
+    record { shard = permit.shard; key = permit.key; sid = permit.sid; mode = modes.Refresh; token = permit.token }
     else permit
 
 -- the grants that are out after a step: a granted quarantine's is, and a raised one's is to refresh

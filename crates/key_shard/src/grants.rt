@@ -99,9 +99,21 @@ impl Grant {
     pub(crate) fn raised(self) -> Grant
         ensures { result ≡ raised_permit self.key self.token self }
     {
+        let Grant {
+            shard,
+            key,
+            sid,
+            mode: _,
+            token,
+            digits,
+        } = self;
         Grant {
+            shard,
+            key,
+            sid,
             mode: Mode::Refresh,
-            ..self
+            token,
+            digits,
         }
     }
 

@@ -92,9 +92,8 @@ impl Outs {
         requires { IsTrue (list_any (λ out. same_permit grant.now (permit_of no out)) self.old) }
         ensures { self.new ≡ map (raised_out grant.now.key grant.now.token) self.old }
     {
-        if let Some(out) = self.by_token.get_mut(&grant.token()) {
-            out.mode = Mode::Refresh;
-        }
+        let out = self.by_token.get_mut(&grant.token()).unwrap();
+        out.mode = Mode::Refresh;
     }
 
     /// Takes out a grant of a shard that is among them. It takes no memory.

@@ -50,7 +50,7 @@ impl Body {
             }
             Verdict::Same => Ok(self.held(key, sid, mode)?),
             Verdict::Refuse => Ok(self.refuse(key, sid, mode)?),
-            Verdict::Wait | Verdict::Own => unreachable!(),
+            Verdict::Wait | Verdict::Own | Verdict::Raise | Verdict::Gone => unreachable!(),
         }
     }
 

@@ -1,9 +1,9 @@
-ghost use Rattle.std.specs.Prelude.{◌≡◌, IsTrue, IsSome, OnOk, OnErr, IfOk, IfErr, Ok};
+ghost use Rattle.std.specs.Prelude.{◌≡◌, is_some, IsTrue, IsSome, OnOk, OnErr, IfOk, IfErr, Ok};
 ghost use Rattle.std.specs.Bool.{IsFalse};
 ghost use Rattle.lease_table.specs.Leases.{first, others_in, raise_in};
 ghost use Rattle.key_shard.specs.Answers.{Answers, raise_step, renew_step, shared_step};
 ghost use Rattle.key_shard.specs.Kept.{IsKept, IsQuiet, shown, steps_of, terms_of};
-ghost use Rattle.key_shard.specs.Past.{deadline_at, standing};
+ghost use Rattle.key_shard.specs.Past.{deadline_at, quar_of, standing};
 ghost use Rattle.key_shard.specs.Replies.{ShowsRaise, ShowsRenewal};
 ghost use Rattle.key_shard.specs.Shards.{after_raise, is_out, stepped};
 ghost use Rattle.case_tables.specs.declared.grids.Verdict.TheVariants as verdicts;
@@ -75,8 +75,7 @@ impl Body {
         };
         let _ = self.leases.raise(&key, sid, token);
         self.out.raise(self.no, &grant);
-        self.history
-            .push_reserved(Step::Raised { key, sid, token });
+        self.history.push_reserved(Step::Raised { key, sid, token });
         let grant = grant.raised();
         Ok(Raising::Raised { grant, old })
     }
@@ -172,6 +171,8 @@ impl Body {
     /// Renews the quarantine of a grant, which stands.
     fn prolong(&mut self, grant: &Grant, now: u64) -> Result<Renewal, Memory>
         requires kept { IsKept self.old }
+        requires stands { IsTrue (is_some
+            (quar_of grant.now.key grant.now.token (steps_of self.old))) }
         requires answers { Answers (terms_of self.old) (steps_of self.old)
             (Step.Renewed grant.now.key grant.now.sid grant.now.token now
             (deadline_at (terms_of self.old) now)) }

@@ -70,7 +70,10 @@ pub enum Raising {
     },
     /// The quarantine of another session stands beside it: of more than one, the one of least token. The
     /// grant comes back as it was.
-    Shared { grant: Grant, holder: Sid },
+    Shared {
+        grant: Grant,
+        holder: Sid,
+    },
     /// The quarantine stood no longer. Its grant is spent.
     Gone,
 }

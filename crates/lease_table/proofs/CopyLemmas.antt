@@ -6,22 +6,19 @@ use Rattle.std.specs.Map.{keys_of, lookup}
 use Rattle.std.specs.BTreeMap.{BTreeMap, IsOrdered, is_at}
 use Rattle.std.proofs.lemmas.List.Elements.{same_from_all_zip}
 use Rattle.rows_model.specs.declared.keys.QKey.{QKey}
-use Rattle.rows_model.specs.declared.keys.Sid.{Sid}
 use Rattle.lease_table.specs.declared.records.KeyLeases.{KeyLeases}
 use Rattle.lease_table.specs.declared.records.KeyLeases.TheVariants.{Read, Quarantines}
-use Rattle.lease_table.specs.declared.terms.Term.{Term}
+use Rattle.lease_table.specs.declared.index.Index.{Index}
 use Rattle.lease_table.specs.contracts.records.KeyLeasesClone.TheImpl.{is_clone-value}
-use Rattle.lease_table.specs.Stands.{key_cmp, records, records_on, read_lease, quar_lease, is_any, has_any, IsKept, SameLeases, Stays}
-use Rattle.lease_table.proofs.TableLemmas.{IsKept-stays}
-use Rattle.lease_table.proofs.ChangeLemmas.{IsKept-index}
+use Rattle.lease_table.specs.Stands.{key_cmp, records, records_on, read_lease, quar_lease, is_any, has_any, IsKept, SameLeases, Stays, stands_in}
+use Rattle.lease_table.specs.Index.{IsSound}
+use Rattle.lease_table.proofs.IndexLemmas.{KeepsEach-same, ListsEach-keeps}
+use Rattle.lease_table.proofs.TableLemmas.{IsKept-stays, IsKept-index}
+use Rattle.std.specs.BinaryHeap.{heap_items}
 
 -- what the clone of a map says of each entry: its key is the same, and its leases are a clone
 abbrev IsCloned : QKey × KeyLeases → QKey × KeyLeases → Type 0
 IsCloned old new = (new.0 ≡ old.0) × is_clone-value.it old.1 new.1
-
--- and of each entry of the index
-abbrev IsTermCloned : Term × Sid → Term × Sid → Type 0
-IsTermCloned old new = (new.0 ≡ old.0) × (new.1 ≡ old.1)
 
 -- a clone of the leases of a key has the same
 SameLeases-cloned : (old new : KeyLeases) → is_clone-value.it old new → SameLeases old new
@@ -73,10 +70,11 @@ Stays-cloned old new ordered cloned = record {
   in_order = subst (IsStrictlySortedBy key_cmp) (sym (keys_of-cloned old.entries new.entries cloned)) ordered;
 }
 
--- and is kept with a clone of the index
-pub IsKept-cloned : (old new : BTreeMap QKey KeyLeases) (terms listed : BTreeMap Term Sid) → IsKept old terms
-    → AllZip IsCloned old.entries new.entries → AllZip IsTermCloned terms.entries listed.entries → IsKept new listed
-IsKept-cloned old new terms listed kept cloned also =
+-- and is kept with an index that lists the same
+pub IsKept-cloned : (old new : BTreeMap QKey KeyLeases) (index copy : Index) → IsKept old index → AllZip IsCloned old.entries new.entries
+    → IsSound copy → heap_items copy.later ≡ heap_items index.later → heap_items copy.found ≡ heap_items index.found → IsKept new copy
+IsKept-cloned old new index copy kept cloned sound later found =
     let stays = Stays-cloned old new kept.in_order cloned in
-    let same = same_from_all_zip IsTermCloned terms.entries listed.entries also (λ x y both i. (both.0 i, both.1 i)) in
-    IsKept-index new terms listed (IsKept-stays old new terms terms kept stays kept.indexed) same
+    let same = IsKept-stays old new index kept stays in
+    IsKept-index new index copy same sound
+    (ListsEach-keeps (stands_in new) index copy (KeepsEach-same index copy later found) same.lists)

@@ -1,308 +1,350 @@
--- The index of terms, as quarantines come and go.
-use Rattle.std.proofs.Common.{◌≡◌, ℕ, ◌<◌, Bool, true, false, not, Option, Some, None, List, [], ◌∷◌, ◌++◌, sym, refl, ◌∙◌, ap, filter}
-use Rattle.std.proofs.Common.{find, arith, IfSome, IsSomeAnd}
-use Rattle.std.specs.Prelude.{◌==◌, ◌&&◌, if◌then◌else◌}
-use Rattle.std.specs.List.{All}
-use Rattle.std.specs.Option.{option_or}
-use Rattle.std.specs.declared.cmp.Ordering.{Ordering}
-use Rattle.std.specs.Ordering.{nat_cmp, is_eq, ordering_then}
-use Rattle.std.specs.Cmp.{IsTotalOrder, nat_cmp_total, then_total, on_total, tied_then, unsigned_tied}
-use Rattle.std.specs.BTreeMap.{BTreeMap, is_at}
-use Rattle.std.proofs.lemmas.Bool.Decides.{nat_tests}
-use Rattle.std.proofs.lemmas.List.Elements.{All-nil, All-cons, All-head, All-tail, All-push, All-filter, filter_passes, All-weaker}
-use Rattle.std.proofs.lemmas.List.Folds.{find-append}
+-- What the index lists, as terms come and go.
+use Rattle.std.proofs.Common.{◌≡◌, ℕ, ◌+◌, ◌<◌, ◌≤◌, Bool, true, false, not, Option, Some, None, List, [], ◌∷◌, sym, refl, ◌∙◌, ap, subst, inl, inr, filter}
+use Rattle.std.proofs.Common.{find, length, arith, is_some, IfSome}
+use Rattle.std.specs.Prelude.{◌⊎◌, ◌==◌, ◌||◌, nat_le}
+use Rattle.std.specs.List.{list_any}
+use Rattle.std.specs.List.Sorted.{IsPermutation}
+use Rattle.std.specs.BinaryHeap.{heap_items}
+use Rattle.std.specs.declared.cmp.Reverse.{Reverse}
+use Rattle.std.proofs.lemmas.Bool.{and_parts, and_from, or_cases, or_left, or_right, eqb-true, eq-eqb, leb-true, le-leb, false≢true}
+use Rattle.std.proofs.lemmas.List.Sorted.{list_any-IsPermutation, length_permutation}
+use Rattle.std.proofs.lemmas.Map.Views.{any-filter_same}
 use Rattle.std.proofs.lemmas.Option.{IfSome_then}
-use Rattle.rows_model.specs.declared.keys.Sid.{Sid}
 use Rattle.rows_model.specs.declared.keys.QKey.{QKey}
 use Rattle.rows_model.specs.Key.{same_key}
+use Rattle.rows_model.proofs.SameKey.{same_key-true, same_key-refl}
 use Rattle.lease_table.specs.declared.records.Quar.{Quar}
-use Rattle.lease_table.specs.declared.terms.Term.{Term}
+use Rattle.lease_table.specs.declared.index.Term.{Term}
+use Rattle.lease_table.specs.declared.index.Found.{Found}
+use Rattle.lease_table.specs.declared.index.Index.{Index}
 use Rattle.lease_table.specs.Leases.{has_token}
-use Rattle.lease_table.specs.Stands.{key_cmp}
-use Rattle.lease_table.specs.Terms.{term_cmp, same_term, term_of, sid_at, ListsAt, StandsAt, IsIndex}
-use Rattle.lease_table.proofs.KeyLemmas.{SameKey, SameKey-from_test, is_at-key, key_order}
+use Rattle.lease_table.specs.Index.{is_same, is_later, is_found, listed_in, is_listed, ListsEach, IsSound, HasRoom, KeepsEach}
+use Rattle.lease_table.specs.Index.{KeepsOthers}
+use Rattle.lease_table.proofs.ListLemmas.{length-filter-le}
 
--- ---- the order of terms
+-- ---- keys and tokens that are the same
 
-pub term_order : IsTotalOrder term_cmp
-term_order = then_total (on_total (λ (t : Term). t.deadline) nat_cmp_total)
-    (then_total (on_total (λ (t : Term). t.key) key_order) (on_total (λ (t : Term). t.token) nat_cmp_total))
+pub is_same-true : (key : QKey) (token : ℕ) (k : QKey) (t : ℕ) → is_same key token k t ≡ true → (key ≡ k) × (t ≡ token)
+is_same-true key token k t e =
+    let parts = and_parts (same_key key k) (t == token) e in
+    (same_key-true key k parts.0, eqb-true t token parts.1)
 
--- the index finds a term by the test whether two terms are one
-pub is_at-term : (a b : Term) → is_at (term_cmp a) b ≡ same_term a b
-is_at-term a b =
-    let later : is_eq (ordering_then (key_cmp a.key b.key) (nat_cmp a.token b.token)) ≡ (same_key a.key b.key && (a.token == b.token)) =
-    sym (tied_then (key_cmp a.key b.key) (nat_cmp a.token b.token)) ∙ (λ i. is_at-key a.key b.key i && unsigned_tied a.token b.token i) in
-    sym (tied_then (nat_cmp a.deadline b.deadline) (ordering_then (key_cmp a.key b.key) (nat_cmp a.token b.token)))
-    ∙ (λ i. unsigned_tied a.deadline b.deadline i && later i)
+pub is_same-itself : (key : QKey) (token : ℕ) → is_same key token key token ≡ true
+is_same-itself key token = and_from (same_key key key) (token == token) (same_key-refl key) (eq-eqb token token refl)
 
--- what two terms that are one have in common
-pub record SameTerm (a b : Term) : Type 0 where
-  pub deadlines : a.deadline ≡ b.deadline
-  pub keys : same_key a.key b.key ≡ true
-  pub tokens : a.token ≡ b.token
+pub is_same-from : (key : QKey) (token : ℕ) (k : QKey) (t : ℕ) → key ≡ k → t ≡ token → is_same key token k t ≡ true
+is_same-from key token k t keys tokens =
+    and_from (same_key key k) (t == token) (subst (λ (x : QKey). same_key key x ≡ true) keys (same_key-refl key)) (eq-eqb t token tokens)
 
-and-both : (a b : Bool) → (a && b) ≡ true → (a ≡ true) × (b ≡ true)
-and-both true b e = (refl, e)
-and-both false b e = cc
-
-pub same-number : (m n : ℕ) → (m == n) ≡ true → m ≡ n
-same-number m n e = grind (arith, nat_tests)
-
-pub SameTerm-from_test : (a b : Term) → same_term a b ≡ true → SameTerm a b
-SameTerm-from_test a b e =
-    let outer = and-both (a.deadline == b.deadline) (same_key a.key b.key && (a.token == b.token)) e in
-    let inner = and-both (same_key a.key b.key) (a.token == b.token) outer.1 in
-    record { deadlines = same-number a.deadline b.deadline outer.0; keys = inner.0; tokens = same-number a.token b.token inner.1 }
-
-same-itself : (m n : ℕ) → m ≡ n → (m == n) ≡ true
-same-itself m n e = grind (arith, nat_tests)
-
-pub test_from_SameTerm : (a b : Term) → SameTerm a b → same_term a b ≡ true
-test_from_SameTerm a b same =
-    rw (same-itself a.deadline b.deadline same.deadlines, same.keys, same-itself a.token b.token same.tokens) refl
-
--- a test that fails in its second or third part
-no-second : (a c : Bool) → (a && (false && c)) ≡ false
-no-second true c = refl
-no-second false c = refl
-
-no-third : (a b : Bool) → (a && (b && false)) ≡ false
-no-third true true = refl
-no-third true false = refl
-no-third false b = refl
-
-apart-numbers : (m n : ℕ) → (m ≡ n → ⊥) → (m == n) ≡ false
-apart-numbers m n apart = grind (arith, nat_tests)
-
--- terms of two keys, and of two tokens, aren't one
-other_key : (a b : Term) → same_key a.key b.key ≡ false → same_term a b ≡ false
-other_key a b apart = rw apart (no-second (a.deadline == b.deadline) (a.token == b.token))
-
-other_token : (a b : Term) → (a.token ≡ b.token → ⊥) → same_term a b ≡ false
-other_token a b apart =
-    rw (apart-numbers a.token b.token apart) (no-third (a.deadline == b.deadline) (same_key a.key b.key))
-
--- ---- what is found among quarantines
-
-find-cons_true : {X : Type 0} (p : X → Bool) (x : X) (xs : List X) → p x ≡ true → find p (x ∷ xs) ≡ Some x
-find-cons_true p x xs e = rw e refl
-
-find-cons_false : {X : Type 0} (p : X → Bool) (x : X) (xs : List X) → p x ≡ false → find p (x ∷ xs) ≡ find p xs
-find-cons_false p x xs e = rw e refl
-
--- what is found passes
-pub find-passes : {X : Type 0} (p : X → Bool) (xs : List X) (x : X) → find p xs ≡ Some x → p x ≡ true
-find-passes p [] x found = cc
-find-passes p (y ∷ ys) x found = by_test (find-passes p ys x) (p y) refl
+-- what is the same as one that isn't the same as another isn't either
+pub is_same-apart : (key : QKey) (token : ℕ) (other : QKey) (its : ℕ) (k : QKey) (t : ℕ)
+    → is_same other its key token ≡ false → is_same other its k t ≡ true → is_same key token k t ≡ false
+is_same-apart key token other its k t apart same = by_test (is_same key token k t) refl
   where
-    by_test : (find p ys ≡ Some x → p x ≡ true) → (b : Bool) → p y ≡ b → p x ≡ true
-    by_test rest true e =
-        let here = find-cons_true p y ys e in
-        let same : y ≡ x = cc in
-        ap p (sym same) ∙ e
-    by_test rest false e = rest (sym (find-cons_false p y ys e) ∙ found)
+    by_test : (b : Bool) → is_same key token k t ≡ b → b ≡ false
+    by_test false e = refl
+    by_test true e =
+        let a = is_same-true other its k t same in
+        let b = is_same-true key token k t e in
+        sym (is_same-from other its key token (a.0 ∙ sym b.0) (sym b.1 ∙ a.1)) ∙ apart
 
--- where none passes nothing is found
-find-no : {X : Type 0} (p : X → Bool) (xs : List X) → All (λ x. p x ≡ false) xs → find p xs ≡ None
-find-no p [] none = refl
-find-no p (x ∷ xs) none =
-    find-cons_false p x xs (All-head (λ y. p y ≡ false) x xs none) ∙ find-no p xs (All-tail (λ y. p y ≡ false) x xs none)
+-- ---- a list that some element of which passes a test
 
--- what is found stays so where others are left out
-find-filter : {X : Type 0} (p t : X → Bool) (xs : List X) → ((x : X) → p x ≡ true → t x ≡ true) → find p (filter t xs) ≡ find p xs
-find-filter p t [] keeps = refl
-find-filter p t (x ∷ xs) keeps = by_tests (find-filter p t xs keeps) (p x) (t x) refl refl
+module _ {X : Type 0} (p : X → Bool) where
+  -- with one element more, some still does
+  any-more : (x : X) (xs ys : List X) → IsPermutation (x ∷ xs) ys → list_any p xs ≡ true → list_any p ys ≡ true
+  any-more x xs ys same some =
+      sym (list_any-IsPermutation p (x ∷ xs) ys same) ∙ or_right (p x) (list_any p xs) some
+
+  -- and where that one passes
+  any-new : (x : X) (xs ys : List X) → IsPermutation (x ∷ xs) ys → p x ≡ true → list_any p ys ≡ true
+  any-new x xs ys same passes =
+      sym (list_any-IsPermutation p (x ∷ xs) ys same) ∙ or_left (p x) (list_any p xs) passes
+
+  -- with one element less, it was that one or some still does
+  any-less : (x : X) (xs ys : List X) → IsPermutation xs (x ∷ ys) → list_any p xs ≡ true → (p x ≡ true) ⊎ (list_any p ys ≡ true)
+  any-less x xs ys same some =
+      or_cases (p x) (list_any p ys) (sym (list_any-IsPermutation p xs (x ∷ ys) same) ∙ some)
+
+  -- where the one that is left out doesn't pass, some still does
+  any-left : (x : X) (xs ys : List X) → IsPermutation xs (x ∷ ys) → p x ≡ false → list_any p xs ≡ true → list_any p ys ≡ true
+  any-left x xs ys same fails some = by_case (any-less x xs ys same some)
+    where
+      by_case : (p x ≡ true) ⊎ (list_any p ys ≡ true) → list_any p ys ≡ true
+      by_case (inl passes) = absurd (false≢true (sym fails ∙ passes))
+      by_case (inr rest) = rest
+
+  -- a filter that keeps what passes
+  any-kept : (test : X → Bool) (xs ys : List X) → ((x : X) → p x ≡ true → test x ≡ true)
+      → IsPermutation (filter test xs) ys → list_any p xs ≡ true → list_any p ys ≡ true
+  any-kept test xs ys keeps same some =
+      sym (list_any-IsPermutation p (filter test xs) ys same) ∙ any-filter_same p test true keeps xs ∙ some
+
+-- a weaker test
+any-weaker : {X : Type 0} (p q : X → Bool) → ((x : X) → p x ≡ true → q x ≡ true) → (xs : List X) → list_any p xs ≡ true → list_any q xs ≡ true
+any-weaker p q weaker [] some = some
+any-weaker p q weaker (x ∷ xs) some = by_case (any-weaker p q weaker xs) (or_cases (p x) (list_any p xs) some)
   where
-    by_tests : find p (filter t xs) ≡ find p xs → (b k : Bool) → p x ≡ b → t x ≡ k → find p (filter t (x ∷ xs)) ≡ find p (x ∷ xs)
-    by_tests rest true true e f = rw (f, e) refl
-    by_tests rest true false e f = let kept = keeps x e in cc
-    by_tests rest false true e f = rw (f, e) rest
-    by_tests rest false false e f = rw (f, e) rest
+    by_case : (list_any p xs ≡ true → list_any q xs ≡ true) → (p x ≡ true) ⊎ (list_any p xs ≡ true) → list_any q (x ∷ xs) ≡ true
+    by_case later (inl passes) = or_left (q x) (list_any q xs) (weaker x passes)
+    by_case later (inr rest) = or_right (q x) (list_any q xs) (later rest)
 
--- what holds of what is found holds of it where more may be found behind it
-IsSomeAnd-or : {X : Type 0} (P : X → Type 0) (o more : Option X) → IsSomeAnd o P → IsSomeAnd (option_or o more) P
-IsSomeAnd-or P None more h = absurd h
-IsSomeAnd-or P (Some x) more h = h
+-- a filter that leaves out what passes leaves fewer
+filter-shorter : {X : Type 0} (p : X → Bool) (xs : List X) → list_any p xs ≡ true → length (filter (λ x. not (p x)) xs) < length xs
+filter-shorter p [] some = absurd (false≢true some)
+filter-shorter p (x ∷ xs) some = by_test (filter-shorter p xs) (p x) refl
+  where
+    by_test : (list_any p xs ≡ true → length (filter (λ y. not (p y)) xs) < length xs) → (b : Bool) → p x ≡ b
+        → length (filter (λ y. not (p y)) (x ∷ xs)) < length (x ∷ xs)
+    by_test later true e = rw e (omega (arith, length-filter-le (λ y. not (p y)) xs))
+    by_test later false e =
+        let rest : list_any p xs ≡ true = ap (λ b. b || list_any p xs) (sym e) ∙ some in
+        let fewer = later rest in
+        rw e (omega arith)
 
--- ---- what stands on each key after a change of one
+-- ---- what is listed in two lists
 
--- on this key stand now these, and on each other what stood
-pub record Becomes (key : QKey) (now : List Quar) (standing next : QKey → List Quar) : Type 0 where
-  pub here : (k : QKey) → same_key key k ≡ true → next k ≡ now
-  pub elsewhere : (k : QKey) → same_key key k ≡ false → next k ≡ standing k
+module _ (key : QKey) (token deadline : ℕ) where
+  by_either : (later nexts : List (Reverse Term)) (found finds : List (Reverse Found))
+      → (list_any (is_later key token deadline) later ≡ true → listed_in key token deadline nexts finds ≡ true)
+      → (list_any (is_found key token) found ≡ true → listed_in key token deadline nexts finds ≡ true)
+      → listed_in key token deadline later found ≡ true → listed_in key token deadline nexts finds ≡ true
+  by_either later nexts found finds left right listed = by_case (or_cases _ _ listed)
+    where
+      by_case : (list_any (is_later key token deadline) later ≡ true) ⊎ (list_any (is_found key token) found ≡ true)
+          → listed_in key token deadline nexts finds ≡ true
+      by_case (inl h) = left h
+      by_case (inr h) = right h
 
--- what is listed at a term now, by whether it is the one that changed
-listed-there : (term other : Term) (sid : Option Sid) (old new : BTreeMap Term Sid)
-    → ListsAt term sid old new → same_term term other ≡ true → sid_at other new ≡ sid
-listed-there term other sid old new lists same = lists.each other ∙ ap (λ b. if b then sid else sid_at other old) same
+  -- it is among the terms, or it is found
+  among-later : (later : List (Reverse Term)) (found : List (Reverse Found))
+      → list_any (is_later key token deadline) later ≡ true → listed_in key token deadline later found ≡ true
+  among-later later found h = or_left _ _ h
 
-listed-other : (term other : Term) (sid : Option Sid) (old new : BTreeMap Term Sid)
-    → ListsAt term sid old new → same_term term other ≡ false → sid_at other new ≡ sid_at other old
-listed-other term other sid old new lists apart = lists.each other ∙ ap (λ b. if b then sid else sid_at other old) apart
+  among-found : (later : List (Reverse Term)) (found : List (Reverse Found))
+      → list_any (is_found key token) found ≡ true → listed_in key token deadline later found ≡ true
+  among-found later found h = or_right _ _ h
 
--- each quarantine on another key is listed as before
-each-elsewhere : (key k : QKey) (q : Quar) (sid : Option Sid) (old new : BTreeMap Term Sid) (quars : List Quar) → ListsAt (term_of key q) sid old new
-    → same_key key k ≡ false → All (λ r. sid_at (term_of k r) old ≡ Some r.sid) quars → All (λ r. sid_at (term_of k r) new ≡ Some r.sid) quars
-each-elsewhere key k q sid old new quars lists apart each =
-    λ i d within. listed-other (term_of key q) _ sid old new lists (other_key (term_of key q) _ apart) ∙ each i d within
+  -- a term more
+  listed-put : (x : Reverse Term) (later nexts : List (Reverse Term)) (found : List (Reverse Found))
+      → IsPermutation (x ∷ later) nexts → listed_in key token deadline later found ≡ true → listed_in key token deadline nexts found ≡ true
+  listed-put x later nexts found more listed =
+      by_either later nexts found found (λ h. among-later nexts found (any-more (is_later key token deadline) x later nexts more h))
+      (λ h. among-found nexts found h) listed
 
--- each quarantine of another token too
-each-other : (key k : QKey) (q : Quar) (sid : Option Sid) (old new : BTreeMap Term Sid) (quars : List Quar) → ListsAt (term_of key q) sid old new
-    → All (λ r. q.token ≡ r.token → ⊥) quars → All (λ r. sid_at (term_of k r) old ≡ Some r.sid) quars → All (λ r. sid_at (term_of k r) new ≡ Some r.sid) quars
-each-other key k q sid old new quars lists apart each =
-    λ i d within. listed-other (term_of key q) _ sid old new lists (other_token (term_of key q) _ (apart i d within)) ∙ each i d within
+  -- a term whose time has come
+  listed-moved : (x : Reverse Term) (y : Reverse Found) (later nexts : List (Reverse Term)) (found finds : List (Reverse Found))
+      → x.0.key ≡ y.0.key → x.0.token ≡ y.0.token → IsPermutation later (x ∷ nexts) → IsPermutation (y ∷ found) finds
+      → listed_in key token deadline later found ≡ true → listed_in key token deadline nexts finds ≡ true
+  listed-moved x y later nexts found finds keys tokens less more listed =
+      by_either later nexts found finds (λ h. by_case (any-less (is_later key token deadline) x later nexts less h))
+      (λ h. among-found nexts finds (any-more (is_found key token) y found finds more h)) listed
+    where
+      by_case : (is_later key token deadline x ≡ true) ⊎ (list_any (is_later key token deadline) nexts ≡ true)
+          → listed_in key token deadline nexts finds ≡ true
+      by_case (inl its) =
+          let same = and_parts (is_same key token x.0.key x.0.token) (nat_le x.0.deadline deadline) its in
+          let here = is_same-true key token x.0.key x.0.token same.0 in
+          among-found nexts finds (any-new (is_found key token) y found finds more
+          (is_same-from key token y.0.key y.0.token (here.0 ∙ keys) (sym tokens ∙ here.1)))
+      by_case (inr rest) = among-later nexts finds rest
 
--- nothing changed
-pub IsIndex-same : (standing next : QKey → List Quar) (terms new : BTreeMap Term Sid)
-    → IsIndex standing terms → ((k : QKey) → next k ≡ standing k) → new.entries ≡ terms.entries → IsIndex next new
-IsIndex-same standing next terms new index same e = record {
-  in_order = rw e index.in_order;
-  lists_each = λ k. rw (same k, e) (index.lists_each k);
-  lists_no_other = λ term. rw (same term.key, e) (index.lists_no_other term);
+  -- another's is found no longer
+  listed-forgot : (y : Reverse Found) (later : List (Reverse Term)) (found finds : List (Reverse Found))
+      → is_found key token y ≡ false → IsPermutation found (y ∷ finds)
+      → listed_in key token deadline later found ≡ true → listed_in key token deadline later finds ≡ true
+  listed-forgot y later found finds apart less listed =
+      by_either later later found finds (λ h. among-later later finds h)
+      (λ h. among-found later finds (any-left (is_found key token) y found finds less apart h)) listed
+
+  -- filters that keep what is of this key and this token
+  listed-kept : (stays : QKey → ℕ → Bool) (later nexts : List (Reverse Term)) (found finds : List (Reverse Found))
+      → ((k : QKey) (t : ℕ) → is_same key token k t ≡ true → stays k t ≡ true)
+      → IsPermutation (filter (λ x. stays x.0.key x.0.token) later) nexts
+      → IsPermutation (filter (λ y. stays y.0.key y.0.token) found) finds
+      → listed_in key token deadline later found ≡ true → listed_in key token deadline nexts finds ≡ true
+  listed-kept stays later nexts found finds keeps terms others listed =
+      by_either later nexts found finds
+      (λ h. among-later nexts finds (any-kept (is_later key token deadline) (λ x. stays x.0.key x.0.token) later nexts
+      (λ x its. keeps x.0.key x.0.token (and_parts (is_same key token x.0.key x.0.token) (nat_le x.0.deadline deadline) its).0) terms h))
+      (λ h. among-found nexts finds (any-kept (is_found key token) (λ y. stays y.0.key y.0.token) found finds
+      (λ y its. keeps y.0.key y.0.token its) others h)) listed
+
+-- filters that leave out a key and a token leave fewer
+listed-fewer : (key : QKey) (token was : ℕ) (later nexts : List (Reverse Term)) (found finds : List (Reverse Found))
+    → IsPermutation (filter (λ x. not (is_same key token x.0.key x.0.token)) later) nexts
+    → IsPermutation (filter (λ y. not (is_same key token y.0.key y.0.token)) found) finds
+    → listed_in key token was later found ≡ true → length nexts + length finds < length later + length found
+listed-fewer key token was later nexts found finds terms others listed = by_case (or_cases _ _ listed)
+  where
+    nexts_are : length nexts ≡ length (filter (λ x. not (is_same key token x.0.key x.0.token)) later)
+    nexts_are = length_permutation _ nexts terms
+
+    finds_are : length finds ≡ length (filter (λ y. not (is_same key token y.0.key y.0.token)) found)
+    finds_are = length_permutation _ finds others
+
+    by_case : (list_any (is_later key token was) later ≡ true) ⊎ (list_any (is_found key token) found ≡ true)
+        → length nexts + length finds < length later + length found
+    by_case (inl h) =
+        let some = any-weaker (is_later key token was) (λ x. is_same key token x.0.key x.0.token)
+        (λ x its. (and_parts (is_same key token x.0.key x.0.token) (nat_le x.0.deadline was) its).0) later h in
+        let fewer = filter-shorter (λ (x : Reverse Term). is_same key token x.0.key x.0.token) later some in
+        let rest = length-filter-le (λ (y : Reverse Found). not (is_same key token y.0.key y.0.token)) found in
+        omega (arith, nexts_are, finds_are)
+    by_case (inr h) =
+        let fewer = filter-shorter (λ (y : Reverse Found). is_same key token y.0.key y.0.token) found h in
+        let rest = length-filter-le (λ (x : Reverse Term). not (is_same key token x.0.key x.0.token)) later in
+        omega (arith, nexts_are, finds_are)
+
+-- a term lists its own quarantine
+pub is_later-itself : (term : Term) → is_later term.key term.token term.deadline (record { 0 = term }) ≡ true
+is_later-itself term =
+    and_from (is_same term.key term.token term.key term.token) (nat_le term.deadline term.deadline)
+    (is_same-itself term.key term.token) (le-leb term.deadline term.deadline (omega arith))
+
+-- what is listed is listed for any later deadline
+is_later-weaker : (key : QKey) (token was deadline : ℕ) → was ≤ deadline → (x : Reverse Term)
+    → is_later key token was x ≡ true → is_later key token deadline x ≡ true
+is_later-weaker key token was deadline le x its =
+    let parts = and_parts (is_same key token x.0.key x.0.token) (nat_le x.0.deadline was) its in
+    let before = leb-true x.0.deadline was parts.1 in
+    and_from (is_same key token x.0.key x.0.token) (nat_le x.0.deadline deadline) parts.0 (le-leb x.0.deadline deadline (omega arith))
+
+pub listed-later : (key : QKey) (token was deadline : ℕ) (index : Index) → was ≤ deadline
+    → is_listed key token was index ≡ true → is_listed key token deadline index ≡ true
+listed-later key token was deadline index le listed = by_case (or_cases _ _ listed)
+  where
+    by_case : (list_any (is_later key token was) (heap_items index.later) ≡ true) ⊎ (list_any (is_found key token) (heap_items index.found) ≡ true)
+        → is_listed key token deadline index ≡ true
+    by_case (inl h) =
+        among-later key token deadline (heap_items index.later) (heap_items index.found)
+        (any-weaker (is_later key token was) (is_later key token deadline) (is_later-weaker key token was deadline le) (heap_items index.later) h)
+    by_case (inr h) = among-found key token deadline (heap_items index.later) (heap_items index.found) h
+
+-- ---- of the index
+
+pub KeepsEach-same : (old new : Index) → heap_items new.later ≡ heap_items old.later → heap_items new.found ≡ heap_items old.found → KeepsEach old new
+KeepsEach-same old new terms others = record {
+  each = λ key token deadline listed. subst (λ xs. listed_in key token deadline xs (heap_items new.found) ≡ true) (sym terms)
+      (subst (λ ys. listed_in key token deadline (heap_items old.later) ys ≡ true) (sym others) listed);
 }
 
--- ---- one more quarantine, whose token is above those on its key
+pub KeepsEach-then : (old mid new : Index) → KeepsEach old mid → KeepsEach mid new → KeepsEach old new
+KeepsEach-then old mid new before after = record {
+  each = λ key token deadline listed. after.each key token deadline (before.each key token deadline listed);
+}
 
-module _ (key : QKey) (q : Quar) (standing : QKey → List Quar) (was : (k : QKey) → same_key key k ≡ true → standing k ≡ standing key)
-    (terms new : BTreeMap Term Sid) (index : IsIndex standing terms)
-    (below : All (λ other. other.token < q.token) (standing key)) (lists : ListsAt (term_of key q) (Some q.sid) terms new) where
-  others : All (λ r. q.token ≡ r.token → ⊥) (standing key)
-  others = All-weaker (λ r. r.token < q.token) (λ r. q.token ≡ r.token → ⊥) (λ r less e. omega arith) (standing key) below
+pub KeepsEach-put : (x : Reverse Term) (old new : Index) → IsPermutation (x ∷ heap_items old.later) (heap_items new.later)
+    → heap_items new.found ≡ heap_items old.found → KeepsEach old new
+KeepsEach-put x old new more same = record {
+  each = λ key token deadline listed. subst (λ ys. listed_in key token deadline (heap_items new.later) ys ≡ true) (sym same)
+      (listed-put key token deadline x (heap_items old.later) (heap_items new.later) (heap_items old.found) more listed);
+}
 
-  -- it isn't found among those that stood
-  find-below : (token : ℕ) → q.token ≡ token → find (has_token token) (standing key) ≡ None
-  find-below token e =
-      find-no (has_token token) (standing key)
-      (All-weaker (λ r. r.token < q.token) (λ r. has_token token r ≡ false) (λ r less. apart-numbers r.token token (λ same. omega arith)) (standing key) below)
+pub KeepsEach-moved : (x : Reverse Term) (y : Reverse Found) (old new : Index) → x.0.key ≡ y.0.key → x.0.token ≡ y.0.token
+    → IsPermutation (heap_items old.later) (x ∷ heap_items new.later) → IsPermutation (y ∷ heap_items old.found) (heap_items new.found) → KeepsEach old new
+KeepsEach-moved x y old new keys tokens less more = record {
+  each = λ key token deadline listed. listed-moved key token deadline x y (heap_items old.later) (heap_items new.later)
+      (heap_items old.found) (heap_items new.found) keys tokens less more listed;
+}
 
-  -- those that stood on its key are listed as before
-  stood-each : (k : QKey) → same_key key k ≡ true → All (λ r. sid_at (term_of k r) new ≡ Some r.sid) (standing key)
-  stood-each k same =
-      each-other key k q (Some q.sid) terms new (standing key) lists others (rw (was k same) at (index.lists_each k))
+-- a term that was put is listed
+pub listed-put_itself : (term : Term) (old : List (Reverse Term)) (new : Index) → IsPermutation (record { 0 = term } ∷ old) (heap_items new.later)
+    → is_listed term.key term.token term.deadline new ≡ true
+listed-put_itself term old new more =
+    among-later term.key term.token term.deadline (heap_items new.later) (heap_items new.found)
+    (any-new (is_later term.key term.token term.deadline) (record { 0 = term }) old (heap_items new.later) more (is_later-itself term))
 
-  module _ (next : QKey → List Quar) (becomes : Becomes key (standing key ++ q ∷ []) standing next) where
-    more-each : (k : QKey) (b : Bool) → same_key key k ≡ b → All (λ r. sid_at (term_of k r) new ≡ Some r.sid) (next k)
-    more-each k true same =
-        let itself = listed-there (term_of key q) (term_of k q) (Some q.sid) terms new lists
-        (test_from_SameTerm (term_of key q) (term_of k q) (record { deadlines = refl; keys = same; tokens = refl })) in
-        rw (becomes.here k same) (All-push (λ r. sid_at (term_of k r) new ≡ Some r.sid) (standing key) q (stood-each k same) itself)
-    more-each k false apart =
-        rw (becomes.elsewhere k apart) (each-elsewhere key k q (Some q.sid) terms new (standing k) lists apart (index.lists_each k))
+pub KeepsOthers-forgot : (y : Reverse Found) (old new : Index) → heap_items new.later ≡ heap_items old.later
+    → IsPermutation (heap_items old.found) (y ∷ heap_items new.found) → KeepsOthers y.0.key y.0.token old new
+KeepsOthers-forgot y old new same less = record {
+  each = λ other its deadline apart listed. subst (λ xs. listed_in other its deadline xs (heap_items new.found) ≡ true) (sym same)
+      (listed-forgot other its deadline y (heap_items old.later) (heap_items old.found) (heap_items new.found) apart less listed);
+}
 
-    -- a quarantine that stood still does
-    stood-still : (term : Term) (sid : Sid) (b : Bool) → same_key key term.key ≡ b → StandsAt (standing term.key) term sid → StandsAt (next term.key) term sid
-    stood-still term sid true same stands =
-        let before = rw (was term.key same) at stands in
-        rw (becomes.here term.key same, find-append (has_token term.token) (standing key) (q ∷ []))
-        (IsSomeAnd-or (λ r. (r.deadline ≡ term.deadline)
-        × (r.sid ≡ sid)) (find (has_token term.token) (standing key)) (find (has_token term.token) (q ∷ [])) before)
-    stood-still term sid false apart stands = rw (becomes.elsewhere term.key apart) stands
+-- what has a key and a token is left out
+pub KeepsOthers-terms : (key : QKey) (token : ℕ) (old new : Index)
+    → IsPermutation (filter (λ x. not (is_same key token x.0.key x.0.token)) (heap_items old.later)) (heap_items new.later)
+    → IsPermutation (filter (λ y. not (is_same key token y.0.key y.0.token)) (heap_items old.found)) (heap_items new.found)
+    → KeepsOthers key token old new
+KeepsOthers-terms key token old new terms others = record {
+  each = λ other its deadline apart listed. listed-kept other its deadline (λ k t. not (is_same key token k t)) (heap_items old.later)
+      (heap_items new.later) (heap_items old.found) (heap_items new.found)
+      (λ k t same. ap not (is_same-apart key token other its k t apart same)) terms others listed;
+}
 
-    -- the new one does
-    new-stands : (term : Term) → SameTerm (term_of key q) term → StandsAt (next term.key) term q.sid
-    new-stands term same =
-        let here = find-cons_true (has_token term.token) q [] (same-itself q.token term.token same.tokens) in
-        rw (
-          becomes.here term.key same.keys,
-          find-append (has_token term.token) (standing key) (q ∷ []),
-          find-below term.token same.tokens,
-          here,
-        ) (same.deadlines, refl)
-
-    more-no_other : (term : Term) (b : Bool) → same_term (term_of key q) term ≡ b → IfSome (sid_at term new) (StandsAt (next term.key) term)
-    more-no_other term true same =
-        rw (listed-there (term_of key q) term (Some q.sid) terms new lists same) (new-stands term (SameTerm-from_test (term_of key q) term same))
-    more-no_other term false apart =
-        rw (listed-other (term_of key q) term (Some q.sid) terms new lists apart)
-        (IfSome_then (sid_at term terms) (index.lists_no_other term) (λ sid stands. stood-still term sid _ refl stands))
-
-    pub IsIndex-more : IsIndex next new
-    IsIndex-more = record {
-      in_order = lists.in_order;
-      lists_each = λ k. more-each k _ refl;
-      lists_no_other = λ term. more-no_other term _ refl;
+-- the number of what is listed is the length of the lists
+pub HasRoom-fewer : (key : QKey) (token was : ℕ) (old new : Index) → IsSound old
+    → IsPermutation (filter (λ x. not (is_same key token x.0.key x.0.token)) (heap_items old.later)) (heap_items new.later)
+    → IsPermutation (filter (λ y. not (is_same key token y.0.key y.0.token)) (heap_items old.found)) (heap_items new.found)
+    → new.later.data.cap ≡ old.later.data.cap → new.found.data.cap ≡ old.found.data.cap
+    → is_listed key token was old ≡ true → HasRoom new
+HasRoom-fewer key token was old new sound terms others later_cap found_cap listed =
+    let fewer = listed-fewer key token was (heap_items old.later) (heap_items new.later) (heap_items old.found) (heap_items new.found) terms others listed in
+    let later_room = sound.later_room in
+    let found_room = sound.found_room in
+    record {
+      later_more = omega (arith, old.later.data.ok.0, old.found.data.ok.0, new.later.data.ok.0, new.found.data.ok.0);
+      found_more = omega (arith, old.later.data.ok.0, old.found.data.ok.0, new.later.data.ok.0, new.found.data.ok.0);
     }
 
-  -- it is taken off again
-  module _ (undone : BTreeMap Term Sid) (unlists : ListsAt (term_of key q) None new undone) where
-    undone-each : (k : QKey) (b : Bool) → same_key key k ≡ b → All (λ r. sid_at (term_of k r) undone ≡ Some r.sid) (standing k)
-    undone-each k true same =
-        rw (was k same) (each-other key k q None new undone (standing key) unlists others (stood-each k same))
-    undone-each k false apart =
-        each-elsewhere key k q None new undone (standing k) unlists apart
-        (each-elsewhere key k q (Some q.sid) terms new (standing k) lists apart (index.lists_each k))
+-- ---- what is listed of what stands
 
-    undone-no_other : (term : Term) (b : Bool) → same_term (term_of key q) term ≡ b → IfSome (sid_at term undone) (StandsAt (standing term.key) term)
-    undone-no_other term true same = rw (listed-there (term_of key q) term None new undone unlists same) tt
-    undone-no_other term false apart =
-        rw (
-          listed-other (term_of key q) term None new undone unlists apart,
-          listed-other (term_of key q) term (Some q.sid) terms new lists apart,
-        ) (index.lists_no_other term)
+pub ListsEach-keeps : (standing : QKey → List Quar) (old new : Index) → KeepsEach old new → ListsEach standing old → ListsEach standing new
+ListsEach-keeps standing old new keeps lists =
+    λ key token. IfSome_then (find (has_token token) (standing key)) (lists key token) (λ quar listed. keeps.each key token quar.deadline listed)
 
-    pub IsIndex-undone : IsIndex standing undone
-    IsIndex-undone = record {
-      in_order = unlists.in_order;
-      lists_each = λ k. undone-each k _ refl;
-      lists_no_other = λ term. undone-no_other term _ refl;
-    }
+-- what holds of what is found, where finding it is a premise
+IfSome-found : {X : Type 0} (o : Option X) (P Q : X → Type 0) → IfSome o P → ((x : X) → o ≡ Some x → P x → Q x) → IfSome o Q
+IfSome-found None P Q h step = tt
+IfSome-found (Some x) P Q h step = step x refl h
 
--- ---- one quarantine less
+-- what is found is there
+pub found-some : {X : Type 0} (o : Option X) (x : X) → o ≡ Some x → is_some o ≡ true
+found-some o x e = ap is_some e
 
--- what is left has other tokens
-left-apart : (m n : ℕ) → not (m == n) ≡ true → m ≡ n → ⊥
-left-apart m n left e = let test = same-itself m n e in let off : false ≡ true = rw test at left in cc
+-- what doesn't stand is left out
+pub ListsEach-ended : (standing : QKey → List Quar) (old new : Index)
+    → IsPermutation (filter (λ x. is_some (find (has_token x.0.token) (standing x.0.key))) (heap_items old.later)) (heap_items new.later)
+    → IsPermutation (filter (λ y. is_some (find (has_token y.0.token) (standing y.0.key))) (heap_items old.found)) (heap_items new.found)
+    → ListsEach standing old → ListsEach standing new
+ListsEach-ended standing old new terms others lists =
+    λ key token. IfSome-found (find (has_token token) (standing key)) _ _ (lists key token) (λ quar stands listed. listed-kept key token quar.deadline
+    (λ k t. is_some (find (has_token t) (standing k))) (heap_items old.later) (heap_items new.later) (heap_items old.found) (heap_items new.found)
+    (still key token quar stands) terms others listed)
+  where
+    still : (key : QKey) (token : ℕ) (quar : Quar) → find (has_token token) (standing key) ≡ Some quar
+        → (k : QKey) (t : ℕ) → is_same key token k t ≡ true → is_some (find (has_token t) (standing k)) ≡ true
+    still key token quar stands k t same =
+        let one = is_same-true key token k t same in
+        (λ i. is_some (find (has_token (one.1 i)) (standing (sym one.0 i)))) ∙ found-some _ quar stands
 
--- one of another token is left
-left-other : (x t u : ℕ) → (t == u) ≡ false → (x == t) ≡ true → not (x == u) ≡ true
-left-other x t u apart same = rw (same-number x t same, apart) refl
+-- one is found no longer, which doesn't stand
+pub ListsEach-forgot : (standing : QKey → List Quar) (key : QKey) (token : ℕ) (old new : Index) → find (has_token token) (standing key) ≡ None
+    → KeepsOthers key token old new → ListsEach standing old → ListsEach standing new
+ListsEach-forgot standing key token old new gone keeps lists =
+    λ k t. IfSome-found (find (has_token t) (standing k)) _ _ (lists k t) (λ quar stands listed. keeps.each k t quar.deadline
+    (apart k t quar stands (is_same k t key token) refl) listed)
+  where
+    apart : (k : QKey) (t : ℕ) (quar : Quar) → find (has_token t) (standing k) ≡ Some quar → (b : Bool) → is_same k t key token ≡ b → b ≡ false
+    apart k t quar stands false e = refl
+    apart k t quar stands true e =
+        let one = is_same-true k t key token e in
+        let none : None ≡ Some quar = sym gone ∙ (λ i. find (has_token (one.1 i)) (standing (sym one.0 i))) ∙ stands in
+        absurd (cc)
 
-module _ (key : QKey) (token : ℕ) (quar : Quar) (standing : QKey → List Quar) (was : (k : QKey) → same_key key k ≡ true → standing k ≡ standing key)
-    (terms new : BTreeMap Term Sid) (index : IsIndex standing terms) (found : find (has_token token) (standing key) ≡ Some quar)
-    (lists : ListsAt (term_of key quar) None terms new) (next : QKey → List Quar)
-    (becomes : Becomes key (filter (λ q. not (has_token token q)) (standing key)) standing next) where
-  its-token : quar.token ≡ token
-  its-token = same-number quar.token token (find-passes (has_token token) (standing key) quar found)
-
-  less-each : (k : QKey) (b : Bool) → same_key key k ≡ b → All (λ r. sid_at (term_of k r) new ≡ Some r.sid) (next k)
-  less-each k true same =
-      let before =
-      All-filter (λ q. not (has_token token q)) (λ r. sid_at (term_of k r) terms ≡ Some r.sid) (standing key) (rw (was k same) at (index.lists_each k)) in
-      let apart = All-weaker (λ r. not (has_token token r) ≡ true) (λ r. quar.token ≡ r.token
-      → ⊥) (λ r stays e. left-apart r.token token stays (sym e ∙ its-token)) _ (filter_passes (λ q. not (has_token token q)) (standing key)) in
-      rw (becomes.here k same) (each-other key k quar None terms new _ lists apart before)
-  less-each k false apart =
-      rw (becomes.elsewhere k apart) (each-elsewhere key k quar None terms new (standing k) lists apart (index.lists_each k))
-
-  -- on its key, by the token
-  here-still : (term : Term) (sid : Sid) (b : Bool) → same_term (term_of key quar) term ≡ false → same_key key term.key ≡ true
-      → (term.token == token) ≡ b → StandsAt (standing key) term sid → StandsAt (filter (λ q. not (has_token token q)) (standing key)) term sid
-  here-still term sid true apart same e stands =
-      let its = same-number term.token token e in
-      let it : find (has_token term.token) (standing key) ≡ Some quar = rw its found in
-      let fits : (quar.deadline ≡ term.deadline) × (quar.sid ≡ sid) = rw it at stands in
-      let one = test_from_SameTerm (term_of key quar) term (record { deadlines = fits.0; keys = same; tokens = its-token ∙ sym its }) in
-      let off : true ≡ false = sym one ∙ apart in
-      absurd (cc)
-  here-still term sid false apart same e stands =
-      rw (find-filter (has_token term.token) (λ q. not (has_token token q)) (standing key) (λ r its. left-other r.token term.token token e its)) stands
-
-  still : (term : Term) (sid : Sid) (b : Bool) → same_key key term.key ≡ b
-      → same_term (term_of key quar) term ≡ false → StandsAt (standing term.key) term sid → StandsAt (next term.key) term sid
-  still term sid true same apart stands =
-      rw (becomes.here term.key same) (here-still term sid _ apart same refl (rw (was term.key same) at stands))
-  still term sid false other apart stands = rw (becomes.elsewhere term.key other) stands
-
-  less-no_other : (term : Term) (b : Bool) → same_term (term_of key quar) term ≡ b → IfSome (sid_at term new) (StandsAt (next term.key) term)
-  less-no_other term true same = rw (listed-there (term_of key quar) term None terms new lists same) tt
-  less-no_other term false apart =
-      rw (listed-other (term_of key quar) term None terms new lists apart)
-      (IfSome_then (sid_at term terms) (index.lists_no_other term) (λ sid stands. still term sid _ refl apart stands))
-
-  pub IsIndex-less : IsIndex next new
-  IsIndex-less = record {
-    in_order = lists.in_order;
-    lists_each = λ k. less-each k _ refl;
-    lists_no_other = λ term. less-no_other term _ refl;
-  }
+-- one is found no longer, and its quarantine is listed by its deadline
+pub ListsEach-again : (standing : QKey → List Quar) (key : QKey) (token : ℕ) (quar : Quar) (old mid new : Index)
+    → find (has_token token) (standing key) ≡ Some quar → KeepsOthers key token old mid → KeepsEach mid new
+    → is_listed key token quar.deadline new ≡ true → ListsEach standing old → ListsEach standing new
+ListsEach-again standing key token quar old mid new stands forgot put listed lists =
+    λ k t. IfSome-found (find (has_token t) (standing k)) _ _ (lists k t) (λ q there before. by_test k t q there before (is_same k t key token) refl)
+  where
+    by_test : (k : QKey) (t : ℕ) (q : Quar) → find (has_token t) (standing k) ≡ Some q → is_listed k t q.deadline old ≡ true
+        → (b : Bool) → is_same k t key token ≡ b → is_listed k t q.deadline new ≡ true
+    by_test k t q there before false e = put.each k t q.deadline (forgot.each k t q.deadline e before)
+    by_test k t q there before true e =
+        let one = is_same-true k t key token e in
+        let both : Some quar ≡ Some q = sym stands ∙ (λ i. find (has_token (one.1 i)) (standing (sym one.0 i))) ∙ there in
+        let its : quar ≡ q = cc in
+        (λ i. is_listed (one.0 i) (sym one.1 i) (sym its i).deadline new) ∙ listed

@@ -1,9 +1,8 @@
 -- The order of keys.
-use Rattle.std.proofs.Common.{◌≡◌, ℕ, Bool, true, false, sym, refl, ap, subst, ◌∙◌, arith}
+use Rattle.std.proofs.Common.{◌≡◌, ℕ, true, sym, refl, ap, subst, ◌∙◌, arith}
 use Rattle.std.specs.Prelude.{◌==◌, ◌&&◌}
 use Rattle.std.specs.declared.cmp.Ordering.{Ordering}
-use Rattle.std.specs.declared.cmp.Ordering.TheVariants.{Less, Equal, Greater}
-use Rattle.std.specs.Ordering.{ordering_then, nat_cmp, is_eq, is_lt, eq_by_cmp, then_cmp, on}
+use Rattle.std.specs.Ordering.{ordering_then, nat_cmp, is_eq, eq_by_cmp}
 use Rattle.std.specs.BTreeMap.{is_at}
 use Rattle.std.specs.Cmp.{IsTotalOrder, IsEquivalence, nat_cmp_total, then_total, on_total, eq_by_cmp_equiv, tied_then, unsigned_tied}
 use Rattle.std.proofs.lemmas.Bool.Decides.{nat_tests}
@@ -11,7 +10,6 @@ use Rattle.rows_model.specs.declared.keys.Kind.{Kind}
 use Rattle.rows_model.specs.declared.keys.Kind.TheVariants.{Profile, Friends, Pending, NFriends, NPending}
 use Rattle.rows_model.specs.declared.keys.QKey.{QKey}
 use Rattle.rows_model.specs.Key.{same_key, kind_number}
-use Rattle.lease_table.specs.Expiry.{key_before}
 use Rattle.lease_table.specs.Stands.{key_cmp}
 
 -- what two keys that are one have in common
@@ -22,15 +20,9 @@ pub record SameKey (a b : QKey) : Type 0 where
 pub SameKey-from_test : (a b : QKey) → same_key a b ≡ true → SameKey a b
 SameKey-from_test a b e = record { kinds = grind (arith, nat_tests); ids = grind (arith, nat_tests) }
 
-pub same_key-self : (a : QKey) → same_key a a ≡ true
-same_key-self a = grind (arith, nat_tests)
-
 -- two keys that are one are the same to any other
 pub same_key-left : (a b x : QKey) → same_key a b ≡ true → same_key a x ≡ same_key b x
 same_key-left a b x e = let h = SameKey-from_test a b e in rw (h.kinds, h.ids) refl
-
-pub same_key-right : (a b x : QKey) → same_key a b ≡ true → same_key x a ≡ same_key x b
-same_key-right a b x e = let h = SameKey-from_test a b e in rw (h.kinds, h.ids) refl
 
 -- keys are in order of kind, and then of id
 abbrev pub rank_cmp : QKey → QKey → Ordering

@@ -4,7 +4,9 @@ pub mod DueLemmas
 pub mod IndexLemmas
 pub mod KeyLemmas
 pub mod ListLemmas
+pub mod ListedLemmas
 pub mod MapLemmas
+pub mod OrderLemmas
 pub mod RowLemmas
 pub mod TableLemmas
 pub mod VerdictLemmas

@@ -1,8 +1,9 @@
 -- On lists: what a map that leaves elements out gives of a filtered list, and the first that passes.
-use Rattle.std.proofs.Common.{◌≡◌, suc, length, ◌≤◌, map, arith, Bool, true, false, not, Option, Some, None, List, [], ◌∷◌, ap, sym, refl}
+use Rattle.std.proofs.Common.{◌≡◌, ℕ, suc, length, get_or, ◌<◌, ◌≤◌, ◌++◌, zero, set, take, drop, map, arith, Bool, true, false, not, Option, Some, None, List, [], ◌∷◌, ap, sym, refl, subst}
 use Rattle.std.proofs.Common.{◌∙◌, find, filter, MatchOption}
 use Rattle.std.specs.Bool.{⊤}
-use Rattle.std.specs.Prelude.{◌&&◌}
+use Rattle.std.specs.Prelude.{◌&&◌, option_map}
+use Rattle.std.proofs.lemmas.List.{get_or-map, length-map}
 use Rattle.std.proofs.lemmas.List.Filters.{length-filter_both}
 use Rattle.std.specs.List.{filter_map, cons_option, All, AllPairs, list_all}
 use Rattle.std.proofs.lemmas.List.Elements.{All-head, All-tail, All-nil, All-cons}
@@ -102,3 +103,66 @@ All-from_list_all p f (x ∷ xs) e =
 -- what a filter keeps is no longer
 pub length-filter-le : {X : Type 0} (p : X → Bool) (xs : List X) → length (filter p xs) ≤ length xs
 length-filter-le p xs = omega (arith, length-filter_both p (λ x. not (p x)) (λ _. refl) xs)
+
+-- ---- what is found among elements
+
+pub find-cons_true : {X : Type 0} (p : X → Bool) (x : X) (xs : List X) → p x ≡ true → find p (x ∷ xs) ≡ Some x
+find-cons_true p x xs e = rw e refl
+
+pub find-cons_false : {X : Type 0} (p : X → Bool) (x : X) (xs : List X) → p x ≡ false → find p (x ∷ xs) ≡ find p xs
+find-cons_false p x xs e = rw e refl
+
+-- what is found passes
+pub find-passes : {X : Type 0} (p : X → Bool) (xs : List X) (x : X) → find p xs ≡ Some x → p x ≡ true
+find-passes p [] x found = cc
+find-passes p (y ∷ ys) x found = by_test (find-passes p ys x) (p y) refl
+  where
+    by_test : (find p ys ≡ Some x → p x ≡ true) → (b : Bool) → p y ≡ b → p x ≡ true
+    by_test rest true e =
+        let here = find-cons_true p y ys e in
+        let same : y ≡ x = cc in
+        ap p (sym same) ∙ e
+    by_test rest false e = rest (sym (find-cons_false p y ys e) ∙ found)
+
+-- where none passes nothing is found
+pub find-no : {X : Type 0} (p : X → Bool) (xs : List X) → All (λ x. p x ≡ false) xs → find p xs ≡ None
+find-no p [] none = refl
+find-no p (x ∷ xs) none =
+    find-cons_false p x xs (All-head (λ y. p y ≡ false) x xs none) ∙ find-no p xs (All-tail (λ y. p y ≡ false) x xs none)
+
+-- what is found stays so where others are left out
+pub find-filter : {X : Type 0} (p t : X → Bool) (xs : List X) → ((x : X) → p x ≡ true → t x ≡ true) → find p (filter t xs) ≡ find p xs
+find-filter p t [] keeps = refl
+find-filter p t (x ∷ xs) keeps = by_tests (find-filter p t xs keeps) (p x) (t x) refl refl
+  where
+    by_tests : find p (filter t xs) ≡ find p xs → (b k : Bool) → p x ≡ b → t x ≡ k → find p (filter t (x ∷ xs)) ≡ find p (x ∷ xs)
+    by_tests rest true true e f = rw (f, e) refl
+    by_tests rest true false e f = let kept = keeps x e in cc
+    by_tests rest false true e f = rw (f, e) rest
+    by_tests rest false false e f = rw (f, e) rest
+
+-- what is found among changed elements, where the change leaves the test
+pub find-map : {X : Type 0} (p : X → Bool) (f : X → X) → ((x : X) → p (f x) ≡ p x) → (xs : List X) → find p (map f xs) ≡ option_map f (find p xs)
+find-map p f same [] = refl
+find-map p f same (x ∷ xs) = by_test (find-map p f same xs) (p x) refl
+  where
+    by_test : find p (map f xs) ≡ option_map f (find p xs) → (b : Bool) → p x ≡ b → find p (map f (x ∷ xs)) ≡ option_map f (find p (x ∷ xs))
+    by_test rest true e =
+        find-cons_true p (f x) (map f xs) (same x ∙ e) ∙ ap (option_map f) (sym (find-cons_true p x xs e))
+    by_test rest false e =
+        find-cons_false p (f x) (map f xs) (same x ∙ e) ∙ rest ∙ ap (option_map f) (sym (find-cons_false p x xs e))
+
+-- a change of each element that keeps a relation
+pub AllPairs-map : {X : Type 0} (R : X → X → Type 0) (f : X → X) → ((x y : X) → R x y → R (f x) (f y)) → (xs : List X) → AllPairs R xs → AllPairs R (map f xs)
+AllPairs-map R f keeps xs pairs = λ i j d before within.
+    let inside : j < length xs = omega (arith, length-map xs f) in
+    let a = get_or-map f xs i d d (omega arith) in
+    let b = get_or-map f xs j d d inside in
+    subst (λ x. R x (get_or (map f xs) j d)) (sym a) (subst (λ y. R (f (get_or xs i d)) y) (sym b) (keeps (get_or xs i d) (get_or xs j d) (pairs i j d before inside)))
+
+-- one element more is changed, where those in front of it are
+pub set-map_next : {X : Type 0} (f : X → X) (xs : List X) (i : ℕ) (d : X) → i < length xs
+    → set (map f (take i xs) ++ drop i xs) i (f (get_or (map f (take i xs) ++ drop i xs) i d)) ≡ map f (take (suc i) xs) ++ drop (suc i) xs
+set-map_next f [] i d within = absurd (omega arith)
+set-map_next f (x ∷ xs) zero d within = refl
+set-map_next f (x ∷ xs) (suc i) d within = ap (λ rest. f x ∷ rest) (set-map_next f xs i d (omega arith))

@@ -1,7 +1,7 @@
 -- What the records of the map are on each key.
-use Rattle.std.proofs.Common.{◌≡◌, ℕ, Bool, true, false, Option, Some, None, List, [], ◌∷◌, ◌++◌, sym, refl, ap, ◌∙◌, map, append-nil}
+use Rattle.std.proofs.Common.{◌≡◌, Bool, true, false, Option, Some, None, List, [], ◌∷◌, ◌++◌, sym, refl, ap, ◌∙◌, map, append-nil}
 use Rattle.std.specs.Prelude.{if◌then◌else◌}
-use Rattle.std.specs.List.{cons_option, AllPairs}
+use Rattle.std.specs.List.{cons_option}
 use Rattle.std.specs.List.Sorted.{IsStrictlySortedBy}
 use Rattle.std.specs.Map.{lookup, keys_of, set_value}
 use Rattle.std.specs.BTreeMap.{BTreeMap, IsOrdered, is_at}
@@ -17,7 +17,7 @@ use Rattle.lease_table.specs.declared.records.Lease.{Lease}
 use Rattle.lease_table.specs.declared.records.KeyLeases.{KeyLeases}
 use Rattle.lease_table.specs.declared.records.KeyLeases.TheVariants.{Read, Quarantines}
 use Rattle.lease_table.specs.Leases.{quars, reads}
-use Rattle.lease_table.specs.Stands.{key_cmp, quar_lease, read_lease, records_on, records, leases_on, quars_of, reads_of}
+use Rattle.lease_table.specs.Stands.{key_cmp, quar_lease, records_on, records, leases_on, quars_of, reads_of}
 use Rattle.lease_table.proofs.KeyLemmas.{is_at-key, key_equivalence, same_key-left}
 
 -- ---- one key's records

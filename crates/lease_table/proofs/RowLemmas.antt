@@ -2,7 +2,8 @@
 use Rattle.std.proofs.Common.{◌≡◌, ℕ, ◌+◌, ◌≤◌, subst, IfSome, Bool, true, not, Option, Some, None, List, [], ◌∷◌, map, sym, refl, ◌∙◌, ap, find, IsTrue, arith}
 use Rattle.std.specs.List.{list_all, AllPairs}
 use Rattle.rows_model.specs.declared.keys.Sid.{Sid}
-use Rattle.case_tables.specs.Compatibility.{row_of, Way, invalidate, refresh, delta, is_invalidate, others_row, way_number}
+use Rattle.case_tables.specs.Compatibility.{row_of, row_from, Way, invalidate, refresh, delta, is_invalidate, others_row, way_number}
+use Rattle.std.specs.Prelude.{if◌then◌else◌}
 use Rattle.lease_table.specs.declared.records.Quar.{Quar}
 use Rattle.lease_table.specs.declared.records.ReadLease.{ReadLease}
 use Rattle.lease_table.specs.Leases.{first, is_of, way_of, StandBeside, own_in, others_in, holder_in, is_unexpired, holding_of}
@@ -79,3 +80,34 @@ pub holder-least : (who : Sid) (quars : List Quar) (o : Option Quar)
 holder-least who quars None beside none e = tt
 holder-least who quars (Some q) beside none e =
     first-least quars q beside (sym (e ∙ rw none refl))
+
+-- ---- the row where the asker holds one
+
+-- others stand beside it, or none does
+row_from-alone : (w : Way) (reading : Bool) → row_from (Some w) [] reading ≡ 5 + way_number w
+row_from-alone invalidate reading = refl
+row_from-alone refresh reading = refl
+row_from-alone delta reading = refl
+
+row_from-beside : (w other : Way) (others : List Way) (reading : Bool)
+    → row_from (Some w) (other ∷ others) reading ≡ (if is_invalidate w then 8 else 5 + way_number w)
+row_from-beside invalidate other others reading = refl
+row_from-beside refresh other others reading = refl
+row_from-beside delta other others reading = refl
+
+-- the same by the first of the others
+row_from-first : (w : Way) (others : List Quar) (q : Quar) (reading : Bool) → first others ≡ Some q
+    → row_from (Some w) (map quar_way others) reading ≡ (if is_invalidate w then 8 else 5 + way_number w)
+row_from-first w [] q reading e = cc
+row_from-first w (r ∷ rs) q reading e = row_from-beside w (quar_way r) (map quar_way rs) reading
+
+pub row-own : (who : Sid) (now : ℕ) (reader : Option ReadLease) (quars : List Quar) (q : Quar) → own_in who quars ≡ Some q
+    → find (λ quar. not (is_of who quar)) quars ≡ None → row_of (holding_of who now reader quars) ≡ 5 + way_number (quar_way q)
+row-own who now reader quars q own no_other =
+    rw (own, first-none (others_in who quars) (sym (find-first _ quars) ∙ no_other)) (row_from-alone (quar_way q) (is_unexpired now reader))
+
+pub row-beside : (who : Sid) (now : ℕ) (reader : Option ReadLease) (quars : List Quar) (q other : Quar) → own_in who quars ≡ Some q
+    → find (λ quar. not (is_of who quar)) quars ≡ Some other
+    → row_of (holding_of who now reader quars) ≡ (if is_invalidate (quar_way q) then 8 else 5 + way_number (quar_way q))
+row-beside who now reader quars q other own found =
+    rw own (row_from-first (quar_way q) (others_in who quars) other (is_unexpired now reader) (sym (find-first _ quars) ∙ found))

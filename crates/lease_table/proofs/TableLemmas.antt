@@ -1,26 +1,27 @@
 -- What a change of the map leaves on each key, and that the table stays one.
-use Rattle.std.proofs.Common.{◌≡◌, ℕ, Bool, true, false, not, Option, Some, None, List, [], ◌∷◌, ◌++◌, sym, refl, ◌∙◌, ap, filter, arith}
-use Rattle.std.proofs.Common.{IfSome, IsTrue, cond, subst}
-use Rattle.std.specs.Prelude.{length, ◌<◌}
-use Rattle.std.specs.List.{All, AllPairs}
+use Rattle.std.proofs.Common.{◌≡◌, ℕ, Bool, true, false, Some, List, [], ◌∷◌, ◌++◌, sym, refl, ◌∙◌, ap, filter, arith}
+use Rattle.std.proofs.Common.{IfSome, IsTrue, cond, subst, map, ◌≤◌}
+use Rattle.std.proofs.lemmas.List.{length-map}
+use Rattle.std.specs.Prelude.{length}
+use Rattle.std.specs.List.{All}
 use Rattle.std.specs.BTreeMap.{BTreeMap, IsOrdered, WritesThrough, UpdatesBy, is_at}
 use Rattle.std.proofs.lemmas.List.Kept.{AllPairs-filter}
 use Rattle.std.proofs.lemmas.List.Quantifiers.{all_pairs_push}
-use Rattle.rows_model.specs.declared.keys.Sid.{Sid}
 use Rattle.rows_model.specs.declared.keys.QKey.{QKey}
 use Rattle.rows_model.specs.Key.{same_key}
 use Rattle.lease_table.specs.declared.records.Quar.{Quar}
 use Rattle.lease_table.specs.declared.records.ReadLease.{ReadLease}
 use Rattle.lease_table.specs.declared.records.Lease.{Lease}
 use Rattle.lease_table.specs.declared.records.KeyLeases.{KeyLeases}
-use Rattle.lease_table.specs.declared.terms.Term.{Term}
-use Rattle.lease_table.specs.Leases.{quars, reads, recorded, first, quar_on, read_on, has_token, Leaves, IsTable, MayStand, StandBeside}
-use Rattle.lease_table.specs.Expiry.{quars_in}
-use Rattle.lease_table.specs.Terms.{IsIndex}
-use Rattle.lease_table.specs.Stands.{key_cmp, records, records_on, leases_on, quars_of, reads_of, has_any, NoneEmpty, IsKept, PutsOn, SameLeases, Stays}
-use Rattle.lease_table.proofs.KeyLemmas.{is_at-key, same_key-left}
-use Rattle.lease_table.proofs.ListLemmas.{filter_map-same, length-filter-le}
-use Rattle.lease_table.proofs.MapLemmas.{Gives, records-at, records-set_value, leases_on-same_key}
+use Rattle.lease_table.specs.declared.index.Index.{Index}
+use Rattle.lease_table.specs.Leases.{quars, reads, first, quar_on, read_on, has_token, raised, renewed, Leaves, IsTable, MayStand}
+use Rattle.lease_table.specs.Leases.{StandBeside}
+use Rattle.lease_table.specs.Index.{ListsEach, IsSound}
+use Rattle.lease_table.specs.Stands.{key_cmp, records, leases_on, quars_of, reads_of, stands_in, has_any, NoneEmpty, IsKept, PutsOn, SameLeases}
+use Rattle.lease_table.specs.Stands.{Stays}
+use Rattle.lease_table.proofs.KeyLemmas.{same_key-left}
+use Rattle.lease_table.proofs.ListLemmas.{filter_map-same, length-filter-le, AllPairs-map}
+use Rattle.lease_table.proofs.MapLemmas.{records-at, records-set_value, leases_on-same_key}
 
 -- ---- what a change leaves on each key
 
@@ -93,7 +94,55 @@ MayStand-quar standing readers q may each = record {
   apart = λ some. refl;
 }
 
+-- one that is raised stands alone
+pub MayStand-raised : (token : ℕ) (standing : List Quar) (readers : List ReadLease) → length standing ≤ 1
+    → MayStand standing readers → MayStand (map (raised token) standing) readers
+MayStand-raised token standing readers alone may = record {
+  beside = λ i j d before within. absurd (omega (arith, length-map standing (raised token)));
+  one_reader = may.one_reader;
+  apart = λ some. may.apart (omega (arith, length-map standing (raised token)));
+}
+
+-- another deadline changes nothing of what may stand beside what
+StandBeside-renewed : (token deadline : ℕ) (a b : Quar) → StandBeside a b → StandBeside (renewed token deadline a) (renewed token deadline b)
+StandBeside-renewed token deadline a b beside = by_tests (has_token token a) (has_token token b)
+  where
+    by_tests : (x y : Bool) → StandBeside
+        (cond x (record { sid = a.sid; mode = a.mode; token = a.token; deadline = deadline; shift = a.shift }) a)
+        (cond y (record { sid = b.sid; mode = b.mode; token = b.token; deadline = deadline; shift = b.shift }) b)
+    by_tests true true = record {
+      in_order = beside.in_order;
+      of_two = beside.of_two;
+      one_invalidates = beside.one_invalidates;
+      other_invalidates = beside.other_invalidates;
+    }
+    by_tests true false = record {
+      in_order = beside.in_order;
+      of_two = beside.of_two;
+      one_invalidates = beside.one_invalidates;
+      other_invalidates = beside.other_invalidates;
+    }
+    by_tests false true = record {
+      in_order = beside.in_order;
+      of_two = beside.of_two;
+      one_invalidates = beside.one_invalidates;
+      other_invalidates = beside.other_invalidates;
+    }
+    by_tests false false = beside
+
+pub MayStand-renewed : (token deadline : ℕ) (standing : List Quar) (readers : List ReadLease)
+    → MayStand standing readers → MayStand (map (renewed token deadline) standing) readers
+MayStand-renewed token deadline standing readers may = record {
+  beside = AllPairs-map StandBeside (renewed token deadline) (StandBeside-renewed token deadline) standing may.beside;
+  one_reader = may.one_reader;
+  apart = λ some. may.apart (omega (arith, length-map standing (renewed token deadline)));
+}
+
 -- ---- the map
+
+-- what the records have on each key, as a whole
+pub stands_in-records : (leases : BTreeMap QKey KeyLeases) → IsOrdered key_cmp leases → (λ key. quars key (records leases.entries)) ≡ stands_in leases
+stands_in-records leases ordered = λ i key. (records-at key leases ordered).quars_there i
 
 -- what the map's change says of its records
 pub SetsKey-puts : (key : QKey) (standing : List Quar) (readers : List ReadLease) (old new : BTreeMap QKey KeyLeases)
@@ -118,26 +167,42 @@ NoneEmpty-puts key standing readers old new puts none = λ k. by_key k (same_key
     by_key k true same = rw (← leases_on-same_key key k new same) puts.any_there
     by_key k false apart = rw (puts.elsewhere k apart) (none k)
 
--- a change of the map that leaves on its key what may stand, with an index of what stands then
-pub IsKept-puts : (key : QKey) (standing : List Quar) (readers : List ReadLease) (old new : BTreeMap QKey KeyLeases) (terms next : BTreeMap Term Sid)
-    → IsKept old terms → PutsOn key standing readers old new → MayStand standing readers → IsIndex (quars_in (records new.entries)) next → IsKept new next
-IsKept-puts key standing readers old new terms next kept puts may indexed = record {
+-- a change of the map that leaves on its key what may stand, with an index that lists what stands then
+pub IsKept-puts : (key : QKey) (standing : List Quar) (readers : List ReadLease) (old new : BTreeMap QKey KeyLeases) (index next : Index)
+    → IsKept old index → PutsOn key standing readers old new → MayStand standing readers → IsSound next → ListsEach (stands_in new) next → IsKept new next
+IsKept-puts key standing readers old new index next kept puts may sound lists = record {
   in_order = puts.in_order;
   table =
       IsTable-from key standing readers (records old.entries) (records new.entries)
       (SetsKey-puts key standing readers old new kept.in_order puts) may kept.table;
   none_empty = NoneEmpty-puts key standing readers old new puts kept.none_empty;
-  indexed = indexed;
+  sound = sound;
+  lists = lists;
 }
 
--- a map with the records that it had
-pub IsKept-stays : (old new : BTreeMap QKey KeyLeases) (terms next : BTreeMap Term Sid)
-    → IsKept old terms → Stays old new → IsIndex (quars_in (records old.entries)) next → IsKept new next
-IsKept-stays old new terms next kept stays indexed = record {
+-- another index that lists what stands
+pub IsKept-index : (leases : BTreeMap QKey KeyLeases) (index next : Index) → IsKept leases index → IsSound next → ListsEach (stands_in leases) next
+    → IsKept leases next
+IsKept-index leases index next kept sound lists = record {
+  in_order = kept.in_order;
+  table = kept.table;
+  none_empty = kept.none_empty;
+  sound = sound;
+  lists = lists;
+}
+
+-- a map with the records that it had has the same on each key
+stands_in-stays : (old new : BTreeMap QKey KeyLeases) → IsOrdered key_cmp old → Stays old new → stands_in new ≡ stands_in old
+stands_in-stays old new ordered stays =
+    sym (stands_in-records new stays.in_order) ∙ (λ i key. quars key (stays.same_records i)) ∙ stands_in-records old ordered
+
+pub IsKept-stays : (old new : BTreeMap QKey KeyLeases) (index : Index) → IsKept old index → Stays old new → IsKept new index
+IsKept-stays old new index kept stays = record {
   in_order = stays.in_order;
-  table = rw stays.same_records kept.table;
+  table = subst IsTable (sym stays.same_records) kept.table;
   none_empty = stays.none_empty kept.none_empty;
-  indexed = rw stays.same_records indexed;
+  sound = kept.sound;
+  lists = subst (λ standing. ListsEach standing index) (sym (stands_in-stays old new kept.in_order stays)) kept.lists;
 }
 
 -- what is written over the leases of a key leaves the map's, where it leaves these

@@ -1,18 +1,20 @@
 -- What a verdict tells: of the grid it is the rules', and where it gives a lease the key is free for it.
-use Rattle.std.proofs.Common.{◌≡◌, ℕ, ◌<◌, Bool, true, false, Option, Some, None, List, [], ◌∷◌, map, sym, refl, ◌∙◌, length, arith}
-use Rattle.case_tables.specs.declared.grids.Verdict.TheVariants.{Same, Join, Refuse}
+use Rattle.std.proofs.Common.{◌≡◌, ℕ, ◌<◌, ◌≤◌, Bool, true, false, not, filter, Option, Some, None, List, [], ◌∷◌, map, sym, refl, ◌∙◌, length, arith}
+use Rattle.case_tables.specs.declared.grids.Verdict.TheVariants.{Same, Join, Refuse, Gone}
 use Rattle.rows_model.specs.declared.keys.Sid.{Sid}
 use Rattle.rows_model.specs.declared.keys.QKey.{QKey}
 use Rattle.lease_table.specs.declared.records.Quar.{Quar}
 use Rattle.lease_table.specs.declared.records.Lease.{Lease}
-use Rattle.lease_table.specs.Leases.{StandBeside, quars, own_quar, other_quars, is_of, way_of, holding}
-use Rattle.lease_table.proofs.ListLemmas.{find-none, filter-not-all, All-from_list_all}
+use Rattle.lease_table.specs.Leases.{StandBeside, quars, own_quar, other_quars, others_in, is_of, is_raisable, way_of, holding, holding_of, raise_in}
+use Rattle.lease_table.proofs.ListLemmas.{find-none, filter-not-all, All-from_list_all, AllPairs-head}
 use Rattle.std.proofs.lemmas.Bool.Decides.{nat_tests}
 use Rattle.std.proofs.lemmas.List.{length-map}
 use Rattle.std.specs.Prelude.{if◌then◌else◌, option_map, ◌&&◌}
-use Rattle.std.specs.List.{All, list_all}
+use Rattle.std.specs.List.{All, AllPairs, list_all, list_any}
+use Rattle.std.proofs.lemmas.Bool.{eqb-true}
 use Rattle.case_tables.specs.declared.grids.Verdict.{Verdict}
-use Rattle.case_tables.specs.Compatibility.{Way, Request, read, quarantine, Holding, is_invalidate, same_way, verdict, is_given, row_of, column_of, cell}
+use Rattle.case_tables.specs.Compatibility.{Way, invalidate, refresh, delta, Request, read, quarantine, raise, Holding, is_invalidate, same_way, verdict}
+use Rattle.case_tables.specs.Compatibility.{raise_verdict, is_given, is_raised, row_of, column_of, cell}
 
 -- the cell of what stands is the rules' verdict
 pub cell-verdict : (grid : List (List Verdict)) (rules : (h : Holding) (request : Request)
@@ -95,3 +97,45 @@ quar-given key q now leases below given =
       one_invalidates = each_invalidates k d within;
       other_invalidates = asker (omega (arith, length-map (quars key leases) (λ quar. way_of quar.mode)));
     }
+
+-- ---- where a quarantine is raised nobody else holds one
+
+raised-parts : (own : Option Way) (others : List Way) → is_raised (raise_verdict own others) ≡ true → others ≡ []
+raised-parts None others raises = cc
+raised-parts (Some invalidate) [] raises = refl
+raised-parts (Some invalidate) (w ∷ ws) raises = cc
+raised-parts (Some refresh) others raises = cc
+raised-parts (Some delta) others raises = cc
+
+-- where none is of another session, each is of the session
+of_who : (who : Sid) (q : Quar) (qs : List Quar) → filter (λ quar. not (is_of who quar)) (q ∷ qs) ≡ []
+    → (is_of who q ≡ true) × (filter (λ quar. not (is_of who quar)) qs ≡ [])
+of_who who q qs none = by_test (is_of who q) refl
+  where
+    by_test : (b : Bool) → is_of who q ≡ b → (is_of who q ≡ true) × (filter (λ quar. not (is_of who quar)) qs ≡ [])
+    by_test true e =
+        let past : filter (λ quar. not (is_of who quar)) (q ∷ qs) ≡ filter (λ quar. not (is_of who quar)) qs = rw e refl in
+        (e, sym past ∙ none)
+    by_test false e =
+        let kept : filter (λ quar. not (is_of who quar)) (q ∷ qs) ≡ q ∷ filter (λ quar. not (is_of who quar)) qs = rw e refl in
+        absurd (cc)
+
+-- of one session there is one at most
+one-of_who : (who : Sid) (quars : List Quar) → AllPairs StandBeside quars → others_in who quars ≡ [] → length quars ≤ 1
+one-of_who who [] beside none = omega arith
+one-of_who who (q ∷ []) beside none = omega arith
+one-of_who who (q ∷ r ∷ rs) beside none =
+    let first = of_who who q (r ∷ rs) none in
+    let second = of_who who r rs first.1 in
+    let apart = (AllPairs-head StandBeside q (r ∷ rs) beside 0 q (omega arith)).of_two in
+    absurd (apart (eqb-true q.sid.number who.number first.0 ∙ sym (eqb-true r.sid.number who.number second.0)))
+
+pub raise-alone : (who : Sid) (token : ℕ) (quars : List Quar) → AllPairs StandBeside quars → is_raised (raise_in who token quars) ≡ true → length quars ≤ 1
+raise-alone who token quars beside raises = by_test (list_any (is_raisable who token) quars) raises
+  where
+    by_test : (b : Bool) → is_raised (if b then verdict (holding_of who 0 None quars) raise else Gone) ≡ true → length quars ≤ 1
+    by_test true given =
+        one-of_who who quars beside
+        (map-empty (λ quar. way_of quar.mode) (others_in who quars)
+        (raised-parts (holding_of who 0 None quars).own (holding_of who 0 None quars).others given))
+    by_test false given = cc

@@ -151,12 +151,12 @@ raise_in who token quars =
 abbrev pub raised : ℕ → Quar → Quar
 raised token quar =
     if has_token token quar then
-      record { sid = quar.sid; mode = Refresh; token = quar.token; deadline = quar.deadline; shift = quar.shift }
+    record { sid = quar.sid; mode = Refresh; token = quar.token; deadline = quar.deadline; shift = quar.shift }
     else quar
 
 -- a quarantine once the one of this token has another deadline
 abbrev pub renewed : ℕ → ℕ → Quar → Quar
 renewed token deadline quar =
     if has_token token quar then
-      record { sid = quar.sid; mode = quar.mode; token = quar.token; deadline = deadline; shift = quar.shift }
+    record { sid = quar.sid; mode = quar.mode; token = quar.token; deadline = deadline; shift = quar.shift }
     else quar

@@ -1,8 +1,7 @@
-use Rattle.std.specs.Prelude.{◌≡◌, Bool, true, false, Option, Some, None, List, [], ◌∷◌, ◌++◌, map, IfSome, IsTrue}
+use Rattle.std.specs.Prelude.{ℕ, ◌≡◌, Bool, true, false, Option, Some, None, List, [], ◌∷◌, ◌++◌, map, IfSome, IsTrue}
 use Rattle.std.specs.Bool.{IsFalse}
 use Rattle.std.specs.declared.cmp.Ordering.{Ordering}
 use Rattle.std.specs.BTreeMap.{BTreeMap, IsOrdered, get}
-use Rattle.rows_model.specs.declared.keys.Sid.{Sid}
 use Rattle.rows_model.specs.declared.keys.QKey.{QKey}
 use Rattle.rows_model.specs.contracts.keys.QKeyOrd.TheImpl as key_order
 use Rattle.rows_model.specs.Key.{same_key}
@@ -12,10 +11,11 @@ use Rattle.lease_table.specs.declared.records.Held.TheVariants as held
 use Rattle.lease_table.specs.declared.records.Lease.{Lease}
 use Rattle.lease_table.specs.declared.records.KeyLeases.{KeyLeases}
 use Rattle.lease_table.specs.declared.records.KeyLeases.TheVariants.{Read, Quarantines}
-use Rattle.lease_table.specs.declared.terms.Term.{Term}
-use Rattle.lease_table.specs.Leases.{IsTable}
-use Rattle.lease_table.specs.Expiry.{quars_in}
-use Rattle.lease_table.specs.Terms.{IsIndex}
+use Rattle.lease_table.specs.declared.edits.Change.{Change}
+use Rattle.lease_table.specs.declared.edits.Change.TheVariants.{ToRefresh, ToDeadline}
+use Rattle.lease_table.specs.declared.index.Index.{Index}
+use Rattle.lease_table.specs.Leases.{IsTable, raised, renewed}
+use Rattle.lease_table.specs.Index.{IsSound, ListsEach}
 
 -- The order of the keys in the map.
 abbrev pub key_cmp : QKey → QKey → Ordering
@@ -49,6 +49,10 @@ quars_of None = []
 quars_of (Some (Read lease)) = []
 quars_of (Some (Quarantines quars)) = quars.items
 
+-- The quarantines that stand on each key, by the map.
+abbrev pub stands_in : BTreeMap QKey KeyLeases → QKey → List Quar
+stands_in leases key = quars_of (leases_on key leases)
+
 -- The leases to read among the leases of a key, if it has leases.
 abbrev pub reads_of : Option KeyLeases → List ReadLease
 reads_of None = []
@@ -69,13 +73,19 @@ has_any (Quarantines quars) = is_any quars.items
 abbrev pub NoneEmpty : BTreeMap QKey KeyLeases → Type 0
 NoneEmpty leases = (key : QKey) → IfSome (leases_on key leases) (λ there. IsTrue (has_any there))
 
--- The map keeps its keys in order, has on each what may stand there, and no key without a lease, and the terms of its
--- quarantines are listed.
-pub record IsKept (leases : BTreeMap QKey KeyLeases) (terms : BTreeMap Term Sid) : Type 0 where
+-- The map keeps its keys in order, has on each what may stand there, and no key without a lease, and the index lists
+-- each quarantine that stands.
+pub record IsKept (leases : BTreeMap QKey KeyLeases) (index : Index) : Type 0 where
   pub in_order : IsOrdered key_cmp leases
   pub table : IsTable (records leases.entries)
   pub none_empty : NoneEmpty leases
-  pub indexed : IsIndex (quars_in (records leases.entries)) terms
+  pub sound : IsSound index
+  pub lists : ListsEach (stands_in leases) index
+
+-- A quarantine once the one of this token is changed.
+abbrev pub changed : Change → ℕ → Quar → Quar
+changed ToRefresh token quar = raised token quar
+changed (ToDeadline deadline) token quar = renewed token deadline quar
 
 -- On this key the map has now these quarantines and these leases to read, and does not have the key where there are
 -- none; on each other key it has what it had.

@@ -1,10 +1,37 @@
-ghost use Rattle.std.specs.Prelude.{◌≡◌, [], ◌∷◌, ◌++◌, Some, OnOk, OnErr, IfOk, IsTrue, filter, not};
+ghost use Rattle.std.specs.Prelude.{◌≡◌, [], ◌∷◌, ◌++◌, Some, OnOk, OnErr, IfOk, IfSome, IsTrue, filter, map, not};
 ghost use Rattle.lease_table.specs.Leases.{has_token};
-ghost use Rattle.lease_table.specs.Stands.{quars_of, reads_of, leases_on, has_any, PutsOn, Stays, SameLeases};
+ghost use Rattle.lease_table.specs.Stands.{quars_of, reads_of, leases_on, has_any, changed, PutsOn, Stays, SameLeases};
 
-use crate::records::{KeyLeases, LeaseMap, Quar, ReadLease};
+use crate::records::{KeyLeases, LeaseMap, Mode, Quar, ReadLease};
 use rows_model::{Memory, QKey};
 use std::alloc::Global;
+
+/// What changes of a quarantine that stands.
+#[derive(Clone, Copy)]
+pub enum Change {
+    /// It is to refresh now.
+    ToRefresh,
+    /// It has another deadline.
+    ToDeadline(u64),
+}
+
+impl Change {
+    /// The quarantine once the one of the token is changed.
+    fn made(self, token: u64, quar: Quar) -> Quar
+        ensures { result ≡ changed self token quar }
+    {
+        if quar.token != token {
+            return quar;
+        }
+        match self {
+            Change::ToRefresh => Quar {
+                mode: Mode::Refresh,
+                ..quar
+            },
+            Change::ToDeadline(deadline) => Quar { deadline, ..quar },
+        }
+    }
+}
 
 /// Records a lease to read the key, in the place of what was recorded there.
 pub fn put_read(leases: &mut LeaseMap, key: QKey, read: ReadLease) -> Result<(), Memory>
@@ -51,6 +78,19 @@ pub fn drop_quar(leases: &mut LeaseMap, key: &QKey, token: u64)
     }
 }
 
+/// Changes the quarantine on the key that has the token. It takes no memory.
+pub fn change_quar(leases: &mut LeaseMap, key: &QKey, token: u64, change: Change)
+    requires { IfSome (leases_on key.now leases.old) (λ there. IsTrue (has_any there)) }
+    ensures { PutsOn key.now
+        (map (changed change token) (quars_of (leases_on key.now leases.old)))
+        (reads_of (leases_on key.now leases.old)) leases.old leases.new }
+{
+    let Some(there) = leases.get_mut(key) else {
+        return;
+    };
+    change_in(there, token, change);
+}
+
 /// The leases of a key that has only this quarantine.
 fn only_quar(alloc: Global, quar: Quar) -> Result<KeyLeases, Memory>
     ensures quars { IfOk result (λ leases. quars_of (Some leases) ≡ quar ∷ []) }
@@ -90,5 +130,27 @@ fn keeps_any_without(there: &mut KeyLeases, token: u64) -> bool
             !quars.is_empty()
         }
         KeyLeases::Read(_) => true,
+    }
+}
+
+/// Changes the quarantine that has the token.
+fn change_in(there: &mut KeyLeases, token: u64, change: Change)
+    ensures quars { quars_of (Some there.new)
+        ≡ map (changed change token) (quars_of (Some there.old)) }
+    ensures reads { reads_of (Some there.new) ≡ reads_of (Some there.old) }
+    ensures any { has_any there.new ≡ has_any there.old }
+{
+    match there {
+        KeyLeases::Quarantines(quars) => change_each(quars, token, change),
+        KeyLeases::Read(_) => {}
+    }
+}
+
+/// Changes the quarantine among these that has the token.
+fn change_each(quars: &mut Vec<Quar>, token: u64, change: Change)
+    ensures { quars.new.items ≡ map (changed change token) quars.old.items }
+{
+    for quar in quars.iter_mut() {
+        *quar = change.made(token, *quar);
     }
 }

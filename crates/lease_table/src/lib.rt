@@ -6,7 +6,7 @@ pub use table::Leases;
 
 mod dues;
 mod edits;
+mod index;
 mod lookups;
 pub mod records;
 pub mod table;
-mod terms;

@@ -1,14 +1,14 @@
-ghost use Rattle.std.specs.Prelude.{◌≡◌, ◌<◌, ◌≤◌, [], ◌∷◌, ◌++◌, Some, None, not, filter, find, MatchBool, IfOk, IfSome, IfNone, IsTrue, OnSome, OnErr, nat_lt};
+ghost use Rattle.std.specs.Prelude.{◌≡◌, ◌<◌, ◌≤◌, [], ◌∷◌, ◌++◌, Some, None, not, is_some, filter, find, map, MatchBool, IfOk, IfSome, IfNone, IsTrue, OnSome, OnErr, nat_lt};
 ghost use Rattle.std.specs.List.{All, AllPairs, list_all};
-ghost use Rattle.case_tables.specs.Compatibility.{verdict, is_given, row_of, read, quarantine};
+ghost use Rattle.case_tables.specs.Compatibility.{verdict, is_given, is_raised, row_of, read, quarantine};
 ghost use Rattle.lease_table.specs.Expiry.{NoneDue, NoneDueBefore, quars_in, StandsDue};
-ghost use Rattle.lease_table.specs.Leases.{quars, recorded, own_quar, holder_in, has_token, is_current, way_of, holding, IsTable, Leaves, StandBeside};
+ghost use Rattle.lease_table.specs.Leases.{quars, recorded, own_quar, holder_in, has_token, is_current, way_of, holding, first, others_in, raise_in, raised, renewed, IsTable, Leaves, StandBeside};
 
 use crate::dues::first_due;
-use crate::edits::{drop_quar, drop_read, put_quar, put_read};
-use crate::lookups::{OnKey, holder_of, is_current_at, on_key, quar_with};
+use crate::edits::{Change, change_quar, drop_quar, drop_read, put_quar, put_read};
+use crate::index::Index;
+use crate::lookups::{OnKey, holder_of, is_current_at, on_key, other_quar, quar_with};
 use crate::records::{Due, LeaseMap, Mode, Quar, ReadLease};
-use crate::terms::{TermMap, list, unlist};
 use case_tables::Verdict;
 use rows_model::{Memory, QKey, Sid};
 use std::alloc::Global;
@@ -20,7 +20,7 @@ use std::marker::Model;
 #[derive(Drop)]
 pub struct Leases {
     leases: LeaseMap,
-    terms: TermMap,
+    index: Index,
     alloc: Global,
 }
 
@@ -33,7 +33,7 @@ impl Model for Leases {
 
     ghost view = { λ table. records table.leases.entries };
 
-    ghost invariant = { λ table. IsKept table.leases table.terms };
+    ghost invariant = { λ table. IsKept table.leases table.index };
 }
 
 impl Leases {
@@ -43,7 +43,7 @@ impl Leases {
     {
         Leases {
             leases: BTreeMap::new(alloc),
-            terms: BTreeMap::new(alloc),
+            index: Index::new(alloc),
             alloc,
         }
     }
@@ -54,10 +54,10 @@ impl Leases {
         ensures { IfOk result (λ copy. copy ≡ self.now) }
     {
         let leases = self.leases.clone()?;
-        let terms = self.terms.clone()?;
+        let index = self.index.copy()?;
         Ok(Leases {
             leases,
-            terms,
+            index,
             alloc: self.alloc,
         })
     }
@@ -76,7 +76,7 @@ impl Leases {
     /// others, and a lease to read that is past its deadline counts as none.
     pub fn standing(&self, key: &QKey, who: Sid, now: u64) -> usize
         ensures row { result ≡ row_of (holding key.now who now self.now) }
-        ensures within { result < 8 }
+        ensures within { result < 9 }
         ensures table { IsTable self.now }
     {
         self.on_key(key).row(who, now)
@@ -155,11 +155,8 @@ impl Leases {
             | Verdict::Raise
             | Verdict::Gone => {}
             Verdict::Give | Verdict::Void | Verdict::Join => {
-                list(&mut self.terms, key, &q)?;
-                if let Err(memory) = put_quar(&mut self.leases, self.alloc, key, q) {
-                    unlist(&mut self.terms, &key, &q);
-                    return Err(memory);
-                }
+                self.index.list(&self.leases, key, &q)?;
+                put_quar(&mut self.leases, self.alloc, key, q)?;
             }
         }
         Ok(verdict)
@@ -170,6 +167,21 @@ impl Leases {
         ensures { result ≡ verdict (holding key.now who now self.now) (quarantine (way_of mode)) }
     {
         self.on_key(key).quar_verdict(who, mode, now)
+    }
+
+    /// The grid's verdict on raising the session's quarantine of this token on the key, as `raise` would
+    /// answer it.
+    pub fn judge_raise(&self, key: &QKey, who: Sid, token: u64) -> Verdict
+        ensures { result ≡ raise_in who token (quars key.now self.now) }
+    {
+        self.on_key(key).raise_verdict(who, token)
+    }
+
+    /// The quarantine of least token that another session has on the key, if there is one.
+    pub fn other(&self, key: &QKey, who: Sid) -> Option<Quar>
+        ensures { result ≡ first (others_in who (quars key.now self.now)) }
+    {
+        other_quar(self.on_key(key).quars, who)
     }
 
     /// The quarantine on the key that has this token.
@@ -220,17 +232,63 @@ impl Leases {
     {
         let quar = quar_with(self.on_key(key).quars, token)?;
         drop_quar(&mut self.leases, key, token);
-        unlist(&mut self.terms, key, &quar);
         Some(quar)
     }
 
-    /// The quarantine whose deadline has come that is first by key, and then by token; none exactly where
-    /// no deadline has come.
-    pub fn expired(&self, now: u64) -> Option<Due>
-        ensures due { IfSome result (StandsDue now (quars_in self.now)) }
-        ensures least { IfSome result (NoneDueBefore now (quars_in self.now)) }
-        ensures none { IfNone result (NoneDue now (quars_in self.now)) }
+    /// Raises the session's quarantine to invalidate that has the token to one to refresh, and answers the
+    /// grid's verdict. `Raise` makes it one to refresh, with its token, deadline and shift as they were,
+    /// which only comes where no other session quarantines the key. `Gone` comes exactly where no
+    /// quarantine to invalidate of the session with the token stands there. Any verdict but `Raise`
+    /// leaves the table. It takes no memory.
+    pub fn raise(&mut self, key: &QKey, sid: Sid, token: u64) -> Verdict
+        ensures verdict { result ≡ raise_in sid token (quars key.now self.old) }
+        ensures after { MatchBool (is_raised result)
+            (Leaves key.now (recorded key.now self.old) (map (raised token)
+            (quars key.now self.old)) self.old self.new)
+            (self.new ≡ self.old) }
     {
-        first_due(&self.terms, now)
+        let verdict = self.on_key(key).raise_verdict(sid, token);
+        match verdict {
+            Verdict::Raise => change_quar(&mut self.leases, key, token, Change::ToRefresh),
+            Verdict::Give
+            | Verdict::Wait
+            | Verdict::Void
+            | Verdict::Join
+            | Verdict::Same
+            | Verdict::Own
+            | Verdict::Refuse
+            | Verdict::Gone => {}
+        }
+        verdict
+    }
+
+    /// Gives the quarantine on the key that has the token another deadline, whatever its mode, and says
+    /// whether it did: exactly where such a quarantine stands there. The deadline may lie before the one
+    /// that it had. Else the table stays. It takes no memory.
+    pub fn renew(&mut self, key: &QKey, token: u64, deadline: u64) -> bool
+        ensures told { result ≡ is_some (find (has_token token) (quars key.now self.old)) }
+        ensures after { MatchBool result
+            (Leaves key.now (recorded key.now self.old) (map (renewed token deadline)
+            (quars key.now self.old)) self.old self.new)
+            (self.new ≡ self.old) }
+    {
+        let Some(quar) = quar_with(self.on_key(key).quars, token) else {
+            return false;
+        };
+        change_quar(&mut self.leases, key, token, Change::ToDeadline(deadline));
+        self.index.renew(key, token, quar.deadline, deadline);
+        true
+    }
+
+    /// The quarantine whose deadline has come that is first by key, and then by token; none exactly where
+    /// no deadline has come. The table stays as it is, and so does what it tells.
+    pub fn expired(&mut self, now: u64) -> Option<Due>
+        ensures due { IfSome result (StandsDue now (quars_in self.old)) }
+        ensures least { IfSome result (NoneDueBefore now (quars_in self.old)) }
+        ensures none { IfNone result (NoneDue now (quars_in self.old)) }
+        ensures left { self.new ≡ self.old }
+    {
+        self.index.settle(now);
+        first_due(&self.leases, &mut self.index, now)
     }
 }

@@ -1,7 +1,11 @@
-use Rattle.std.proofs.Common.{◌≡◌, None}
-use Rattle.lease_table.specs.Terms.{due_from}
+use Rattle.std.specs.BinaryHeap.{heap_len}
+use Rattle.lease_table.specs.Index.{IsSound, ListsEach, AllAhead}
+use Rattle.lease_table.specs.Stands.{stands_in}
 use Rattle.lease_table.proofs.dues.first_due.Given as goal
 
--- the first so far, and those that are left, give the first of all
-abbrev pub invariant-loop-term : goal.invariant-loop-term
-invariant-loop-term l = due_from l.now l.first l.term-iterator ≡ due_from l.now None l.terms.entries
+-- what stands is listed, and the deadlines of all terms that aren't found lie ahead
+abbrev pub invariant-loop-found : goal.invariant-loop-found
+invariant-loop-found l = record { sound : IsSound l.index; lists : ListsEach (stands_in l.leases) l.index; ahead : AllAhead l.now l.index }
+
+abbrev pub decreases-loop-found : goal.decreases-loop-found
+decreases-loop-found l = heap_len l.index.found

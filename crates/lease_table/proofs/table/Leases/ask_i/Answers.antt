@@ -1,6 +1,7 @@
 use Rattle.std.proofs.Common.{◌≡◌, true, rules, ◌∙◌}
 use Rattle.case_tables.specs.Compatibility.{read, verdict, is_given}
 use Rattle.lease_table.specs.Leases.{holding_of}
+use Rattle.lease_table.proofs.TableLemmas.{IsKept-stays}
 use Rattle.lease_table.proofs.ChangeLemmas.{IsKept-read, Leaves-read}
 use Rattle.lease_table.proofs.table.Leases.ask_i.Goals as goal
 
@@ -10,7 +11,7 @@ invariant_of-self c =
     let stood = rw (← c.self.view_is) at c.on_key.ensures.quars in
     let given : is_given c.read_verdict-verdict.result ≡ true = search rules in
     IsKept-read c.args.key (record { sid = c.args.sid; token = c.args.token; deadline = c.args.deadline }) c.args.now c.self.inside.leases c.put_read.new.leases
-    c.self.inside.terms c.read_verdict-verdict.result c.self.invariant (c.read_verdict-verdict.ensures
+    c.self.inside.index c.read_verdict-verdict.result c.self.invariant (c.read_verdict-verdict.ensures
     ∙ (λ i. verdict (holding_of c.args.sid c.args.now (reader i) (stood i)) read)) given c.in_ok-put_read-in-Give.ensures.ok
 
 pub returns-in_ok-put_read-in-Give-clause-after : goal.returns-in_ok-put_read-in-Give-clause-after
@@ -19,5 +20,9 @@ returns-in_ok-put_read-in-Give-clause-after c =
     let stood = rw (← c.self.view_is) at c.on_key.ensures.quars in
     let given : is_given c.read_verdict-verdict.result ≡ true = search rules in
     rw (given, ← c.self.view_is) (Leaves-read c.args.key (record { sid = c.args.sid; token = c.args.token; deadline = c.args.deadline }) c.args.now
-    c.self.inside.leases c.put_read.new.leases c.self.inside.terms c.read_verdict-verdict.result c.self.invariant (c.read_verdict-verdict.ensures
+    c.self.inside.leases c.put_read.new.leases c.self.inside.index c.read_verdict-verdict.result c.self.invariant (c.read_verdict-verdict.ensures
     ∙ (λ i. verdict (holding_of c.args.sid c.args.now (reader i) (stood i)) read)) given c.in_ok-put_read-in-Give.ensures.ok)
+
+pub invariant_of-self-in_err-put_read-in-Give : goal.invariant_of-self-in_err-put_read-in-Give
+invariant_of-self-in_err-put_read-in-Give c =
+    IsKept-stays c.self.inside.leases c.put_read.new.leases c.self.inside.index c.self.invariant c.in_err-put_read-in-Give.ensures.err

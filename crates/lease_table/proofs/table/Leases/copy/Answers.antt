@@ -4,8 +4,8 @@ use Rattle.lease_table.proofs.table.Leases.copy.Goals as goal
 
 pub invariant_of-result : goal.invariant_of-result
 invariant_of-result c =
-    IsKept-cloned c.self.inside.leases c.in_ok-leases.leases c.self.inside.terms
-    c.in_ok-terms.terms c.self.invariant c.in_ok-leases.ensures.cases c.in_ok-terms.ensures.cases
+    IsKept-cloned c.self.inside.leases c.in_ok-leases.leases c.self.inside.index c.in_ok-index.index c.self.invariant
+    c.in_ok-leases.ensures.cases c.in_ok-index.ensures.sound c.in_ok-index.ensures.later c.in_ok-index.ensures.found
 
 pub returns : goal.returns
 returns c =

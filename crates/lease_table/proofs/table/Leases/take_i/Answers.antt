@@ -8,11 +8,11 @@ invariant_of-self c =
     let reader = rw (← c.self.view_is) at c.on_key.ensures.reader in
     let current = ap (is_current c.args.token c.args.now) (sym reader) ∙ sym c.is_current_at.ensures ∙ c.if-not-is_current_at.false in
     IsKept-take c.args.key.now c.args.token c.args.now c.self.inside.leases
-    c.drop_read.new.leases c.self.inside.terms c.self.invariant current c.drop_read.ensures
+    c.drop_read.new.leases c.self.inside.index c.self.invariant current c.drop_read.ensures
 
 pub returns-clause-after : goal.returns-clause-after
 returns-clause-after c =
     let reader = rw (← c.self.view_is) at c.on_key.ensures.reader in
     let current = ap (is_current c.args.token c.args.now) (sym reader) ∙ sym c.is_current_at.ensures ∙ c.if-not-is_current_at.false in
     rw (← c.self.view_is) (Leaves-take c.args.key.now c.args.token
-    c.args.now c.self.inside.leases c.drop_read.new.leases c.self.inside.terms c.self.invariant current c.drop_read.ensures)
+    c.args.now c.self.inside.leases c.drop_read.new.leases c.self.inside.index c.self.invariant current c.drop_read.ensures)
