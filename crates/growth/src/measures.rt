@@ -1,7 +1,7 @@
 use crate::asks::{ask_each, linked_rows};
 use crate::shards::{
-    NOW, hold_quarantines, leave_entries, leave_leases, leave_quarantines, let_go_each, new_shard, read, renew,
-    sweep, tend, write,
+    NOW, hold_quarantines, leave_entries, leave_leases, leave_quarantines, let_go_each, new_shard,
+    read, renew, sweep, tend, write,
 };
 use crate::times::{Unmeasured, used};
 use key_shard::{Grant, Shard};

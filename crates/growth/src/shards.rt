@@ -61,11 +61,11 @@ pub fn hold_quarantines(
 
 /// Lets go of the grants.
 pub fn let_go_each(grants: Vec<Grant>) {
-    let mut grants = grants;
-    while let Some(grant) = grants.pop() {
+    let mut left = grants;
+    while let Some(grant) = left.pop() {
         grant.let_go();
     }
-    grants.destroy_empty();
+    left.destroy_empty();
 }
 
 /// Leaves so many leases to read standing.

@@ -40,7 +40,10 @@ pub fn sid_of(step: &Step, holders: &[Sid]) -> Option<Sid> {
         | Step::Held { sid, .. }
         | Step::Refused { sid, .. }
         | Step::Released { sid, .. }
-        | Step::Gone { sid, .. } => Some(*sid),
+        | Step::Gone { sid, .. }
+        | Step::Raised { sid, .. }
+        | Step::Shared { sid, .. }
+        | Step::Renewed { sid, .. } => Some(*sid),
     }
 }
 

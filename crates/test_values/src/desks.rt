@@ -189,10 +189,7 @@ pub fn set_told(
 }
 
 /// Tells the answer to a renewal.
-pub fn renewal_told(
-    alloc: Global,
-    answer: Result<Renewal, Memory>,
-) -> Result<String, AllocError> {
+pub fn renewal_told(alloc: Global, answer: Result<Renewal, Memory>) -> Result<String, AllocError> {
     match answer {
         Ok(Renewal::Renewed { deadline }) => format!(in alloc; "renewed until {deadline}"),
         Ok(Renewal::Gone) => format!(in alloc; "gone"),

@@ -41,13 +41,14 @@ impl ListTable {
     /// else Raise.
     pub fn judge_raise(&self, key: &QKey, who: Sid, token: u64) -> Verdict {
         match self.quar(key, token) {
-            Some(quar) if quar.sid.number == who.number && matches!(quar.mode, Mode::Invalidate) => {
-                if self.other(key, who).is_some() {
-                    Verdict::Refuse
-                } else {
-                    Verdict::Raise
+            Some(quar) if quar.sid.number == who.number && matches!(quar.mode, Mode::Invalidate) =>
+                {
+                    if self.other(key, who).is_some() {
+                        Verdict::Refuse
+                    } else {
+                        Verdict::Raise
+                    }
                 }
-            }
             _ => Verdict::Gone,
         }
     }

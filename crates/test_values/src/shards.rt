@@ -148,12 +148,7 @@ fn raise(rt: &impl Abort, alloc: Global, desk: &mut Desk) -> Result<String, Allo
 }
 
 /// Renews the grant, and holds it further.
-fn renew(
-    rt: &impl Abort,
-    alloc: Global,
-    desk: &mut Desk,
-    now: u64,
-) -> Result<String, AllocError> {
+fn renew(rt: &impl Abort, alloc: Global, desk: &mut Desk, now: u64) -> Result<String, AllocError> {
     let grant = desk.take(rt);
     let answer = desk.shard.renew(&grant, now);
     desk.hold(grant);
@@ -383,12 +378,7 @@ const OWN_RAISE: [(Call, &str); 3] = [
 
 /// Two shards each grant a quarantine of a key of theirs. Compares what the first answers to the grant of
 /// the other, and then to its own.
-fn compare_grants(
-    rt: &impl Abort,
-    alloc: Global,
-    strange: &[(Call, &str)],
-    own: &[(Call, &str)],
-) {
+fn compare_grants(rt: &impl Abort, alloc: Global, strange: &[(Call, &str)], own: &[(Call, &str)]) {
     let mut home = Desk::new(rt, alloc, 0, 2, 4, 1);
     let mut away = Desk::new(rt, alloc, 1, 2, 4, 1);
     play(
