@@ -11,7 +11,7 @@
 of the protocol, for a connection that a pool lends.
 """
 
-from .changes import Accept, Change, Invite, Reject, Rename, Thaw, Txn
+from .changes import Accept, Block, Change, Invite, Reject, Rename, Thaw, Txn
 from .connection import Connection, Timeouts
 from .errors import (
     CommandError,
@@ -48,6 +48,7 @@ __all__ = [
     "Accept",
     "Answer",
     "Backoff",
+    "Block",
     "Change",
     "CommandError",
     "ConnectError",

@@ -46,6 +46,23 @@ class Listed:
 
 
 @dataclass(frozen=True)
+class Blocked:
+    """A member has blocked another. Her profile and counts say nothing of it.
+
+    Attributes:
+        member: who has blocked.
+        other: whom.
+    """
+
+    member: int
+    other: int
+
+    def keys(self) -> Tuple[Key, ...]:
+        """The keys whose answers this may alter."""
+        return (Key(Kind.BLOCKED, self.member),)
+
+
+@dataclass(frozen=True)
 class Named:
     """A member has a new name."""
 
@@ -57,7 +74,7 @@ class Named:
         return (Key(Kind.PROFILE, self.member),)
 
 
-Effect = Union[Listed, Named]
+Effect = Union[Listed, Blocked, Named]
 
 
 class Change(ABC):
@@ -88,7 +105,7 @@ class _OfTwo(Change):
 
 @dataclass(frozen=True)
 class Invite(_OfTwo):
-    """Member a invites member b. Applies where no link stands between them."""
+    """Member a invites member b. Applies where no link and no block is between them."""
 
     def effects(self) -> Tuple[Effect, ...]:
         return (Listed(self.b, Kind.PENDING, self.a, 1),)
@@ -119,6 +136,14 @@ class Thaw(_OfTwo):
 
 
 @dataclass(frozen=True)
+class Block(_OfTwo):
+    """Member a blocks member b. Applies where no link is between them and a hasn't blocked b."""
+
+    def effects(self) -> Tuple[Effect, ...]:
+        return (Blocked(self.a, self.b),)
+
+
+@dataclass(frozen=True)
 class Rename(Change):
     """Member a has a new name: 1 to 40 printable ASCII characters without a space."""
 
@@ -139,7 +164,7 @@ class Rename(Change):
 
 
 _OF_TWO: Dict[str, Callable[[int, int], Change]] = {
-    kind.__name__.lower(): kind for kind in (Invite, Accept, Reject, Thaw)
+    kind.__name__.lower(): kind for kind in (Invite, Accept, Reject, Thaw, Block)
 }
 
 
@@ -216,6 +241,8 @@ class Txn:
             if key.kind.is_count:
                 count = parse_count(old) + self.shift_of(key)
                 return str(count).encode("ascii") if count >= 0 else None
+            if key.kind is Kind.BLOCKED:
+                return _blocked_after(effects, old)
             return _ids_after(effects, key.kind, old)
         except InvalidInputError:
             return None
@@ -228,11 +255,21 @@ def _profile_after(effects: Iterable[Effect], old: bytes) -> Optional[bytes]:
     for effect in effects:
         if isinstance(effect, Named):
             profile = replace(profile, name=effect.name)
-        elif effect.kind is Kind.FRIENDS:
+        elif isinstance(effect, Listed) and effect.kind is Kind.FRIENDS:
             profile = replace(profile, friends=profile.friends + effect.by)
-        else:
+        elif isinstance(effect, Listed):
             profile = replace(profile, pending=profile.pending + effect.by)
     return profile.encode() if profile.friends >= 0 and profile.pending >= 0 else None
+
+
+def _blocked_after(effects: Iterable[Effect], old: bytes) -> Optional[bytes]:
+    ids = set(parse_ids(old))
+    for effect in effects:
+        if isinstance(effect, Blocked):
+            if effect.other in ids:
+                return None
+            ids.add(effect.other)
+    return encode_ids(ids)
 
 
 def _ids_after(effects: Iterable[Effect], kind: Kind, old: bytes) -> Optional[bytes]:

@@ -30,6 +30,9 @@ class Kind(Enum):
     NPENDING = "npending"
     """How many pending invitations."""
 
+    BLOCKED = "blocked"
+    """The ids of those whom the member has blocked."""
+
     @property
     def is_count(self) -> bool:
         """Whether the answer is a number, which a writer can shift without reading it."""

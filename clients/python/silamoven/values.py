@@ -42,7 +42,7 @@ class Profile:
 
 
 def parse_ids(data: bytes) -> Tuple[int, ...]:
-    """The ids that the value of ``friends:<id>`` or ``pending:<id>`` lists, ascending.
+    """The ids that the value of ``friends:<id>``, ``pending:<id>`` or ``blocked:<id>`` lists, ascending.
 
     Raises:
         InvalidInputError: the value is no such list.

@@ -7,6 +7,7 @@ from typing import Callable, List, Sequence, Union
 
 from silamoven import (
     Accept,
+    Block,
     Change,
     InvalidInputError,
     Invite,
@@ -29,6 +30,8 @@ TOUCHES = {
     "reject 1 2": "profile:2 pending:2 npending:2",
     "thaw 1 2": "profile:1 profile:2 friends:1 friends:2 nfriends:1 nfriends:2",
     "rename 2 bob": "profile:2",
+    "block 2 1": "blocked:2",
+    "block 2 1 + invite 3 2": "profile:2 pending:2 npending:2 blocked:2",
     "rename 10 a + invite 1 2 + rename 9 b": "profile:2 profile:9 profile:10 pending:2 npending:2",
 }
 
@@ -76,8 +79,8 @@ class Keys(unittest.TestCase):
 
 class Transactions(unittest.TestCase):
     def test_text_and_transaction_are_the_same(self) -> None:
-        changes = (Invite(1, 2), Accept(1, 2), Reject(3, 2), Thaw(1, 2), Rename(2, "bob"))
-        text = "invite 1 2 + accept 1 2 + reject 3 2 + thaw 1 2 + rename 2 bob"
+        changes = (Invite(1, 2), Accept(1, 2), Reject(3, 2), Thaw(1, 2), Block(2, 3), Rename(2, "bob"))
+        text = "invite 1 2 + accept 1 2 + reject 3 2 + thaw 1 2 + block 2 3 + rename 2 bob"
         self.assertEqual(str(Txn(changes)), text)
         texts = (text, text.replace(" ", "  "))
         givens: List[Union[Txn, str, Sequence[Change]]] = [*texts, changes, list(changes), Txn(changes)]
@@ -138,6 +141,9 @@ class Afterwards(unittest.TestCase):
             ("thaw 1 2", "friends:1", "2,3", "3"),
             ("thaw 1 2", "nfriends:1", "2", "1"),
             ("thaw 1 2", "profile:2", "- 2 0", "- 1 0"),
+            ("block 2 1", "blocked:2", "", "1"),
+            ("block 2 10 + block 2 3", "blocked:2", "9,11", "3,9,10,11"),
+            ("block 2 1 + invite 3 2", "profile:2", "m2 0 0", "m2 0 1"),
         ]:
             with self.subTest(txn=txn, key=key):
                 self.assertEqual(self.after(txn, key, old), new)
@@ -152,6 +158,8 @@ class Afterwards(unittest.TestCase):
             ("invite 1 2", "pending:2", "x"),
             ("reject 1 2", "npending:2", "0"),
             ("invite 1 2", "npending:2", "x"),
+            ("block 2 1", "blocked:2", "1"),
+            ("block 2 1", "blocked:2", "2,1"),
         ]:
             with self.subTest(txn=txn, key=key, old=old):
                 self.assertIsNone(self.after(txn, key, old))

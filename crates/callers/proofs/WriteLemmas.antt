@@ -16,7 +16,7 @@ use Rattle.case_tables.specs.declared.grids.Verdict.{Verdict}
 use Rattle.case_tables.specs.declared.grids.Verdict.TheVariants as verdicts
 use Rattle.lease_table.specs.declared.records.Mode.{Mode}
 use Rattle.lease_table.specs.declared.records.Quar.{Quar}
-use Rattle.lease_table.specs.Leases.{way_of, is_current, is_unexpired}
+use Rattle.lease_table.specs.Leases.{way_of, is_current, is_unexpired, first, others_in, raise_in}
 use Rattle.key_shard.specs.declared.replies.How.{How}
 use Rattle.key_shard.specs.declared.steps.Ended as ends
 use Rattle.key_shard.specs.declared.steps.Ended.TheVariants.{Keep, Drop, Put, Shift}
@@ -24,8 +24,8 @@ use Rattle.key_shard.specs.declared.steps.Step.{Step}
 use Rattle.key_shard.specs.declared.steps.Step.TheVariants as step
 use Rattle.key_shard.specs.Permit.{Permit}
 use Rattle.key_shard.specs.Past.{Terms, own_of, seen_by, holder_of, quar_of, standing, recorded, entry, entry_ended, evicted_by, evicts, is_evicted}
-use Rattle.key_shard.specs.Answers.{Request, Get, Set, Quarantine, Release, Replace, IsLegalPast, found_step, get_by, get_step, miss_by}
-use Rattle.key_shard.specs.Answers.{miss_step, quarantine_by, refused_step, release_by, replace_by, step_of}
+use Rattle.key_shard.specs.Answers.{Request, Get, Set, Quarantine, Release, Replace, Raise, Renew, IsLegalPast, found_step, get_by, get_step, miss_by}
+use Rattle.key_shard.specs.Answers.{miss_step, quarantine_by, refused_step, release_by, replace_by, raise_by, renew_by, step_of}
 use Rattle.sql_keeper.specs.declared.stores.Commit.{Commit}
 use Rattle.sql_keeper.specs.Fresh.{Fresh, IsFreshPast, IsFreshStep}
 use Rattle.session_client.specs.declared.plans.Shape.{Shape}
@@ -70,6 +70,9 @@ left-step key (step.Refused on sid mode holder held) past h = refl
 left-step key (step.Released on sid token how) past h =
     kept-released (same_key key on) (is_evicted key (evicted_by how)) how (entry key past) h
 left-step key (step.Gone on sid token) past h = refl
+left-step key (step.Raised on sid token) past h = refl
+left-step key (step.Shared on sid token holder) past h = refl
+left-step key (step.Renewed on sid token now deadline) past h = refl
 
 left-steps : (key : QKey) (steps past : List Step) → All (λ s. leaves_entry key s ≡ true) steps → entry key (steps ++ past) ≡ entry key past
 left-steps key [] past h = refl
@@ -112,6 +115,8 @@ missed-get terms past on sid least now key who floor verdicts.Void h = h
 missed-get terms past on sid least now key who floor verdicts.Join h = h
 missed-get terms past on sid least now key who floor verdicts.Same h = h
 missed-get terms past on sid least now key who floor verdicts.Refuse h = h
+missed-get terms past on sid least now key who floor verdicts.Raise h = h
+missed-get terms past on sid least now key who floor verdicts.Gone h = h
 
 found-get : (terms : Terms) (past : List Step) (on : QKey) (sid : Sid) (least now : ℕ) (key : QKey) (who : Sid) (floor : ℕ) (o : Option (List ℕ × ℕ))
     → IsGetOf key who floor (found_step terms past on sid least now o) → (on ≡ key) × (sid ≡ who)
@@ -184,6 +189,8 @@ no-quarantine terms past key on who sid floor mode shift now verdicts.Same h = h
 no-quarantine terms past key on who sid floor mode shift now verdicts.Refuse h = no-refused key on who sid floor mode (holder_of on sid past) h
 no-quarantine terms past key on who sid floor mode shift now verdicts.Wait h = h
 no-quarantine terms past key on who sid floor mode shift now verdicts.Own h = h
+no-quarantine terms past key on who sid floor mode shift now verdicts.Raise h = h
+no-quarantine terms past key on who sid floor mode shift now verdicts.Gone h = h
 
 no-release : (key : QKey) (who : Sid) (floor : ℕ) (permit : Permit) (how : How) (o : Option Quar) → IsGetOf key who floor (release_by permit how o) → ⊥
 no-release key who floor permit how None h = h
@@ -193,6 +200,24 @@ no-replace : (terms : Terms) (past : List Step) (key : QKey) (who : Sid) (floor 
     → IsGetOf key who floor (replace_by terms past permit value stamp o) → ⊥
 no-replace terms past key who floor permit value stamp None h = h
 no-replace terms past key who floor permit value stamp (Some q) h = h
+
+no-raise : (key : QKey) (who : Sid) (floor : ℕ) (permit : Permit) (other : Option Quar) (v : Verdict)
+    → IsGetOf key who floor (raise_by permit other v) → ⊥
+no-raise key who floor permit other verdicts.Raise h = h
+no-raise key who floor permit (Some other) verdicts.Refuse h = h
+no-raise key who floor permit None verdicts.Refuse h = h
+no-raise key who floor permit other verdicts.Gone h = h
+no-raise key who floor permit other verdicts.Give h = h
+no-raise key who floor permit other verdicts.Void h = h
+no-raise key who floor permit other verdicts.Join h = h
+no-raise key who floor permit other verdicts.Wait h = h
+no-raise key who floor permit other verdicts.Same h = h
+no-raise key who floor permit other verdicts.Own h = h
+
+no-renewal : (key : QKey) (who : Sid) (floor : ℕ) (terms : Terms) (permit : Permit) (now : ℕ) (o : Option Quar)
+    → IsGetOf key who floor (renew_by terms permit now o) → ⊥
+no-renewal key who floor terms permit now None h = h
+no-renewal key who floor terms permit now (Some q) h = h
 
 hit-step : (terms : Terms) (past : List Step) (request : Request) (key : QKey) (who : Sid) (floor : ℕ) (value : List ℕ) (stamp : ℕ)
     → own_of key who past ≡ None → entry key past ≡ Some (value, stamp) → floor ≤ stamp
@@ -212,6 +237,11 @@ hit-step terms past (Release permit how) key who floor value stamp none stands l
     absurd (no-release key who floor permit how (quar_of permit.key permit.token past) h)
 hit-step terms past (Replace permit put stamped) key who floor value stamp none stands low h =
     absurd (no-replace terms past key who floor permit put stamped (quar_of permit.key permit.token past) h)
+hit-step terms past (Raise permit) key who floor value stamp none stands low h =
+    let quars = standing permit.key past in
+    absurd (no-raise key who floor permit (first (others_in permit.sid quars)) (raise_in permit.sid permit.token quars) h)
+hit-step terms past (Renew permit now) key who floor value stamp none stands low h =
+    absurd (no-renewal key who floor terms permit now (quar_of permit.key permit.token past) h)
 
 -- ---- the whole history
 

@@ -201,6 +201,9 @@ known-more event past late (step.Void key token now) h = tt
 known-more event past late (step.Held key sid mode) h = tt
 known-more event past late (step.Refused key sid mode holder held) h = tt
 known-more event past late (step.Gone key sid token) h = tt
+known-more event past late (step.Raised key sid token) h = tt
+known-more event past late (step.Shared key sid token holder) h = tt
+known-more event past late (step.Renewed key sid token now deadline) h = tt
 
 -- an event adds as many grants to the steps as to what is told
 abbrev pub IsCounted : ℕ → Event → Type 0

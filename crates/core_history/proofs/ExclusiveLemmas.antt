@@ -135,6 +135,9 @@ grants-on key token (step.Held on sid mode) e = absurd (false≢true e)
 grants-on key token (step.Refused on sid mode holder held) e = absurd (false≢true e)
 grants-on key token (step.Released on sid t how) e = absurd (false≢true e)
 grants-on key token (step.Gone on sid t) e = absurd (false≢true e)
+grants-on key token (step.Raised on sid t) e = absurd (false≢true e)
+grants-on key token (step.Shared on sid t holder) e = absurd (false≢true e)
+grants-on key token (step.Renewed on sid t now deadline) e = absurd (false≢true e)
 
 goes : (b : Bool) (found : Option (List ℕ × ℕ)) → StaysOrGoes found (cond b None found)
 goes true found = inr refl
@@ -258,6 +261,9 @@ apart_step events steps who (step.Void on token now) key good apart = apart
 apart_step events steps who (step.Held on sid mode) key good apart = apart
 apart_step events steps who (step.Refused on sid mode holder held) key good apart = apart
 apart_step events steps who (step.Gone on sid token) key good apart = apart
+apart_step events steps who (step.Raised on sid token) key good apart = absurd good
+apart_step events steps who (step.Shared on sid token holder) key good apart = apart
+apart_step events steps who (step.Renewed on sid token now deadline) key good apart = absurd good
 
 module _ (events after : List Event) (steps : List Step) where
   -- what is known of the key before a step
@@ -441,3 +447,7 @@ module _ (events after : List Event) (steps : List Step) where
       mild key (cond (same_key key on) [] []) (entry key steps) is (λ t. finds t refl) (λ by t h. none_in (Granted by t) (same_key key on) h) (inl refl)
   alone_step who (step.Gone on sid token) key good is finds gives =
       mild key (cond (same_key key on) [] []) (entry key steps) is (λ t. finds t refl) (λ by t h. none_in (Granted by t) (same_key key on) h) (inl refl)
+  alone_step who (step.Raised on sid token) key good is finds gives = absurd good
+  alone_step who (step.Shared on sid token holder) key good is finds gives =
+      mild key (cond (same_key key on) [] []) (entry key steps) is (λ t. finds t refl) (λ by t h. none_in (Granted by t) (same_key key on) h) (inl refl)
+  alone_step who (step.Renewed on sid token now deadline) key good is finds gives = absurd good

@@ -41,7 +41,7 @@ use Rattle.core_history.proofs.FreshRuns.{run_holds}
 use Rattle.core_history.proofs.GoodEvents.{IsGoodEvent}
 use Rattle.core_history.proofs.HeldEvents.{steps_at, Holds}
 use Rattle.core_history.proofs.InnerLemmas.{Inner, stands_well, draws-late}
-use Rattle.core_history.proofs.KeyLemmas.{quar-old, next-append}
+use Rattle.core_history.proofs.KeyLemmas.{StandsAs, quar-old, quar-was, next-append}
 use Rattle.core_history.proofs.ListLemmas.{every-append, every-found, every-weaker}
 use Rattle.core_history.proofs.SessionLemmas.{maybe-step}
 use Rattle.core_history.proofs.SinceLemmas.{IsEntrySince, Since, event_since, event_hits}
@@ -195,10 +195,11 @@ hit_weaker : (key : QKey) (low high : ℕ) → low ≤ high → (s : Step) → I
 hit_weaker key low high le (Hit on sid floor value stamp) h = λ is. let k = h is in omega (arith, le, k)
 hit_weaker key low high le other h = tt
 
--- what is found nowhere was found nowhere
-none_from : (now was : Option Quar) → was ≡ None → ((quar : Quar) → now ≡ Some quar → was ≡ Some quar) → now ≡ None
-none_from None was none old = refl
-none_from (Some quar) was none old = absurd (none_some quar (sym none ∙ old quar refl))
+-- where no quarantine of the token stood, and each that stands now stood, none stands
+none_from : (key : QKey) (token : ℕ) (past : List Step) (now : Option Quar) → quar_of key token past ≡ None
+    → ((quar : Quar) → now ≡ Some quar → StandsAs key token past quar) → now ≡ None
+none_from key token past None none old = refl
+none_from key token past (Some quar) none old = let was = old quar refl in absurd (none_some was.0 (sym none ∙ was.1))
 
 module _ (shape : Shape) (key : QKey) (token : ℕ) where
   abbrev place : ℕ
@@ -246,7 +247,7 @@ module _ (shape : Shape) (key : QKey) (token : ℕ) where
     all_invalidate : (t : ℕ) (other : Quar) → AreAlone key (standing key steps) world.past (marks_of key steps) (known_of world.past) (entry key steps)
         → quar_of key t (dropped ∷ steps) ≡ Some other → other.mode ≡ Invalidate
     all_invalidate t other (inl all) is =
-        (every-found (λ q. q.mode ≡ Invalidate) (has_token t) (standing key steps) other all (quar-old dropped key t steps other refl is)).0
+        (every-found (λ q. q.mode ≡ Invalidate) (has_token t) (standing key steps) other all (quar-old dropped key t steps other tt refl is)).0
     all_invalidate t other (inr one) is =
         let stays : Quar → Bool = λ q. not (has_token token q) in
         let has = only_has (has_token token) one.quar quar (ap (find (has_token token)) (sym one.only) ∙ stands) in
@@ -320,14 +321,14 @@ module _ (shape : Shape) (key : QKey) (token : ℕ) where
       (subst (λ b. IsLegalPast (terms_of shape home) (cond b (s ∷ []) [] ++ steps_of home past)) (eq-eqb home home refl) (legal home)).0 in
       let late = (draws-late shape past home s answers key token low).1 in
       maybe-step IsGone (home == place) s (on past)
-      (λ _. none_from (quar_of key token (s ∷ on past)) (quar_of key token (on past)) none (λ quar is. quar-old s key token (on past) quar late is)) (λ _. none)
+      (λ _. none_from key token (on past) (quar_of key token (s ∷ on past)) none (λ quar is. quar-was s key token (on past) quar late is)) (λ _. none)
   gone_more (Called who request told) past legal good low none = none
   gone_more (Ticked now) past legal good low none = none
   gone_more (Swept home request None told) past legal good low none = subst IsGone (sym (unmade-steps place home request told past)) none
   gone_more (Swept home request (Some (Released on_key sid gone Drop)) told) past legal good low none =
       let s = Released on_key sid gone Drop in
       maybe-step IsGone (home == place) s (on past)
-      (λ _. none_from (quar_of key token (s ∷ on past)) (quar_of key token (on past)) none (λ quar is. quar-old s key token (on past) quar refl is)) (λ _. none)
+      (λ _. none_from key token (on past) (quar_of key token (s ∷ on past)) none (λ quar is. quar-was s key token (on past) quar refl is)) (λ _. none)
   gone_more (Swept home request (Some other) told) past legal good low none = absurd good.0
 
   -- after one more event

@@ -24,7 +24,7 @@ use Rattle.core_history.specs.Machine.{World, Move, Begin, Take, Said, terms_of,
 use Rattle.core_history.specs.Sweeping.{IsNumbered}
 use Rattle.core_history.proofs.EventLemmas.{IsKnown}
 use Rattle.core_history.proofs.InnerLemmas.{Inner}
-use Rattle.core_history.proofs.KeyLemmas.{GrantsSo, quar-every}
+use Rattle.core_history.proofs.KeyLemmas.{GrantsSo, quar-every, IsOfOwner, raised-so, renewed-so}
 use Rattle.core_history.proofs.ListLemmas.{every-append, every-weaker}
 use Rattle.core_history.proofs.SweepTurnLemmas.{first-stands, sweep_cases}
 use Rattle.core_history.proofs.TellLemmas.{event_turn}
@@ -56,6 +56,10 @@ of_heard-more event past (sweeps.Dropped rel) h = tt
 abbrev AreOfHeard : List Event → Type 0
 AreOfHeard past = AllByRecursion (IsOfHeard past) (sweeps_of past)
 
+-- of whose quarantine it is alone
+of-sid : (past : List Event) → IsOfOwner (λ key quar. IsHeard past quar.sid.number)
+of-sid past key old new token own heard = subst (λ (who : Sid). IsHeard past who.number) (sym own) heard
+
 -- who was granted a quarantine was told so
 granted-heard : (past : List Event) (s : Step) → IsKnown past s → GrantsSo (λ key quar. IsHeard past quar.sid.number) s
 granted-heard past (step.Granted key sid mode shift now token deadline) known = λ none.
@@ -70,6 +74,9 @@ granted-heard past (step.Held key sid mode) known = tt
 granted-heard past (step.Refused key sid mode holder held) known = tt
 granted-heard past (step.Released key sid token how) known = tt
 granted-heard past (step.Gone key sid token) known = tt
+granted-heard past (step.Raised key sid token) known = raised-so (λ k q. IsHeard past q.sid.number) (of-sid past) key token
+granted-heard past (step.Shared key sid token holder) known = tt
+granted-heard past (step.Renewed key sid token now deadline) known = renewed-so (λ k q. IsHeard past q.sid.number) (of-sid past) key token deadline
 
 -- whose quarantine a scan finds was told something
 scan-heard : (shape : Shape) (world : World) (place : ℕ) (due : Due) → Inner shape world

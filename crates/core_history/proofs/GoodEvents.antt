@@ -81,6 +81,7 @@ pub record ShiftsOwn (past : List Event) (steps : List Step) (on : QKey) (sid : 
 
 -- A step is good: a hit is the entry, what is stored was told, a lease is given where nothing stands, whose
 -- quarantine ends is over, without a commit where the value is kept, and what is put or shifted is the session's own.
+-- A raise or a renewal is none: no session asks for one yet.
 abbrev pub IsGoodStep : List Event → List Step → Sid → Step → Type 0
 IsGoodStep past steps who (step.Stored on token now value stamp evicted) = SetsTold past steps who on token value stamp
 IsGoodStep past steps who (step.Lease on sid floor now token deadline) = standing on steps ≡ []
@@ -96,6 +97,9 @@ IsGoodStep past steps who (step.Granted on sid mode shift now token deadline) = 
 IsGoodStep past steps who (step.Held on sid mode) = Unit {0}
 IsGoodStep past steps who (step.Refused on sid mode holder held) = Unit {0}
 IsGoodStep past steps who (step.Gone on sid token) = Unit {0}
+IsGoodStep past steps who (step.Raised on sid token) = ⊥
+IsGoodStep past steps who (step.Shared on sid token holder) = Unit {0}
+IsGoodStep past steps who (step.Renewed on sid token now deadline) = ⊥
 
 -- So is its event, on the shard of its key: nothing is committed and nobody ended.
 pub record IsGoodStepped (shape : Shape) (past : List Event) (place : ℕ) (who : Sid) (s : Step) (told : Reply) : Type 0 where

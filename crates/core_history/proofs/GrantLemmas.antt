@@ -120,6 +120,9 @@ known-ordered shape world inner (step.Void key token now) h = tt
 known-ordered shape world inner (step.Held key sid mode) h = tt
 known-ordered shape world inner (step.Refused key sid mode holder held) h = tt
 known-ordered shape world inner (step.Gone key sid token) h = tt
+known-ordered shape world inner (step.Raised key sid token) h = tt
+known-ordered shape world inner (step.Shared key sid token holder) h = tt
+known-ordered shape world inner (step.Renewed key sid token now deadline) h = tt
 
 -- a grant that is to be released is out
 abbrev IsOutFor : Shape → World → Permit → Wanted → Type 0

@@ -155,6 +155,12 @@ recorded_cases key lease past (step.Refused on sid mode holder held) e =
     inl (record { was = e; gives_none = λ t. refl; grants_none = λ who t h. none_in (Granted who t) (same_key key on) h })
 recorded_cases key lease past (step.Gone on sid token) e =
     inl (record { was = e; gives_none = λ t. refl; grants_none = λ who t h. none_in (Granted who t) (same_key key on) h })
+recorded_cases key lease past (step.Raised on sid token) e =
+    inl (record { was = e; gives_none = λ t. refl; grants_none = λ who t h. none_in (Granted who t) (same_key key on) h })
+recorded_cases key lease past (step.Shared on sid token holder) e =
+    inl (record { was = e; gives_none = λ t. refl; grants_none = λ who t h. none_in (Granted who t) (same_key key on) h })
+recorded_cases key lease past (step.Renewed on sid token now deadline) e =
+    inl (record { was = e; gives_none = λ t. refl; grants_none = λ who t h. none_in (Granted who t) (same_key key on) h })
 
 -- a step that gives a lease is on its key
 leases-on : (key : QKey) (token : ℕ) (s : Step) → leases key token s ≡ true → key ≡ key_of s
@@ -169,6 +175,9 @@ leases-on key token (step.Held on sid mode) e = absurd (false≢true e)
 leases-on key token (step.Refused on sid mode holder held) e = absurd (false≢true e)
 leases-on key token (step.Released on sid t how) e = absurd (false≢true e)
 leases-on key token (step.Gone on sid t) e = absurd (false≢true e)
+leases-on key token (step.Raised on sid t) e = absurd (false≢true e)
+leases-on key token (step.Shared on sid t holder) e = absurd (false≢true e)
+leases-on key token (step.Renewed on sid t now deadline) e = absurd (false≢true e)
 
 not_so : (b : Bool) → (b ≡ true → ⊥) → b ≡ false
 not_so true h = absurd (h refl)
@@ -216,6 +225,9 @@ honest_is shape past who (step.Granted on sid mode shift now token deadline) hol
 honest_is shape past who (step.Held on sid mode) holds good = tt
 honest_is shape past who (step.Refused on sid mode holder held) holds good = tt
 honest_is shape past who (step.Gone on sid token) holds good = tt
+honest_is shape past who (step.Raised on sid token) holds good = tt
+honest_is shape past who (step.Shared on sid token holder) holds good = tt
+honest_is shape past who (step.Renewed on sid token now deadline) holds good = tt
 
 -- a lease that was given before stays a moment of nobody, where later marks grant nothing, and as much or more is known
 lease-more : (key : QKey) (token : ℕ) (past after : List Event) (marks later : List Mark) (known new : Known)

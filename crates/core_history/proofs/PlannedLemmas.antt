@@ -15,7 +15,7 @@ use Rattle.session_client.specs.Plans.{writes, changes_of, mode_of, mode_on, shi
 use Rattle.session_client.specs.Wants.{is_commit}
 use Rattle.core_history.specs.Events.{Event, Stepped, Called, Ticked, Swept, commits_told, log_of}
 use Rattle.core_history.specs.Machine.{plan_at}
-use Rattle.core_history.proofs.ListLemmas.{push-place, slice-front}
+use Rattle.core_history.proofs.ListLemmas.{every-weaker, push-place, slice-front}
 use Rattle.core_history.proofs.KeyLemmas.{IsQuietStep, GrantsSo, standing-every, quar-every}
 
 -- a quarantine of a key is one that the plan of its session has: the session writes, in this mode, and the shift is that of its changes
@@ -26,9 +26,22 @@ pub record IsPlanned (plans : List Plan) (key : QKey) (quar : Quar) : Type 0 whe
   pub in_mode : quar.mode ≡ mode_on (mode_of plan) key
   pub by : quar.shift ≡ shift_in quar.mode key (changes_of plan)
 
--- so is one that a step grants
+-- so is one that a step grants; and none is raised or renewed, since no session asks for that yet
 abbrev pub GrantsPlanned : List Plan → Step → Type 0
-GrantsPlanned plans s = GrantsSo (IsPlanned plans) s
+GrantsPlanned plans (step.Granted on sid mode shift now token deadline) =
+    IsPlanned plans on (record { sid = sid; mode = mode; token = token; deadline = deadline; shift = shift })
+GrantsPlanned plans (step.Raised on sid token) = ⊥
+GrantsPlanned plans (step.Renewed on sid token now deadline) = ⊥
+GrantsPlanned plans other = Unit {0}
+
+planned-so : (plans : List Plan) (s : Step) → GrantsPlanned plans s → GrantsSo (IsPlanned plans) s
+planned-so plans (step.Granted on sid mode shift now token deadline) h = h
+planned-so plans (step.Raised on sid token) h = absurd h
+planned-so plans (step.Renewed on sid token now deadline) h = absurd h
+planned-so plans other h = tt
+
+all-so : (plans : List Plan) (past : List Step) → AllByRecursion (GrantsPlanned plans) past → AllByRecursion (GrantsSo (IsPlanned plans)) past
+all-so plans past h = every-weaker (GrantsPlanned plans) (GrantsSo (IsPlanned plans)) past (planned-so plans) h
 
 -- a commit has the changes of its session's plan
 pub record IsPlannedCommit (plans : List Plan) (commit : Commit) : Type 0 where
@@ -53,6 +66,8 @@ IsPlannedEvent plans (Swept place request made told) = Unit {0}
 -- a step that grants nothing is planned, and so is a reply that tells of no commit
 pub quiet-planned : (plans : List Plan) (s : Step) → IsQuietStep s → GrantsPlanned plans s
 quiet-planned plans (step.Granted on sid mode shift now token deadline) quiet = absurd quiet
+quiet-planned plans (step.Raised on sid token) quiet = absurd quiet
+quiet-planned plans (step.Renewed on sid token now deadline) quiet = absurd quiet
 quiet-planned plans other quiet = tt
 
 pub mild-planned : (plans : List Plan) (who : Sid) (told : Reply) → is_commit told ≡ false → IsPlannedReply plans who told
@@ -62,11 +77,11 @@ mild-planned plans who other mild = tt
 -- each quarantine that stands is planned
 pub planned-standing : (plans : List Plan) (key : QKey) (past : List Step)
     → AllByRecursion (GrantsPlanned plans) past → AllByRecursion (IsPlanned plans key) (standing key past)
-planned-standing plans key past h = standing-every (IsPlanned plans) key past h
+planned-standing plans key past h = standing-every (IsPlanned plans) key past (all-so plans past h)
 
 pub planned-quar : (plans : List Plan) (key : QKey) (token : ℕ) (past : List Step) (quar : Quar)
     → AllByRecursion (GrantsPlanned plans) past → quar_of key token past ≡ Some quar → IsPlanned plans key quar
-planned-quar plans key token past quar h found = (quar-every (IsPlanned plans) key token past quar h found).0
+planned-quar plans key token past quar h found = (quar-every (IsPlanned plans) key token past quar (all-so plans past h) found).0
 
 -- the log after an event
 told-planned : (plans : List Plan) (who : Sid) (told : Reply) (log : List Commit)
@@ -93,6 +108,8 @@ plan-stays n plans more found at = slice-front plans (more ∷ []) (n - 1) found
 pub planned-begun : (plans : List Plan) (more : Plan) (s : Step) → GrantsPlanned plans s → GrantsPlanned (plans ++ more ∷ []) s
 planned-begun plans more (step.Granted on sid mode shift now token deadline) h =
     record { plan = h.plan; at = plan-stays sid.number plans more h.plan h.at; may = h.may; in_mode = h.in_mode; by = h.by }
+planned-begun plans more (step.Raised on sid token) h = absurd h
+planned-begun plans more (step.Renewed on sid token now deadline) h = absurd h
 planned-begun plans more other h = tt
 
 pub logged-begun : (plans : List Plan) (more : Plan) (log : List Commit) → ArePlanned plans log → ArePlanned (plans ++ more ∷ []) log

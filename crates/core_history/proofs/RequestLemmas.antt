@@ -44,6 +44,9 @@ tells_got terms past (step.Held key sid mode) answer h = absurd h
 tells_got terms past (step.Refused key sid mode holder held) answer h = absurd h
 tells_got terms past (step.Released key sid token how) answer h = absurd h
 tells_got terms past (step.Gone key sid token) answer h = absurd h
+tells_got terms past (step.Raised key sid token) answer h = absurd h
+tells_got terms past (step.Shared key sid token holder) answer h = absurd h
+tells_got terms past (step.Renewed key sid token now deadline) answer h = absurd h
 
 tells_set : (terms : Terms) (past : List Step) (s : Step) (answer : SetAnswer) → ShowsSet s answer → reply.Set answer ≡ shown terms past s
 tells_set terms past (step.Hit key sid floor value stamp) answer h = absurd h
@@ -57,6 +60,9 @@ tells_set terms past (step.Held key sid mode) answer h = absurd h
 tells_set terms past (step.Refused key sid mode holder held) answer h = absurd h
 tells_set terms past (step.Released key sid token how) answer h = absurd h
 tells_set terms past (step.Gone key sid token) answer h = absurd h
+tells_set terms past (step.Raised key sid token) answer h = absurd h
+tells_set terms past (step.Shared key sid token holder) answer h = absurd h
+tells_set terms past (step.Renewed key sid token now deadline) answer h = absurd h
 
 tells_quarantine : (terms : Terms) (past : List Step) (s : Step) (answer : QAnswer)
     → ShowsQuarantine terms past s answer → reply.Quar answer ≡ shown terms past s
@@ -71,6 +77,9 @@ tells_quarantine terms past (step.Held key sid mode) answer h = ap reply.Quar h
 tells_quarantine terms past (step.Refused key sid mode holder held) answer h = ap reply.Quar h
 tells_quarantine terms past (step.Released key sid token how) answer h = absurd h
 tells_quarantine terms past (step.Gone key sid token) answer h = absurd h
+tells_quarantine terms past (step.Raised key sid token) answer h = absurd h
+tells_quarantine terms past (step.Shared key sid token holder) answer h = absurd h
+tells_quarantine terms past (step.Renewed key sid token now deadline) answer h = absurd h
 
 tells_release : (terms : Terms) (past : List Step) (s : Step) (answer : Rel) → ShowsRelease s answer → reply.Rel answer ≡ shown terms past s
 tells_release terms past (step.Hit key sid floor value stamp) answer h = absurd h
@@ -84,6 +93,9 @@ tells_release terms past (step.Held key sid mode) answer h = absurd h
 tells_release terms past (step.Refused key sid mode holder held) answer h = absurd h
 tells_release terms past (step.Released key sid token how) answer h = ap reply.Rel h
 tells_release terms past (step.Gone key sid token) answer h = ap reply.Rel h
+tells_release terms past (step.Raised key sid token) answer h = absurd h
+tells_release terms past (step.Shared key sid token holder) answer h = absurd h
+tells_release terms past (step.Renewed key sid token now deadline) answer h = absurd h
 
 -- what follows a shard's own past is what follows the steps on it
 shown_is : (shape : Shape) (past : List Event) (key : QKey) (place : ℕ) (shard : ShardView) (g : Terms → List Step → Reply)

@@ -111,6 +111,9 @@ module _ (opening : Tables) (log : List Commit) where
   entry_after key past (step.Held on sid mode) good h = h
   entry_after key past (step.Refused on sid mode holder held) good h = h
   entry_after key past (step.Gone on sid token) good h = h
+  entry_after key past (step.Raised on sid token) good h = h
+  entry_after key past (step.Shared on sid token holder) good h = h
+  entry_after key past (step.Renewed on sid token now deadline) good h = h
 
 told_right : (P : Answer → Type 0) (answered : Answer) (answers : List Answer) → AllByRecursion P answers → IsTold answered answers → P answered
 told_right P answered (first ∷ answers) h (inl e) = subst P e h.0
@@ -207,6 +210,9 @@ module _ (opening : Tables) (shape : Shape) (past : List Event)
   right_step who (step.Held on sid mode) good = tt
   right_step who (step.Refused on sid mode holder held) good = tt
   right_step who (step.Gone on sid token) good = tt
+  right_step who (step.Raised on sid token) good = tt
+  right_step who (step.Shared on sid token holder) good = tt
+  right_step who (step.Renewed on sid token now deadline) good = tt
 
 -- a hit of a held and right entry is fresh
 entry_fresh : (opening : Tables) (key : QKey) (known : Known) (past : List Step) (value : List ℕ) (stamp : ℕ) → entry key past ≡ Some (value, stamp)
@@ -332,6 +338,9 @@ releases-on key who (step.Granted on sid mode shift now token deadline) e = absu
 releases-on key who (step.Held on sid mode) e = absurd (true≢false (sym e))
 releases-on key who (step.Refused on sid mode holder held) e = absurd (true≢false (sym e))
 releases-on key who (step.Gone on sid token) e = absurd (true≢false (sym e))
+releases-on key who (step.Raised on sid token) e = absurd (true≢false (sym e))
+releases-on key who (step.Shared on sid token holder) e = absurd (true≢false (sym e))
+releases-on key who (step.Renewed on sid token now deadline) e = absurd (true≢false (sym e))
 
 -- a session that isn't over has released nothing
 none_released : (shape : Shape) (past : List Event) (who : Sid) → Holds shape past (known_of past) → (IsOver (known_of past) who.number → ⊥)

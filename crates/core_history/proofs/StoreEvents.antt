@@ -70,6 +70,10 @@ quiet_shown place who request made terms past (step.Held key sid mode) = record 
 quiet_shown place who request made terms past (step.Refused key sid mode holder held) = record { commits = refl; ends = refl; fault = refl; truth = λ rows. tt }
 quiet_shown place who request made terms past (step.Released key sid token how) = record { commits = refl; ends = refl; fault = refl; truth = λ rows. tt }
 quiet_shown place who request made terms past (step.Gone key sid token) = record { commits = refl; ends = refl; fault = refl; truth = λ rows. tt }
+quiet_shown place who request made terms past (step.Raised key sid token) = record { commits = refl; ends = refl; fault = refl; truth = λ rows. tt }
+quiet_shown place who request made terms past (step.Shared key sid token holder) = record { commits = refl; ends = refl; fault = refl; truth = λ rows. tt }
+quiet_shown place who request made terms past (step.Renewed key sid token now deadline) =
+    record { commits = refl; ends = refl; fault = refl; truth = λ rows. tt }
 
 -- a tick is so
 pub quiet_tick : (now : ℕ) → IsQuiet (Ticked now)

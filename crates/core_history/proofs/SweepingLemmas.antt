@@ -1,5 +1,5 @@
 -- What the sweeper was told last, and what of an event keeps it.
-use Rattle.std.proofs.Common.{ℕ, ◌≡◌, ◌<◌, ◌==◌, true, List, [], ◌∷◌, ◌++◌, Some, None, sym, ap, ◌∙◌, arith}
+use Rattle.std.proofs.Common.{ℕ, ◌≡◌, ◌<◌, ◌==◌, true, List, [], ◌∷◌, ◌++◌, Some, None, refl, sym, ap, ◌∙◌, arith}
 use Rattle.rows_model.specs.declared.keys.QKey.{QKey}
 use Rattle.rows_model.specs.Placement.{shard_of}
 use Rattle.lease_table.specs.declared.records.Due.{Due}
@@ -12,7 +12,7 @@ use Rattle.session_client.specs.declared.plans.Shape.{Shape}
 use Rattle.session_client.specs.Plans.{writes}
 use Rattle.core_history.specs.Events.{Event, Stepped, Called, Ticked, Swept, steps_in, steps_of}
 use Rattle.core_history.specs.Machine.{terms_of, plan_at}
-use Rattle.core_history.proofs.KeyLemmas.{quar-old, next-append}
+use Rattle.core_history.proofs.KeyLemmas.{StandsAs, quar-was, next-append}
 use Rattle.core_history.proofs.EventLemmas.{closed, closed-more, unmade-steps}
 use Rattle.core_history.proofs.SessionLemmas.{DrawsLate, maybe-step}
 use Rattle.core_history.proofs.PlannedLemmas.{plan-stays}
@@ -31,25 +31,25 @@ IsSweeping shape plans past (sweeps.Found due ∷ told) = IsDueOf shape plans pa
 IsSweeping shape plans past (sweeps.Ended was ∷ sweeps.Found due ∷ told) = IsDueOf shape plans past due × (closed due.sid.number past ≡ true)
 IsSweeping shape plans past told = Unit {0}
 
--- a quarantine that stands after an event, of a token that was drawn before it, stood before it
+-- a quarantine that stands after an event, of a token that was drawn before it, stood before it, and was the same session's
 pub quar-before : (shape : Shape) (event : Event) (past : List Event) (key : QKey) (token : ℕ) (quar : Quar) → DrawsLate shape past event
     → token < next_token (terms_of shape (shard_of key shape.shards)) (steps_of (shard_of key shape.shards) past)
     → quar_of key token (steps_of (shard_of key shape.shards) (event ∷ past)) ≡ Some quar
-    → quar_of key token (steps_of (shard_of key shape.shards) past) ≡ Some quar
+    → StandsAs key token (steps_of (shard_of key shape.shards) past) quar
 quar-before shape (Stepped place who request s told) past key token quar late low =
     let home = shard_of key shape.shards in
     let steps = steps_of home past in
     maybe-step (λ l. quar_of key token l ≡ Some quar
-    → quar_of key token steps ≡ Some quar) (place == home) s steps (λ _. quar-old s key token steps quar (late key token low).1) (λ _ h. h)
-quar-before shape (Called who request told) past key token quar late low = λ h. h
-quar-before shape (Ticked now) past key token quar late low = λ h. h
+    → StandsAs key token steps quar) (place == home) s steps (λ _. quar-was s key token steps quar (late key token low).1) (λ _ h. (quar, h, refl))
+quar-before shape (Called who request told) past key token quar late low = λ h. (quar, h, refl)
+quar-before shape (Ticked now) past key token quar late low = λ h. (quar, h, refl)
 quar-before shape (Swept place request None told) past key token quar late low = λ h.
-    sym (ap (quar_of key token) (unmade-steps (shard_of key shape.shards) place request told past)) ∙ h
+    (quar, sym (ap (quar_of key token) (unmade-steps (shard_of key shape.shards) place request told past)) ∙ h, refl)
 quar-before shape (Swept place request (Some s) told) past key token quar late low =
     let home = shard_of key shape.shards in
     let steps = steps_of home past in
     maybe-step (λ l. quar_of key token l ≡ Some quar
-    → quar_of key token steps ≡ Some quar) (place == home) s steps (λ _. quar-old s key token steps quar (late key token low).1) (λ _ h. h)
+    → StandsAs key token steps quar) (place == home) s steps (λ _. quar-was s key token steps quar (late key token low).1) (λ _ h. (quar, h, refl))
 
 -- what is due stays so after an event
 pub due-more : (shape : Shape) (plans : List Plan) (event : Event) (past : List Event) (due : Due)
@@ -60,7 +60,7 @@ due-more shape plans event past due late h =
     let low = h.drawn in
     record {
       drawn = omega (arith, low, more);
-      mine = λ quar found. h.mine quar (quar-before shape event past due.key due.token quar late low found);
+      mine = λ quar found. let was = quar-before shape event past due.key due.token quar late low found in sym was.2 ∙ h.mine was.0 was.1;
       plan = h.plan;
       at = h.at;
       may = h.may;

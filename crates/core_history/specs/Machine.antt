@@ -88,7 +88,8 @@ abbrev pub is_open : World → Sid → Bool
 is_open world who =
     is_writer (plan_at who.number world.plans) && not (has_committed who.number world.past) && not (was_ended who.number world.past)
 
--- What a session is told of a step, after the steps before it.
+-- What a session is told of a step, after the steps before it. No session asks for a raise or a renewal yet, and
+-- their own steps tell nothing.
 abbrev pub shown : Terms → List Step → Step → Reply
 shown terms past (step.Hit key sid floor value stamp) = reply.Got (got.Hit value stamp)
 shown terms past (step.Lease key sid floor now token deadline) = reply.Got (got.Lease token)
@@ -102,6 +103,9 @@ shown terms past (step.Held key sid mode) = reply.Quar quarantine.Held
 shown terms past (step.Refused key sid mode holder held) = reply.Quar (quarantine.Refused holder held)
 shown terms past (step.Released key sid token how) = reply.Rel (rel.Released (evicted_by how))
 shown terms past (step.Gone key sid token) = reply.Rel rel.Gone
+shown terms past (step.Raised key sid token) = reply.Nothing
+shown terms past (step.Shared key sid token holder) = reply.Nothing
+shown terms past (step.Renewed key sid token now deadline) = reply.Nothing
 
 -- A request on the shard of a key makes the step that follows that shard's own past.
 abbrev pub stepped_on : Shape → List Event → Sid → Wanted → QKey → (Terms → List Step → Step) → Event

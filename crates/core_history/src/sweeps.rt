@@ -67,11 +67,12 @@ fn make_sweep<K: Keeper>(
     }
 }
 
-/// Looks for the first quarantine of a shard that is past its deadline.
-fn scan(shards: &Vec<Shard>, shard: u32, now: u64) -> SweepReply
-    requires { shard < length shards.now.items }
+/// Looks for the first quarantine of a shard that is past its deadline. It leaves the shards.
+fn scan(shards: &mut Vec<Shard>, shard: u32, now: u64) -> SweepReply
+    requires { shard < length shards.old.items }
+    ensures left { shards.new.items ≡ shards.old.items }
     ensures told { (shape : Shape) (world : World) →
-        HasShards shards.now.items shape world.past → now ≡ now_of world.past →
+        HasShards shards.old.items shape world.past → now ≡ now_of world.past →
         IsToldSweeper shape world (sweep.Scan shard) result }
     ensures belongs { BelongsTo (sweep.Scan shard) result }
 {

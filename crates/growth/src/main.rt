@@ -62,8 +62,7 @@ fn try_all(rt: &HostRuntime) -> Result<(), Unmeasured> {
     for measure in ALL {
         let mut kept = Vec::new(rt.alloc());
         let _nanos = took(rt, rt.alloc(), measure, &SMALL, SMALL.few, &mut kept)?;
-        let requests = measure.requests(SMALL.few);
-        println!(rt; "{}: {requests} requests", measure.name())?;
+        println!(rt; "{}: {} requests", measure.name(), SMALL.few)?;
     }
     Ok(())
 }
@@ -75,9 +74,7 @@ fn measure_all(rt: &HostRuntime) -> Result<(), Unmeasured> {
     for measure in ALL {
         let (few, many) = few_and_many(rt, measure)?;
         let grows = Ratio::of(TIMES, many, few);
-        // Of some kinds fewer requests are made.
-        let fewer = FULL.few / measure.requests(FULL.few).max(1);
-        let beside = Ratio::of(fewer, few, alone);
+        let beside = Ratio::of(1, few, alone);
         println!(rt;
             "{}: ten times as many {grows}, beside (a) {beside}",
             measure.name()

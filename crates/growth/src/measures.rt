@@ -1,9 +1,10 @@
 use crate::asks::{ask_each, linked_rows};
 use crate::shards::{
-    NOW, leave_entries, leave_leases, leave_quarantines, new_shard, read, sweep, tend, write,
+    NOW, hold_quarantines, leave_entries, leave_leases, leave_quarantines, let_go_each, new_shard,
+    read, renew, sweep, tend, write,
 };
 use crate::times::{Unmeasured, used};
-use key_shard::Shard;
+use key_shard::{Grant, Shard};
 use rows_model::Memory;
 use std::alloc::Global;
 use std::time::CpuClock;
@@ -50,10 +51,11 @@ pub enum Measure {
     Asks,
     Tends,
     Sweeps,
+    Renewals,
     Writers,
 }
 
-pub const ALL: [Measure; 8] = [
+pub const ALL: [Measure; 9] = [
     Measure::Readers,
     Measure::Quarantines,
     Measure::Leases,
@@ -62,6 +64,7 @@ pub const ALL: [Measure; 8] = [
     Measure::Tends,
     Measure::Sweeps,
     Measure::Writers,
+    Measure::Renewals,
 ];
 
 impl Measure {
@@ -75,14 +78,7 @@ impl Measure {
             Measure::Tends => "(f) sweeps beside quarantines",
             Measure::Sweeps => "(g) sweeps where all are due",
             Measure::Writers => "(h) writers beside quarantines",
-        }
-    }
-
-    /// How many requests are made of it where so many are made of most.
-    pub fn requests(self, most: u32) -> u32 {
-        match self {
-            Measure::Sweeps => most / 100,
-            _ => most,
+            Measure::Renewals => "(i) renewals where all are due",
         }
     }
 }
@@ -94,12 +90,12 @@ pub fn took<C: CpuClock>(
     alloc: Global,
     measure: Measure,
     scale: &Scale,
-    most: u32,
+    requests: u32,
     kept: &mut Vec<Shard>,
 ) -> Result<u64, Unmeasured> {
-    let requests = measure.requests(most);
     match measure {
         Measure::Asks => asks_took(rt, alloc, scale.members, requests),
+        Measure::Renewals => renewals_took(rt, alloc, requests, kept),
         _ => {
             let mut shard = new_shard(alloc, room_of(measure, scale))?;
             set_up(alloc, &mut shard, measure, scale, requests)?;
@@ -121,6 +117,33 @@ fn asks_took<C: CpuClock>(
     let rows = linked_rows(alloc, members)?;
     let before = used(rt)?;
     ask_each(alloc, &rows, members, requests)?;
+    Ok(used(rt)?.saturating_sub(before))
+}
+
+fn renewals_took<C: CpuClock>(
+    rt: &C,
+    alloc: Global,
+    requests: u32,
+    kept: &mut Vec<Shard>,
+) -> Result<u64, Unmeasured> {
+    let mut shard = new_shard(alloc, ROOM)?;
+    let mut grants = Vec::new(alloc);
+    let took = held_and_renewed(rt, &mut shard, &mut grants, requests / 2);
+    let_go_each(grants);
+    kept.push(shard).map_err(Memory::from)?;
+    took
+}
+
+/// The nanoseconds in which so many quarantines that are due are found and renewed in turn.
+fn held_and_renewed<C: CpuClock>(
+    rt: &C,
+    shard: &mut Shard,
+    grants: &mut Vec<Grant>,
+    count: u32,
+) -> Result<u64, Unmeasured> {
+    hold_quarantines(shard, grants, count)?;
+    let before = used(rt)?;
+    renew(shard, grants)?;
     Ok(used(rt)?.saturating_sub(before))
 }
 
@@ -146,7 +169,7 @@ fn set_up(
         Measure::Leases => leave_leases(shard, scale.standing),
         Measure::Entries => leave_entries(alloc, shard, scale.entries),
         Measure::Sweeps => leave_quarantines(shard, requests / 2, 0),
-        Measure::Readers | Measure::Asks => Ok(()),
+        Measure::Readers | Measure::Asks | Measure::Renewals => Ok(()),
     }
 }
 

@@ -1,7 +1,7 @@
 // What is asked of a shard. What stands there before is on lists of friends, and what is asked for is
 // profiles, so that no two are on one key.
 use crate::times::Unmeasured;
-use key_shard::{Got, Grant, How, QAnswer, Rel, SetAnswer, Shard};
+use key_shard::{Got, Grant, How, QAnswer, Rel, Renewal, SetAnswer, Shard};
 use lease_table::Mode;
 use rows_model::{Kind, QKey, Sid, Value};
 use std::alloc::Global;
@@ -41,6 +41,31 @@ pub fn leave_quarantines(shard: &mut Shard, count: u32, now: u64) -> Result<(), 
         quarantine(shard, friends(id), now)?.let_go();
     }
     Ok(())
+}
+
+/// Leaves so many quarantines standing that are due, and puts their grants into the list.
+pub fn hold_quarantines(
+    shard: &mut Shard,
+    grants: &mut Vec<Grant>,
+    count: u32,
+) -> Result<(), Unmeasured> {
+    for id in 0..count {
+        let grant = quarantine(shard, friends(id), 0)?;
+        if let Err(failed) = grants.push(grant) {
+            failed.value.let_go();
+            return Err(Unmeasured);
+        }
+    }
+    Ok(())
+}
+
+/// Lets go of the grants.
+pub fn let_go_each(grants: Vec<Grant>) {
+    let mut left = grants;
+    while let Some(grant) = left.pop() {
+        grant.let_go();
+    }
+    left.destroy_empty();
 }
 
 /// Leaves so many leases to read standing.
@@ -96,6 +121,25 @@ pub fn sweep(shard: &mut Shard, count: u32) -> Result<(), Unmeasured> {
         sweep_one(shard)?;
     }
     Ok(())
+}
+
+/// Two requests for each grant, in their order: one finds what is due first, and one renews the quarantine of
+/// the grant, which is due then and no longer after.
+pub fn renew(shard: &mut Shard, grants: &[Grant]) -> Result<(), Unmeasured> {
+    for grant in grants.iter() {
+        match shard.expired(NOW) {
+            Some(due) if due.token == grant.token() => {}
+            _ => return Err(Unmeasured),
+        }
+        match shard.renew(grant, NOW)? {
+            Renewal::Renewed { deadline: _ } => {}
+            Renewal::Gone => return Err(Unmeasured),
+        }
+    }
+    match shard.expired(NOW) {
+        Some(_) => Err(Unmeasured),
+        None => Ok(()),
+    }
 }
 
 fn quarantine(shard: &mut Shard, key: QKey, now: u64) -> Result<Grant, Unmeasured> {

@@ -78,6 +78,9 @@ step-granted key who token (step.Void on its now) h = absurd (none_in (Granted w
 step-granted key who token (step.Held on sid mode) h = absurd (none_in (Granted who.number token) (same_key key on) h)
 step-granted key who token (step.Refused on sid mode holder its) h = absurd (none_in (Granted who.number token) (same_key key on) h)
 step-granted key who token (step.Gone on sid its) h = absurd (none_in (Granted who.number token) (same_key key on) h)
+step-granted key who token (step.Raised on sid its) h = absurd (none_in (Granted who.number token) (same_key key on) h)
+step-granted key who token (step.Shared on sid its holder) h = absurd (none_in (Granted who.number token) (same_key key on) h)
+step-granted key who token (step.Renewed on sid its now deadline) h = absurd (none_in (Granted who.number token) (same_key key on) h)
 
 -- a session with a granted mark was granted a quarantine by one of the steps
 pub granted-quarantined : (key : QKey) (who : Sid) (past : List Step) → WasGranted (marks_of key past) who.number → list_any (quarantines key who) past ≡ true

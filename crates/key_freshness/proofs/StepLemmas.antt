@@ -146,3 +146,9 @@ steps_keep key known past (step.Released on sid token (ended.Shift by stamp)) ho
     held
 steps_keep key known past (step.Gone on sid token) honest ruled held =
     quiet_stays key known (marks_of key past) ruled [] (same_key key on) (entry key past) held_quiet held
+steps_keep key known past (step.Raised on sid token) honest ruled held =
+    quiet_stays key known (marks_of key past) ruled [] (same_key key on) (entry key past) held_quiet held
+steps_keep key known past (step.Shared on sid token holder) honest ruled held =
+    quiet_stays key known (marks_of key past) ruled [] (same_key key on) (entry key past) held_quiet held
+steps_keep key known past (step.Renewed on sid token now deadline) honest ruled held =
+    quiet_stays key known (marks_of key past) ruled [] (same_key key on) (entry key past) held_quiet held

@@ -1,5 +1,5 @@
 -- A step keeps marks and what a shard holds of a key tied.
-use Rattle.std.proofs.Common.{ℕ, ◌≡◌, ◌==◌, ◌&&◌, Bool, true, false, not, cond, List, [], ◌∷◌, ◌++◌, filter, Option, None, Some, refl, sym}
+use Rattle.std.proofs.Common.{ℕ, ◌≡◌, ◌==◌, ◌&&◌, Bool, true, false, not, cond, List, [], ◌∷◌, ◌++◌, map, filter, Option, None, Some, refl, sym}
 use Rattle.std.proofs.Common.{ap₂, subst, ◌∙◌, ◌⊎◌, inl, inr, ⊎_elim, ℤ, decimal, option_map, eq-eqb, append_assoc}
 use Rattle.std.proofs.lemmas.Bool.{cases_Bool, false≢true, eqb-true, and_parts, and_from, or_cases, or_left, or_right}
 use Rattle.std.proofs.lemmas.List.Folds.{list_any-append}
@@ -7,11 +7,12 @@ use Rattle.rows_model.specs.Key.{same_key}
 use Rattle.rows_model.specs.Shift.{shifted}
 use Rattle.rows_model.proofs.SameKey.{same_key-true}
 use Rattle.lease_table.specs.declared.records.Quar.{Quar}
-use Rattle.lease_table.specs.Leases.{has_token}
+use Rattle.lease_table.specs.Leases.{has_token, raised, renewed}
 use Rattle.key_shard.specs.declared.steps.Ended.{Ended as How}
 use Rattle.key_shard.specs.declared.steps.Ended.TheVariants as ended
 use Rattle.key_shard.specs.declared.steps.Step.TheVariants as step
 use Rattle.key_shard.specs.Past.{standing, entry, entry_ended, entry_shifted, is_evicted, evicted_by}
+use Rattle.key_shard.proofs.RaiseLemmas.{raised-same, renewed-same, any-mapped}
 use Rattle.key_freshness.specs.Marks.{Mark, Granted, Ended, Leased, Wrote, Has, writes_by, marks_of}
 use Rattle.key_freshness.specs.Held.{IsTied, IsStamped, stands_as}
 use Rattle.key_freshness.specs.Laws.{StepsTie}
@@ -65,6 +66,16 @@ module _ (marks : List Mark) (start : Option ℕ) (quars : List Quar) where
   quiet_tied : (b : Bool) (found : Option (List ℕ × ℕ)) → IsTied marks start quars found → IsTied (cond b [] [] ++ marks) start quars found
   quiet_tied true found tied = tied
   quiet_tied false found tied = tied
+
+  -- a step that marks nothing and changes the quarantines, so that each stands by its session and token as before
+  mapped_tied : (b : Bool) (f : Quar → Quar) (found : Option (List ℕ × ℕ))
+      → ((who token : ℕ) → stands_as who token (map f quars) ≡ stands_as who token quars) → IsTied marks start quars found
+      → IsTied (cond b [] [] ++ marks) start (cond b (map f quars) quars) found
+  mapped_tied true f found same tied = record {
+    granted = λ who token h. ⊎_elim (λ s. inl (same who token ∙ s)) (λ e. inr e) (tied.granted who token h);
+    stamped = tied.stamped;
+  }
+  mapped_tied false f found same tied = tied
 
   again_tied : (b : Bool) (found : Option (List ℕ × ℕ)) → IsTied marks start quars found → IsTied (cond b [] [] ++ marks) start quars (cond b None found)
   again_tied true found tied = gone_tied true found tied
@@ -170,6 +181,20 @@ module _ (marks : List Mark) (start : Option ℕ) (quars : List Quar) where
   }
   released_tied false gone how sid token found own tied = gone_tied gone found tied
 
+-- whether a quarantine is of this session and token
+abbrev is_as : ℕ → ℕ → Quar → Bool
+is_as who token quar = (quar.sid.number == who) && (quar.token == token)
+
+-- raised or renewed, each quarantine stands by its session and token as before
+raised_stands : (raised_token : ℕ) (quars : List Quar) (who token : ℕ) → stands_as who token (map (raised raised_token) quars) ≡ stands_as who token quars
+raised_stands raised_token quars who token =
+    any-mapped (is_as who token) (raised raised_token) (λ quar. raised-same (is_as who token) raised_token quar refl) quars
+
+renewed_stands : (renewed_token deadline : ℕ) (quars : List Quar) (who token : ℕ)
+    → stands_as who token (map (renewed renewed_token deadline) quars) ≡ stands_as who token quars
+renewed_stands renewed_token deadline quars who token =
+    any-mapped (is_as who token) (renewed renewed_token deadline) (λ quar. renewed-same (is_as who token) renewed_token deadline quar refl) quars
+
 pub steps_tie : StepsTie
 steps_tie key start past (step.Hit on sid floor value stamp) own tied =
     quiet_tied (marks_of key past) start (standing key past) (same_key key on) (entry key past) tied
@@ -192,3 +217,10 @@ steps_tie key start past (step.Released on sid token how) own tied =
     (λ same who stands. own who (subst (λ k. stands_as who token (standing k past) ≡ true) (same_key-true key on same) stands))
     tied
 steps_tie key start past (step.Gone on sid token) own tied = quiet_tied (marks_of key past) start (standing key past) (same_key key on) (entry key past) tied
+steps_tie key start past (step.Raised on sid token) own tied =
+    mapped_tied (marks_of key past) start (standing key past) (same_key key on) (raised token) (entry key past) (raised_stands token (standing key past)) tied
+steps_tie key start past (step.Shared on sid token holder) own tied =
+    quiet_tied (marks_of key past) start (standing key past) (same_key key on) (entry key past) tied
+steps_tie key start past (step.Renewed on sid token now deadline) own tied =
+    mapped_tied (marks_of key past) start (standing key past) (same_key key on) (renewed token deadline) (entry key past)
+    (renewed_stands token deadline (standing key past)) tied

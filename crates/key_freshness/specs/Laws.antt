@@ -132,6 +132,9 @@ IsHonest known past (step.Granted on sid mode shift now token deadline) = Unit {
 IsHonest known past (step.Held on sid mode) = Unit {0}
 IsHonest known past (step.Refused on sid mode holder held) = Unit {0}
 IsHonest known past (step.Gone on sid token) = Unit {0}
+IsHonest known past (step.Raised on sid token) = Unit {0}
+IsHonest known past (step.Shared on sid token holder) = Unit {0}
+IsHonest known past (step.Renewed on sid token now deadline) = Unit {0}
 
 -- An honest step keeps the rule of each key, and each entry held or leaves none.
 abbrev pub StepsKeep : Type 0

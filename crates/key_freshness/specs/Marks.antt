@@ -40,6 +40,9 @@ marks_by (step.Held on sid mode) = []
 marks_by (step.Refused on sid mode holder held) = []
 marks_by (step.Released on sid token how) = writes_by how ++ Ended sid.number token ∷ []
 marks_by (step.Gone on sid token) = []
+marks_by (step.Raised on sid token) = []
+marks_by (step.Shared on sid token holder) = []
+marks_by (step.Renewed on sid token now deadline) = []
 
 -- The key that a step is on.
 abbrev pub key_of : Step → QKey
@@ -54,6 +57,9 @@ key_of (step.Held on sid mode) = on
 key_of (step.Refused on sid mode holder held) = on
 key_of (step.Released on sid token how) = on
 key_of (step.Gone on sid token) = on
+key_of (step.Raised on sid token) = on
+key_of (step.Shared on sid token holder) = on
+key_of (step.Renewed on sid token now deadline) = on
 
 -- The marks that a step leaves on this key: none, where it is on another.
 abbrev pub marks_in : QKey → Step → List Mark

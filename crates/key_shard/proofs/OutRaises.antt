@@ -1,5 +1,6 @@
 -- The grants that are out, behind a raise and behind a renewal.
-use Rattle.std.proofs.Common.{◌≡◌, ◌<◌, ◌≤◌, ◌&&◌, ◌==◌, ℕ, Bool, true, false, cond, List, [], ◌∷◌, ◌++◌, Option, Some, None, MatchBool, is_some, option_map, map, find, refl, sym, ap, subst, ◌∙◌, arith}
+use Rattle.std.proofs.Common.{◌≡◌, ◌<◌, ◌≤◌, ◌&&◌, ◌==◌, ℕ, Bool, true, false, cond, List, [], ◌∷◌, ◌++◌}
+use Rattle.std.proofs.Common.{Option, Some, None, MatchBool, is_some, option_map, map, find, refl, sym, ap, subst, ◌∙◌, arith}
 use Rattle.std.specs.List.{All, list_any, sum_by}
 use Rattle.std.proofs.lemmas.Bool.{and_parts, and_from, eq-eqb, eqb-true, or_right}
 use Rattle.std.proofs.lemmas.List.Elements.{All-nil, All-cons, All-head, All-tail, All-weaker}
@@ -20,10 +21,10 @@ use Rattle.entry_table.specs.Entries.{Item}
 use Rattle.key_shard.specs.declared.bodies.Body.{Body}
 use Rattle.key_shard.specs.declared.outs.Out.{Out}
 use Rattle.key_shard.specs.declared.steps.Step.{Step}
-use Rattle.key_shard.specs.declared.steps.Step.TheVariants.{Raised, Renewed}
+use Rattle.key_shard.specs.declared.steps.Step.TheVariants.{Raised, Shared, Renewed}
 use Rattle.key_shard.specs.Permit.{Permit}
 use Rattle.key_shard.specs.Past.{Terms, standing, quar_of, next_token, grants}
-use Rattle.key_shard.specs.Answers.{IsOf, OwesRaise, OwesRenew}
+use Rattle.key_shard.specs.Answers.{Answers, IsOf, OwesRaise, OwesRenew, Raise, raise_by, raise_step, shared_step}
 use Rattle.key_shard.specs.LegalStands.{StandsWell}
 use Rattle.key_shard.specs.Kept.{Ties, IsKept, IsOut, AreHeld, is_for, permit_of, places_for, places_of, raised_out, shown, steps_of, terms_of}
 use Rattle.key_shard.specs.Shards.{ShardView, is_out, raised_permit, stepped}
@@ -247,6 +248,16 @@ other-told {table = table} h key key' sid sid' told keys sids e =
     e ∙ ap (λ s. first (others_in s (leases.quars key' table))) sids
     ∙ ap (λ k. first (others_in sid (leases.quars k table))) keys ∙ ap (λ qs. first (others_in sid qs)) (h.quars key)
 
+-- the step that names it
+pub shared-named : {terms : Terms} {past : List Step} {list : List Item} {table : List Lease} {next : ℕ} → Ties terms past list table next
+    → (permit : Permit) (key : QKey) (sid : Sid) (token : ℕ) (told : Option Quar) (quar : Quar) → key ≡ permit.key → sid ≡ permit.sid → token ≡ permit.token
+    → told ≡ first (others_in sid (leases.quars key table)) → told ≡ Some quar
+    → shared_step permit (first (others_in permit.sid (standing permit.key past))) ≡ Shared key sid token quar.sid
+shared-named h permit key sid token told quar keys sids tokens e is =
+    ap (shared_step permit) (sym (other-told h permit.key key permit.sid sid told keys sids e) ∙ is)
+    ∙ sym (ap (λ k. Shared k sid token quar.sid) keys ∙ ap (λ s. Shared permit.key s token quar.sid) sids
+    ∙ ap (λ t. Shared permit.key permit.sid t quar.sid) tokens)
+
 -- what a raise leaves that is one
 pub raise-leaves : {terms : Terms} {past : List Step} {list : List Item} {table : List Lease} {next : ℕ} → Ties terms past list table next
     → (key key' : QKey) (sid sid' : Sid) (token token' : ℕ) (v : Verdict) (new : List Lease) → key' ≡ key → sid' ≡ sid → token' ≡ token
@@ -351,3 +362,22 @@ raise-none terms past permit well of invalidates raise refuse = by (quar_of perm
     by (Some quar) e =
         let is = judged quar e in
         absurd (invalidate-judged (map (λ q. way_of q.mode) (others_in permit.sid (standing permit.key past))) (λ r. raise (is ∙ r)) (λ r. refuse (is ∙ r)))
+
+-- the step of a raise of a grant that is out answers it
+pub raise-answers : (body : Body) (grant : Permit) → IsKept body → is_out (shown body) grant ≡ true → grant.mode ≡ Invalidate
+    → (s : Step) → s ≡ raise_step (steps_of body) grant → Answers (terms_of body) (steps_of body) s
+raise-answers body grant kept out invalidates s is = record {
+  request = Raise grant;
+  at_home = (out-granted body grant kept out).1;
+  owed = owes-raise body grant kept out invalidates;
+  answer = is;
+}
+
+-- so does the step that the verdict gives
+pub raise-judged : (body : Body) (grant : Permit) → IsKept body → is_out (shown body) grant ≡ true → grant.mode ≡ Invalidate
+    → (key : QKey) (sid : Sid) (token : ℕ) (v w : Verdict) → key ≡ grant.key → sid ≡ grant.sid → token ≡ grant.token
+    → v ≡ raise_in sid token (leases.quars key body.leases) → v ≡ w
+    → Answers (terms_of body) (steps_of body) (raise_by grant (first (others_in grant.sid (standing grant.key (steps_of body)))) w)
+raise-judged body grant kept out invalidates key sid token v w keys sids tokens e is =
+    raise-answers body grant kept out invalidates _ (sym (ap (raise_by grant (first (others_in grant.sid (standing grant.key (steps_of body)))))
+    (raise-told kept.ties grant.key key grant.sid sid grant.token token v keys sids tokens e ∙ is)))

@@ -3,6 +3,7 @@ use Rattle.std.proofs.Common.{◌≡◌, ℕ, ◌+◌, ◌<◌, ◌||◌, ◌==�
 use Rattle.std.proofs.Common.{Some, None, option_map, reverse, All, refl, sym, ap, subst, ◌∙◌}
 use Rattle.std.specs.List.{list_any}
 use Rattle.std.specs.BTreeSet.{BTreeSet}
+use Rattle.std.proofs.lemmas.Bool.{false≢true}
 use Rattle.std.proofs.lemmas.List.{take_more, map_push, length-map}
 use Rattle.std.proofs.lemmas.List.Elements.{All-get_or, All-more}
 use Rattle.std.proofs.lemmas.List.Sorted.{list_any-IsPermutation, IsPermutation-reverse}
@@ -12,10 +13,16 @@ use Rattle.rows_model.specs.declared.keys.Sid.{Sid}
 use Rattle.rows_model.specs.Key.{same_key}
 use Rattle.rows_model.specs.Placement.{shard_of}
 use Rattle.rows_model.proofs.SameKey.{same_key-true}
+use Rattle.case_tables.specs.declared.grids.Verdict.{Verdict}
+use Rattle.case_tables.specs.declared.grids.Verdict.TheVariants as verdicts
+use Rattle.lease_table.specs.declared.records.Quar.{Quar}
+use Rattle.lease_table.specs.Leases.{first, others_in, raise_in}
 use Rattle.key_shard.specs.declared.steps.Step.{Step}
-use Rattle.key_shard.specs.Past.{Terms}
+use Rattle.key_shard.specs.Permit.{Permit}
+use Rattle.key_shard.specs.Past.{Terms, standing, quar_of}
 use Rattle.key_shard.specs.Shards.{ShardView}
-use Rattle.key_shard.specs.Answers.{Request, Get, Set, Quarantine, Release, Replace, Answers, IsAtHome, IsLegalPast, Legal, step_of, key_of}
+use Rattle.key_shard.specs.Answers.{Request, Get, Set, Quarantine, Release, Replace, Raise, Renew, Answers, IsAtHome, IsLegalPast, Legal, step_of, key_of}
+use Rattle.key_shard.specs.Answers.{raise_by, renew_by}
 use Rattle.key_shard.proofs.CaseLemmas.{got_cases, set_cases, quarantine_cases, release_cases, replace_cases}
 use Rattle.sql_keeper.specs.declared.stores.Commit.{Commit}
 use Rattle.sql_keeper.specs.Fresh.{quarantines, Covered}
@@ -61,6 +68,24 @@ legal-more shards i shard in' is before here =
 abbrev GrantsAtHome : Terms → QKey → Sid → Step → Type 0
 GrantsAtHome terms key who made = quarantines key who made ≡ true → IsAtHome terms key
 
+-- neither a raise nor a renewal grants
+raised-grants : (key : QKey) (who : Sid) (permit : Permit) (other : Option Quar) (v : Verdict) → quarantines key who (raise_by permit other v) ≡ false
+raised-grants key who permit other verdicts.Raise = refl
+raised-grants key who permit (Some other) verdicts.Refuse = refl
+raised-grants key who permit None verdicts.Refuse = refl
+raised-grants key who permit other verdicts.Gone = refl
+raised-grants key who permit other verdicts.Give = refl
+raised-grants key who permit other verdicts.Void = refl
+raised-grants key who permit other verdicts.Join = refl
+raised-grants key who permit other verdicts.Wait = refl
+raised-grants key who permit other verdicts.Same = refl
+raised-grants key who permit other verdicts.Own = refl
+
+renewed-grants : (key : QKey) (who : Sid) (terms : Terms) (permit : Permit) (now : ℕ) (o : Option Quar)
+    → quarantines key who (renew_by terms permit now o) ≡ false
+renewed-grants key who terms permit now (Some quar) = refl
+renewed-grants key who terms permit now None = refl
+
 granted-at_home : (terms : Terms) (past : List Step) (key : QKey) (who : Sid) (made : Step) → Answers terms past made → GrantsAtHome terms key who made
 granted-at_home terms past key who made answers = subst (GrantsAtHome terms key who) (sym answers.answer) (by answers.request answers.at_home)
   where
@@ -74,6 +99,13 @@ granted-at_home terms past key who made answers = subst (GrantsAtHome terms key 
         (λ grants. cc) (λ quar _ grants. cc)
     by (Release permit how) home = release_cases (GrantsAtHome terms key who) past permit how (λ quar _ grants. cc) (λ _ grants. cc)
     by (Replace permit value stamp) home = replace_cases (GrantsAtHome terms key who) terms past permit value stamp (λ quar _ grants. cc) (λ _ grants. cc)
+    by (Raise permit) home = λ grants.
+        let none =
+        raised-grants key who permit (first (others_in permit.sid (standing permit.key past)))
+        (raise_in permit.sid permit.token (standing permit.key past)) in
+        absurd (false≢true (sym none ∙ grants))
+    by (Renew permit now) home = λ grants.
+        absurd (false≢true (sym (renewed-grants key who terms permit now (quar_of permit.key permit.token past)) ∙ grants))
 
 past-at_home : (terms : Terms) (key : QKey) (who : Sid) (past : List Step)
     → IsLegalPast terms past → list_any (quarantines key who) past ≡ true → IsAtHome terms key

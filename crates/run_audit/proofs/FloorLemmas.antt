@@ -116,6 +116,9 @@ ended-number log numbers key are (step.Granted on sid mode shift now token deadl
 ended-number log numbers key are (step.Held on sid mode) = none-ended log key (step.Held on sid mode) (λ who. refl)
 ended-number log numbers key are (step.Refused on sid mode holder held) = none-ended log key (step.Refused on sid mode holder held) (λ who. refl)
 ended-number log numbers key are (step.Gone on sid token) = none-ended log key (step.Gone on sid token) (λ who. refl)
+ended-number log numbers key are (step.Raised on sid token) = none-ended log key (step.Raised on sid token) (λ who. refl)
+ended-number log numbers key are (step.Shared on sid token holder) = none-ended log key (step.Shared on sid token holder) (λ who. refl)
+ended-number log numbers key are (step.Renewed on sid token now deadline) = none-ended log key (step.Renewed on sid token now deadline) (λ who. refl)
 
 -- one step more
 pub floors-more : (log : List Commit) (past : List Step) (made : Step) (numbers : BTreeMap Hold ℕ) (old new : BTreeMap QKey ℕ)

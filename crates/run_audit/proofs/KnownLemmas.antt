@@ -28,6 +28,9 @@ still-knows old new keeps (step.Held on sid mode) known = tt
 still-knows old new keeps (step.Refused on sid mode holder held) known = tt
 still-knows old new keeps (step.Released on sid token how) known = tt
 still-knows old new keeps (step.Gone on sid token) known = tt
+still-knows old new keeps (step.Raised on sid token) known = tt
+still-knows old new keeps (step.Shared on sid token holder) known = tt
+still-knows old new keeps (step.Renewed on sid token now deadline) known = tt
 
 pub all-known : (old new : BTreeMap QKey (Vec Version)) → Keeps old new → (steps : List Step) → All (Knows old) steps → All (Knows new) steps
 all-known old new keeps steps known = All-weaker (Knows old) (Knows new) (still-knows old new keeps) steps known

@@ -73,7 +73,7 @@ fn copies_the_leases(rt: HostRuntime) {
     let _ = ask_q(&rt, &mut leases, profile(1), quar, 0);
     let _ = ask_i(&rt, &mut leases, profile(2), Sid { number: 2 }, 2, 9, 0);
     match leases.copy() {
-        Ok(copy) => {
+        Ok(mut copy) => {
             assert!(rt; leases.end_q(&profile(1), 1) == Some(quar));
             assert!(rt; leases.take_i(&profile(2), 2, 0));
             assert!(rt; copy.quar(&profile(1), 1) == Some(quar));

@@ -1,16 +1,18 @@
 //! A shard on which tests make calls, and what it answers as a text.
 ghost use Rattle.std.specs.Prelude.{◌≤◌, ◌<◌};
 
-use key_shard::{Got, Grant, QAnswer, Rel, SetAnswer, Shard, ShardFault};
-use rows_model::{QKey, Sid, Value};
+use key_shard::{Got, Grant, QAnswer, Raising, Rel, Renewal, SetAnswer, Shard, ShardFault};
+use lease_table::Mode;
+use rows_model::{Memory, QKey, Sid, Value};
 use std::alloc::{AllocError, Global};
 use std::mem;
 use std::process::Abort;
 
-/// A shard, and the grant that the test holds.
+/// A shard, the grant that the test holds, and one that it laid aside.
 pub struct Desk {
     pub shard: Shard,
     pub held: Option<Grant>,
+    pub aside: Option<Grant>,
 }
 
 impl Desk {
@@ -21,7 +23,7 @@ impl Desk {
         requires tokens { 1 ≤ first }
     {
         match Shard::new(alloc, no, count, room, 100, first) {
-            Ok(shard) => Desk { shard, held: None },
+            Ok(shard) => Desk::over(shard),
             Err(_) => panic!(rt; "no memory"),
         }
     }
@@ -33,8 +35,16 @@ impl Desk {
         requires keeps { 1 ≤ keep }
     {
         match Shard::rolling(alloc, 0, 1, room, 100, first, keep) {
-            Ok(shard) => Desk { shard, held: None },
+            Ok(shard) => Desk::over(shard),
             Err(_) => panic!(rt; "no memory"),
+        }
+    }
+
+    fn over(shard: Shard) -> Desk {
+        Desk {
+            shard,
+            held: None,
+            aside: None,
         }
     }
 
@@ -47,16 +57,28 @@ impl Desk {
     }
 
     /// Holds the grant, in the place of any that was held.
-    fn hold(&mut self, grant: Grant) {
+    pub fn hold(&mut self, grant: Grant) {
         if let Some(other) = mem::replace(&mut self.held, Some(grant)) {
             other.let_go();
         }
     }
 
-    /// The shard. A grant that is held is let go.
+    /// Lays aside what is held, holds what lay there, and tells the token of that.
+    pub fn change_hands(&mut self, alloc: Global) -> Result<String, AllocError> {
+        mem::swap(&mut self.held, &mut self.aside);
+        match &self.held {
+            Some(grant) => format!(in alloc; "{}", grant.token()),
+            None => format!(in alloc; "none"),
+        }
+    }
+
+    /// The shard. A grant that is held or laid aside is let go.
     pub fn into_shard(self) -> Shard {
-        let Desk { shard, held } = self;
+        let Desk { shard, held, aside } = self;
         if let Some(grant) = held {
+            grant.let_go();
+        }
+        if let Some(grant) = aside {
             grant.let_go();
         }
         shard
@@ -79,7 +101,7 @@ impl Desk {
         match answer {
             QAnswer::Granted { grant, old } => {
                 assert!(rt; grant.key() == key && grant.sid() == who);
-                let told = granted_told(alloc, grant.token(), old);
+                let told = given_told(alloc, "granted", grant.token(), old);
                 self.hold(grant);
                 told
             }
@@ -89,22 +111,46 @@ impl Desk {
             }
         }
     }
+
+    /// Tells the answer to a raise, and holds the grant that comes back. Raised it is to refresh.
+    pub fn raised(
+        &mut self,
+        rt: &impl Abort,
+        alloc: Global,
+        answer: Raising,
+    ) -> Result<String, AllocError> {
+        match answer {
+            Raising::Raised { grant, old } => {
+                assert!(rt; matches!(grant.mode(), Mode::Refresh));
+                let told = given_told(alloc, "raised", grant.token(), old);
+                self.hold(grant);
+                told
+            }
+            Raising::Shared { grant, holder } => {
+                assert!(rt; matches!(grant.mode(), Mode::Invalidate));
+                self.hold(grant);
+                format!(in alloc; "shared with {}", holder.number)
+            }
+            Raising::Gone => format!(in alloc; "gone"),
+        }
+    }
 }
 
 fn text_of(alloc: Global, value: &Value) -> Result<String, AllocError> {
     String::from_utf8_lossy(alloc, value.bytes())
 }
 
-fn granted_told(
+fn given_told(
     alloc: Global,
+    word: &str,
     token: u64,
     old: Option<(Value, u64)>,
 ) -> Result<String, AllocError> {
     match old {
         Some((value, stamp)) => {
-            format!(in alloc; "granted {token} over {} {stamp}", text_of(alloc, &value)?)
+            format!(in alloc; "{word} {token} over {} {stamp}", text_of(alloc, &value)?)
         }
-        None => format!(in alloc; "granted {token}"),
+        None => format!(in alloc; "{word} {token}"),
     }
 }
 
@@ -139,6 +185,15 @@ pub fn set_told(
         Ok(SetAnswer::Stored { evicted: Some(key) }) => format!(in alloc; "stored for {}", key.id),
         Ok(SetAnswer::Void) => format!(in alloc; "void"),
         Err(fault) => fault_told(alloc, fault),
+    }
+}
+
+/// Tells the answer to a renewal.
+pub fn renewal_told(alloc: Global, answer: Result<Renewal, Memory>) -> Result<String, AllocError> {
+    match answer {
+        Ok(Renewal::Renewed { deadline }) => format!(in alloc; "renewed until {deadline}"),
+        Ok(Renewal::Gone) => format!(in alloc; "gone"),
+        Err(_) => format!(in alloc; "no memory"),
     }
 }
 

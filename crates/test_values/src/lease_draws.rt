@@ -65,7 +65,8 @@ fn token_on(draws: &mut Draws, list: &ListTable, key: &QKey, who: Sid, fresh: u6
     }
 }
 
-/// Turn `fresh`: time goes on every eighth turn, and leases live up to 39 units of it.
+/// Turn `fresh`: time goes on every eighth turn, and leases live up to 39 units of it. Now and then the
+/// clock goes back by up to 59 units.
 fn drawn(draws: &mut Draws, list: &ListTable, fresh: u64) -> Turn
     requires { fresh < 2 ^ 32 }
 {
@@ -74,7 +75,12 @@ fn drawn(draws: &mut Draws, list: &ListTable, fresh: u64) -> Turn
         number: draws.below(5),
     };
     let mode = drawn_mode(draws);
-    let now = fresh / 8;
+    let back = if draws.below(4) == 0 {
+        draws.below(60)
+    } else {
+        0
+    };
+    let now = (fresh / 8).saturating_sub(back);
     let deadline = now + draws.below(40);
     let token = token_on(draws, list, &key, sid, fresh);
     Turn {
@@ -108,13 +114,19 @@ fn agree(rt: &impl Abort, table: &Leases, list: &ListTable, turn: &Turn) {
         table.judge_q(&key, sid, mode, now),
         list.judge_q(&key, sid, mode, now),
     );
+    is_same(
+        rt,
+        table.judge_raise(&key, sid, turn.token),
+        list.judge_raise(&key, sid, turn.token),
+    );
     assert!(rt; table.can_take_i(&key, turn.token, now) == list.can_take_i(&key, turn.token, now));
 }
 
 /// What is looked up is the same.
-fn look_alike(rt: &impl Abort, table: &Leases, list: &ListTable, turn: &Turn) {
+fn look_alike(rt: &impl Abort, table: &mut Leases, list: &ListTable, turn: &Turn) {
     let Turn { key, sid, now, .. } = *turn;
     assert!(rt; table.holder(&key, sid) == list.holder(&key, sid));
+    assert!(rt; table.other(&key, sid) == list.other(&key, sid));
     assert!(rt; table.quar(&key, turn.token) == list.quar(&key, turn.token));
     assert!(rt; table.expired(now) == list.expired(now));
 }
@@ -173,6 +185,20 @@ fn ends(rt: &impl Abort, table: &mut Leases, list: &mut ListTable, key: &QKey, t
     ended.is_some()
 }
 
+/// Raises the quarantine of the turn's session and token in both, and says whether it was raised.
+fn raises(rt: &impl Abort, table: &mut Leases, list: &mut ListTable, turn: &Turn) -> bool {
+    let verdict = table.raise(&turn.key, turn.sid, turn.token);
+    is_same(rt, verdict, list.raise(&turn.key, turn.sid, turn.token));
+    matches!(verdict, Verdict::Raise)
+}
+
+/// Gives the quarantine of the turn's token its deadline in both, and says whether it stood.
+fn renews(rt: &impl Abort, table: &mut Leases, list: &mut ListTable, turn: &Turn) -> bool {
+    let renewed = table.renew(&turn.key, turn.token, turn.deadline);
+    assert!(rt; renewed == list.renew(&turn.key, turn.token, turn.deadline));
+    renewed
+}
+
 /// Makes one of the calls that change something, and says whether it did.
 fn call(rt: &impl Abort, table: &mut Leases, list: &mut ListTable, turn: &Turn, call: u64) -> bool {
     match call {
@@ -180,6 +206,8 @@ fn call(rt: &impl Abort, table: &mut Leases, list: &mut ListTable, turn: &Turn, 
         1 => asks_q(rt, table, list, turn),
         2 => takes(rt, table, list, turn),
         3 => ends(rt, table, list, &turn.key, turn.token),
+        4 => raises(rt, table, list, turn),
+        5 => renews(rt, table, list, turn),
         _ => match list.expired(turn.now) {
             Some(due) => ends(rt, table, list, &due.key, due.token),
             None => false,
@@ -192,15 +220,15 @@ fn answers_drawn_calls_as_a_list_of_records_does(rt: HostRuntime) {
     let mut draws = Draws::new(1);
     let mut table = Leases::new(rt.alloc());
     let mut list = ListTable::new(rt.alloc());
-    let mut changed = [false; 5];
+    let mut changed = [false; 7];
     for fresh in 0..TURNS {
         let turn = drawn(&mut draws, &list, fresh);
-        let kind = draws.below(5);
+        let kind = draws.below(7);
         if call(&rt, &mut table, &mut list, &turn, kind) {
             changed[kind as usize] = true;
         }
         agree(&rt, &table, &list, &turn);
-        look_alike(&rt, &table, &list, &turn);
+        look_alike(&rt, &mut table, &list, &turn);
     }
-    assert!(rt; changed == [true; 5]);
+    assert!(rt; changed == [true; 7]);
 }

@@ -15,6 +15,8 @@ pub fn word(verdict: Verdict) -> &'static str {
         Verdict::Same => "same",
         Verdict::Own => "own",
         Verdict::Refuse => "refuse",
+        Verdict::Raise => "raise",
+        Verdict::Gone => "gone",
     }
 }
 
@@ -58,6 +60,10 @@ enum Call {
     Holder(QKey, u64),
     /// The row of the grid, as this session sees it at time 0.
     Standing(QKey, u64),
+    /// Raises the quarantine of a session and a token.
+    Raise(QKey, u64, u64),
+    /// Gives the quarantine of a token another deadline.
+    Renew(QKey, u64, u64),
     /// The first quarantine that is due at a time, on any key.
     Due(u64),
 }
@@ -144,6 +150,13 @@ fn told(
         Call::Standing(key, sid) => {
             format!(in alloc; "{}", leases.standing(&key, Sid { number: sid }, 0))
         }
+        Call::Raise(key, sid, token) => {
+            let verdict = leases.raise(&key, Sid { number: sid }, token);
+            String::from_str(alloc, word(verdict))
+        }
+        Call::Renew(key, token, deadline) => {
+            format!(in alloc; "{}", leases.renew(&key, token, deadline))
+        }
         Call::Due(now) => due_told(alloc, leases.expired(now)),
     }
 }
@@ -227,7 +240,7 @@ fn replaces_a_lease_past_its_deadline(rt: HostRuntime) {
     check(&rt, rt.alloc(), &REPLACED);
 }
 
-const APART: [(Call, &str); 20] = [
+const APART: [(Call, &str); 21] = [
     (Call::Quarantine(FRIENDS_2, 1, Mode::Refresh, 4, 10), "give"),
     (Call::Quarantine(PROFILE_3, 1, Mode::Delta, 5, 10), "give"),
     (
@@ -243,13 +256,15 @@ const APART: [(Call, &str); 20] = [
     (Call::Standing(PROFILE_3, 1), "7"),
     (Call::Standing(PROFILE_3, 4), "4"),
     (Call::Standing(PROFILE_2, 1), "2"),
-    (Call::Standing(PROFILE_2, 3), "5"),
+    // Its own stands beside another's.
+    (Call::Standing(PROFILE_2, 3), "8"),
     (Call::Due(9), "none"),
     (Call::Due(10), "Profile 2 of 2 by 8"),
     (
         Call::End(PROFILE_2, 8),
         "Invalidate of 2 by 8 until 10 shift 0",
     ),
+    (Call::Standing(PROFILE_2, 3), "5"),
     (Call::Due(10), "Profile 2 of 3 by 9"),
     (
         Call::End(PROFILE_2, 9),
@@ -268,6 +283,87 @@ const APART: [(Call, &str); 20] = [
 #[test]
 fn keeps_keys_apart_and_tells_the_least_that_is_due(rt: HostRuntime) {
     check(&rt, rt.alloc(), &APART);
+}
+
+const RAISED: [(Call, &str); 14] = [
+    (
+        Call::Quarantine(PROFILE_2, 1, Mode::Invalidate, 1, 100),
+        "give",
+    ),
+    (
+        Call::Quarantine(PROFILE_2, 2, Mode::Invalidate, 2, 100),
+        "join",
+    ),
+    (Call::Raise(PROFILE_2, 2, 2), "refuse"),
+    // Another's token, and another session.
+    (Call::Raise(PROFILE_2, 2, 1), "gone"),
+    (Call::Raise(PROFILE_2, 3, 2), "gone"),
+    (
+        Call::End(PROFILE_2, 1),
+        "Invalidate of 1 by 1 until 100 shift 0",
+    ),
+    // Another key.
+    (Call::Raise(PROFILE_3, 2, 2), "gone"),
+    (Call::Raise(PROFILE_2, 2, 2), "raise"),
+    (Call::Standing(PROFILE_2, 2), "6"),
+    // It is to refresh already.
+    (Call::Raise(PROFILE_2, 2, 2), "gone"),
+    (
+        Call::Quarantine(PROFILE_2, 3, Mode::Invalidate, 3, 100),
+        "refuse",
+    ),
+    (Call::Due(99), "none"),
+    (Call::Due(100), "Profile 2 of 2 by 2"),
+    (
+        Call::End(PROFILE_2, 2),
+        "Refresh of 2 by 2 until 100 shift 0",
+    ),
+];
+
+#[test]
+fn raises_a_quarantine_that_stands_alone(rt: HostRuntime) {
+    check(&rt, rt.alloc(), &RAISED);
+}
+
+const RENEWED: [(Call, &str); 18] = [
+    (
+        Call::Quarantine(PROFILE_2, 1, Mode::Invalidate, 1, 10),
+        "give",
+    ),
+    (
+        Call::Quarantine(PROFILE_2, 2, Mode::Invalidate, 2, 10),
+        "join",
+    ),
+    (Call::Quarantine(PROFILE_3, 3, Mode::Delta, 3, 20), "give"),
+    (Call::Due(10), "Profile 2 of 1 by 1"),
+    (Call::Renew(PROFILE_2, 1, 30), "true"),
+    (Call::Due(10), "Profile 2 of 2 by 2"),
+    (Call::Due(20), "Profile 2 of 2 by 2"),
+    // Another key, and another token.
+    (Call::Renew(PROFILE_3, 2, 40), "false"),
+    (Call::Renew(PROFILE_2, 3, 40), "false"),
+    (Call::Renew(PROFILE_2, 2, 40), "true"),
+    (Call::Due(20), "Profile 3 of 3 by 3"),
+    // The clock went back.
+    (Call::Due(19), "none"),
+    (Call::Due(30), "Profile 2 of 1 by 1"),
+    // A deadline may go back too.
+    (Call::Renew(PROFILE_2, 2, 5), "true"),
+    (Call::Due(5), "Profile 2 of 2 by 2"),
+    (
+        Call::End(PROFILE_2, 1),
+        "Invalidate of 1 by 1 until 30 shift 0",
+    ),
+    (
+        Call::End(PROFILE_2, 2),
+        "Invalidate of 2 by 2 until 5 shift 0",
+    ),
+    (Call::Renew(PROFILE_2, 2, 50), "false"),
+];
+
+#[test]
+fn gives_a_quarantine_another_deadline(rt: HostRuntime) {
+    check(&rt, rt.alloc(), &RENEWED);
 }
 
 /// A deadline, a time, and whether the deadline lies ahead.

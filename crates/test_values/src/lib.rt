@@ -32,7 +32,11 @@ mod number_shifts;
 #[cfg(test)]
 mod places;
 #[cfg(test)]
+mod raises;
+#[cfg(test)]
 mod refreshes;
+#[cfg(test)]
+mod renewals;
 #[cfg(test)]
 mod roll_draws;
 #[cfg(test)]

@@ -19,9 +19,10 @@ impl ListTable {
     }
 
     pub fn standing(&self, key: &QKey, who: Sid, now: u64) -> usize
-        ensures { result < 8 }
+        ensures { result < 9 }
     {
         match (self.own(key, who), self.other(key, who)) {
+            (Some(own), Some(_)) if matches!(own.mode, Mode::Invalidate) => 8,
             (Some(own), None) | (Some(own), Some(_)) => 5 + own.mode.place(),
             (None, Some(other)) => 2 + other.mode.place(),
             (None, None) => usize::from(self.recorded(key).is_some_and(|read| now < read.deadline)),
@@ -34,6 +35,22 @@ impl ListTable {
 
     pub fn judge_q(&self, key: &QKey, who: Sid, mode: Mode, now: u64) -> Verdict {
         lease_grid().at(self.standing(key, who, now), 1 + mode.place())
+    }
+
+    /// Gone where the session has no quarantine to invalidate with this token, else Refuse beside another's,
+    /// else Raise.
+    pub fn judge_raise(&self, key: &QKey, who: Sid, token: u64) -> Verdict {
+        match self.quar(key, token) {
+            Some(quar) if quar.sid.number == who.number && matches!(quar.mode, Mode::Invalidate) =>
+                {
+                    if self.other(key, who).is_some() {
+                        Verdict::Refuse
+                    } else {
+                        Verdict::Raise
+                    }
+                }
+            _ => Verdict::Gone,
+        }
     }
 
     pub fn ask_i(&mut self, key: QKey, read: ReadLease, now: u64) -> Result<Verdict, Memory> {
@@ -98,6 +115,32 @@ impl ListTable {
         Some(quar)
     }
 
+    pub fn raise(&mut self, key: &QKey, who: Sid, token: u64) -> Verdict {
+        let verdict = self.judge_raise(key, who, token);
+        if matches!(verdict, Verdict::Raise)
+            && let Some(quar) = self.quar(key, token)
+        {
+            self.put_again(
+                key,
+                Quar {
+                    mode: Mode::Refresh,
+                    ..quar
+                },
+            );
+        }
+        verdict
+    }
+
+    pub fn renew(&mut self, key: &QKey, token: u64, deadline: u64) -> bool {
+        match self.quar(key, token) {
+            Some(quar) => {
+                self.put_again(key, Quar { deadline, ..quar });
+                true
+            }
+            None => false,
+        }
+    }
+
     pub fn expired(&self, now: u64) -> Option<Due> {
         let mut least = None;
         for lease in &self.leases {
@@ -113,11 +156,20 @@ impl ListTable {
             .find(|quar| quar.sid.number == who.number)
     }
 
-    fn other(&self, key: &QKey, who: Sid) -> Option<Quar> {
+    pub fn other(&self, key: &QKey, who: Sid) -> Option<Quar> {
         self.leases
             .iter()
             .filter_map(|lease| quar_at(lease, key))
             .find(|quar| quar.sid.number != who.number)
+    }
+
+    /// Puts the quarantine in the place of the one on the key that has its token.
+    fn put_again(&mut self, key: &QKey, new: Quar) {
+        for lease in self.leases.iter_mut() {
+            if quar_at(lease, key).is_some_and(|quar| quar.token == new.token) {
+                lease.held = Held::Quarantine(new);
+            }
+        }
     }
 
     fn record(&mut self, lease: Lease) -> Result<(), Memory> {

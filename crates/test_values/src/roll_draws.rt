@@ -49,22 +49,32 @@ fn ending(draws: &mut Draws, mode: Mode) -> Call {
 }
 
 /// A sweep of what is due.
-fn sweeping(desk: &Desk, now: u64) -> Call {
+fn sweeping(desk: &mut Desk, now: u64) -> Call {
     match desk.shard.expired(now) {
         Some(due) => Call::Sweep(due.key.id, due.token),
         None => Call::Due(now),
     }
 }
 
+/// The mode of the grant that is held.
+fn mode_held(desk: &Desk) -> Option<Mode> {
+    match &desk.held {
+        Some(grant) => Some(grant.mode()),
+        None => None,
+    }
+}
+
 /// The call of a turn, by one of four sessions on one of three keys. Time goes on every eighth turn.
-fn drawn(draws: &mut Draws, desk: &Desk, turn: u64) -> Call {
+fn drawn(draws: &mut Draws, desk: &mut Desk, turn: u64) -> Call {
     let (id, who, now) = (draws.below(3) as u32, draws.below(4), turn / 8);
-    match (draws.below(8), &desk.held) {
+    match (draws.below(10), mode_held(desk)) {
         (0, _) => Call::Due(now),
         (1, _) => sweeping(desk, now),
         (2, _) | (3, None) => asking(draws, id, who, now),
-        (3, Some(grant)) => ending(draws, grant.mode()),
+        (3, Some(mode)) => ending(draws, mode),
         (4 | 5, _) => setting(draws, desk, id, now),
+        (6, Some(Mode::Invalidate)) => Call::Raise,
+        (7, Some(_)) => Call::Renew(now),
         _ => Call::Get(id, who, draws.below(4), now),
     }
 }
@@ -98,9 +108,9 @@ fn note(desk: &Desk, seen: &mut [bool; KINDS]) {
     }
 }
 
-/// What ends a quarantine makes no shard roll.
+/// What ends, raises or renews a quarantine makes no shard roll.
 const ROLLING: [bool; KINDS] = [
-    true, true, true, true, true, true, true, true, true, false, false,
+    true, true, true, true, true, true, true, true, true, false, false, false, false, false,
 ];
 
 /// Compares a whole shard with one that keeps so many steps. Each kind of step comes, and each that may
@@ -114,7 +124,7 @@ fn compare(rt: &impl Abort, alloc: Global, keep: u32)
     let (mut seen, mut rolls) = ([false; KINDS], [false; KINDS]);
     for turn in 0..TURNS {
         let dropped = rolling.shard.base().dropped();
-        let call = drawn(&mut draws, &whole, turn);
+        let call = drawn(&mut draws, &mut whole, turn);
         answers_alike(rt, alloc, &mut whole, &mut rolling, call);
         are_alike(rt, &whole, &rolling);
         note(&rolling, &mut seen);

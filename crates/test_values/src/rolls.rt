@@ -53,6 +53,22 @@ fn gives_up_none_where_a_quarantine_ends(rt: HostRuntime) {
     check(&rt, rt.alloc(), 1, 1, &ENDS);
 }
 
+const RAISED: [(Call, &str); 8] = [
+    (Call::Invalidate(1, 1, 0), "granted 1"),
+    (Call::Renew(5), "renewed until 105"),
+    (Call::Raise, "raised 1"),
+    (Call::Base, "0 1"),
+    (Call::Invalidate(2, 2, 0), "granted 2"),
+    (Call::Base, "3 2"),
+    (Call::Due(105), "1 1 1"),
+    (Call::Due(100), "2 2 2"),
+];
+
+#[test]
+fn gives_up_none_where_a_quarantine_is_raised_or_renewed(rt: HostRuntime) {
+    check(&rt, rt.alloc(), 1, 1, &RAISED);
+}
+
 const REFUSED: [(Call, &str); 5] = [
     (Call::Set(1, 1, "a", 0, 0), "void"),
     (Call::Get(1, 1, 0, 0), "spent 18446744073709551615"),

@@ -2,7 +2,7 @@
 ghost use Rattle.std.specs.Prelude.{◌≤◌};
 ghost use Rattle.key_shard.specs.Answers.{FitsShift};
 
-use crate::desks::{Desk, fault_told, got_told, rel_told, set_told};
+use crate::desks::{Desk, fault_told, got_told, rel_told, renewal_told, set_told};
 use crate::txns::value_of;
 use key_shard::{Back, Base, How, Rel};
 use lease_table::{Due, Mode};
@@ -32,6 +32,12 @@ pub enum Call {
     Shift(u64),
     /// Releases the grant with a new value and a stamp.
     Replace(&'static str, u64),
+    /// Raises the grant that is held, and holds what comes back.
+    Raise,
+    /// Renews the grant that is held, at a time.
+    Renew(u64),
+    /// Lays aside what is held, and holds what lay there, which is told by its token.
+    Change,
     /// The first quarantine that is due at a time, by the ids of its member and its session, and its
     /// token.
     Due(u64),
@@ -123,6 +129,32 @@ fn replace(rt: &impl Abort, alloc: Global, desk: &mut Desk, text: &str, stamp: u
     }
 }
 
+/// Raises the grant, which is to be one to invalidate.
+fn raise(rt: &impl Abort, alloc: Global, desk: &mut Desk) -> Result<String, AllocError> {
+    let grant = desk.take(rt);
+    match grant.mode() {
+        Mode::Invalidate => match desk.shard.raise(grant) {
+            Ok(answer) => desk.raised(rt, alloc, answer),
+            Err(grant) => {
+                grant.let_go();
+                panic!(rt; "no memory")
+            }
+        },
+        _ => {
+            grant.let_go();
+            panic!(rt; "no invalidate")
+        }
+    }
+}
+
+/// Renews the grant, and holds it further.
+fn renew(rt: &impl Abort, alloc: Global, desk: &mut Desk, now: u64) -> Result<String, AllocError> {
+    let grant = desk.take(rt);
+    let answer = desk.shard.renew(&grant, now);
+    desk.hold(grant);
+    renewal_told(alloc, answer)
+}
+
 /// Sweeps a key that is to be the shard's.
 fn sweep(rt: &impl Abort, desk: &mut Desk, id: u32, token: u64) -> Rel {
     let key = profile(id);
@@ -166,6 +198,9 @@ pub fn told(
         Call::Drop => rel_told(alloc, drop_entry(rt, desk)),
         Call::Shift(stamp) => rel_told(alloc, shift(rt, desk, stamp)),
         Call::Replace(text, stamp) => rel_told(alloc, replace(rt, alloc, desk, text, stamp)),
+        Call::Raise => raise(rt, alloc, desk),
+        Call::Renew(now) => renew(rt, alloc, desk, now),
+        Call::Change => desk.change_hands(alloc),
         Call::Due(now) => due_told(alloc, desk.shard.expired(now)),
         Call::Sweep(id, token) => rel_told(alloc, sweep(rt, desk, id, token)),
         Call::Steps => format!(in alloc; "{}", desk.shard.history().len()),
@@ -321,33 +356,55 @@ fn brings_no_evicted_entry_back(rt: HostRuntime) {
     check(&rt, rt.alloc(), 1, &EVICTED);
 }
 
-const STRANGE_GRANT: [(Call, &str); 2] = [(Call::Drop, "gone"), (Call::Steps, "1")];
+const STRANGE_GRANT: [(Call, &str); 3] = [
+    (Call::Renew(0), "gone"),
+    (Call::Drop, "gone"),
+    (Call::Steps, "1"),
+];
 
-const OWN_GRANT: [(Call, &str); 2] = [(Call::Drop, "released"), (Call::Steps, "2")];
+const OWN_GRANT: [(Call, &str); 3] = [
+    (Call::Renew(0), "renewed until 100"),
+    (Call::Drop, "released"),
+    (Call::Steps, "3"),
+];
 
-#[test]
-fn knows_its_own_grants_alone(rt: HostRuntime) {
-    let alloc = rt.alloc();
-    let mut home = Desk::new(&rt, alloc, 0, 2, 4, 1);
-    let mut away = Desk::new(&rt, alloc, 1, 2, 4, 1);
+const STRANGE_RAISE: [(Call, &str); 2] = [(Call::Raise, "gone"), (Call::Steps, "1")];
+
+const OWN_RAISE: [(Call, &str); 3] = [
+    (Call::Raise, "raised 1"),
+    (Call::Replace("a", 1), "released"),
+    (Call::Steps, "3"),
+];
+
+/// Two shards each grant a quarantine of a key of theirs. Compares what the first answers to the grant of
+/// the other, and then to its own.
+fn compare_grants(rt: &impl Abort, alloc: Global, strange: &[(Call, &str)], own: &[(Call, &str)]) {
+    let mut home = Desk::new(rt, alloc, 0, 2, 4, 1);
+    let mut away = Desk::new(rt, alloc, 1, 2, 4, 1);
     play(
-        &rt,
+        rt,
         alloc,
         &mut home,
         &[(Call::Invalidate(2, 1, 0), "granted 1")],
     );
     play(
-        &rt,
+        rt,
         alloc,
         &mut away,
         &[(Call::Invalidate(1, 1, 0), "granted 1")],
     );
     mem::swap(&mut home.held, &mut away.held);
-    play(&rt, alloc, &mut home, &STRANGE_GRANT);
+    play(rt, alloc, &mut home, strange);
     mem::swap(&mut home.held, &mut away.held);
-    play(&rt, alloc, &mut home, &OWN_GRANT);
+    play(rt, alloc, &mut home, own);
     home.close();
     away.close();
+}
+
+#[test]
+fn knows_its_own_grants_alone(rt: HostRuntime) {
+    compare_grants(&rt, rt.alloc(), &STRANGE_GRANT, &OWN_GRANT);
+    compare_grants(&rt, rt.alloc(), &STRANGE_RAISE, &OWN_RAISE);
 }
 
 const LATE: u64 = 18_446_744_073_709_551_614;

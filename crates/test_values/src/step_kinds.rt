@@ -4,11 +4,11 @@ ghost use Rattle.std.specs.Prelude.{◌<◌};
 use key_shard::Step;
 
 /// How many kinds of steps there are.
-pub const KINDS: usize = 11;
+pub const KINDS: usize = 14;
 
-/// The number of the step's kind. The last two end a quarantine.
+/// The number of the step's kind. The last five end, raise or renew a quarantine.
 pub fn kind_of(step: &Step) -> usize
-    ensures { result < 11 }
+    ensures { result < 14 }
 {
     match step {
         Step::Hit { .. } => 0,
@@ -22,5 +22,8 @@ pub fn kind_of(step: &Step) -> usize
         Step::Refused { .. } => 8,
         Step::Released { .. } => 9,
         Step::Gone { .. } => 10,
+        Step::Raised { .. } => 11,
+        Step::Shared { .. } => 12,
+        Step::Renewed { .. } => 13,
     }
 }

@@ -6,7 +6,7 @@ use Rattle.std.specs.List.{position_from}
 use Rattle.std.proofs.lemmas.Iterator.Adapters.{position_from-zero}
 use Rattle.std.specs.Option.{ForSome}
 use Rattle.std.proofs.lemmas.Bool.{false≢true}
-use Rattle.std.proofs.lemmas.List.{length-map, take-append-drop, drop_all}
+use Rattle.std.proofs.lemmas.List.{take-append-drop, drop_all}
 use Rattle.std.proofs.lemmas.List.Elements.{All-get_or}
 use Rattle.std.proofs.lemmas.Option.{slice_get-map, slice_get_within, get_or_from_slice_get}
 use Rattle.iq_outside.specs.Outside.{Rose}

@@ -1,5 +1,7 @@
-use Rattle.std.proofs.Common.{subst, sym}
+use Rattle.std.proofs.Common.{List, subst, sym}
+use Rattle.key_shard.specs.Shards.{ShardView}
 use Rattle.expiry_sweeper.specs.declared.replies.SweepWanted.{SweepWanted}
+use Rattle.expiry_sweeper.specs.declared.replies.SweepWanted.TheVariants as sweep
 use Rattle.core_history.specs.Sweeping.{Sweeps}
 use Rattle.core_history.proofs.SweptLemmas.{scan_sweeps, end_sweeps, drop_sweeps}
 use Rattle.core_history.proofs.sweeps.make_sweep.Goals as goal
@@ -9,9 +11,11 @@ drop_swept-requires g c = c.requires.homes c.in-Drop.key
 
 pub returns-in-Scan-clause-sweeps : goal.returns-in-Scan-clause-sweeps
 returns-in-Scan-clause-sweeps g c origin world stands time =
-    let P : SweepWanted → Type 0 = λ w. Sweeps origin world w c.args.shards.now.items c.args.store.now c.scan.result in
-    subst P (sym c.in-Scan.is) (scan_sweeps origin world c.in-Scan.shard c.args.shards.now.items c.args.store.now c.scan.result stands
-    (c.scan.ensures.told origin.shape world stands.0 time))
+    let P : SweepWanted → Type 0 = λ w. Sweeps origin world w c.scan.new.shards.items c.args.store.now c.scan.result in
+    let Q : List ShardView → Type 0 = λ shards. Sweeps origin world (sweep.Scan c.in-Scan.shard) shards c.args.store.now c.scan.result in
+    subst P (sym c.in-Scan.is) (subst Q (sym c.scan.ensures.left)
+    (scan_sweeps origin world c.in-Scan.shard c.args.shards.now.items c.args.store.now c.scan.result stands
+    (c.scan.ensures.told origin.shape world stands.0 time)))
 
 pub returns-in-End-clause-sweeps : goal.returns-in-End-clause-sweeps
 returns-in-End-clause-sweeps g c origin world stands time =
