@@ -100,17 +100,18 @@ pub record IsQuiet (opening : Tables) (shape : Shape) (world : World) (key : QKe
   pub untouched : (place : ℕ) (commit : Commit) → slice_get (log_of world.past) place ≡ Some commit → least ≤ place → touches commit.txn key ≡ false
   pub held : (number : ℕ) → AllByRecursion (IsCurrent opening (log_of world.past) key least) (answers_under key lease.token number world.past)
 
--- What a quarantine found when it was granted: how many commits the log had, and the key's entry, if it had one.
+-- What a quarantine found when it was granted or raised: how many commits the log had, and the key's entry, if it had one.
 pub record Found : Type 0 where
   pub commits : ℕ
   pub entry : Option (List ℕ × ℕ)
 
--- Whether a step grants the quarantine of this token on the key.
+-- Whether a step grants the quarantine of this token on the key, or raises it.
 abbrev pub grants_as : QKey → ℕ → Step → Bool
 grants_as key token (step.Granted on sid mode shift now given deadline) = same_key key on && (given == token)
+grants_as key token (step.Raised on sid given) = same_key key on && (given == token)
 grants_as key token other = false
 
--- What the quarantine of this token found on the key, if it was granted.
+-- What the quarantine of this token found on the key, if it was granted: when it was, or when it was raised.
 abbrev pub found_at : QKey → ℕ → List Event → Option Found
 found_at key token [] = None
 found_at key token (Stepped shard who request step told ∷ past) =

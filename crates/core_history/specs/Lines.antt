@@ -18,6 +18,10 @@ use Rattle.key_shard.specs.declared.replies.QAnswer.{QAnswer}
 use Rattle.key_shard.specs.declared.replies.QAnswer.TheVariants as quarantine
 use Rattle.key_shard.specs.declared.replies.Rel.{Rel}
 use Rattle.key_shard.specs.declared.replies.Rel.TheVariants as rel
+use Rattle.key_shard.specs.declared.replies.Raising.{Raising}
+use Rattle.key_shard.specs.declared.replies.Raising.TheVariants as raising
+use Rattle.key_shard.specs.declared.replies.Renewal.{Renewal}
+use Rattle.key_shard.specs.declared.replies.Renewal.TheVariants as renewal
 use Rattle.key_shard.specs.declared.steps.Step.{Step}
 use Rattle.key_shard.specs.declared.steps.Step.TheVariants as step
 use Rattle.sql_keeper.specs.declared.faults.AfterFault.{AfterFault}
@@ -61,6 +65,8 @@ request_words (wanted.Dar grant) = codes "dar" ∷ key_text grant.key ∷ []
 request_words (wanted.Sar grant value stamp) = codes "sar" ∷ key_text grant.key ∷ []
 request_words (wanted.Apply grant stamp) = codes "apply" ∷ key_text grant.key ∷ []
 request_words (wanted.Abort grant) = codes "abort" ∷ key_text grant.key ∷ []
+request_words (wanted.Raise grant) = codes "raise" ∷ key_text grant.key ∷ []
+request_words (wanted.Renew grant) = codes "renew" ∷ key_text grant.key ∷ []
 request_words wanted.Nothing = codes "done" ∷ []
 
 abbrev pub stands_word : Stands → List ℕ
@@ -133,6 +139,18 @@ abbrev pub release_words : Rel → List (List ℕ)
 release_words (rel.Released evicted) = codes "RELEASED" ∷ evicts_words evicted
 release_words rel.Gone = codes "GONE" ∷ []
 
+-- The words that print the answer to a raise: the entry that it found, or who has a quarantine beside it.
+abbrev pub raising_words : Raising → List (List ℕ)
+raising_words (raising.Raised grant old) = codes "RAISED" ∷ old_words old
+raising_words (raising.Shared grant holder) = codes "SHARED" ∷ decimal holder.number ∷ []
+raising_words raising.Gone = codes "GONE" ∷ []
+
+-- The words that print the answer to a renewal. A run doesn't go on without memory.
+abbrev pub renewal_words : Option Renewal → List (List ℕ)
+renewal_words (Some (renewal.Renewed deadline)) = codes "RENEWED" ∷ decimal deadline ∷ []
+renewal_words (Some renewal.Gone) = codes "GONE" ∷ []
+renewal_words None = []
+
 -- The words that print why a request was not made. A run doesn't go on without memory, and no shard of it is out of tokens.
 abbrev pub fault_words : Fault → List (List ℕ)
 fault_words causes.Spent = []
@@ -152,6 +170,9 @@ reply_words (reply.NotCommitted fault txn grants) = commit_fault_words fault
 reply_words (reply.End was) = open_words was
 reply_words (reply.Rel told) = release_words told
 reply_words (reply.SarBack grant) = []
+reply_words (reply.Raise told) = raising_words told
+reply_words (reply.RaiseBack grant) = []
+reply_words (reply.Renew grant told) = renewal_words told
 reply_words (reply.Fault fault) = fault_words fault
 reply_words reply.Nothing = []
 

@@ -15,12 +15,16 @@ use Rattle.key_shard.specs.declared.replies.Got.TheVariants as got
 use Rattle.key_shard.specs.declared.replies.SetAnswer.TheVariants as set
 use Rattle.key_shard.specs.declared.replies.QAnswer.TheVariants as quarantine
 use Rattle.key_shard.specs.declared.replies.Rel.TheVariants as rel
+use Rattle.key_shard.specs.declared.replies.Raising.{Raising}
+use Rattle.key_shard.specs.declared.replies.Raising.TheVariants as raising
+use Rattle.key_shard.specs.declared.replies.Renewal.{Renewal}
+use Rattle.key_shard.specs.declared.replies.Renewal.TheVariants as renewal
 use Rattle.key_shard.specs.declared.replies.How.TheVariants.{Keep, Drop, Shift}
 use Rattle.key_shard.specs.Dues.{first_due}
 use Rattle.key_shard.specs.Past.{Terms, entry, evicted_by}
-use Rattle.key_shard.specs.Answers.{get_step, set_step, quarantine_step, release_step, replace_step, sweep_step}
+use Rattle.key_shard.specs.Answers.{get_step, set_step, quarantine_step, release_step, replace_step, sweep_step, raise_step, renew_step}
 use Rattle.key_shard.specs.Replies.{old_value, sweep_told}
-use Rattle.key_shard.specs.Shards.{without_permit, out_after}
+use Rattle.key_shard.specs.Shards.{without_permit, out_after, raised_permit}
 use Rattle.expiry_sweeper.specs.Sweeps.{sweep_wants}
 use Rattle.expiry_sweeper.specs.declared.replies.SweepReply.{SweepReply}
 use Rattle.expiry_sweeper.specs.declared.replies.SweepReply.TheVariants as sweeps
@@ -88,8 +92,7 @@ abbrev pub is_open : World → Sid → Bool
 is_open world who =
     is_writer (plan_at who.number world.plans) && not (has_committed who.number world.past) && not (was_ended who.number world.past)
 
--- What a session is told of a step, after the steps before it. No session asks for a raise or a renewal yet, and
--- their own steps tell nothing.
+-- What a session is told of a step, after the steps before it. What a raise or a renewal tells goes by its grant, and stands below.
 abbrev pub shown : Terms → List Step → Step → Reply
 shown terms past (step.Hit key sid floor value stamp) = reply.Got (got.Hit value stamp)
 shown terms past (step.Lease key sid floor now token deadline) = reply.Got (got.Lease token)
@@ -107,13 +110,35 @@ shown terms past (step.Raised key sid token) = reply.Nothing
 shown terms past (step.Shared key sid token holder) = reply.Nothing
 shown terms past (step.Renewed key sid token now deadline) = reply.Nothing
 
--- A request on the shard of a key makes the step that follows that shard's own past.
-abbrev pub stepped_on : Shape → List Event → Sid → Wanted → QKey → (Terms → List Step → Step) → Event
-stepped_on shape past who request key step =
+-- What is told of a raise of this grant: the grant as it is then, with the entry where it was raised, or who has a quarantine beside it.
+abbrev pub raise_told : Permit → List Step → Step → Raising
+raise_told grant past (step.Raised key sid token) = raising.Raised (raised_permit grant.key grant.token grant) (entry key past)
+raise_told grant past (step.Shared key sid token holder) = raising.Shared grant holder
+raise_told grant past other = raising.Gone
+
+-- What is told of a renewal: the new deadline, or that the quarantine stands no longer.
+abbrev pub renewal_told : Step → Renewal
+renewal_told (step.Renewed key sid token now deadline) = renewal.Renewed deadline
+renewal_told other = renewal.Gone
+
+-- What a session is told of a raise, and of a renewal. The grant of a renewal comes back in any case.
+abbrev pub raise_shown : Permit → Terms → List Step → Step → Reply
+raise_shown grant terms past step = reply.Raise (raise_told grant past step)
+
+abbrev pub renewal_shown : Permit → Terms → List Step → Step → Reply
+renewal_shown grant terms past step = reply.Renew grant (Some (renewal_told step))
+
+-- A request on the shard of a key makes the step that follows that shard's own past, and is told what the step shows.
+abbrev pub shown_on : Shape → List Event → Sid → Wanted → QKey → (Terms → List Step → Step) → (Terms → List Step → Step → Reply) → Event
+shown_on shape past who request key step shows =
     let place = shard_of key shape.shards in
     let terms = terms_of shape place in
     let steps = steps_of place past in
-    Stepped place who request (step terms steps) (shown terms steps (step terms steps))
+    Stepped place who request (step terms steps) (shows terms steps (step terms steps))
+
+-- So does one that is neither a raise nor a renewal.
+abbrev pub stepped_on : Shape → List Event → Sid → Wanted → QKey → (Terms → List Step → Step) → Event
+stepped_on shape past who request key step = shown_on shape past who request key step shown
 
 -- The store's answer to a key has the number of commits as its stamp.
 abbrev pub ask_told : List Event → QKey → Said → Reply
@@ -177,6 +202,10 @@ event_of shape world who (wanted.Apply grant stamp) said =
     stepped_on shape world.past who (wanted.Apply grant stamp) grant.key (λ terms steps. release_step steps grant (Shift stamp))
 event_of shape world who (wanted.Abort grant) said =
     stepped_on shape world.past who (wanted.Abort grant) grant.key (λ terms steps. release_step steps grant Keep)
+event_of shape world who (wanted.Raise grant) said =
+    shown_on shape world.past who (wanted.Raise grant) grant.key (λ terms steps. raise_step steps grant) (raise_shown grant)
+event_of shape world who (wanted.Renew grant) said =
+    shown_on shape world.past who (wanted.Renew grant) grant.key (λ terms steps. renew_step terms steps grant (now_of world.past)) (renewal_shown grant)
 event_of shape world who wanted.Nothing said = Called who wanted.Nothing reply.Nothing
 
 -- What a session wants next.
@@ -242,12 +271,19 @@ HasPlans [] = Unit {0}
 HasPlans (Begin plan ∷ moves) = IsPlan plan × HasPlans moves
 HasPlans (Take turn said ∷ moves) = HasPlans moves
 
--- The grants that are out at a shard after a request and its step: a release takes its own away, and a granted quarantine adds one.
+-- The grants that are out at a shard after the step of a raise: where the quarantine was gone its grant is spent, and else it stays.
+abbrev pub out_raised : Terms → Permit → Step → List Permit → List Permit
+out_raised terms grant (step.Gone key sid token) out = without_permit grant out
+out_raised terms grant step out = out_after terms step out
+
+-- The grants that are out at a shard after a request and its step: a release takes its own away, a raise changes
+-- its own or spends it, and a granted quarantine adds one.
 abbrev pub out_by : Terms → Wanted → Step → List Permit → List Permit
 out_by terms (wanted.Dar grant) step out = without_permit grant out
 out_by terms (wanted.Sar grant value stamp) step out = without_permit grant out
 out_by terms (wanted.Apply grant stamp) step out = without_permit grant out
 out_by terms (wanted.Abort grant) step out = without_permit grant out
+out_by terms (wanted.Raise grant) step out = out_raised terms grant step out
 out_by terms request step out = out_after terms step out
 
 -- The grants that are out at the shard of this number after these events. A sweep leaves them.

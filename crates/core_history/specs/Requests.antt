@@ -36,12 +36,14 @@ abbrev pub IsGrantOut : List ShardView → Permit → Type 0
 IsGrantOut shards grant =
     (shard : ShardView) → slice_get shards (shard_of grant.key (length shards)) ≡ Some shard → IsTrue (is_out shard grant)
 
--- A grant that is to be released is out.
+-- A grant that is to be released, raised or renewed is out.
 abbrev pub IsOutWhereReleased : List ShardView → Wanted → Type 0
 IsOutWhereReleased shards (wanted.Dar grant) = IsGrantOut shards grant
 IsOutWhereReleased shards (wanted.Sar grant value stamp) = IsGrantOut shards grant
 IsOutWhereReleased shards (wanted.Apply grant stamp) = IsGrantOut shards grant
 IsOutWhereReleased shards (wanted.Abort grant) = IsGrantOut shards grant
+IsOutWhereReleased shards (wanted.Raise grant) = IsGrantOut shards grant
+IsOutWhereReleased shards (wanted.Renew grant) = IsGrantOut shards grant
 IsOutWhereReleased shards other = Unit {0}
 
 -- The release of a grant in this way, as a request.
@@ -60,7 +62,7 @@ quarantined_as Delta key by = wanted.Delta key by
 abbrev pub quarantine_of : ShardView → QKey → Sid → Mode → ℤ → ℕ → Step
 quarantine_of shard key who mode by now = quarantine_step shard.terms (past_of shard) key who mode by now
 
--- The session of this number waits for its turn: it was told what came of its last request, and a grant that it wants to release is out.
+-- The session of this number waits for its turn: it was told what came of its last request, and a grant that it wants to release, raise or renew is out.
 pub record IsWaiting (shards : List ShardView) (who : Sid) (session : Session) : Type 0 where
   pub ready : IsReady session
   pub sid : sid_of session ≡ who

@@ -9,6 +9,7 @@ mod homes;
 pub mod laws;
 pub mod lines;
 mod quarantines;
+mod raises;
 mod releases;
 mod requests;
 mod sweep_lines;

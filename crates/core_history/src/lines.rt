@@ -2,11 +2,11 @@
 ghost use Rattle.std.specs.Prelude.{◌≡◌, ◌∷◌, ◌++◌, [], IfOk, OnOk, codes, decimal};
 ghost use Rattle.std.specs.Fmt.{signed_decimal};
 ghost use Rattle.rows_model.specs.Key.{key_text};
-ghost use Rattle.core_history.specs.Lines.{line, shown, request_words, reply_words, stands_word, mode_word, evicts_words, got_words, set_words, old_words, brought_words, quarantine_words, commit_fault_words, staged_fault_words, open_words, release_words, fault_words, tells_fault};
+ghost use Rattle.core_history.specs.Lines.{line, shown, request_words, reply_words, stands_word, mode_word, evicts_words, got_words, set_words, old_words, brought_words, quarantine_words, commit_fault_words, staged_fault_words, open_words, release_words, raising_words, renewal_words, fault_words, tells_fault};
 ghost use Rattle.core_history.specs.Words.{spaced, asked_words};
 
 use itoa::Buffer;
-use key_shard::{Got, QAnswer, Rel, SetAnswer, Stands};
+use key_shard::{Got, QAnswer, Raising, Rel, Renewal, SetAnswer, Stands};
 use lease_table::Mode;
 use rows_model::{Memory, QKey, Sid, Value};
 use session_client::{Fault, Reply, Wanted};
@@ -29,6 +29,8 @@ pub enum Asked {
     Sar { key: QKey },
     Apply { key: QKey },
     Abort { key: QKey },
+    Raise { key: QKey },
+    Renew { key: QKey },
     Nothing,
 }
 
@@ -51,6 +53,8 @@ impl Asked {
             Wanted::Sar { grant, .. } => Asked::Sar { key: grant.key() },
             Wanted::Apply { grant, .. } => Asked::Apply { key: grant.key() },
             Wanted::Abort { grant } => Asked::Abort { key: grant.key() },
+            Wanted::Raise { grant } => Asked::Raise { key: grant.key() },
+            Wanted::Renew { grant } => Asked::Renew { key: grant.key() },
             Wanted::Nothing => Asked::Nothing,
         }
     }
@@ -116,6 +120,8 @@ fn push_asked(alloc: Global, text: &mut Vec<u8>, asked: Asked) -> Result<(), Mem
         Asked::Sar { key } => push_verb(alloc, text, b"sar", &key),
         Asked::Apply { key } => push_verb(alloc, text, b"apply", &key),
         Asked::Abort { key } => push_verb(alloc, text, b"abort", &key),
+        Asked::Raise { key } => push_verb(alloc, text, b"raise", &key),
+        Asked::Renew { key } => push_verb(alloc, text, b"renew", &key),
         Asked::Nothing => push_word(text, b"done"),
     }
 }
@@ -143,8 +149,12 @@ fn push_reply(alloc: Global, text: &mut Vec<u8>, reply: &Reply) -> Result<(), Me
         Reply::NotCommitted { fault, .. } => push_commit_fault(alloc, text, *fault),
         Reply::End { was } => push_open(text, *was),
         Reply::Rel { told } => push_release(alloc, text, *told),
+        Reply::Raise { told } => push_raising(text, told),
+        Reply::Renew { told, .. } => push_renewal(text, *told),
         Reply::Fault { fault: Fault::Keep } => push_word(text, b"FAULT"),
-        Reply::SarBack { .. } | Reply::Fault { .. } | Reply::Nothing => Ok(()),
+        Reply::SarBack { .. } | Reply::RaiseBack { .. } | Reply::Fault { .. } | Reply::Nothing => {
+            Ok(())
+        }
     }
 }
 
@@ -251,6 +261,29 @@ pub(crate) fn push_release(alloc: Global, text: &mut Vec<u8>, told: Rel) -> Resu
     match told {
         Rel::Released { evicted } => push_evicting(alloc, text, b"RELEASED", evicted),
         Rel::Gone => push_word(text, b"GONE"),
+    }
+}
+
+fn push_raising(text: &mut Vec<u8>, told: &Raising) -> Result<(), Memory>
+    ensures { OnOk result (text.new.items ≡ text.old.items ++ spaced (raising_words told.now)) }
+{
+    match told {
+        Raising::Raised { old, .. } => {
+            push_word(text, b"RAISED")?;
+            push_old(text, old)
+        }
+        Raising::Shared { holder, .. } => push_counted(text, b"SHARED", holder.number),
+        Raising::Gone => push_word(text, b"GONE"),
+    }
+}
+
+fn push_renewal(text: &mut Vec<u8>, told: Option<Renewal>) -> Result<(), Memory>
+    ensures { OnOk result (text.new.items ≡ text.old.items ++ spaced (renewal_words told)) }
+{
+    match told {
+        Some(Renewal::Renewed { deadline }) => push_counted(text, b"RENEWED", deadline),
+        Some(Renewal::Gone) => push_word(text, b"GONE"),
+        None => Ok(()),
     }
 }
 

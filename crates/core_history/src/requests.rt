@@ -15,6 +15,7 @@ ghost use Rattle.core_history.specs.Requests.{IsOutWhereReleased, IsToldOfCommit
 
 use crate::homes::{home_of, memory_of};
 use crate::quarantines::make_quarantine;
+use crate::raises::{make_raise, make_renewal};
 use crate::releases::{make_release, make_sar};
 use key_shard::{Got, How, SetAnswer, Shard};
 use lease_table::Mode;
@@ -64,6 +65,8 @@ pub(crate) fn make<K: Keeper>(
         } => make_sar(shards, grant, value, stamp),
         Wanted::Apply { grant, stamp } => Ok(make_release(shards, grant, How::Shift { stamp })),
         Wanted::Abort { grant } => Ok(make_release(shards, grant, How::Keep)),
+        Wanted::Raise { grant } => make_raise(shards, grant),
+        Wanted::Renew { grant } => make_renewal(shards, grant, now),
         Wanted::Nothing => Ok(Reply::Nothing),
     }
 }
