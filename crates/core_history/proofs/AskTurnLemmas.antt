@@ -1,5 +1,5 @@
 -- A turn in which a writer asks for a quarantine keeps the facts.
-use Rattle.std.proofs.Common.{ℕ, ◌≡◌, ◌≢◌, true, false, List, [], ◌∷◌, map, count_by, Option, Some, None, slice_get, refl, sym, subst, ◌∙◌, inl, inr}
+use Rattle.std.proofs.Common.{ℕ, ◌≡◌, ◌≢◌, true, false, List, [], ◌∷◌, map, count_by, Option, Some, None, slice_get, refl, sym, ap, subst, ◌∙◌, inl, inr}
 use Rattle.std.specs.Prelude.{ℤ}
 use Rattle.std.specs.List.{AllByRecursion, list_all}
 use Rattle.std.proofs.lemmas.Bool.{false≢true, eq-eqb}
@@ -27,14 +27,15 @@ use Rattle.session_client.specs.declared.replies.Reply.{Reply}
 use Rattle.session_client.specs.declared.replies.Reply.TheVariants as reply
 use Rattle.session_client.specs.declared.replies.Wanted.{Wanted}
 use Rattle.session_client.specs.Plans.{mode_of, mode_on, shift_in, keys_of, changes_of}
-use Rattle.session_client.specs.Wants.{granted, is_had, writing_of}
+use Rattle.session_client.specs.Wants.{is_had, writing_of}
 use Rattle.session_client.proofs.WantCases.{is_asking}
 use Rattle.core_history.specs.Events.{Event, Stepped, steps_of, told_to, now_of}
 use Rattle.core_history.specs.Machine.{World, terms_of, shown, quarantined_on}
 use Rattle.core_history.proofs.ListLemmas.{or_inl, and_elim, and_intro, not_both, any-back}
 use Rattle.core_history.proofs.GoodEvents.{IsGoodEvent}
-use Rattle.core_history.proofs.EventLemmas.{logged-committed, committed-told, counted-granted, told-mine}
-use Rattle.core_history.proofs.SessionLemmas.{stood-quiet, stood-granted, ReleasesNone, writer-mild}
+use Rattle.core_history.proofs.EventLemmas.{logged-committed, committed-told, counted-granted, told-mine, ever}
+use Rattle.key_shard.proofs.LegalLemmas.{legal_stands_well, distinct}
+use Rattle.core_history.proofs.SessionLemmas.{stood-quiet, stood-granted, finds-stepped, asking-going, ReleasesNone, writer-mild}
 use Rattle.core_history.proofs.WriterLemmas.{writer-granted}
 use Rattle.core_history.proofs.InnerLemmas.{Inner, with_event, stepped-inner, quiet-inner, draws-late}
 use Rattle.core_history.proofs.WritingLemmas.{IsWriter, asked-free}
@@ -120,7 +121,7 @@ ask-turn shape world who plan request key mode shift inner w asked =
       good = record {
         alone = joins_alone mode (standing key steps) join;
         joins = joins_others mode (standing key steps) join;
-        before = λ logged. not_both (logged-committed who.number past logged) (committed-told who.number past ∙ w.writer.going asked.asks);
+        before = λ logged. not_both (logged-committed who.number past logged) (committed-told who.number past ∙ (w.writer.going (asking-going heard asked.asks)).0);
       };
       own = tt;
       no_commit = refl;
@@ -138,15 +139,17 @@ ask-turn shape world who plan request key mode shift inner w asked =
         let told = reply.Quar (quarantine.Granted grant old) in
         let event = Stepped home who request s told in
         let covered : covers who key grant ≡ true = and_intro _ _ (same_key-refl key) (eq-eqb who.number who.number refl) in
-        stepped-inner shape world home who request s told inner
-        (record { request = Quarantine key who mode shift now; at_home = refl; owed = asked.fits; answer = is })
-        (subst (λ l. is_covered who (granted l) key ≡ true) (sym (told-mine who told heard))
-        (any-back (covers who key) (granted heard) (grant ∷ []) (or_inl (covers who key grant) false covered)))
-        (record { plan = plan; at = w.at; may = w.may; in_mode = asked.in_mode; by = asked.by })
+        let answers : Answers terms steps s = record { request = Quarantine key who mode shift now; at_home = refl; owed = asked.fits; answer = is } in
+        let apart = distinct terms (s ∷ steps) key (legal_stands_well terms (s ∷ steps) (answers, inner.legal home) key) in
+        stepped-inner shape world home who request s told inner answers
+        (subst (λ l. is_covered who (ever l) key ≡ true) (sym (told-mine who told heard))
+        (any-back (covers who key) (ever heard) (grant ∷ []) (or_inl (covers who key grant) false covered)))
+        (record { plan = plan; at = w.at; may = w.may; by = λ e. asked.by ∙ ap (λ m. shift_in m key (changes_of plan)) e })
         refl (counted-granted shape.shards key who request mode shift now token deadline home old)
+        (λ n other. finds-stepped shape home who request s told past n tt (draws-late shape past home s answers))
         (λ n other g own. stood-granted shape home who request key who mode shift now token deadline told past asked.none n g)
         (w.stays event told (writer-granted shape past who request key mode shift now heard
-        (writing_of plan) asked.none asked.at asked.in_mode asked.asks w.writer))
+        (writing_of plan) asked.none asked.at asked.in_mode asked.asks apart w.writer))
 
     refused_inner : (quar : Quar) → step.Refused key who mode quar.sid quar.mode ≡ quarantine_step terms steps key who mode shift now
         → Inner shape (with_event world (Event-of (step.Refused key who mode quar.sid quar.mode)))
@@ -157,5 +160,6 @@ ask-turn shape world who plan request key mode shift inner w asked =
         let answers : Answers terms steps s = record { request = Quarantine key who mode shift now; at_home = refl; owed = asked.fits; answer = is } in
         quiet-inner shape world home who request s told inner answers tt asked.none refl refl
         (w.stays event told (writer-mild shape event past who.number told heard
-        (writing_of plan) (record { brings = refl; had = refl; release = refl; commit = refl }) (draws-late shape past home s answers)
-        (λ g own. stood-quiet shape home who request s told past tt asked.none who.number g) (λ e. absurd (false≢true e)) w.writer))
+        (writing_of plan) (record { brings = record { none = refl; kept = λ p g. refl; left = λ p g. refl }; calm = refl; had = refl; release = refl; commit = refl })
+        (finds-stepped shape home who request s told past who.number tt (draws-late shape past home s answers))
+        (λ g own. stood-quiet shape home who request s told past tt asked.none who.number g) (λ e. absurd (false≢true e)) (λ _. asking-going heard asked.asks) w.writer))

@@ -34,7 +34,7 @@ use Rattle.core_history.proofs.ListLemmas.{choose, or_inl, or_inr, or_elim, not_
 use Rattle.core_history.proofs.GoodEvents.{IsGoodEvent}
 use Rattle.core_history.proofs.KeyLemmas.{granted_standing}
 use Rattle.core_history.proofs.EventLemmas.{closed, closed-more, over-closed, logged-committed}
-use Rattle.core_history.proofs.SessionLemmas.{stood-called, Mild, writer-mild}
+use Rattle.core_history.proofs.SessionLemmas.{stood-called, finds-called, is_going, Mild, writer-mild}
 use Rattle.core_history.proofs.WriterLemmas.{writer-committed}
 use Rattle.core_history.proofs.InnerLemmas.{Inner, with_event, called-inner, mild-inner}
 use Rattle.core_history.proofs.ReadTurnLemmas.{After}
@@ -44,12 +44,14 @@ use Rattle.core_history.proofs.WritingLemmas.{IsWriter, open-uncommitted, open-c
 call-turn : (shape : Shape) (world : World) (who : Sid) (plan : Plan) (request : Wanted) (told : Reply)
     → Inner shape world → IsWriter shape world who.number plan → Mild told
     → (is_ending (told ∷ told_to who.number world.past) ≡ true → closed who.number (Called who request told ∷ world.past) ≡ true)
+    → (is_going (told ∷ told_to who.number world.past) ≡ true → is_going (told_to who.number world.past) ≡ true)
     → Inner shape (with_event world (Called who request told))
-call-turn shape world who plan request told inner w mild ending =
+call-turn shape world who plan request told inner w mild ending goes =
     let event = Called who request told in
-    mild-inner shape world who request told inner mild.brings mild.commit
+    mild-inner shape world who request told inner mild.brings.none mild.commit
     (w.stays event told (writer-mild shape event world.past who.number told
-    (told_to who.number world.past) (writing_of plan) mild tt (λ grant own. stood-called shape who request told world.past who.number grant) ending w.writer))
+    (told_to who.number world.past) (writing_of plan) mild (finds-called shape who request told world.past who.number)
+    (λ grant own. stood-called shape who request told world.past who.number grant) ending goes w.writer))
 
 -- it is ended at the store, whether or not it was open: it is closed then
 pub end-turn : (shape : Shape) (world : World) (who : Sid) (said : Said) (plan : Plan)
@@ -59,7 +61,8 @@ end-turn shape world who said plan inner w = by (is_open world who) refl
     ended : (b : Bool) → closed who.number (Called who wanted.End (reply.End b) ∷ world.past) ≡ true
         → Inner shape (with_event world (Called who wanted.End (reply.End b)))
     ended b shut =
-        call-turn shape world who plan wanted.End (reply.End b) inner w (record { brings = refl; had = refl; release = refl; commit = refl }) (λ _. shut)
+        call-turn shape world who plan wanted.End (reply.End b) inner w (record { brings = record { none = refl; kept = λ p g. refl; left = λ p g. refl }; calm = refl; had = refl; release = refl; commit = refl }) (λ _. shut)
+        (λ on. absurd (false≢true on))
 
     by : (b : Bool) → is_open world who ≡ b → Inner shape (with_event world (Called who wanted.End (reply.End b)))
         × IsGoodEvent shape world.past (Called who wanted.End (reply.End b))
@@ -78,15 +81,16 @@ pub nothing-turn : (shape : Shape) (world : World) (who : Sid) (said : Said) (pl
     → Inner shape world → IsWriter shape world who.number plan → After shape world who said wanted.Nothing
 nothing-turn shape world who said plan inner w = (
   call-turn shape world who plan wanted.Nothing reply.Nothing inner w
-      (record { brings = refl; had = refl; release = refl; commit = refl }) (λ e. absurd (false≢true e)),
+      (record { brings = record { none = refl; kept = λ p g. refl; left = λ p g. refl }; calm = refl; had = refl; release = refl; commit = refl }) (λ e. absurd (false≢true e))
+      (λ on. absurd (false≢true on)),
   tt,
 )
 
 -- it asks for the answer that its transaction would leave
 pub staged-turn : (shape : Shape) (world : World) (who : Sid) (said : Said) (plan : Plan) (key : QKey) (txn : List Change)
     → Inner shape world → IsWriter shape world who.number plan
-    → After shape world who said (wanted.Staged key txn)
-staged-turn shape world who said plan key txn inner w = by said
+    → is_going (told_to who.number world.past) ≡ true → After shape world who said (wanted.Staged key txn)
+staged-turn shape world who said plan key txn inner w going = by said
   where
     request : Wanted
     request = wanted.Staged key txn
@@ -95,22 +99,22 @@ staged-turn shape world who said plan key txn inner w = by said
         × IsGoodEvent shape world.past (Called who request (staged_told txn s))
     by (Value value) = (
       call-turn shape world who plan request (reply.Staged value txn) inner w
-          (record { brings = refl; had = refl; release = refl; commit = refl }) (λ e. absurd (false≢true e)),
+          (record { brings = record { none = refl; kept = λ p g. refl; left = λ p g. refl }; calm = refl; had = refl; release = refl; commit = refl }) (λ e. absurd (false≢true e)) (λ _. going),
       tt,
     )
     by (Rejected index) = (
       call-turn shape world who plan request (reply.NotStaged (after.Rejected index) txn) inner w
-          (record { brings = refl; had = refl; release = refl; commit = refl }) (λ e. absurd (false≢true e)),
+          (record { brings = record { none = refl; kept = λ p g. refl; left = λ p g. refl }; calm = refl; had = refl; release = refl; commit = refl }) (λ e. absurd (false≢true e)) (λ _. going),
       tt,
     )
     by Made = (
       call-turn shape world who plan request (reply.NotStaged after.Failed txn) inner w
-          (record { brings = refl; had = refl; release = refl; commit = refl }) (λ e. absurd (false≢true e)),
+          (record { brings = record { none = refl; kept = λ p g. refl; left = λ p g. refl }; calm = refl; had = refl; release = refl; commit = refl }) (λ e. absurd (false≢true e)) (λ _. going),
       tt,
     )
     by Failed = (
       call-turn shape world who plan request (reply.NotStaged after.Failed txn) inner w
-          (record { brings = refl; had = refl; release = refl; commit = refl }) (λ e. absurd (false≢true e)),
+          (record { brings = record { none = refl; kept = λ p g. refl; left = λ p g. refl }; calm = refl; had = refl; release = refl; commit = refl }) (λ e. absurd (false≢true e)) (λ _. going),
       tt,
     )
 
@@ -145,8 +149,8 @@ covered-stands shape world who plan txn w still none key touched =
 
 -- it is committed, or the commit is refused
 pub commit-turn : (shape : Shape) (world : World) (who : Sid) (said : Said) (plan : Plan) → Inner shape world → IsWriter shape world who.number plan
-    → After shape world who said (commit_with (writing_of plan) (told_to who.number world.past))
-commit-turn shape world who said plan inner w = by (commit_fault (is_open world who) who (granted heard) txn count log_cap) refl
+    → is_going (told_to who.number world.past) ≡ true → After shape world who said (commit_with (writing_of plan) (told_to who.number world.past))
+commit-turn shape world who said plan inner w going = by (commit_fault (is_open world who) who (granted heard) txn count log_cap) refl
   where
     past : List Event
     past = world.past
@@ -171,7 +175,7 @@ commit-turn shape world who said plan inner w = by (commit_fault (is_open world 
         × IsGoodEvent shape past (Called who request (reply.NotCommitted fault txn lent))
     refused fault = (
       call-turn shape world who plan request (reply.NotCommitted fault txn lent) inner w
-          (record { brings = refl; had = refl; release = refl; commit = refl }) (λ e. absurd (false≢true e)),
+          (record { brings = record { none = refl; kept = λ p g. refl; left = λ p g. refl }; calm = refl; had = refl; release = refl; commit = refl }) (λ e. absurd (false≢true e)) (λ _. going),
       tt,
     )
 

@@ -162,7 +162,7 @@ is_true : (b : Bool) → b ≡ true → IsTrue b
 is_true true e = refl
 is_true false e = absurd (false≢true e)
 
--- a grant that a session wants to release is out at its shard
+-- a grant that a session wants to release, raise or renew is out at its shard
 pub out_there : (shards : List ShardView) (shape : Shape) (world : World) (who : Sid) (request : Wanted) → HasShards shards shape world.past
     → GrantFacts shape world → request ≡ wanted_of world who → IsOutWhereReleased shards request
 out_there shards shape world who request has facts is = by request (λ grant h. here grant (release grant h))
@@ -181,6 +181,8 @@ out_there shards shape world who request has facts is = by request (λ grant h. 
     by (wanted.Sar grant value stamp) f = f grant refl
     by (wanted.Apply grant stamp) f = f grant refl
     by (wanted.Abort grant) f = f grant refl
+    by (wanted.Raise grant) f = f grant refl
+    by (wanted.Renew grant) f = f grant refl
     by (wanted.Get key floor) f = tt
     by (wanted.Ask key) f = tt
     by (wanted.Staged key txn) f = tt

@@ -1,5 +1,5 @@
 -- What an event adds to what sessions are told, to the log, and to the steps of each shard.
-use Rattle.std.proofs.Common.{ℕ, ◌≡◌, ◌==◌, Bool, true, false, cond, ◌&&◌, ◌||◌, List, [], ◌∷◌, ◌++◌, count_by, Option, Some, None, refl}
+use Rattle.std.proofs.Common.{ℕ, ◌≡◌, ◌==◌, Bool, true, false, cond, ◌&&◌, ◌||◌, List, [], ◌∷◌, ◌++◌, append-nil, append_assoc, count_by, Option, Some, None, refl}
 use Rattle.std.proofs.Common.{sym, ap, subst, ◌∙◌, inl, inr, arith}
 use Rattle.std.specs.List.{list_any}
 use Rattle.std.proofs.lemmas.Bool.{eq-eqb, eqb-true, false≢true}
@@ -22,8 +22,7 @@ use Rattle.key_freshness.specs.Known.{IsAmong, IsLogged, IsOver}
 use Rattle.session_client.specs.declared.replies.Reply.{Reply}
 use Rattle.session_client.specs.declared.replies.Reply.TheVariants as reply
 use Rattle.session_client.specs.declared.replies.Wanted.{Wanted}
-use Rattle.session_client.specs.Wants.{grants_in, granted, is_commit, was_committed}
-use Rattle.session_client.proofs.WantCases.{grants-append}
+use Rattle.session_client.specs.Wants.{grants_in, is_commit, was_committed}
 use Rattle.core_history.specs.Events.{Event, Stepped, Called, Ticked, Swept, steps_in, steps_of, told_by, told_in, told_to, commits_told}
 use Rattle.core_history.specs.Events.{commits_in, log_of, ends_in, ended_of, known_of, was_ended, has_committed}
 use Rattle.core_history.proofs.ListLemmas.{choose, or_inl, or_inr, or_elim, not_both, any-front, any-back, any-at, place_of, count-append}
@@ -73,6 +72,9 @@ commit_is n who told = by told (who.number == n) refl
     by (reply.Rel answer) b e = both (reply.Rel answer) b refl
     by (reply.SarBack grant) b e = both (reply.SarBack grant) b refl
     by (reply.Fault fault) b e = both (reply.Fault fault) b refl
+    by (reply.Raise told) b e = both (reply.Raise told) b refl
+    by (reply.RaiseBack grant) b e = both (reply.RaiseBack grant) b refl
+    by (reply.Renew grant told) b e = both (reply.Renew grant told) b refl
     by reply.Nothing b e = both reply.Nothing b refl
 
 commit_in : (n : ℕ) (event : Event) → list_any (λ commit. commit.sid.number == n) (commits_in event) ≡ list_any is_commit (told_in n event)
@@ -173,9 +175,19 @@ late-ticked now past n h = refl
 pub late-swept : (place : ℕ) (request : SweepWanted) (made : Option Step) (told : SweepReply) (past : List Event) → IsLate (Swept place request made told) past
 late-swept place request made told past n h = refl
 
+-- all grants that a session was ever given, in their order, also those that a raise spent
+abbrev pub ever : List Reply → List Permit
+ever [] = []
+ever (told ∷ heard) = ever heard ++ grants_in told
+
+pub ever-append : (new heard : List Reply) → ever (new ++ heard) ≡ ever heard ++ ever new
+ever-append [] heard = sym (append-nil (ever heard))
+ever-append (told ∷ new) heard =
+    ap (λ l. l ++ grants_in told) (ever-append new heard) ∙ append_assoc (ever heard) (ever new) (grants_in told)
+
 -- each grant among the steps is one that its session was told of, and each session whose quarantine ended is closed, without a commit where the value was kept
 abbrev pub IsKnown : List Event → Step → Type 0
-IsKnown past (step.Granted key sid mode shift now token deadline) = is_covered sid (granted (told_to sid.number past)) key ≡ true
+IsKnown past (step.Granted key sid mode shift now token deadline) = is_covered sid (ever (told_to sid.number past)) key ≡ true
 IsKnown past (step.Released key sid token how) =
     (closed sid.number past ≡ true) × (how ≡ ended.Keep → has_committed sid.number past ≡ false)
 IsKnown past other = Unit {0}
@@ -188,8 +200,8 @@ uncommitted-more n event past new old =
 
 pub known-more : (event : Event) (past : List Event) → IsLate event past → (s : Step) → IsKnown past s → IsKnown (event ∷ past) s
 known-more event past late (step.Granted key sid mode shift now token deadline) h =
-    subst (λ g. is_covered sid g key ≡ true) (sym (grants-append (told_in sid.number event) (told_to sid.number past)))
-    (any-front (covers sid key) (granted (told_to sid.number past)) (granted (told_in sid.number event)) h)
+    subst (λ g. is_covered sid g key ≡ true) (sym (ever-append (told_in sid.number event) (told_to sid.number past)))
+    (any-front (covers sid key) (ever (told_to sid.number past)) (ever (told_in sid.number event)) h)
 known-more event past late (step.Released key sid token how) h =
     (closed-more sid.number event past h.0, λ kept. uncommitted-more sid.number event past (late sid.number h.0) (h.1 kept))
 known-more event past late (step.Hit key sid floor value stamp) h = tt
@@ -209,21 +221,21 @@ known-more event past late (step.Renewed key sid token now deadline) h = tt
 abbrev pub IsCounted : ℕ → Event → Type 0
 IsCounted shards event =
     (key : QKey) (who : Sid) → count_by (quarantines key who) (steps_in (shard_of key shards) event)
-    ≡ count_by (covers who key) (granted (told_in who.number event))
+    ≡ count_by (covers who key) (ever (told_in who.number event))
 
 pub counts-more : (shards : ℕ) (event : Event) (past : List Event) → IsCounted shards event → (key : QKey) (who : Sid)
-    → count_by (quarantines key who) (steps_of (shard_of key shards) past) ≡ count_by (covers who key) (granted (told_to who.number past))
-    → count_by (quarantines key who) (steps_of (shard_of key shards) (event ∷ past)) ≡ count_by (covers who key) (granted (told_to who.number (event ∷ past)))
+    → count_by (quarantines key who) (steps_of (shard_of key shards) past) ≡ count_by (covers who key) (ever (told_to who.number past))
+    → count_by (quarantines key who) (steps_of (shard_of key shards) (event ∷ past)) ≡ count_by (covers who key) (ever (told_to who.number (event ∷ past)))
 counts-more shards event past counted key who h =
     let a = count-append (quarantines key who) (steps_in (shard_of key shards) event) (steps_of (shard_of key shards) past) in
-    let b = ap (count_by (covers who key)) (grants-append (told_in who.number event) (told_to who.number past)) in
-    let c = count-append (covers who key) (granted (told_to who.number past)) (granted (told_in who.number event)) in
+    let b = ap (count_by (covers who key)) (ever-append (told_in who.number event) (told_to who.number past)) in
+    let c = count-append (covers who key) (ever (told_to who.number past)) (ever (told_in who.number event)) in
     let d = counted key who in
     omega (arith, a, b, c, d, h)
 
 -- none, where nothing is granted
-no_grants : (n : ℕ) (who : Sid) (told : Reply) → grants_in told ≡ [] → granted (told_by n who told) ≡ []
-no_grants n who told e = told-cases (λ l. granted l ≡ []) n who told refl (λ _. e)
+no_grants : (n : ℕ) (who : Sid) (told : Reply) → grants_in told ≡ [] → ever (told_by n who told) ≡ []
+no_grants n who told e = told-cases (λ l. ever l ≡ []) n who told refl (λ _. e)
 
 no_step : (b : Bool) (p : Step → Bool) (s : Step) → p s ≡ false → count_by p (cond b (s ∷ []) []) ≡ 0
 no_step true p s e = let a = count-cons p s [] in let b = zero_if (p s) e in omega (arith, a, b)
@@ -255,7 +267,7 @@ count_one : {X : Type 0} (p : X → Bool) (b : Bool) (x : X) → count_by p (con
 count_one p true x = let a = count-cons p x [] in omega (arith, a)
 count_one p false x = refl
 
-granted_one : (b : Bool) (grant : Permit) (old : _) → granted (cond b (reply.Quar (quarantine.Granted grant old) ∷ []) []) ≡ cond b (grant ∷ []) []
+granted_one : (b : Bool) (grant : Permit) (old : _) → ever (cond b (reply.Quar (quarantine.Granted grant old) ∷ []) []) ≡ cond b (grant ∷ []) []
 granted_one true grant old = refl
 granted_one false grant old = refl
 

@@ -1,5 +1,5 @@
 -- A quarantine that isn't to invalidate has its key for itself: each good step keeps that, and what its session writes then is held.
-use Rattle.std.proofs.Common.{ℕ, ◌≡◌, ◌≢◌, ◌+◌, ◌≤◌, ◌==◌, ◌&&◌, Bool, true, false, not, cond, List, [], ◌∷◌, ◌++◌, length, filter, find}
+use Rattle.std.proofs.Common.{ℕ, ◌≡◌, ◌≢◌, ◌+◌, ◌≤◌, ◌==◌, ◌&&◌, Bool, true, false, not, cond, List, [], ◌∷◌, ◌++◌, length, map, filter, find}
 use Rattle.std.proofs.Common.{Option, Some, None, refl, sym, ap, subst, ◌∙◌, ◌⊎◌, inl, inr, ⊎_elim, ◌<◌, eq-eqb, eqb-true, arith}
 use Rattle.std.specs.List.{AllByRecursion}
 use Rattle.std.proofs.lemmas.Bool.{false≢true}
@@ -11,7 +11,8 @@ use Rattle.lease_table.specs.declared.records.Mode.{Mode}
 use Rattle.lease_table.specs.declared.records.Mode.TheVariants.{Invalidate, Refresh, Delta}
 use Rattle.lease_table.specs.declared.records.Quar.{Quar}
 use Rattle.lease_table.specs.declared.records.ReadLease.{ReadLease}
-use Rattle.lease_table.specs.Leases.{has_token}
+use Rattle.lease_table.specs.Leases.{has_token, raised, renewed}
+use Rattle.key_shard.proofs.RaiseLemmas.{lifted, raised-here, renewed-same, every-mapped}
 use Rattle.key_shard.specs.declared.steps.Ended.{Ended as Ends}
 use Rattle.key_shard.specs.declared.steps.Ended.TheVariants as ended
 use Rattle.key_shard.specs.declared.steps.Step.{Step}
@@ -21,7 +22,7 @@ use Rattle.sql_keeper.specs.declared.stores.Commit.{Commit}
 use Rattle.key_freshness.specs.Marks.{Mark, Granted, Ended, Leased, Wrote, Has, key_of, marks_of, writes_by}
 use Rattle.key_freshness.specs.Known.{Known, IsLogged, IsOver, IsMore, IsRuled}
 use Rattle.key_freshness.specs.Moments.{IsMoment, IsSince}
-use Rattle.key_freshness.specs.Held.{IsHeld, IsEntryHeld, IsTied}
+use Rattle.key_freshness.specs.Held.{IsHeld, IsEntryHeld, IsTied, stands_as}
 use Rattle.key_freshness.specs.Laws.{IsOwn}
 use Rattle.key_freshness.proofs.GrantMarks.{none_in, one_in, no_grant}
 use Rattle.key_freshness.proofs.KnownLemmas.{more-refl, more-trans, more-stood}
@@ -29,8 +30,8 @@ use Rattle.key_freshness.proofs.MomentSteps.{moment-of, since-refl, since-append
 use Rattle.key_freshness.proofs.WriteLemmas.{put_is_held}
 use Rattle.core_history.specs.Events.{Event, log_of, known_of}
 use Rattle.core_history.specs.Facts.{Found, found_at, grants_as}
-use Rattle.core_history.proofs.GoodEvents.{IsGoodGrant, WritesOwn, SetsTold, IsGoodStep}
-use Rattle.core_history.proofs.ListLemmas.{every-append, every-filter, and_elim}
+use Rattle.core_history.proofs.GoodEvents.{IsGoodGrant, IsGoodRaise, WritesOwn, SetsTold, IsGoodStep}
+use Rattle.core_history.proofs.ListLemmas.{every-append, every-filter, and_elim, or_elim}
 
 -- what a quarantine found when it was granted, which was a moment of its session alone, is the entry now or the entry is gone
 pub record IsAlone (key : QKey) (quar : Quar) (past : List Event) (marks : List Mark) (known : Known) (now : Option (List ℕ × ℕ)) : Type 0 where
@@ -122,7 +123,30 @@ pub alone-after : (key : QKey) (quars : List Quar) (past after : List Event) (ma
     → ((token : ℕ) → found_at key token after ≡ found_at key token past) → AreAlone key quars past marks known now → AreAlone key quars after marks known now
 alone-after key quars past after marks known now found alone = alone-moved key quars past after [] marks known now now found (λ who token h. h) (inl refl) alone
 
--- a step that grants a quarantine is on its key
+-- another of the same token and session has the key for itself likewise
+alone-of : (key : QKey) (one new : Quar) (past : List Event) (marks : List Mark) (known : Known) (now : Option (List ℕ × ℕ))
+    → new.token ≡ one.token → new.sid ≡ one.sid → IsAlone key one past marks known now → IsAlone key new past marks known now
+alone-of key one new past marks known now token own was = record {
+  found = was.found;
+  granted = subst (λ t. found_at key t past ≡ Some was.found) (sym token) was.granted;
+  then_marks = was.then_marks;
+  then_known = was.then_known;
+  count = was.count;
+  moment = subst (λ (w : Sid). IsMoment key (Some w.number) was.then_marks was.then_known) (sym own) was.moment;
+  since = subst (λ (w : Sid). IsSince (Some w.number) was.then_marks marks) (sym own) was.since;
+  more = was.more;
+  held = was.held;
+  before = subst (λ (w : Sid). IsLogged was.then_known.log w.number → ⊥) (sym own) was.before;
+  same = was.same;
+}
+
+-- of one quarantine alone, each that stands is of its session
+mine_alone : (quar : Quar) (who token : ℕ) → stands_as who token (quar ∷ []) ≡ true → who ≡ quar.sid.number
+mine_alone quar who token h =
+    ⊎_elim (λ e. sym (eqb-true quar.sid.number who (and_elim (quar.sid.number == who) (quar.token == token) e).0))
+    (λ e. absurd (false≢true e)) (or_elim ((quar.sid.number == who) && (quar.token == token)) false h)
+
+-- a step that grants a quarantine, or raises it, is on its key
 pub grants-on : (key : QKey) (token : ℕ) (s : Step) → grants_as key token s ≡ true → key ≡ key_of s
 grants-on key token (step.Granted on sid mode shift now given deadline) e = same_key-true key on (and_elim (same_key key on) (given == token) e).0
 grants-on key token (step.Hit on sid floor value stamp) e = absurd (false≢true e)
@@ -135,7 +159,7 @@ grants-on key token (step.Held on sid mode) e = absurd (false≢true e)
 grants-on key token (step.Refused on sid mode holder held) e = absurd (false≢true e)
 grants-on key token (step.Released on sid t how) e = absurd (false≢true e)
 grants-on key token (step.Gone on sid t) e = absurd (false≢true e)
-grants-on key token (step.Raised on sid t) e = absurd (false≢true e)
+grants-on key token (step.Raised on sid given) e = same_key-true key on (and_elim (same_key key on) (given == token) e).0
 grants-on key token (step.Shared on sid t holder) e = absurd (false≢true e)
 grants-on key token (step.Renewed on sid t now deadline) e = absurd (false≢true e)
 
@@ -237,6 +261,12 @@ released_reader true p quars lease (inl e) = inl (ap (filter p) e)
 released_reader false p quars lease (inl e) = inl e
 released_reader b p quars lease (inr e) = inr e
 
+mapped_reader : (b : Bool) (f : Quar → Quar) (quars : List Quar) (lease : Option ReadLease)
+    → (quars ≡ []) ⊎ (lease ≡ None) → (cond b (map f quars) quars ≡ []) ⊎ (lease ≡ None)
+mapped_reader true f quars lease (inl e) = inl (ap (map f) e)
+mapped_reader false f quars lease (inl e) = inl e
+mapped_reader b f quars lease (inr e) = inr e
+
 leased_reader : (b : Bool) (quars : List Quar) (new lease : Option ReadLease)
     → (b ≡ true → quars ≡ []) → (quars ≡ []) ⊎ (lease ≡ None) → (quars ≡ []) ⊎ (cond b new lease ≡ None)
 leased_reader true quars new lease free apart = inl (free refl)
@@ -261,9 +291,11 @@ apart_step events steps who (step.Void on token now) key good apart = apart
 apart_step events steps who (step.Held on sid mode) key good apart = apart
 apart_step events steps who (step.Refused on sid mode holder held) key good apart = apart
 apart_step events steps who (step.Gone on sid token) key good apart = apart
-apart_step events steps who (step.Raised on sid token) key good apart = absurd good
+apart_step events steps who (step.Raised on sid token) key good apart =
+    mapped_reader (same_key key on) (raised token) (standing key steps) (recorded key steps) apart
 apart_step events steps who (step.Shared on sid token holder) key good apart = apart
-apart_step events steps who (step.Renewed on sid token now deadline) key good apart = absurd good
+apart_step events steps who (step.Renewed on sid token now deadline) key good apart =
+    mapped_reader (same_key key on) (renewed token deadline) (standing key steps) (recorded key steps) apart
 
 module _ (events after : List Event) (steps : List Step) where
   -- what is known of the key before a step
@@ -331,6 +363,62 @@ module _ (events after : List Event) (steps : List Step) where
       (gives new.token (ap (λ b. b && (new.token == new.token)) same ∙ eq-eqb new.token new.token refl))
   granted_on key on sid mode new false same is whose in_mode good finds gives =
       mild key [] (entry key steps) is (λ token. finds token (ap (λ b. b && (new.token == token)) same)) (λ who token h. h) (inl refl)
+
+  -- a quarantine that stands alone on the key is raised: it begins anew what it has found
+  raised_here : (on : QKey) (sid : Sid) (token : ℕ) → IsBefore on → IsGoodRaise events steps on sid token
+      → found_at on token after ≡ Some (record { commits = length (log_of events); entry = entry on steps })
+      → Alone on (map (raised token) (standing on steps)) [] (entry on steps)
+  raised_here on sid token is good finds =
+      let quar = good.quar in
+      inr (record {
+        quar = lifted quar;
+        only = ap (map (raised token)) good.only ∙ ap (λ q. q ∷ []) (raised-here token quar (eq-eqb quar.token token good.its));
+        alone = record {
+          found = record { commits = length (log_of events); entry = entry on steps };
+          granted = subst (λ t. found_at on t after ≡ Some (record { commits = length (log_of events); entry = entry on steps })) (sym good.its) finds;
+          then_marks = marks_of on steps;
+          then_known = known_of events;
+          count = refl;
+          moment = moment-of on (Some quar.sid.number) (marks_of on steps) (known_of events) None (quar ∷ []) (entry on steps) is.ruled
+              (subst (λ l. IsTied (marks_of on steps) None l (entry on steps)) good.only is.tied) (λ by t h. mine_alone quar by t h);
+          since = since-refl (Some quar.sid.number) (marks_of on steps);
+          more = more-refl (known_of events);
+          held = is.held;
+          before = λ logged. good.before (subst (λ (w : Sid). IsLogged (log_of events) w.number) good.own logged);
+          same = inl refl;
+        };
+      })
+
+  raised_on : (key on : QKey) (sid : Sid) (token : ℕ) (b : Bool) → same_key key on ≡ b → IsBefore key → IsGoodRaise events steps on sid token
+      → ((t : ℕ) → (same_key key on && (token == t)) ≡ false → found_at key t after ≡ found_at key t events)
+      → ((t : ℕ) → (same_key key on && (token == t)) ≡ true
+      → found_at key t after ≡ Some (record { commits = length (log_of events); entry = entry key steps }))
+      → Alone key (cond b (map (raised token) (standing key steps)) (standing key steps)) (cond b [] []) (entry key steps)
+  raised_on key on sid token true same is good finds gives =
+      raised_here key sid token is (subst (λ k. IsGoodRaise events steps k sid token) (sym (same_key-true key on same)) good)
+      (gives token (ap (λ b. b && (token == token)) same ∙ eq-eqb token token refl))
+  raised_on key on sid token false same is good finds gives =
+      mild key [] (entry key steps) is (λ t. finds t (ap (λ b. b && (token == t)) same)) (λ by t h. h) (inl refl)
+
+  -- the quarantines of the key have other deadlines
+  renewed_here : (key : QKey) (token deadline : ℕ) → Alone key (standing key steps) [] (entry key steps)
+      → Alone key (map (renewed token deadline) (standing key steps)) [] (entry key steps)
+  renewed_here key token deadline (inl all) =
+      inl (every-mapped (λ quar. quar.mode ≡ Invalidate) (λ quar. quar.mode ≡ Invalidate) (renewed token deadline)
+      (λ quar h. renewed-same (λ q. q.mode) token deadline quar refl ∙ h) (standing key steps) all)
+  renewed_here key token deadline (inr one) =
+      inr (record {
+        quar = renewed token deadline one.quar;
+        only = ap (map (renewed token deadline)) one.only;
+        alone = alone-of key one.quar (renewed token deadline one.quar) after (marks_of key steps) (known_of events) (entry key steps)
+            (renewed-same (λ q. q.token) token deadline one.quar refl) (renewed-same (λ q. q.sid) token deadline one.quar refl) one.alone;
+      })
+
+  renewed_on : (key : QKey) (token deadline : ℕ) (b : Bool) → IsBefore key → FindsSame key
+      → Alone key (cond b (map (renewed token deadline) (standing key steps)) (standing key steps)) (cond b [] []) (entry key steps)
+  renewed_on key token deadline true is finds =
+      renewed_here key token deadline (mild key [] (entry key steps) is finds (λ by t h. h) (inl refl))
+  renewed_on key token deadline false is finds = mild key [] (entry key steps) is finds (λ by t h. h) (inl refl)
 
   -- a value is stored where no quarantine stands that has the key for itself
   stored_on : (key on : QKey) (who : Sid) (token : ℕ) (value : List ℕ) (stamp : ℕ) (gone b : Bool) → same_key key on ≡ b → IsBefore key
@@ -447,7 +535,9 @@ module _ (events after : List Event) (steps : List Step) where
       mild key (cond (same_key key on) [] []) (entry key steps) is (λ t. finds t refl) (λ by t h. none_in (Granted by t) (same_key key on) h) (inl refl)
   alone_step who (step.Gone on sid token) key good is finds gives =
       mild key (cond (same_key key on) [] []) (entry key steps) is (λ t. finds t refl) (λ by t h. none_in (Granted by t) (same_key key on) h) (inl refl)
-  alone_step who (step.Raised on sid token) key good is finds gives = absurd good
+  alone_step who (step.Raised on sid token) key good is finds gives =
+      raised_on key on sid token (same_key key on) refl is good finds gives
   alone_step who (step.Shared on sid token holder) key good is finds gives =
       mild key (cond (same_key key on) [] []) (entry key steps) is (λ t. finds t refl) (λ by t h. none_in (Granted by t) (same_key key on) h) (inl refl)
-  alone_step who (step.Renewed on sid token now deadline) key good is finds gives = absurd good
+  alone_step who (step.Renewed on sid token now deadline) key good is finds gives =
+      renewed_on key token deadline (same_key key on) is (λ t. finds t refl)

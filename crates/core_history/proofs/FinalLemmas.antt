@@ -73,6 +73,8 @@ session_turn shape world who said (wanted.Dar grant) = refl
 session_turn shape world who said (wanted.Sar grant value stamp) = refl
 session_turn shape world who said (wanted.Apply grant stamp) = refl
 session_turn shape world who said (wanted.Abort grant) = refl
+session_turn shape world who said (wanted.Raise grant) = refl
+session_turn shape world who said (wanted.Renew grant) = refl
 session_turn shape world who said wanted.Nothing = refl
 
 -- a sweep that makes a step ends the quarantine of the token that it wanted to drop, where that stood, on the key's shard

@@ -18,11 +18,10 @@ use Rattle.session_client.specs.declared.plans.Shape.{Shape}
 use Rattle.session_client.specs.declared.plans.Turn.{Turn}
 use Rattle.session_client.specs.declared.plans.Turn.TheVariants as turn
 use Rattle.session_client.specs.declared.replies.Reply.{Reply}
-use Rattle.session_client.specs.Wants.{granted}
 use Rattle.core_history.specs.Events.{Event, steps_of, told_in, told_to, swept_in, sweeps_of, now_of}
 use Rattle.core_history.specs.Machine.{World, Move, Begin, Take, Said, terms_of, wanted_of, scan_told, sweep_of, swept_next, turn_event, world_of}
 use Rattle.core_history.specs.Sweeping.{IsNumbered}
-use Rattle.core_history.proofs.EventLemmas.{IsKnown}
+use Rattle.core_history.proofs.EventLemmas.{IsKnown, ever}
 use Rattle.core_history.proofs.InnerLemmas.{Inner}
 use Rattle.core_history.proofs.KeyLemmas.{GrantsSo, quar-every, IsOfOwner, raised-so, renewed-so}
 use Rattle.core_history.proofs.ListLemmas.{every-append, every-weaker}
@@ -63,7 +62,7 @@ of-sid past key old new token own heard = subst (λ (who : Sid). IsHeard past wh
 -- who was granted a quarantine was told so
 granted-heard : (past : List Event) (s : Step) → IsKnown past s → GrantsSo (λ key quar. IsHeard past quar.sid.number) s
 granted-heard past (step.Granted key sid mode shift now token deadline) known = λ none.
-    false≢true (ap (λ (heard : List Reply). is_covered sid (granted heard) key) (sym none) ∙ known)
+    false≢true (ap (λ (heard : List Reply). is_covered sid (ever heard) key) (sym none) ∙ known)
 granted-heard past (step.Hit key sid floor value stamp) known = tt
 granted-heard past (step.Lease key sid floor now token deadline) known = tt
 granted-heard past (step.Again key sid floor now stands) known = tt

@@ -20,7 +20,7 @@ use Rattle.key_freshness.specs.Held.{IsEntryHeld, IsEntryRight, stands_as}
 use Rattle.key_freshness.proofs.HitLemmas.{lacking_stands}
 use Rattle.key_freshness.proofs.MomentLemmas.{known_then, stored_is_latest}
 use Rattle.session_client.specs.declared.plans.Plan.{Plan}
-use Rattle.session_client.specs.declared.plans.Plan.TheVariants.{Read, Write, Look, Quit, Skip}
+use Rattle.session_client.specs.declared.plans.Plan.TheVariants.{Read, Write, Look, Quit, Skip, Raise, Renew}
 use Rattle.session_client.specs.declared.plans.Shape.{Shape}
 use Rattle.session_client.specs.Plans.{IsPlan, changes_of}
 use Rattle.core_history.specs.Events.{steps_of, log_of, known_of}
@@ -63,6 +63,8 @@ plan_ids (Write mode txn) is = is.ids
 plan_ids (Look mode key txn) is = is.0.ids
 plan_ids (Quit mode txn) is = is.ids
 plan_ids (Skip key txn) is = is.0.ids
+plan_ids (Raise txn) is = is.ids
+plan_ids (Renew mode txn) is = is.ids
 
 -- the log of a run over fit rows, where the keeper's word was true
 run_log : (opening : Tables) (shape : Shape) (moves : List Move) → HasPlans moves → Fit opening → IsTruePast opening (world_of shape moves).past

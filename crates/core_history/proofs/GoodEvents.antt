@@ -52,6 +52,14 @@ pub record IsGoodGrant (past : List Event) (steps : List Step) (on : QKey) (sid 
   pub joins : AllByRecursion (λ quar. quar.mode ≡ Invalidate) (standing on steps)
   pub before : IsLogged (log_of past) sid.number → ⊥
 
+-- A quarantine is raised that stands alone on the key, and is the session's, which hasn't committed.
+pub record IsGoodRaise (past : List Event) (steps : List Step) (on : QKey) (sid : Sid) (token : ℕ) : Type 0 where
+  pub quar : Quar
+  pub only : standing on steps ≡ quar ∷ []
+  pub own : quar.sid ≡ sid
+  pub its : quar.token ≡ token
+  pub before : IsLogged (log_of past) sid.number → ⊥
+
 -- A session writes once it has committed: under a quarantine of its own in this mode that stands, with the number of its commit as stamp.
 pub record WritesOwn (past : List Event) (steps : List Step) (on : QKey) (sid : Sid) (token : ℕ) (mode : Mode) (stamp : ℕ) : Type 0 where
   pub quar : Quar
@@ -81,7 +89,7 @@ pub record ShiftsOwn (past : List Event) (steps : List Step) (on : QKey) (sid : 
 
 -- A step is good: a hit is the entry, what is stored was told, a lease is given where nothing stands, whose
 -- quarantine ends is over, without a commit where the value is kept, and what is put or shifted is the session's own.
--- A raise or a renewal is none: no session asks for one yet.
+-- What is raised stands alone.
 abbrev pub IsGoodStep : List Event → List Step → Sid → Step → Type 0
 IsGoodStep past steps who (step.Stored on token now value stamp evicted) = SetsTold past steps who on token value stamp
 IsGoodStep past steps who (step.Lease on sid floor now token deadline) = standing on steps ≡ []
@@ -97,9 +105,9 @@ IsGoodStep past steps who (step.Granted on sid mode shift now token deadline) = 
 IsGoodStep past steps who (step.Held on sid mode) = Unit {0}
 IsGoodStep past steps who (step.Refused on sid mode holder held) = Unit {0}
 IsGoodStep past steps who (step.Gone on sid token) = Unit {0}
-IsGoodStep past steps who (step.Raised on sid token) = ⊥
+IsGoodStep past steps who (step.Raised on sid token) = IsGoodRaise past steps on sid token
 IsGoodStep past steps who (step.Shared on sid token holder) = Unit {0}
-IsGoodStep past steps who (step.Renewed on sid token now deadline) = ⊥
+IsGoodStep past steps who (step.Renewed on sid token now deadline) = Unit {0}
 
 -- So is its event, on the shard of its key: nothing is committed and nobody ended.
 pub record IsGoodStepped (shape : Shape) (past : List Event) (place : ℕ) (who : Sid) (s : Step) (told : Reply) : Type 0 where
@@ -129,6 +137,9 @@ IsGoodCall shape past who (reply.NotCommitted fault txn grants) = Unit {0}
 IsGoodCall shape past who (reply.Rel told) = Unit {0}
 IsGoodCall shape past who (reply.SarBack grant) = Unit {0}
 IsGoodCall shape past who (reply.Fault fault) = Unit {0}
+IsGoodCall shape past who (reply.Raise told) = Unit {0}
+IsGoodCall shape past who (reply.RaiseBack grant) = Unit {0}
+IsGoodCall shape past who (reply.Renew grant told) = Unit {0}
 IsGoodCall shape past who reply.Nothing = Unit {0}
 
 -- A step of the sweeper's on a shard drops a key and its quarantine, on the shard of the key, after the session of that quarantine.

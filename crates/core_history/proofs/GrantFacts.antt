@@ -28,12 +28,14 @@ abbrev pub IsDrawnBelow : ℕ → Reply → Type 0
 IsDrawnBelow next (reply.Got (got.Lease token)) = token < next
 IsDrawnBelow next other = Unit {0}
 
--- the request is to release this grant
+-- the request is to release this grant, to raise it or to renew it
 abbrev pub IsReleaseOf : Permit → Wanted → Type 0
 IsReleaseOf grant (wanted.Dar other) = other ≡ grant
 IsReleaseOf grant (wanted.Sar other value stamp) = other ≡ grant
 IsReleaseOf grant (wanted.Apply other stamp) = other ≡ grant
 IsReleaseOf grant (wanted.Abort other) = other ≡ grant
+IsReleaseOf grant (wanted.Raise other) = other ≡ grant
+IsReleaseOf grant (wanted.Renew other) = other ≡ grant
 IsReleaseOf grant other = ⊥
 
 pub record GrantFacts (shape : Shape) (world : World) : Type 0 where
@@ -47,7 +49,7 @@ pub record GrantFacts (shape : Shape) (world : World) : Type 0 where
   pub order : (place : ℕ) → place < shape.shards → All (IsOrdered shape world) (steps_of place world.past)
   -- each commit was quarantined on every key when it was made
   pub quarantined : AreQuarantined shape world.past
-  -- a grant that is to be released is out
+  -- a grant that is to be released, raised or renewed is out
   pub out : (who : Sid) (grant : Permit) → IsReleaseOf grant (wanted_of world who)
       → list_any (same_permit grant) (out_of shape (shard_of grant.key shape.shards) world.past) ≡ true
   -- the old value that a session keeps for a quarantine to refresh is what that quarantine found

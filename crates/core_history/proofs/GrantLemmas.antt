@@ -26,12 +26,13 @@ use Rattle.expiry_sweeper.specs.declared.replies.SweepWanted.TheVariants as swee
 use Rattle.sql_keeper.specs.Commits.{covers, is_covered}
 use Rattle.sql_keeper.specs.Fresh.{quarantines, Covered}
 use Rattle.session_client.specs.declared.plans.Plan.{Plan}
-use Rattle.session_client.specs.declared.plans.Plan.TheVariants.{Read, Write, Look, Quit, Skip}
+use Rattle.session_client.specs.declared.plans.Plan.TheVariants.{Read, Write, Look, Quit, Skip, Raise, Renew}
 use Rattle.session_client.specs.declared.plans.Shape.{Shape}
 use Rattle.session_client.specs.declared.replies.Reply.{Reply}
 use Rattle.session_client.specs.declared.replies.Wanted.{Wanted}
-use Rattle.session_client.specs.Plans.{mode_of, mode_on}
-use Rattle.session_client.specs.Wants.{Given, given, granted, released, Writing, writing_of, quarantine_as, write_wants}
+use Rattle.session_client.specs.Plans.{mode_on}
+use Rattle.session_client.specs.declared.replies.Wanted.TheVariants as wanted
+use Rattle.session_client.specs.Wants.{Given, given, granted, turned, released, Writing, writing_of, quarantine_as, write_wants}
 use Rattle.session_client.proofs.WantCases.{write_cases, read_cases, given-granted}
 use Rattle.core_history.specs.Events.{Event, steps_of, told_to, log_of, sweeps_of}
 use Rattle.core_history.specs.Machine.{World, Move, world_of, HasPlans, terms_of, plan_at, wanted_by, swept_next, is_open, out_of}
@@ -39,15 +40,14 @@ use Rattle.core_history.specs.Facts.{Found, found_at, steps_on, stands_for, AreA
 use Rattle.core_history.specs.Freshness.{histories_of, RunsAreLawful}
 use Rattle.core_history.proofs.GrantFacts.{GrantFacts, IsReleaseOf}
 use Rattle.core_history.proofs.ListLemmas.{and_elim, any-reverse, count-once, every-weaker}
-use Rattle.core_history.proofs.EventLemmas.{closed, IsKnown}
-use Rattle.core_history.proofs.SessionLemmas.{Writer}
-use Rattle.core_history.proofs.PlannedLemmas.{planned-quar}
+use Rattle.core_history.proofs.EventLemmas.{closed, IsKnown, ever}
+use Rattle.core_history.proofs.SessionLemmas.{Writer, is_going, going-on}
 use Rattle.core_history.proofs.SweepingLemmas.{IsSweeping}
 use Rattle.core_history.proofs.InnerLemmas.{Inner, IsSession, IsCovered, stands_well}
-use Rattle.core_history.proofs.WritingLemmas.{open-closed, closed-shut, granted-stands, some_plan}
+use Rattle.core_history.proofs.WritingLemmas.{open-closed, closed-shut, granted-stands}
 use Rattle.core_history.proofs.SweepTurnLemmas.{sweep_cases}
 use Rattle.core_history.proofs.NumberedLemmas.{runs_numbered}
-use Rattle.core_history.proofs.WorldLemmas.{idle-grants, inner_of}
+use Rattle.core_history.proofs.WorldLemmas.{idle-grants, idle-ever, inner_of}
 
 -- quarantines stand apart from readers
 apart-key : (shape : Shape) (world : World) (key : QKey) → StandsWell (terms_of shape (shard_of key shape.shards)) (steps_on shape world key) key
@@ -64,33 +64,35 @@ apart-key shape world key well = record {
 
 -- a session has one grant on a key at most
 writer-once : (shape : Shape) (past : List Event) (who : Sid) (heard : List Reply) (writing : Writing) (key : QKey) → Writer shape past who.number heard writing
-    → count_by (covers who key) (granted heard) ≤ 1
+    → count_by (covers who key) (ever heard) ≤ 1
 writer-once shape past who heard writing key w =
-    count-once (covers who key) (granted heard) (λ i j a b at_i at_j on_a on_b.
+    count-once (covers who key) (ever heard) (λ i j a b at_i at_j on_a on_b.
     let one = same_key-true key a.key (and_elim (same_key key a.key) (a.sid.number == who.number) on_a).0 in
     let other = same_key-true key b.key (and_elim (same_key key b.key) (b.sid.number == who.number) on_b).0 in
-    w.once i j key ((w.fits i a at_i).at_key ∙ ap (λ k. Some k) (sym one)) ((w.fits j b at_j).at_key ∙ ap (λ k. Some k) (sym other)))
+    w.once i j key ((w.placed i a at_i).at_key ∙ ap (λ k. Some k) (sym one)) ((w.placed j b at_j).at_key ∙ ap (λ k. Some k) (sym other)))
 
 none-once : (who : Sid) (key : QKey) (grants : List Permit) → grants ≡ [] → count_by (covers who key) grants ≤ 1
 none-once who key grants e = let z : count_by (covers who key) grants ≡ 0 = ap (count_by (covers who key)) e in omega (arith, z)
 
 -- a session has no grants, or is a writer of its plan
 session-cases : (shape : Shape) (past : List Event) (n : ℕ) (heard : List Reply) (P : Type 0) (found : Option Plan) → IsSession shape past n heard found
-    → (granted heard ≡ [] → P) → ((plan : Plan) → found ≡ Some plan → Writer shape past n heard (writing_of plan) → P) → P
-session-cases shape past n heard P None h none some = none (idle-grants heard h)
-session-cases shape past n heard P (Some (Read on floor)) h none some = none h.1
+    → (granted heard ≡ [] → ever heard ≡ [] → P) → ((plan : Plan) → found ≡ Some plan → Writer shape past n heard (writing_of plan) → P) → P
+session-cases shape past n heard P None h none some = none (idle-grants heard h) (idle-ever heard h)
+session-cases shape past n heard P (Some (Read on floor)) h none some = none h.1 h.2
 session-cases shape past n heard P (Some (Write mode txn)) h none some = some (Write mode txn) refl h
 session-cases shape past n heard P (Some (Look mode key txn)) h none some = some (Look mode key txn) refl h
 session-cases shape past n heard P (Some (Quit mode txn)) h none some = some (Quit mode txn) refl h
 session-cases shape past n heard P (Some (Skip key txn)) h none some = some (Skip key txn) refl h
+session-cases shape past n heard P (Some (Raise txn)) h none some = some (Raise txn) refl h
+session-cases shape past n heard P (Some (Renew mode txn)) h none some = some (Renew mode txn) refl h
 
 once-key : (shape : Shape) (world : World) → Inner shape world → (key : QKey) (who : Sid) → count_by (quarantines key who) (steps_on shape world key) ≤ 1
 once-key shape world inner key who =
     let heard = told_to who.number world.past in
     let a = inner.counts key who in
-    let b : count_by (covers who key) (granted heard) ≤ 1 =
-    session-cases shape world.past who.number heard (count_by (covers who key) (granted heard) ≤ 1) (plan_at who.number world.plans) (inner.sessions who.number)
-    (λ none. none-once who key (granted heard) none) (λ plan is w. writer-once shape world.past who heard (writing_of plan) key w) in
+    let b : count_by (covers who key) (ever heard) ≤ 1 =
+    session-cases shape world.past who.number heard (count_by (covers who key) (ever heard) ≤ 1) (plan_at who.number world.plans) (inner.sessions who.number)
+    (λ none nothing. none-once who key (ever heard) nothing) (λ plan is w. writer-once shape world.past who heard (writing_of plan) key w) in
     omega (arith, a, b)
 
 -- an open session has each quarantine standing that it was granted
@@ -98,14 +100,15 @@ none-covered : (who : Sid) (key : QKey) (grants : List Permit) → grants ≡ []
 none-covered who key grants e h = false≢true (sym (ap (λ l. is_covered who l key) e) ∙ h)
 
 open-stands : (shape : Shape) (world : World) (who : Sid) (key : QKey) → Inner shape world
-    → is_covered who (granted (told_to who.number world.past)) key ≡ true
+    → is_covered who (ever (told_to who.number world.past)) key ≡ true
     → is_open world who ≡ true → stands_for who (standing key (steps_on shape world key)) ≡ true
 open-stands shape world who key inner covered is_so =
     let heard = told_to who.number world.past in
     session-cases shape world.past who.number heard (stands_for who (standing key (steps_on shape world key))
     ≡ true) (plan_at who.number world.plans) (inner.sessions who.number)
-    (λ none. absurd (none-covered who key (granted heard) none covered))
-    (λ plan is w. granted-stands shape world.past who heard (writing_of plan) w (open-closed world who is_so) key covered)
+    (λ none nothing. absurd (none-covered who key (ever heard) nothing covered))
+    (λ plan is w. granted-stands shape world.past who heard (writing_of plan) w (open-closed world who is_so) key
+    (w.unspent (open-closed world who is_so) key who refl covered))
 
 known-ordered : (shape : Shape) (world : World) → Inner shape world → (s : Step) → IsKnown world.past s → IsOrdered shape world s
 known-ordered shape world inner (step.Granted key sid mode shift now token deadline) h =
@@ -139,6 +142,17 @@ given-out shape world n grant writing one w at same =
     let O : Permit → Type 0 = λ g. list_any (same_permit g) (out_of shape (shard_of g.key shape.shards) world.past) ≡ true in
     subst O same (w.stood (released heard) one.permit (given-granted heard (released heard) one at) (omega arith)).out
 
+-- the grant that a session is to raise or renew next is out
+turn-out : (shape : Shape) (world : World) (n : ℕ) (grant : Permit) (writing : Writing) (one : Permit)
+    → Writer shape world.past n (told_to n world.past) writing
+    → slice_get (granted (told_to n world.past)) (turned (told_to n world.past)) ≡ Some one → is_going (told_to n world.past) ≡ true → one ≡ grant
+    → list_any (same_permit grant) (out_of shape (shard_of grant.key shape.shards) world.past) ≡ true
+turn-out shape world n grant writing one w at going same =
+    let heard = told_to n world.past in
+    let none = (w.going going).1 in
+    let O : Permit → Type 0 = λ g. list_any (same_permit g) (out_of shape (shard_of g.key shape.shards) world.past) ≡ true in
+    subst O same (w.stood (turned heard) one at (omega (arith, none))).out
+
 -- a quarantine is no release
 asks-none : (mode : Mode) (key : QKey) (txn : List Change) (grant : Permit) → IsReleaseOf grant (quarantine_as mode key txn) → ⊥
 asks-none Invalidate key txn grant h = h
@@ -148,14 +162,16 @@ asks-none Delta key txn grant h = h
 writer-out : (shape : Shape) (world : World) (n : ℕ) (grant : Permit) (writing : Writing) → Writer shape world.past n (told_to n world.past) writing
     → IsOutFor shape world grant (write_wants writing false (told_to n world.past))
 writer-out shape world n grant writing w =
-    write_cases (IsOutFor shape world grant) writing false (told_to n world.past)
-    (λ key at asks h. absurd (asks-none (mode_on writing.mode key) key writing.txn grant h))
-    (λ going h. absurd h) (λ key looks asks none h. absurd h) (λ key looks going h. absurd h) (λ going h. absurd h)
-    (λ one at ending none same. given-out shape world n grant writing one w at same)
-    (λ one at ending same. given-out shape world n grant writing one w at same)
-    (λ one number at ending told fits same. given-out shape world n grant writing one w at same)
-    (λ one number at ending told fits same. given-out shape world n grant writing one w at same)
-    (λ h. absurd h)
+    write_cases (λ request. write_wants writing false (told_to n world.past) ≡ request → IsOutFor shape world grant request) writing false (told_to n world.past)
+    (λ key at asks e h. absurd (asks-none (mode_on writing.mode key) key writing.txn grant h))
+    (λ going e h. absurd h) (λ key looks asks none e h. absurd h) (λ key looks going e h. absurd h) (λ going e h. absurd h)
+    (λ one at going e same. turn-out shape world n grant writing one w at (going-on writing (told_to n world.past) (wanted.Raise one) e (λ no. cc) going) same)
+    (λ one at going e same. turn-out shape world n grant writing one w at (going-on writing (told_to n world.past) (wanted.Renew one) e (λ no. cc) going) same)
+    (λ one at ending none e same. given-out shape world n grant writing one w at same)
+    (λ one at ending e same. given-out shape world n grant writing one w at same)
+    (λ one number at ending told fits e same. given-out shape world n grant writing one w at same)
+    (λ one number at ending told fits e same. given-out shape world n grant writing one w at same)
+    (λ e h. absurd h) refl
 
 session-out : (shape : Shape) (world : World) (n : ℕ) (grant : Permit) (plan : Option Plan) → IsSession shape world.past n (told_to n world.past) plan
     → IsOutFor shape world grant (wanted_by plan (told_to n world.past))
@@ -166,6 +182,8 @@ session-out shape world n grant (Some (Write mode txn)) h = writer-out shape wor
 session-out shape world n grant (Some (Look mode key txn)) h = writer-out shape world n grant (writing_of (Look mode key txn)) h
 session-out shape world n grant (Some (Quit mode txn)) h = writer-out shape world n grant (writing_of (Quit mode txn)) h
 session-out shape world n grant (Some (Skip key txn)) h = writer-out shape world n grant (writing_of (Skip key txn)) h
+session-out shape world n grant (Some (Raise txn)) h = writer-out shape world n grant (writing_of (Raise txn)) h
+session-out shape world n grant (Some (Renew mode txn)) h = writer-out shape world n grant (writing_of (Renew mode txn)) h
 
 -- the old value that a session keeps is what its quarantine found
 no_grant : (i : ℕ) (grant : Permit) → slice_get [] i ≡ Some grant → ⊥
@@ -182,13 +200,12 @@ kept-found shape world inner key quar found stands at_grant place one at on_key 
     let n = quar.sid.number in
     let heard = told_to n world.past in
     let here = given-granted heard place one at in
-    let planned = planned-quar world.plans key quar.token (steps_on shape world key) quar (inner.planned (shard_of key shape.shards)) stands in
     session-cases shape world.past n heard (one.old ≡ found.entry) (plan_at n world.plans) (inner.sessions n)
-    (λ none. absurd (no_grant place one.permit (sym (ap (λ l. slice_get l place) none) ∙ here)))
+    (λ none nothing. absurd (no_grant place one.permit (sym (ap (λ l. slice_get l place) none) ∙ here)))
     (λ plan is w.
-    let same : planned.plan ≡ plan = some_plan (sym planned.at ∙ is) in
-    let mode : one.permit.mode ≡ Refresh = (w.fits place one.permit here).in_mode
-    ∙ ap (mode_on (mode_of plan)) on_key ∙ ap (λ p. mode_on (mode_of p) key) (sym same) ∙ sym planned.in_mode ∙ refresh in
+    let Q : QKey → ℕ → Type 0 = λ k t. quar_of k t (steps_of (shard_of k shape.shards) world.past) ≡ Some quar in
+    let its_own : Q one.permit.key one.permit.token = subst (λ k. Q k one.permit.token) (sym on_key) (subst (Q key) (sym of_token) stands) in
+    let mode : one.permit.mode ≡ Refresh = sym (w.suits place one.permit here quar its_own) ∙ refresh in
     let old = w.olds place one at in
     let its : old.found ≡ found =
     some_found (sym old.at ∙ ap (λ k. found_at k one.permit.token world.past) on_key ∙ ap (λ t. found_at key t world.past) of_token ∙ at_grant) in

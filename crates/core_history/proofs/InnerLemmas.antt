@@ -28,7 +28,7 @@ use Rattle.sql_keeper.specs.declared.stores.Commit.{Commit}
 use Rattle.sql_keeper.specs.Commits.{covers}
 use Rattle.sql_keeper.specs.Fresh.{quarantines}
 use Rattle.session_client.specs.declared.plans.Plan.{Plan}
-use Rattle.session_client.specs.declared.plans.Plan.TheVariants.{Read, Write, Look, Quit, Skip}
+use Rattle.session_client.specs.declared.plans.Plan.TheVariants.{Read, Write, Look, Quit, Skip, Raise, Renew}
 use Rattle.session_client.specs.declared.plans.Shape.{Shape}
 use Rattle.session_client.specs.declared.replies.Reply.{Reply}
 use Rattle.session_client.specs.declared.replies.Reply.TheVariants as reply
@@ -41,11 +41,11 @@ use Rattle.core_history.specs.Freshness.{IsQuarantinedReply, IsQuarantinedEvent,
 use Rattle.core_history.proofs.GrantFacts.{IsDrawnBelow}
 use Rattle.core_history.proofs.ListLemmas.{every-weaker, every-append, any-back, push-place}
 use Rattle.core_history.proofs.GoodEvents.{IsTold}
-use Rattle.core_history.proofs.KeyLemmas.{IsQuietStep, quiet-grants, granted_standing, answers-draw, next-append}
-use Rattle.core_history.proofs.EventLemmas.{closed, closed-more, unmade-steps, IsLate, late-stepped, late-called, late-ticked, late-swept}
+use Rattle.core_history.proofs.KeyLemmas.{IsQuietStep, quiet-as, quiet-grants, granted_standing, answers-draw, next-append}
+use Rattle.core_history.proofs.EventLemmas.{ever, closed, closed-more, unmade-steps, IsLate, late-stepped, late-called, late-ticked, late-swept}
 use Rattle.core_history.proofs.EventLemmas.{IsKnown, known-more, IsCounted, counts-more, counted-mild, counted-called, counted-ticked}
 use Rattle.core_history.proofs.EventLemmas.{counted-swept, counted-unmade, told-mine, told-other}
-use Rattle.core_history.proofs.SessionLemmas.{Keeps, ReleasesNone, DrawsLate, IsLateDraw, Writer, writer-more, maybe-step, late-draw}
+use Rattle.core_history.proofs.SessionLemmas.{Keeps, Finds, finds-none, finds-called, finds-ticked, finds-swept, finds-unmade, ReleasesNone, DrawsLate, IsLateDraw, Writer, writer-more, maybe-step, late-draw}
 use Rattle.core_history.proofs.SessionLemmas.{stood-quiet, stood-called, stood-ticked, stood-unmade, stood-swept, leaves-ended}
 use Rattle.core_history.proofs.PlannedLemmas.{GrantsPlanned, ArePlanned, IsPlannedReply, IsPlannedEvent, quiet-planned, mild-planned, logged-more}
 use Rattle.core_history.proofs.SweepingLemmas.{IsSweeping, due-more, sweeping-more}
@@ -63,7 +63,7 @@ IsHolding key n past heard = Unit {0}
 abbrev pub IsReader : Shape → List Event → ℕ → List Reply → QKey → Type 0
 IsReader shape past n heard key =
     AllByRecursion (IsDrawnBelow (next_token (terms_of shape (shard_of key shape.shards)) (steps_of (shard_of key shape.shards) past))) heard
-    × (granted heard ≡ []) × IsHolding key n past heard
+    × (granted heard ≡ []) × (ever heard ≡ []) × IsHolding key n past heard
 
 -- what a session was told, by its plan: nothing without one
 abbrev pub IsSession : Shape → List Event → ℕ → List Reply → Option Plan → Type 0
@@ -73,6 +73,8 @@ IsSession shape past n heard (Some (Write mode txn)) = Writer shape past n heard
 IsSession shape past n heard (Some (Look mode key txn)) = Writer shape past n heard (writing_of (Look mode key txn))
 IsSession shape past n heard (Some (Quit mode txn)) = Writer shape past n heard (writing_of (Quit mode txn))
 IsSession shape past n heard (Some (Skip key txn)) = Writer shape past n heard (writing_of (Skip key txn))
+IsSession shape past n heard (Some (Raise txn)) = Writer shape past n heard (writing_of (Raise txn))
+IsSession shape past n heard (Some (Renew mode txn)) = Writer shape past n heard (writing_of (Renew mode txn))
 
 abbrev pub IsCovered : Shape → List Event → Type 0
 IsCovered shape past =
@@ -84,7 +86,7 @@ pub record Inner (shape : Shape) (world : World) : Type 0 where
   pub known : (place : ℕ) → AllByRecursion (IsKnown world.past) (steps_of place world.past)
   pub planned : (place : ℕ) → AllByRecursion (GrantsPlanned world.plans) (steps_of place world.past)
   pub counts : (key : QKey) (who : Sid)
-      → count_by (quarantines key who) (steps_of (shard_of key shape.shards) world.past) ≡ count_by (covers who key) (granted (told_to who.number world.past))
+      → count_by (quarantines key who) (steps_of (shard_of key shape.shards) world.past) ≡ count_by (covers who key) (ever (told_to who.number world.past))
   pub covered : IsCovered shape world.past
   pub logged : ArePlanned world.plans (log_of world.past)
   pub quarantined : AreQuarantined shape world.past
@@ -115,6 +117,9 @@ drawn-weaker low high le (reply.End was) h = tt
 drawn-weaker low high le (reply.Rel told) h = tt
 drawn-weaker low high le (reply.SarBack grant) h = tt
 drawn-weaker low high le (reply.Fault fault) h = tt
+drawn-weaker low high le (reply.Raise told) h = tt
+drawn-weaker low high le (reply.RaiseBack grant) h = tt
+drawn-weaker low high le (reply.Renew grant told) h = tt
 drawn-weaker low high le reply.Nothing h = tt
 
 told-back : (answered : Answer) (xs ys : List Answer) → IsTold answered ys → IsTold answered (xs ++ ys)
@@ -144,20 +149,23 @@ reader-more shape event past n heard key late h =
       every-weaker (IsDrawnBelow low) (IsDrawnBelow high) heard
           (drawn-weaker low high (next-append (terms_of shape home) (steps_in home event) (steps_of home past))) h.0,
       h.1,
-      holding-more shape event past key n heard late h.0 h.2,
+      h.2,
+      holding-more shape event past key n heard late h.0 h.3,
     )
 
 -- what a session was told stays so
 pub session-more : (shape : Shape) (event : Event) (past : List Event) (n : ℕ) (heard : List Reply) (plan : Option Plan)
-    → DrawsLate shape past event → Keeps shape event past n
+    → DrawsLate shape past event → Finds shape event past n → Keeps shape event past n
     → IsSession shape past n heard plan → IsSession shape (event ∷ past) n heard plan
-session-more shape event past n heard None late keeps h = h
-session-more shape event past n heard (Some (Read key floor)) late keeps h = reader-more shape event past n heard key late h
-session-more shape event past n heard (Some (Write mode txn)) late keeps h = writer-more shape event past n heard (writing_of (Write mode txn)) late keeps h
-session-more shape event past n heard (Some (Look mode key txn)) late keeps h =
-    writer-more shape event past n heard (writing_of (Look mode key txn)) late keeps h
-session-more shape event past n heard (Some (Quit mode txn)) late keeps h = writer-more shape event past n heard (writing_of (Quit mode txn)) late keeps h
-session-more shape event past n heard (Some (Skip key txn)) late keeps h = writer-more shape event past n heard (writing_of (Skip key txn)) late keeps h
+session-more shape event past n heard None late finds keeps h = h
+session-more shape event past n heard (Some (Read key floor)) late finds keeps h = reader-more shape event past n heard key late h
+session-more shape event past n heard (Some (Write mode txn)) late finds keeps h = writer-more shape event past n heard (writing_of (Write mode txn)) finds keeps h
+session-more shape event past n heard (Some (Look mode key txn)) late finds keeps h =
+    writer-more shape event past n heard (writing_of (Look mode key txn)) finds keeps h
+session-more shape event past n heard (Some (Quit mode txn)) late finds keeps h = writer-more shape event past n heard (writing_of (Quit mode txn)) finds keeps h
+session-more shape event past n heard (Some (Skip key txn)) late finds keeps h = writer-more shape event past n heard (writing_of (Skip key txn)) finds keeps h
+session-more shape event past n heard (Some (Raise txn)) late finds keeps h = writer-more shape event past n heard (writing_of (Raise txn)) finds keeps h
+session-more shape event past n heard (Some (Renew mode txn)) late finds keeps h = writer-more shape event past n heard (writing_of (Renew mode txn)) finds keeps h
 
 covered-told : (shape : Shape) (past : List Event) (who : Sid) (told : Reply) → IsQuarantinedReply shape past who told → IsCovered shape past
     → (place : ℕ) (commit : Commit) (key : QKey) → slice_get (log_of past ++ commits_told who told) place ≡ Some commit → touches commit.txn key ≡ true
@@ -219,9 +227,10 @@ inner-event shape world event inner new =
 
 -- the sessions after a turn of one of them, and after an event that was no session's turn
 sessions-turn : (shape : Shape) (world : World) (event : Event) (who : Sid) (told : Reply) → Inner shape world → DrawsLate shape world.past event
+    → ((n : ℕ) → (who.number ≡ n → ⊥) → Finds shape event world.past n)
     → ((n : ℕ) → (who.number ≡ n → ⊥) → Keeps shape event world.past n) → HasHeard shape world event who told
     → (n : ℕ) → IsSession shape (event ∷ world.past) n (told_by n who told ++ told_to n world.past) (plan_at n world.plans)
-sessions-turn shape world event who told inner late keeps mine n =
+sessions-turn shape world event who told inner late finds keeps mine n =
     let past = world.past in
     let S : List Reply → Type 0 = λ heard. IsSession shape (event ∷ past) n heard (plan_at n world.plans) in
     let O : ℕ → Type 0 = λ m. IsSession shape (event ∷ past) m (told_by m who told ++ told_to m past) (plan_at m world.plans) in
@@ -230,14 +239,15 @@ sessions-turn shape world event who told inner late keeps mine n =
       | inl same ↦ subst O (eqb-true who.number n same) (subst M (sym (told-mine who told (told_to who.number past))) mine)
       | inr other ↦ subst S (sym (told-other n who told (told_to n past) other))
           (session-more shape event past n (told_to n past) (plan_at n world.plans) late
+          (finds n (λ e. false≢true (sym other ∙ eq-eqb who.number n e)))
           (keeps n (λ e. false≢true (sym other ∙ eq-eqb who.number n e))) (inner.sessions n))
     ]
 
 sessions-still : (shape : Shape) (world : World) (event : Event)
-    → Inner shape world → DrawsLate shape world.past event → ((n : ℕ) → Keeps shape event world.past n)
+    → Inner shape world → DrawsLate shape world.past event → ((n : ℕ) → Finds shape event world.past n) → ((n : ℕ) → Keeps shape event world.past n)
     → (n : ℕ) → IsSession shape (event ∷ world.past) n (told_to n world.past) (plan_at n world.plans)
-sessions-still shape world event inner late keeps n =
-    session-more shape event world.past n (told_to n world.past) (plan_at n world.plans) late (keeps n) (inner.sessions n)
+sessions-still shape world event inner late finds keeps n =
+    session-more shape event world.past n (told_to n world.past) (plan_at n world.plans) late (finds n) (keeps n) (inner.sessions n)
 
 -- a call of the store, or none
 pub called-inner : (shape : Shape) (world : World) (who : Sid) (request : Wanted) (told : Reply) → Inner shape world → grants_in told ≡ []
@@ -255,7 +265,8 @@ called-inner shape world who request told inner brings late quarantined planned 
       committed = planned;
       quarantined = quarantined;
       sweeping = sweeping-more shape world.plans event world.past (sweeps_of world.past) tt inner.sweeping;
-      sessions = sessions-turn shape world event who told inner tt (λ n other grant own. stood-called shape who request told world.past n grant) mine;
+      sessions = sessions-turn shape world event who told inner tt (λ n other. finds-called shape who request told world.past n)
+          (λ n other grant own. stood-called shape who request told world.past n grant) mine;
     })
 
 mild-quarantined : (shape : Shape) (past : List Event) (who : Sid) (told : Reply) → is_commit told ≡ false → IsQuarantinedReply shape past who told
@@ -292,10 +303,11 @@ legal-more shape world home s inner answers place =
 pub stepped-inner : (shape : Shape) (world : World) (home : ℕ) (who : Sid) (request : Wanted) (s : Step) (told : Reply) → Inner shape world
     → Answers (terms_of shape home) (steps_of home world.past) s → IsKnown (Stepped home who request s told ∷ world.past) s → GrantsPlanned world.plans s
     → is_commit told ≡ false → IsCounted shape.shards (Stepped home who request s told)
+    → ((n : ℕ) → (who.number ≡ n → ⊥) → Finds shape (Stepped home who request s told) world.past n)
     → ((n : ℕ) → (who.number ≡ n → ⊥) → Keeps shape (Stepped home who request s told) world.past n)
     → HasHeard shape world (Stepped home who request s told) who told
     → Inner shape (with_event world (Stepped home who request s told))
-stepped-inner shape world home who request s told inner answers known planned mild counted keeps mine =
+stepped-inner shape world home who request s told inner answers known planned mild counted finds keeps mine =
     let event = Stepped home who request s told in
     let past = world.past in
     let late = draws-late shape past home s answers in
@@ -308,7 +320,7 @@ stepped-inner shape world home who request s told inner answers known planned mi
       committed = mild-planned world.plans who told mild;
       quarantined = mild-quarantined shape past who told mild;
       sweeping = sweeping-more shape world.plans event past (sweeps_of past) late inner.sweeping;
-      sessions = sessions-turn shape world event who told inner late keeps mine;
+      sessions = sessions-turn shape world event who told inner late finds keeps mine;
     })
 
 quiet-known : (past : List Event) (s : Step) → IsQuietStep s → IsKnown past s
@@ -324,6 +336,7 @@ quiet-inner shape world home who request s told inner answers quiet none mild br
     stepped-inner shape world home who request s told inner answers
     (quiet-known (Stepped home who request s told ∷ world.past) s quiet) (quiet-planned world.plans s quiet) mild
     (counted-mild shape.shards home who request s told (quiet-grants s quiet) brings)
+    (λ n other. finds-none shape home who request s told world.past n (quiet-as s quiet))
     (λ n other grant own. stood-quiet shape home who request s told world.past quiet none n grant) mine
 
 -- what stands on a key
@@ -346,7 +359,7 @@ ticked-inner shape world now inner =
       committed = tt;
       quarantined = tt;
       sweeping = sweeping-more shape world.plans event world.past (sweeps_of world.past) tt inner.sweeping;
-      sessions = sessions-still shape world event inner tt (λ n grant own. stood-ticked shape now world.past n grant);
+      sessions = sessions-still shape world event inner tt (λ n. finds-ticked shape now world.past n) (λ n grant own. stood-ticked shape now world.past n grant);
     })
 
 -- a sweep that makes no step
@@ -364,7 +377,8 @@ unmade-inner shape world place request told inner sweeping =
       committed = tt;
       quarantined = tt;
       sweeping = sweeping;
-      sessions = sessions-still shape world event inner tt (λ n grant own. stood-unmade shape place request told world.past n grant);
+      sessions = sessions-still shape world event inner tt (λ n. finds-unmade shape place request told world.past n)
+          (λ n grant own. stood-unmade shape place request told world.past n grant);
     })
   where
     none-made : (P : Step → Type 0) (b : Bool) → AllByRecursion P (cond b [] [])
@@ -421,5 +435,6 @@ dropped-inner shape world key token quar rel inner stands shut =
       committed = tt;
       quarantined = tt;
       sweeping = tt;
-      sessions = sessions-still shape world event inner late (λ n grant own. stood-swept shape home request s told past leaves n grant);
+      sessions = sessions-still shape world event inner late (λ n. finds-swept shape home request s told past n (λ k t. refl))
+          (λ n grant own. stood-swept shape home request s told past leaves n grant);
     })

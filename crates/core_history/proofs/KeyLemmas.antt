@@ -2,7 +2,7 @@
 use Rattle.std.proofs.Common.{ℕ, ◌≡◌, ◌<◌, ◌≤◌, ◌+◌, ◌==◌, Bool, true, false, not, cond, ◌&&◌, ◌||◌, List, [], ◌∷◌, ◌++◌, map, filter, find}
 use Rattle.std.proofs.Common.{Some, refl, sym, ap, subst, ◌∙◌, inl, inr, ◌⊎◌, arith}
 use Rattle.std.specs.List.{AllByRecursion, list_any}
-use Rattle.std.proofs.lemmas.Bool.{false≢true, eqb-true}
+use Rattle.std.proofs.lemmas.Bool.{false≢true, eqb-true, eq-eqb}
 use Rattle.std.proofs.lemmas.List.Folds.{list_any-append}
 use Rattle.rows_model.specs.declared.keys.QKey.{QKey}
 use Rattle.rows_model.specs.declared.keys.Sid.{Sid}
@@ -23,6 +23,7 @@ use Rattle.key_shard.proofs.OneStepLemmas.{next_drawn}
 use Rattle.key_shard.proofs.PermitLemmas.{is_of_permit, find_permit}
 use Rattle.key_shard.proofs.PlaceLemmas.{ended-adds_none}
 use Rattle.key_shard.proofs.RaiseLemmas.{any-mapped, every-mapped, raised-same, renewed-same, quar-raised, quar-renewed, raised-sid, renewed-sid}
+use Rattle.key_shard.proofs.RaiseLemmas.{raised-apart, renewed-mode}
 use Rattle.sql_keeper.specs.Fresh.{quarantines}
 use Rattle.core_history.specs.Facts.{grants_as}
 use Rattle.core_history.proofs.ListLemmas.{choose, or_inl, or_inr, or_elim, and_elim, not_true, any-filter, every-weaker, every-append}
@@ -42,6 +43,16 @@ IsSteady (step.Raised on sid token) = ⊥
 IsSteady (step.Renewed on sid token now deadline) = ⊥
 IsSteady other = Unit {0}
 
+-- whether a step grants the quarantine of this token on the key anew
+abbrev pub news_as : QKey → ℕ → Step → Bool
+news_as key token (step.Granted on sid mode shift now given deadline) = same_key key on && (given == token)
+news_as key token other = false
+
+-- a step that grants or raises none grants none anew
+pub not_new : (key : QKey) (token : ℕ) (s : Step) → grants_as key token s ≡ false → news_as key token s ≡ false
+not_new key token (step.Granted on sid mode shift now given deadline) none = none
+not_new key token other none = refl
+
 pub quiet-stands : (s : Step) → IsQuietStep s → (key : QKey) (past : List Step) → standing key (s ∷ past) ≡ standing key past
 quiet-stands (step.Granted on sid mode shift now token deadline) quiet key past = absurd quiet
 quiet-stands (step.Released on sid token how) quiet key past = absurd quiet
@@ -52,6 +63,11 @@ quiet-stands other quiet key past = refl
 pub quiet-grants : (s : Step) → IsQuietStep s → (key : QKey) (who : Sid) → quarantines key who s ≡ false
 quiet-grants (step.Granted on sid mode shift now token deadline) quiet key who = absurd quiet
 quiet-grants other quiet key who = refl
+
+pub quiet-as : (s : Step) → IsQuietStep s → (key : QKey) (token : ℕ) → grants_as key token s ≡ false
+quiet-as (step.Granted on sid mode shift now given deadline) quiet key token = absurd quiet
+quiet-as (step.Raised on sid given) quiet key token = absurd quiet
+quiet-as other quiet key token = refl
 
 pub quiet-out : (s : Step) → IsQuietStep s → (terms : Terms) (out : List Permit) → out_after terms s out ≡ out
 quiet-out (step.Granted on sid mode shift now token deadline) quiet terms out = absurd quiet
@@ -209,7 +225,7 @@ stays-apart grant gone quar quars distinct mine found other =
 
 -- no step that neither raises nor renews brings back a quarantine of a token that it doesn't grant
 pub quar-old : (s : Step) (key : QKey) (token : ℕ) (past : List Step) (quar : Quar) → IsSteady s
-    → grants_as key token s ≡ false → quar_of key token (s ∷ past) ≡ Some quar → quar_of key token past ≡ Some quar
+    → news_as key token s ≡ false → quar_of key token (s ∷ past) ≡ Some quar → quar_of key token past ≡ Some quar
 quar-old (step.Granted on sid mode shift now given deadline) key token past quar steady none =
     let new : Quar = record { sid = sid; mode = mode; token = given; deadline = deadline; shift = shift } in
     let xs = standing key past in
@@ -236,7 +252,7 @@ StandsAs key token past quar = (old : Quar) × (quar_of key token past ≡ Some 
 
 -- whatever the step, a quarantine of a token that it doesn't grant stood before, in whichever mode and until whichever deadline
 pub quar-was : (s : Step) (key : QKey) (token : ℕ) (past : List Step) (quar : Quar)
-    → grants_as key token s ≡ false → quar_of key token (s ∷ past) ≡ Some quar → StandsAs key token past quar
+    → news_as key token s ≡ false → quar_of key token (s ∷ past) ≡ Some quar → StandsAs key token past quar
 quar-was (step.Raised on sid given) key token past quar none h =
     let was = quar-raised past on sid given key token quar h in
     (was.0, was.1, raised-sid given (same_key key on) was.0 quar was.2)
@@ -244,6 +260,34 @@ quar-was (step.Renewed on sid given now deadline) key token past quar none h =
     let was = quar-renewed past on sid given now deadline key token quar h in
     (was.0, was.1, renewed-sid given deadline (same_key key on) was.0 quar was.2)
 quar-was other key token past quar none h = (quar, quar-old other key token past quar tt none h, refl)
+
+-- a quarantine of the same mode stands under the token
+abbrev pub StandsIn : QKey → ℕ → List Step → Quar → Type 0
+StandsIn key token past quar = (old : Quar) × (quar_of key token past ≡ Some old) × (old.mode ≡ quar.mode)
+
+-- a raise of another token, or on another key, leaves the mode of a quarantine
+raised-mode : (given token : ℕ) (b : Bool) (old quar : Quar) → (b && (given == token)) ≡ false → old.token ≡ token
+    → cond b (raised given old) old ≡ quar → old.mode ≡ quar.mode
+raised-mode given token false old quar none its e = ap (λ (q : Quar). q.mode) e
+raised-mode given token true old quar none its e =
+    ap (λ (q : Quar). q.mode) (sym (raised-apart given old (not_true (has_token given old) (λ same.
+    false≢true (sym none ∙ eq-eqb given token (sym (eqb-true old.token given same) ∙ its))))) ∙ e)
+
+-- whatever the step, a quarantine of a token that it neither grants nor raises stood before in its mode
+pub quar-kept : (s : Step) (key : QKey) (token : ℕ) (past : List Step) (quar : Quar)
+    → grants_as key token s ≡ false → quar_of key token (s ∷ past) ≡ Some quar → StandsIn key token past quar
+quar-kept (step.Raised on sid given) key token past quar none h =
+    let was = quar-raised past on sid given key token quar h in
+    let its = (every-found (λ q. Unit {0}) (has_token token) (standing key past) was.0 (all-so (standing key past)) was.1).1 in
+    (was.0, was.1, raised-mode given token (same_key key on) was.0 quar none (eqb-true was.0.token token its) was.2)
+  where
+    all-so : (quars : List Quar) → AllByRecursion (λ q. Unit {0}) quars
+    all-so [] = tt
+    all-so (q ∷ quars) = (tt, all-so quars)
+quar-kept (step.Renewed on sid given now deadline) key token past quar none h =
+    let was = quar-renewed past on sid given now deadline key token quar h in
+    (was.0, was.1, renewed-mode given deadline (same_key key on) was.0 quar was.2)
+quar-kept other key token past quar none h = (quar, quar-old other key token past quar tt (not_new key token other none) h, refl)
 
 -- a token that a step gives is the next one, on a key of its shard
 abbrev pub DrawsNext : Terms → ℕ → Step → Type 0
@@ -322,6 +366,11 @@ was-below : (next : ℕ) (grant : Permit) (past : List Step) → AllByRecursion 
 was-below next grant past below was =
     let found = every-any (GrantsSo (IsBelow next)) (grants grant) past below was in
     grant-below next grant found.0 found.1 found.2
+
+-- the token of a grant that was given is below the next
+pub was-drawn : (terms : Terms) (past : List Step) (grant : Permit) → IsLegalPast terms past → list_any (grants grant) past ≡ true
+    → grant.token < next_token terms past
+was-drawn terms past grant legal was = was-below (next_token terms past) grant past (grants-below terms past legal) was
 
 -- the step that is the grant, one of an earlier token, and one of a later
 one-here : (grant : Permit) (s : Step) → grants grant s ≡ true → GrantsSo (OfOne grant) s

@@ -17,6 +17,7 @@ pub mod WritingLemmas
 pub mod AskTurnLemmas
 pub mod CallTurnLemmas
 pub mod ReleaseTurnLemmas
+pub mod RaiseTurnLemmas
 pub mod SweepTurnLemmas
 pub mod WriteTurnLemmas
 pub mod WorldLemmas

@@ -1,5 +1,5 @@
 -- A request that was made on a shard leaves the store, and one at the store leaves the shards.
-use Rattle.std.proofs.Common.{◌∷◌, List, Result, Ok, Err}
+use Rattle.std.proofs.Common.{◌∷◌, List, Result, Ok, Err, refl}
 use Rattle.rows_model.specs.declared.keys.QKey.{QKey}
 use Rattle.rows_model.specs.declared.keys.Sid.{Sid}
 use Rattle.rows_model.specs.declared.refusals.Memory.{Memory}
@@ -34,6 +34,8 @@ IsOnShard (wanted.Dar grant) = Unit {0}
 IsOnShard (wanted.Sar grant value stamp) = Unit {0}
 IsOnShard (wanted.Apply grant stamp) = Unit {0}
 IsOnShard (wanted.Abort grant) = Unit {0}
+IsOnShard (wanted.Raise grant) = Unit {0}
+IsOnShard (wanted.Renew grant) = Unit {0}
 IsOnShard wanted.Nothing = ⊥
 
 -- the request is one at the store, or none
@@ -51,6 +53,8 @@ IsAtStore (wanted.Dar grant) = ⊥
 IsAtStore (wanted.Sar grant value stamp) = ⊥
 IsAtStore (wanted.Apply grant stamp) = ⊥
 IsAtStore (wanted.Abort grant) = ⊥
+IsAtStore (wanted.Raise grant) = ⊥
+IsAtStore (wanted.Renew grant) = ⊥
 IsAtStore wanted.Nothing = Unit {0}
 
 -- a turn that tells what a step shows on the shard of a key is quiet
@@ -76,6 +80,8 @@ quiet_request shape world who (wanted.Dar grant) on = quiet_at shape world who _
 quiet_request shape world who (wanted.Sar grant value stamp) on = quiet_at shape world who _ grant.key _ _
 quiet_request shape world who (wanted.Apply grant stamp) on = quiet_at shape world who _ grant.key _ _
 quiet_request shape world who (wanted.Abort grant) on = quiet_at shape world who _ grant.key _ _
+quiet_request shape world who (wanted.Raise grant) on = record { commits = refl; ends = refl; fault = refl; truth = λ rows. tt }
+quiet_request shape world who (wanted.Renew grant) on = record { commits = refl; ends = refl; fault = refl; truth = λ rows. tt }
 quiet_request shape world who wanted.Nothing on = absurd on
 
 -- a request at the store leaves the shards
@@ -94,6 +100,8 @@ same_shards shards shape world who (wanted.Dar grant) said at has = absurd at
 same_shards shards shape world who (wanted.Sar grant value stamp) said at has = absurd at
 same_shards shards shape world who (wanted.Apply grant stamp) said at has = absurd at
 same_shards shards shape world who (wanted.Abort grant) said at has = absurd at
+same_shards shards shape world who (wanted.Raise grant) said at has = absurd at
+same_shards shards shape world who (wanted.Renew grant) said at has = absurd at
 same_shards shards shape world who wanted.Nothing said at has = shards_called shards shape world.past who wanted.Nothing _ has
 
 pub makes_step : (origin : Origin) (world : World) (who : Sid) (request : Wanted) (shards : List ShardView) (store : StoreView) (result : Result Reply Memory)

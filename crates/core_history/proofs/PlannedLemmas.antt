@@ -1,9 +1,12 @@
 -- Each quarantine and each commit is one of a plan that writes.
-use Rattle.std.proofs.Common.{ℕ, ◌≡◌, ◌-◌, true, false, List, [], ◌∷◌, ◌++◌, Some, slice_get, append-nil, sym, ap, subst, ◌∙◌, inl, inr}
+use Rattle.std.proofs.Common.{ℕ, ◌≡◌, ◌-◌, Bool, true, false, cond, List, [], ◌∷◌, ◌++◌, Some, slice_get, append-nil, refl, sym, ap, subst, ◌∙◌, inl, inr}
 use Rattle.std.specs.List.{AllByRecursion}
 use Rattle.rows_model.specs.declared.keys.QKey.{QKey}
 use Rattle.rows_model.specs.declared.keys.Sid.{Sid}
+use Rattle.lease_table.specs.declared.records.Mode.TheVariants.{Delta}
 use Rattle.lease_table.specs.declared.records.Quar.{Quar}
+use Rattle.lease_table.specs.Leases.{has_token, raised, renewed}
+use Rattle.key_shard.proofs.RaiseLemmas.{lifted, prolonged, raised-same, renewed-same}
 use Rattle.key_shard.specs.declared.steps.Step.{Step}
 use Rattle.key_shard.specs.declared.steps.Step.TheVariants as step
 use Rattle.key_shard.specs.Past.{standing, quar_of}
@@ -11,33 +14,55 @@ use Rattle.sql_keeper.specs.declared.stores.Commit.{Commit}
 use Rattle.session_client.specs.declared.plans.Plan.{Plan}
 use Rattle.session_client.specs.declared.replies.Reply.{Reply}
 use Rattle.session_client.specs.declared.replies.Reply.TheVariants as reply
-use Rattle.session_client.specs.Plans.{writes, changes_of, mode_of, mode_on, shift_in}
+use Rattle.session_client.specs.Plans.{writes, changes_of, shift_in}
 use Rattle.session_client.specs.Wants.{is_commit}
 use Rattle.core_history.specs.Events.{Event, Stepped, Called, Ticked, Swept, commits_told, log_of}
 use Rattle.core_history.specs.Machine.{plan_at}
 use Rattle.core_history.proofs.ListLemmas.{every-weaker, push-place, slice-front}
 use Rattle.core_history.proofs.KeyLemmas.{IsQuietStep, GrantsSo, standing-every, quar-every}
 
--- a quarantine of a key is one that the plan of its session has: the session writes, in this mode, and the shift is that of its changes
+-- a quarantine of a key is one that the plan of its session has: the session writes, and the shift of a delta is that of its changes
 pub record IsPlanned (plans : List Plan) (key : QKey) (quar : Quar) : Type 0 where
   pub plan : Plan
   pub at : plan_at quar.sid.number plans ≡ Some plan
   pub may : writes plan ≡ true
-  pub in_mode : quar.mode ≡ mode_on (mode_of plan) key
-  pub by : quar.shift ≡ shift_in quar.mode key (changes_of plan)
+  pub by : quar.mode ≡ Delta → quar.shift ≡ shift_in Delta key (changes_of plan)
 
--- so is one that a step grants; and none is raised or renewed, since no session asks for that yet
+-- one that is raised or renewed stays so
+raised-planned : (plans : List Plan) (key : QKey) (token : ℕ) (quar : Quar) → IsPlanned plans key quar → IsPlanned plans key (raised token quar)
+raised-planned plans key token quar h = record {
+  plan = h.plan;
+  at = subst (λ (w : Sid). plan_at w.number plans ≡ Some h.plan) (sym (raised-same (λ q. q.sid) token quar refl)) h.at;
+  may = h.may;
+  by = by (has_token token quar);
+}
+  where
+    by : (b : Bool) → (cond b (lifted quar) quar).mode ≡ Delta → (cond b (lifted quar) quar).shift ≡ shift_in Delta key (changes_of h.plan)
+    by true e = cc
+    by false e = h.by e
+
+renewed-planned : (plans : List Plan) (key : QKey) (token deadline : ℕ) (quar : Quar) → IsPlanned plans key quar → IsPlanned plans key (renewed token deadline quar)
+renewed-planned plans key token deadline quar h = record {
+  plan = h.plan;
+  at = subst (λ (w : Sid). plan_at w.number plans ≡ Some h.plan) (sym (renewed-same (λ q. q.sid) token deadline quar refl)) h.at;
+  may = h.may;
+  by = by (has_token token quar);
+}
+  where
+    by : (b : Bool) → (cond b (prolonged deadline quar) quar).mode ≡ Delta → (cond b (prolonged deadline quar) quar).shift ≡ shift_in Delta key (changes_of h.plan)
+    by true e = h.by e
+    by false e = h.by e
+
+-- so is one that a step grants
 abbrev pub GrantsPlanned : List Plan → Step → Type 0
 GrantsPlanned plans (step.Granted on sid mode shift now token deadline) =
     IsPlanned plans on (record { sid = sid; mode = mode; token = token; deadline = deadline; shift = shift })
-GrantsPlanned plans (step.Raised on sid token) = ⊥
-GrantsPlanned plans (step.Renewed on sid token now deadline) = ⊥
 GrantsPlanned plans other = Unit {0}
 
 planned-so : (plans : List Plan) (s : Step) → GrantsPlanned plans s → GrantsSo (IsPlanned plans) s
 planned-so plans (step.Granted on sid mode shift now token deadline) h = h
-planned-so plans (step.Raised on sid token) h = absurd h
-planned-so plans (step.Renewed on sid token now deadline) h = absurd h
+planned-so plans (step.Raised on sid token) h = raised-planned plans on token
+planned-so plans (step.Renewed on sid token now deadline) h = renewed-planned plans on token deadline
 planned-so plans other h = tt
 
 all-so : (plans : List Plan) (past : List Step) → AllByRecursion (GrantsPlanned plans) past → AllByRecursion (GrantsSo (IsPlanned plans)) past
@@ -66,8 +91,6 @@ IsPlannedEvent plans (Swept place request made told) = Unit {0}
 -- a step that grants nothing is planned, and so is a reply that tells of no commit
 pub quiet-planned : (plans : List Plan) (s : Step) → IsQuietStep s → GrantsPlanned plans s
 quiet-planned plans (step.Granted on sid mode shift now token deadline) quiet = absurd quiet
-quiet-planned plans (step.Raised on sid token) quiet = absurd quiet
-quiet-planned plans (step.Renewed on sid token now deadline) quiet = absurd quiet
 quiet-planned plans other quiet = tt
 
 pub mild-planned : (plans : List Plan) (who : Sid) (told : Reply) → is_commit told ≡ false → IsPlannedReply plans who told
@@ -107,9 +130,7 @@ plan-stays n plans more found at = slice-front plans (more ∷ []) (n - 1) found
 
 pub planned-begun : (plans : List Plan) (more : Plan) (s : Step) → GrantsPlanned plans s → GrantsPlanned (plans ++ more ∷ []) s
 planned-begun plans more (step.Granted on sid mode shift now token deadline) h =
-    record { plan = h.plan; at = plan-stays sid.number plans more h.plan h.at; may = h.may; in_mode = h.in_mode; by = h.by }
-planned-begun plans more (step.Raised on sid token) h = absurd h
-planned-begun plans more (step.Renewed on sid token now deadline) h = absurd h
+    record { plan = h.plan; at = plan-stays sid.number plans more h.plan h.at; may = h.may; by = h.by }
 planned-begun plans more other h = tt
 
 pub logged-begun : (plans : List Plan) (more : Plan) (log : List Commit) → ArePlanned plans log → ArePlanned (plans ++ more ∷ []) log

@@ -1,5 +1,5 @@
 -- A turn of a reader, or of no session, keeps the facts; and so does a get of any session's.
-use Rattle.std.proofs.Common.{ℕ, ◌≡◌, ◌<◌, ◌==◌, true, false, cond, List, [], ◌∷◌, ◌++◌, length, Option, Some, None, append-nil, refl, sym}
+use Rattle.std.proofs.Common.{ℕ, zero, suc, ◌≡◌, ◌<◌, ◌==◌, true, false, cond, List, [], ◌∷◌, ◌++◌, length, Option, Some, None, append-nil, refl, sym}
 use Rattle.std.proofs.Common.{ap, subst, ◌∙◌, inl, arith}
 use Rattle.std.proofs.lemmas.Bool.{false≢true, eq-eqb, eqb-true}
 use Rattle.rows_model.specs.declared.keys.QKey.{QKey}
@@ -26,7 +26,8 @@ use Rattle.session_client.specs.declared.replies.Reply.{Reply}
 use Rattle.session_client.specs.declared.replies.Reply.TheVariants as reply
 use Rattle.session_client.specs.declared.replies.Wanted.{Wanted}
 use Rattle.session_client.specs.declared.replies.Wanted.TheVariants as wanted
-use Rattle.session_client.specs.Wants.{granted, grants_in, is_commit, read_wants}
+use Rattle.key_shard.specs.declared.replies.Raising.TheVariants as raising
+use Rattle.session_client.specs.Wants.{granted, granted_by, turned, grants_in, is_commit, read_wants}
 use Rattle.session_client.proofs.WantCases.{read_cases}
 use Rattle.core_history.specs.Events.{Event, Stepped, Called, steps_of, told_to, log_of, now_of}
 use Rattle.core_history.specs.Machine.{World, Said, Value, Made, Rejected, Failed, terms_of, plan_at, shown, event_of, ask_told}
@@ -34,6 +35,7 @@ use Rattle.core_history.specs.Facts.{answers_under}
 use Rattle.core_history.proofs.GrantFacts.{IsDrawnBelow}
 use Rattle.core_history.proofs.ListLemmas.{and_elim, and_intro, not_both, count-cons}
 use Rattle.core_history.proofs.KeyLemmas.{IsQuietStep}
+use Rattle.core_history.proofs.EventLemmas.{ever}
 use Rattle.core_history.proofs.SessionLemmas.{maybe-step, DrawsLate, IsLateDraw}
 use Rattle.core_history.proofs.InnerLemmas.{Inner, IsSession, IsHolding, HasHeard, with_event, reader-more, mild-inner, quiet-inner, draws-late}
 use Rattle.core_history.proofs.GoodEvents.{IsTold, IsGoodEvent}
@@ -120,6 +122,14 @@ got-turn shape world who said key floor inner takes =
         maybe-step (λ l. token < next_token terms l) (home == home) s steps (λ _. let one = count-cons draws s steps in
         omega (arith, one)) (λ other. absurd (not_both (eq-eqb home home refl) other))
 
+-- of no grant none is changed
+by_nil : (told : Reply) (place : ℕ) → granted_by told place [] ≡ []
+by_nil (reply.Raise (raising.Raised grant old)) place = refl
+by_nil (reply.Raise (raising.Shared grant holder)) place = refl
+by_nil (reply.Raise raising.Gone) zero = refl
+by_nil (reply.Raise raising.Gone) (suc place) = refl
+by_nil other place = refl
+
 -- what a reader is told
 told-reader : (shape : Shape) (world : World) (event : Event) (who : Sid) (told : Reply) (key : QKey) (floor : ℕ)
     → Inner shape world → plan_at who.number world.plans ≡ Some (Read key floor)
@@ -132,7 +142,13 @@ told-reader shape world event who told key floor inner plan late drawn brings ho
     let S : Option Plan → Type 0 = λ p. IsSession shape world.past n heard p in
     let T : Option Plan → Type 0 = λ p. IsSession shape (event ∷ world.past) n (told ∷ heard) p in
     let old = reader-more shape event world.past n heard key late (subst S plan (inner.sessions n)) in
-    subst T (sym plan) ((drawn, old.0), ap (λ l. granted heard ++ l) brings ∙ append-nil (granted heard) ∙ old.1, holding)
+    subst T (sym plan) (
+      (drawn, old.0),
+      ap (λ l. granted_by told (turned heard) (granted heard) ++ l) brings ∙ append-nil (granted_by told (turned heard) (granted heard))
+          ∙ ap (granted_by told (turned heard)) old.1 ∙ by_nil told (turned heard),
+      ap (λ l. ever heard ++ l) brings ∙ append-nil (ever heard) ∙ old.2,
+      holding,
+    )
 
 get-turn : (shape : Shape) (world : World) (who : Sid) (said : Said) (key : QKey) (floor : ℕ)
     → Inner shape world → plan_at who.number world.plans ≡ Some (Read key floor)
@@ -191,7 +207,7 @@ set-turn shape world who said key floor token answer rest inner plan heard =
     answered : IsTold answer (answers_under key token who.number past)
     answered =
         let S : Option Plan → Type 0 = λ p. IsSession shape past who.number (told_to who.number past) p in
-        subst (IsHolding key who.number past) heard (subst S plan (inner.sessions who.number)).2
+        subst (IsHolding key who.number past) heard (subst S plan (inner.sessions who.number)).3
 
     P : Step → Type 0
     P s = s ≡ set_step terms steps key token answer.value answer.stamp now → Inner shape (with_event world (Stepped home who request s (shown terms steps s)))

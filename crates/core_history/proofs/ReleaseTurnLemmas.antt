@@ -1,5 +1,5 @@
 -- A turn in which a writer releases a grant keeps the facts.
-use Rattle.std.proofs.Common.{ℕ, ◌≡◌, Bool, true, false, cond, List, ◌∷◌, Option, Some, None, slice_get, refl, sym, ap, subst, ◌∙◌, arith}
+use Rattle.std.proofs.Common.{ℕ, ◌≡◌, Bool, true, false, cond, List, ◌∷◌, Option, Some, None, slice_get, refl, sym, ap, subst, ◌∙◌, inl, inr, ◌⊎◌, arith}
 use Rattle.std.specs.List.{list_any}
 use Rattle.rows_model.specs.declared.keys.QKey.{QKey}
 use Rattle.rows_model.specs.declared.keys.Sid.{Sid}
@@ -36,10 +36,11 @@ use Rattle.session_client.specs.Wants.{Given, given, released, number_of, new_va
 use Rattle.session_client.proofs.WantCases.{given-granted, none-uncommitted}
 use Rattle.core_history.specs.Events.{Event, Stepped, steps_of, told_to, log_of, ended_of, has_committed}
 use Rattle.core_history.specs.Machine.{World, Said, terms_of, plan_at, shown, put_step}
+use Rattle.core_history.specs.Facts.{grants_as}
 use Rattle.core_history.proofs.GoodEvents.{IsGoodStep, IsGoodEvent, WritesOwn}
 use Rattle.core_history.proofs.EventLemmas.{closed, closed-more, closed-over, ended-among, committed-told, uncommitted-more, late-stepped}
 use Rattle.core_history.proofs.EventLemmas.{counted-mild, IsKnown}
-use Rattle.core_history.proofs.SessionLemmas.{ReturnsGrant, LeavesOpen, leaves-quiet, leaves-ended, stood-returned, IsNumber}
+use Rattle.core_history.proofs.SessionLemmas.{finds-none, ReturnsGrant, LeavesOpen, leaves-quiet, leaves-ended, stood-returned, IsNumber}
 use Rattle.core_history.proofs.WriterLemmas.{writer-released}
 use Rattle.core_history.proofs.PlannedLemmas.{GrantsPlanned}
 use Rattle.core_history.proofs.InnerLemmas.{Inner, with_event, stepped-inner, draws-late, stands_well}
@@ -71,9 +72,10 @@ returned-inner : (shape : Shape) (world : World) (who : Sid) (plan : Plan) (requ
     → Inner shape world → IsWriter shape world who.number plan
     → IsDueNext shape world who.number request one → Answers (terms_of shape (shard_of one.permit.key shape.shards)) (steps_for shape world one.permit) s
     → IsKnown (Stepped (shard_of one.permit.key shape.shards) who request s (reply.Rel told) ∷ world.past) s → GrantsPlanned world.plans s
-    → ((key : QKey) (by : Sid) → quarantines key by s ≡ false) → LeavesOpen shape world.past (shard_of one.permit.key shape.shards) s
+    → ((key : QKey) (by : Sid) → quarantines key by s ≡ false) → ((key : QKey) (token : ℕ) → grants_as key token s ≡ false)
+    → LeavesOpen shape world.past (shard_of one.permit.key shape.shards) s
     → Inner shape (with_event world (Stepped (shard_of one.permit.key shape.shards) who request s (reply.Rel told)))
-returned-inner shape world who plan request one s told inner w due answers known planned none leaves =
+returned-inner shape world who plan request one s told inner w due answers known planned none calm leaves =
     let past = world.past in
     let grant = one.permit in
     let home = shard_of grant.key shape.shards in
@@ -83,10 +85,11 @@ returned-inner shape world who plan request one s told inner w due answers known
     let mine = (w.writer.fits (released heard) grant at).own in
     stepped-inner shape world home who request s (reply.Rel told) inner answers known planned refl
     (counted-mild shape.shards home who request s (reply.Rel told) none refl)
+    (λ n other. finds-none shape home who request s (reply.Rel told) past n calm)
     (λ n other g own. stood-returned shape home who request s (reply.Rel told) past grant due.returns leaves n g
     (λ same. other (sym mine ∙ ap (λ (p : Permit). p.sid.number) same ∙ own)))
     (w.stays event (reply.Rel told)
-    (writer-released shape past home who request s told grant heard (writing_of plan) due.returns (draws-late shape past home s answers) at due.shut w.writer))
+    (writer-released shape past home who request s told grant heard (writing_of plan) due.returns calm at due.shut w.writer))
 
 -- the quarantine is gone
 gone-turn : (shape : Shape) (world : World) (who : Sid) (plan : Plan) (request : Wanted) (one : Given)
@@ -98,7 +101,7 @@ gone-turn : (shape : Shape) (world : World) (who : Sid) (plan : Plan) (request :
 gone-turn shape world who plan request one inner w due answers =
     let s = step.Gone one.permit.key one.permit.sid one.permit.token in (
       returned-inner shape world who plan request one s rel.Gone inner w due answers tt tt
-          (λ k v. refl) (leaves-quiet shape world.past (shard_of one.permit.key shape.shards) s tt),
+          (λ k v. refl) (λ k t. refl) (leaves-quiet shape world.past (shard_of one.permit.key shape.shards) s tt),
       record { home = refl; good = tt; own = tt; no_commit = refl; no_end = refl },
     )
 
@@ -130,7 +133,7 @@ ended-turn shape world who plan request one quar how inner w due found mine answ
             closed-more who.number event past due.shut,
             λ k. uncommitted-more who.number event past (late-stepped home who request s told past refl who.number due.shut) (kept k),
           ))
-          tt (λ k v. refl) (leaves-ended shape past home key quar.sid token how quar (distinct terms steps key well) found shut),
+          tt (λ k v. refl) (λ k t. refl) (leaves-ended shape past home key quar.sid token how quar (distinct terms steps key well) found shut),
       record { home = refl; good = good; own = λ by stands. sym (own_token terms steps key by token quar well stands found); no_commit = refl; no_end = refl },
     )
 
@@ -141,7 +144,7 @@ due-mine : (shape : Shape) (world : World) (who : Sid) (plan : Plan) (request : 
     → IsMine who.number plan one.permit quar
 due-mine shape world who plan request one quar inner w due found =
     let heard = told_to who.number world.past in
-    stands-mine shape world who plan (released heard) one.permit quar inner w (given-granted heard (released heard) one due.at) (omega arith) found
+    stands-mine shape world who plan (released heard) one.permit quar inner w (given-granted heard (released heard) one due.at) found
 
 due-was : (shape : Shape) (world : World) (who : Sid) (plan : Plan) (request : Wanted) (one : Given) → IsWriter shape world who.number plan
     → IsDueNext shape world who.number request one → list_any (grants one.permit) (steps_for shape world one.permit) ≡ true
@@ -261,6 +264,11 @@ delta-counts Delta key e = by (is_count key) refl
     by true is = refl
     by false is = let clash : Invalidate ≡ Delta = sym (ap (λ b. cond b Delta Invalidate) is) ∙ e in cc
 
+-- a delta isn't raised
+unraised : {mode planned : Mode} → (mode ≡ planned) ⊎ (mode ≡ Refresh) → mode ≡ Delta → planned ≡ Delta
+unraised (inl same) delta = sym same ∙ delta
+unraised (inr refresh) delta = let clash : Refresh ≡ Delta = sym refresh ∙ delta in cc
+
 -- the session's commit is the one of its number, and has the changes of its plan
 own-changes : (shape : Shape) (world : World) (n number : ℕ) (plan : Plan)
     → Inner shape world → IsWriter shape world n plan → (own : IsNumber (log_of world.past) n number) → own.commit.txn ≡ changes_of plan
@@ -298,8 +306,8 @@ apply-turn shape world who said plan one number inner w due told delta =
     release-turn shape world who plan (wanted.Apply grant number) one (hows.Shift number) inner w due delta (λ quar e. cc)
     (λ quar found m. record {
       writes = writes-own shape world who.number number plan grant quar Delta found m delta own;
-      counts = delta-counts (mode_of plan) grant.key (sym m.in_mode ∙ delta);
-      by_is = m.by ∙ ap (λ mode. shift_in mode grant.key (changes_of plan)) delta
+      counts = delta-counts (mode_of plan) grant.key (unraised m.in_mode delta);
+      by_is = m.by delta
           ∙ ap (λ txn. shift_in Delta grant.key txn) (sym (own-changes shape world who.number number plan inner w own));
     })
 

@@ -1,5 +1,5 @@
 -- A request that was made on the shard of its key is the machine's event.
-use Rattle.std.proofs.Common.{ℕ, ℤ, ◌≡◌, pos, List, ◌∷◌, Option, Ok, refl, sym, ap, subst, set, ◌∙◌}
+use Rattle.std.proofs.Common.{ℕ, ℤ, ◌≡◌, pos, List, ◌∷◌, Option, Some, Ok, refl, sym, ap, subst, set, ◌∙◌}
 use Rattle.std.proofs.lemmas.List.{reverse-reverse}
 use Rattle.rows_model.specs.declared.keys.QKey.{QKey}
 use Rattle.rows_model.specs.declared.keys.Sid.{Sid}
@@ -13,12 +13,14 @@ use Rattle.key_shard.specs.declared.replies.Got.{Got}
 use Rattle.key_shard.specs.declared.replies.SetAnswer.{SetAnswer}
 use Rattle.key_shard.specs.declared.replies.QAnswer.{QAnswer}
 use Rattle.key_shard.specs.declared.replies.Rel.{Rel}
+use Rattle.key_shard.specs.declared.replies.Raising.{Raising}
+use Rattle.key_shard.specs.declared.replies.Renewal.{Renewal}
 use Rattle.key_shard.specs.declared.replies.How.{How}
 use Rattle.key_shard.specs.declared.replies.How.TheVariants as how
 use Rattle.key_shard.specs.Past.{Terms}
-use Rattle.key_shard.specs.Answers.{FitsShift, get_step, set_step, quarantine_step, release_step}
-use Rattle.key_shard.specs.Replies.{ShowsGot, ShowsSet, ShowsQuarantine, ShowsRelease}
-use Rattle.key_shard.specs.Shards.{ShardView, past_of, rolled, stepped, returned}
+use Rattle.key_shard.specs.Answers.{FitsShift, get_step, set_step, quarantine_step, release_step, raise_step, renew_step}
+use Rattle.key_shard.specs.Replies.{ShowsGot, ShowsSet, ShowsQuarantine, ShowsRelease, ShowsRaise, ShowsRenewal}
+use Rattle.key_shard.specs.Shards.{ShardView, past_of, rolled, stepped, returned, after_raise}
 use Rattle.session_client.specs.Belongs.{Belongs}
 use Rattle.session_client.proofs.QuarantineLemmas.{quarantine_belongs as quarantine_answers}
 use Rattle.session_client.specs.declared.plans.Shape.{Shape}
@@ -28,7 +30,7 @@ use Rattle.session_client.specs.declared.replies.Wanted.{Wanted}
 use Rattle.session_client.specs.declared.replies.Wanted.TheVariants as wanted
 use Rattle.core_history.specs.Cores.{HasShards}
 use Rattle.core_history.specs.Events.{Event, steps_of, now_of, reply_in}
-use Rattle.core_history.specs.Machine.{World, Failed, event_of, stepped_on, terms_of, shown, put_step}
+use Rattle.core_history.specs.Machine.{World, Failed, event_of, shown_on, stepped_on, terms_of, shown, put_step, raise_told, renewal_told, raise_shown, renewal_shown}
 use Rattle.core_history.specs.Requests.{MakesStep, quarantined_as, quarantine_of, released_as}
 use Rattle.core_history.proofs.ShardsLemmas.{IsShardOf, grown, unrolled, shards_made}
 
@@ -110,7 +112,22 @@ stepped_whole : (shape : Shape) (past : List Event) (key : QKey) (place : ℕ) (
     → new ≡ stepped (rolled shard) s → new ≡ stepped shard s
 stepped_whole shape past key place shard new s is grew = grew ∙ ap (λ (v : ShardView). stepped v s) (unrolled shape past key place shard is)
 
--- the shard of the key made the step, and told what it shows
+-- the shard of the key made the step, and told what is shown of it
+shown_made : (shape : Shape) (world : World) (who : Sid) (request : Wanted)
+    (key : QKey) (f : Terms → List Step → Step) (shows : Terms → List Step → Step → Reply)
+    (shards : List ShardView) (place : ℕ) (shard new : ShardView) (told : Reply) →
+    event_of shape world who request Failed ≡ shown_on shape world.past who request key f shows
+    → HasShards shards shape world.past → IsShardOf shape world.past key place shard →
+    new ≡ grown shard request (f shard.terms (past_of shard)) → told ≡ shows shard.terms (past_of shard) (f shard.terms (past_of shard))
+    → MakesStep shape world who request (set shards place new) (Ok told)
+shown_made shape world who request key f shows shards place shard new told event has is grew tells =
+    let g : Terms → List Step → Reply = λ terms steps. shows terms steps (f terms steps) in
+    let P : Event → Type 0 = λ e. HasShards (set shards place new) shape (e ∷ world.past) in (
+      tells ∙ shown_is shape world.past key place shard g is
+          ∙ ap reply_in (sym event),
+      subst P (sym event) (shards_made shape world.past who request key f shows shards place shard new has is grew),
+    )
+
 step_made : (shape : Shape) (world : World) (who : Sid) (request : Wanted)
     (key : QKey) (f : Terms → List Step → Step) (shards : List ShardView) (place : ℕ) (shard new : ShardView) (told : Reply) →
     event_of shape world who request Failed ≡ stepped_on shape world.past who request key f
@@ -118,12 +135,7 @@ step_made : (shape : Shape) (world : World) (who : Sid) (request : Wanted)
     new ≡ grown shard request (f shard.terms (past_of shard)) → told ≡ shown shard.terms (past_of shard) (f shard.terms (past_of shard))
     → MakesStep shape world who request (set shards place new) (Ok told)
 step_made shape world who request key f shards place shard new told event has is grew tells =
-    let g : Terms → List Step → Reply = λ terms steps. shown terms steps (f terms steps) in
-    let P : Event → Type 0 = λ e. HasShards (set shards place new) shape (e ∷ world.past) in (
-      tells ∙ shown_is shape world.past key place shard g is
-          ∙ ap reply_in (sym event),
-      subst P (sym event) (shards_made shape world.past who request key f shards place shard new has is grew),
-    )
+    shown_made shape world who request key f shown shards place shard new told event has is grew tells
 
 pub got_made : (shape : Shape) (world : World) (who : Sid) (key : QKey) (floor now : ℕ) (shards : List ShardView)
     (place : ℕ) (shard new : ShardView) (answer : Got) → now ≡ now_of world.past
@@ -210,6 +222,65 @@ sar_made shape world who grant value stamp shards place shard new answer has is 
     step_made shape world who (wanted.Sar grant value stamp) grant.key
     (λ terms steps. put_step terms steps grant value stamp) shards place shard new (reply.Rel answer) refl has is grew
     (tells_release shard.terms (past_of shard) _ answer shows)
+
+-- what is told of a raise is what its step shows
+tells_raise : (past : List Step) (grant : Permit) (s : Step) (answer : Raising) → ShowsRaise past grant s answer → answer ≡ raise_told grant past s
+tells_raise past grant (step.Raised key sid token) answer h = h
+tells_raise past grant (step.Shared key sid token holder) answer h = h
+tells_raise past grant (step.Gone key sid token) answer h = h
+tells_raise past grant (step.Hit key sid floor value stamp) answer h = absurd h
+tells_raise past grant (step.Lease key sid floor now token deadline) answer h = absurd h
+tells_raise past grant (step.Again key sid floor now standing) answer h = absurd h
+tells_raise past grant (step.Own key sid) answer h = absurd h
+tells_raise past grant (step.Stored key token now value stamp evicted) answer h = absurd h
+tells_raise past grant (step.Void key token now) answer h = absurd h
+tells_raise past grant (step.Granted key sid mode shift now token deadline) answer h = absurd h
+tells_raise past grant (step.Held key sid mode) answer h = absurd h
+tells_raise past grant (step.Refused key sid mode holder held) answer h = absurd h
+tells_raise past grant (step.Released key sid token how) answer h = absurd h
+tells_raise past grant (step.Renewed key sid token now deadline) answer h = absurd h
+
+tells_renewal : (s : Step) (answer : Renewal) → ShowsRenewal s answer → answer ≡ renewal_told s
+tells_renewal (step.Renewed key sid token now deadline) answer h = h
+tells_renewal (step.Gone key sid token) answer h = h
+tells_renewal (step.Hit key sid floor value stamp) answer h = absurd h
+tells_renewal (step.Lease key sid floor now token deadline) answer h = absurd h
+tells_renewal (step.Again key sid floor now standing) answer h = absurd h
+tells_renewal (step.Own key sid) answer h = absurd h
+tells_renewal (step.Stored key token now value stamp evicted) answer h = absurd h
+tells_renewal (step.Void key token now) answer h = absurd h
+tells_renewal (step.Granted key sid mode shift now token deadline) answer h = absurd h
+tells_renewal (step.Held key sid mode) answer h = absurd h
+tells_renewal (step.Refused key sid mode holder held) answer h = absurd h
+tells_renewal (step.Released key sid token how) answer h = absurd h
+tells_renewal (step.Raised key sid token) answer h = absurd h
+tells_renewal (step.Shared key sid token holder) answer h = absurd h
+
+-- the shard after the step of a raise
+raise_grown : (shard : ShardView) (grant : Permit) (s : Step) → after_raise shard grant s ≡ grown shard (wanted.Raise grant) s
+raise_grown shard grant (step.Gone key sid token) = refl
+raise_grown shard grant other = refl
+
+pub raise_made : (shape : Shape) (world : World) (who : Sid) (grant : Permit) (shards : List ShardView)
+    (place : ℕ) (shard new : ShardView) (answer : Raising) → HasShards shards shape world.past → IsShardOf shape world.past grant.key place shard →
+    new ≡ after_raise shard grant (raise_step (past_of shard) grant) → ShowsRaise (past_of shard) grant (raise_step (past_of shard) grant) answer
+    → MakesStep shape world who (wanted.Raise grant) (set shards place new) (Ok (reply.Raise answer))
+raise_made shape world who grant shards place shard new answer has is grew shows =
+    shown_made shape world who (wanted.Raise grant) grant.key (λ terms steps. raise_step steps grant) (raise_shown grant) shards place shard new
+    (reply.Raise answer) refl has is (grew ∙ raise_grown shard grant (raise_step (past_of shard) grant))
+    (ap reply.Raise (tells_raise (past_of shard) grant (raise_step (past_of shard) grant) answer shows))
+
+pub renewal_made : (shape : Shape) (world : World) (who : Sid) (grant : Permit) (now : ℕ) (shards : List ShardView)
+    (place : ℕ) (shard new : ShardView) (answer : Renewal) → now ≡ now_of world.past
+    → HasShards shards shape world.past → IsShardOf shape world.past grant.key place shard →
+    new ≡ stepped shard (renew_step shard.terms (past_of shard) grant now) → ShowsRenewal (renew_step shard.terms (past_of shard) grant now) answer
+    → MakesStep shape world who (wanted.Renew grant) (set shards place new) (Ok (reply.Renew grant (Some answer)))
+renewal_made shape world who grant now shards place shard new answer time has is grew shows =
+    let f : ℕ → Terms → List Step → Step = λ n terms steps. renew_step terms steps grant n in
+    shown_made shape world who (wanted.Renew grant) grant.key (f now) (renewal_shown grant) shards place shard new
+    (reply.Renew grant (Some answer))
+    (ap (λ (n : ℕ). shown_on shape world.past who (wanted.Renew grant) grant.key (f n) (renewal_shown grant)) (sym time)) has is grew
+    (ap (λ (r : Renewal). reply.Renew grant (Some r)) (tells_renewal (renew_step shard.terms (past_of shard) grant now) answer shows))
 
 -- and so it belongs to that request
 pub quarantine_belongs : (terms : Terms) (past : List Step) (key : QKey) (who : Sid) (mode : Mode) (by : ℤ) (now : ℕ) (answer : QAnswer)

@@ -1,8 +1,8 @@
 -- What a session was told, and which of its quarantines stand.
-use Rattle.std.proofs.Common.{append-nil, ℕ, ℤ, ◌≡◌, ◌<◌, ◌≤◌, ◌+◌, ◌==◌, ◌&&◌, Bool, true, false, not, cond, List, [], ◌∷◌, ◌++◌, length}
+use Rattle.std.proofs.Common.{append-nil, ℕ, ℤ, ◌≡◌, ◌<◌, ◌≤◌, ◌+◌, ◌==◌, ◌&&◌, ◌||◌, Bool, true, false, not, cond, find, Option, List, [], ◌∷◌, ◌++◌, length}
 use Rattle.std.proofs.Common.{filter, count_by, Some, None, slice_get, refl, sym, ap, subst, ◌∙◌, inl, inr, ◌⊎◌, arith}
 use Rattle.std.specs.List.{AllByRecursion, list_any}
-use Rattle.std.proofs.lemmas.Bool.{eq-eqb, eqb-true}
+use Rattle.std.proofs.lemmas.Bool.{eq-eqb, eqb-true, false≢true}
 use Rattle.rows_model.specs.declared.keys.QKey.{QKey}
 use Rattle.rows_model.specs.declared.keys.Sid.{Sid}
 use Rattle.rows_model.specs.Key.{same_key}
@@ -22,7 +22,7 @@ use Rattle.key_shard.specs.Past.{Terms, standing, entry, grants, quar_of, next_t
 use Rattle.key_shard.specs.Shards.{without_permit, out_after}
 use Rattle.key_shard.proofs.LegalLemmas.{AllOfOwnToken}
 use Rattle.key_shard.proofs.OutLemmas.{same_permit-true}
-use Rattle.key_shard.proofs.PermitLemmas.{is_of_permit}
+use Rattle.key_shard.proofs.PermitLemmas.{is_of_permit, find_permit}
 use Rattle.expiry_sweeper.specs.declared.replies.SweepReply.{SweepReply}
 use Rattle.expiry_sweeper.specs.declared.replies.SweepWanted.{SweepWanted}
 use Rattle.key_freshness.specs.Known.{StandsAt}
@@ -32,15 +32,17 @@ use Rattle.session_client.specs.declared.replies.Reply.{Reply}
 use Rattle.session_client.specs.declared.replies.Reply.TheVariants as reply
 use Rattle.session_client.specs.declared.replies.Wanted.{Wanted}
 use Rattle.session_client.specs.Plans.{mode_on}
-use Rattle.session_client.specs.Wants.{Given, given, given_in, grants_in, granted, is_had, is_commit, is_release, released, was_committed, number_of, Writing}
+use Rattle.session_client.specs.Wants.{Given, given, given_in, given_by, granted_by, is_turn, turned, grants_in, granted, is_had, is_commit, is_release, released, was_committed, number_of, Writing, write_wants}
+use Rattle.session_client.specs.declared.replies.Wanted.TheVariants as wanted
 use Rattle.session_client.proofs.WantCases.{is_asking, is_ending, AreOnce, given-granted}
 use Rattle.core_history.specs.Events.{Event, Stepped, Called, Ticked, Swept, steps_in, steps_of, commits_in, log_of}
 use Rattle.core_history.specs.Machine.{terms_of, out_by, out_of}
 use Rattle.core_history.specs.Facts.{Found, found_at, leases, grants_as}
 use Rattle.core_history.proofs.ListLemmas.{choose, or_inl, and_intro, and_elim, not_both, not_true, any-filter, any-front, any-back}
 use Rattle.core_history.proofs.ListLemmas.{count-cons, zero_if, slice-front}
-use Rattle.core_history.proofs.KeyLemmas.{IsQuietStep, quiet-stands, quiet-out, stays-apart, DrawsNext, next-append}
-use Rattle.core_history.proofs.EventLemmas.{closed, closed-more, still-open, unmade-steps}
+use Rattle.core_history.proofs.KeyLemmas.{IsQuietStep, quiet-stands, quiet-out, quiet-as, stays-apart, DrawsNext, next-append, news_as, StandsIn, quar-kept}
+use Rattle.core_history.proofs.EventLemmas.{closed, closed-more, still-open, unmade-steps, ever}
+use Rattle.sql_keeper.specs.Commits.{is_covered}
 
 -- a grant is the session's, it is out, it was given, and its quarantine stands while the session isn't closed
 pub record Stood (shape : Shape) (past : List Event) (n : ℕ) (grant : Permit) : Type 0 where
@@ -72,7 +74,7 @@ LeavesOpen shape past place s =
 abbrev pub IsLateDraw : Shape → List Event → Step → Type 0
 IsLateDraw shape past s =
     (key : QKey) (token : ℕ) → token < next_token (terms_of shape (shard_of key shape.shards)) (steps_of (shard_of key shape.shards) past)
-    → (leases key token s ≡ false) × (grants_as key token s ≡ false)
+    → (leases key token s ≡ false) × (news_as key token s ≡ false)
 
 -- nor does an event
 abbrev pub DrawsLate : Shape → List Event → Event → Type 0
@@ -82,11 +84,62 @@ DrawsLate shape past (Ticked now) = Unit {0}
 DrawsLate shape past (Swept place request None told) = Unit {0}
 DrawsLate shape past (Swept place request (Some s) told) = IsLateDraw shape past s
 
--- a grant is the session's, on the key at its own place, in the mode that the session has for that key
-pub record Fits (n : ℕ) (writing : Writing) (i : ℕ) (grant : Permit) : Type 0 where
+-- a grant is the session's, in the mode that the session has for its key, or was raised from it
+pub record Fits (n : ℕ) (writing : Writing) (grant : Permit) : Type 0 where
+  pub own : grant.sid.number ≡ n
+  pub in_mode : (grant.mode ≡ mode_on writing.mode grant.key) ⊎ (grant.mode ≡ Refresh)
+
+-- a grant that the session was ever given is the session's, on the key at its own place
+pub record Placed (n : ℕ) (writing : Writing) (i : ℕ) (grant : Permit) : Type 0 where
   pub at_key : slice_get writing.keys i ≡ Some grant.key
   pub own : grant.sid.number ≡ n
-  pub in_mode : grant.mode ≡ mode_on writing.mode grant.key
+
+-- a quarantine that stands under the token of a grant has its mode
+abbrev pub Suits : Shape → List Event → Permit → Type 0
+Suits shape past grant =
+    (quar : Quar) → quar_of grant.key grant.token (steps_of (shard_of grant.key shape.shards) past) ≡ Some quar → quar.mode ≡ grant.mode
+
+-- the session goes on: it has not begun to end, and it isn't done
+abbrev pub is_going : List Reply → Bool
+is_going [] = true
+is_going (reply.Nothing ∷ heard) = false
+is_going (told ∷ heard) = not (is_ending (told ∷ heard))
+
+-- a session that wants something and hasn't begun to end goes on
+pub going-on : (writing : Writing) (heard : List Reply) (request : Wanted) → write_wants writing false heard ≡ request → (request ≡ wanted.Nothing → ⊥)
+    → is_ending heard ≡ false → is_going heard ≡ true
+going-on writing [] request e some going = refl
+going-on writing (reply.Nothing ∷ heard) request e some going = absurd (some (sym e))
+going-on writing (told ∷ heard) request e some going = ap not going
+
+-- the session was told last of a raise
+abbrev pub is_raised : Reply → Bool
+is_raised (reply.Raise told) = true
+is_raised (reply.RaiseBack grant) = true
+is_raised other = false
+
+abbrev pub raises_last : List Reply → Bool
+raises_last [] = false
+raises_last (told ∷ heard) = is_raised told
+
+pub asking-going : (heard : List Reply) → is_asking heard ≡ true → is_going heard ≡ true
+asking-going [] e = refl
+asking-going (reply.Quar told ∷ heard) e = refl
+asking-going (other ∷ heard) e = absurd (false≢true e)
+
+-- the step raises no quarantine
+abbrev pub RaisesNone : Step → Type 0
+RaisesNone (step.Raised on sid token) = ⊥
+RaisesNone other = Unit {0}
+
+-- an event leaves what the session's quarantines found, and their modes
+abbrev pub Finds : Shape → Event → List Event → ℕ → Type 0
+Finds shape event past n =
+    (grant : Permit) → grant.sid.number ≡ n → list_any (grants grant) (steps_of (shard_of grant.key shape.shards) past) ≡ true
+    → grant.token < next_token (terms_of shape (shard_of grant.key shape.shards)) (steps_of (shard_of grant.key shape.shards) past)
+    → (found_at grant.key grant.token (event ∷ past) ≡ found_at grant.key grant.token past)
+    × ((quar : Quar) → quar_of grant.key grant.token (steps_of (shard_of grant.key shape.shards) (event ∷ past)) ≡ Some quar
+    → StandsIn grant.key grant.token (steps_of (shard_of grant.key shape.shards) past) quar)
 
 -- the number of a session's commit is that of its place in the log, from 1
 pub record IsNumber (log : List Commit) (n number : ℕ) : Type 0 where
@@ -106,16 +159,28 @@ pub record IsOld (past : List Event) (one : Given) : Type 0 where
 abbrev pub IsDrawn : Shape → List Event → Permit → Type 0
 IsDrawn shape past grant = grant.token < next_token (terms_of shape (shard_of grant.key shape.shards)) (steps_of (shard_of grant.key shape.shards) past)
 
--- a session that writes has its grants in the order of its keys, and each that it hasn't released stands; it releases none before it is closed
+-- a session that writes was given its grants in the order of its keys, and each that it hasn't released or spent stands; it releases none before it is closed
 pub record Writer (shape : Shape) (past : List Event) (n : ℕ) (heard : List Reply) (writing : Writing) : Type 0 where
   pub once : AreOnce writing.keys
-  pub fits : (i : ℕ) (grant : Permit) → slice_get (granted heard) i ≡ Some grant → Fits n writing i grant
-  pub had : count_by is_had heard ≡ length (granted heard)
+  pub placed : (i : ℕ) (grant : Permit) → slice_get (ever heard) i ≡ Some grant → Placed n writing i grant
+  pub had : count_by is_had heard ≡ length (ever heard)
+  pub asked : is_asking heard ≡ true → granted heard ≡ ever heard
+  pub fits : (i : ℕ) (grant : Permit) → slice_get (granted heard) i ≡ Some grant → Fits n writing grant
+  pub apart : (i j : ℕ) (a b : Permit) → slice_get (granted heard) i ≡ Some a → slice_get (granted heard) j ≡ Some b → a.key ≡ b.key → i ≡ j
+  -- before it is closed it has spent none
+  pub unspent : closed n past ≡ false → (key : QKey) (who : Sid) → who.number ≡ n → is_covered who (ever heard) key ≡ true
+      → is_covered who (granted heard) key ≡ true
+  pub was : (i : ℕ) (grant : Permit) → slice_get (granted heard) i ≡ Some grant
+      → list_any (grants grant) (steps_of (shard_of grant.key shape.shards) past) ≡ true
+  pub suits : (i : ℕ) (grant : Permit) → slice_get (granted heard) i ≡ Some grant → Suits shape past grant
   pub drawn : (i : ℕ) (grant : Permit) → slice_get (granted heard) i ≡ Some grant → IsDrawn shape past grant
   pub stood : (i : ℕ) (grant : Permit) → slice_get (granted heard) i ≡ Some grant → released heard ≤ i → Stood shape past n grant
   pub shut : (released heard ≡ 0) ⊎ (closed n past ≡ true)
   pub ending : is_ending heard ≡ true → closed n past ≡ true
-  pub going : is_asking heard ≡ true → was_committed heard ≡ false
+  pub going : is_going heard ≡ true → (was_committed heard ≡ false) × (released heard ≡ 0)
+  -- those whose turn hasn't come are not raised, and a session that raises has them to invalidate
+  pub unraised : (i : ℕ) (grant : Permit) → slice_get (granted heard) i ≡ Some grant → turned heard ≤ i → grant.mode ≡ mode_on writing.mode grant.key
+  pub raising : raises_last heard ≡ true → writing.mode ≡ Invalidate
   pub numbered : (number : ℕ) → number_of heard ≡ Some number → IsNumber (log_of past) n number
   pub olds : (i : ℕ) (one : Given) → slice_get (given heard) i ≡ Some one → IsOld past one
 
@@ -340,16 +405,59 @@ late-draw shape past home (step.Lease on sid floor now given deadline) drawn key
     (late-next shape past home given on key token drawn.0 drawn.1 low, refl)
 late-draw shape past home other drawn key token low = (refl, refl)
 
--- what the quarantine of a token found, that was drawn before
-pub found-more : (shape : Shape) (event : Event) (past : List Event) (key : QKey) (token : ℕ) → DrawsLate shape past event
-    → token < next_token (terms_of shape (shard_of key shape.shards)) (steps_of (shard_of key shape.shards) past)
-    → found_at key token (event ∷ past) ≡ found_at key token past
-found-more shape (Stepped place who request s told) past key token late low =
-    ap (λ b. cond b (Some (record { commits = length (log_of past); entry = entry key (steps_of place past) })) (found_at key token past))
-    (late key token low).1
-found-more shape (Called who request told) past key token late low = refl
-found-more shape (Ticked now) past key token late low = refl
-found-more shape (Swept place request made told) past key token late low = refl
+-- a quarantine that stands after a step which neither grants nor raises it stood in its mode
+stands-apart : (shape : Shape) (place : ℕ) (s : Step) (past : List Event) (grant : Permit) → grants_as grant.key grant.token s ≡ false → (quar : Quar)
+    → quar_of grant.key grant.token (cond (place == shard_of grant.key shape.shards) (s ∷ []) [] ++ steps_of (shard_of grant.key shape.shards) past) ≡ Some quar
+    → StandsIn grant.key grant.token (steps_of (shard_of grant.key shape.shards) past) quar
+stands-apart shape place s past grant none quar =
+    let steps = steps_of (shard_of grant.key shape.shards) past in
+    maybe-step (λ l. quar_of grant.key grant.token l ≡ Some quar → StandsIn grant.key grant.token steps quar)
+    (place == shard_of grant.key shape.shards) s steps (λ _ e. quar-kept s grant.key grant.token steps quar none e) (λ _ e. (quar, e, refl))
+
+-- a step that raises none and grants none anew grants and raises none
+pub found_none : (s : Step) → RaisesNone s → (key : QKey) (token : ℕ) → news_as key token s ≡ false → grants_as key token s ≡ false
+found_none (step.Granted on sid mode shift now token deadline) calm key t none = none
+found_none (step.Raised on sid token) calm key t none = absurd calm
+found_none other calm key t none = refl
+
+-- a step that grants none of them, and raises none, leaves what they found and their modes
+finds-apart : (shape : Shape) (place : ℕ) (who : Sid) (request : Wanted) (s : Step) (told : Reply) (past : List Event) (grant : Permit)
+    → grants_as grant.key grant.token s ≡ false
+    → (found_at grant.key grant.token (Stepped place who request s told ∷ past) ≡ found_at grant.key grant.token past)
+    × ((quar : Quar) → quar_of grant.key grant.token (steps_of (shard_of grant.key shape.shards) (Stepped place who request s told ∷ past)) ≡ Some quar
+    → StandsIn grant.key grant.token (steps_of (shard_of grant.key shape.shards) past) quar)
+finds-apart shape place who request s told past grant none = (
+  ap (λ b. cond b (Some (record { commits = length (log_of past); entry = entry grant.key (steps_of place past) })) (found_at grant.key grant.token past)) none,
+  stands-apart shape place s past grant none,
+)
+
+pub finds-stepped : (shape : Shape) (place : ℕ) (who : Sid) (request : Wanted) (s : Step) (told : Reply) (past : List Event) (n : ℕ)
+    → RaisesNone s → IsLateDraw shape past s → Finds shape (Stepped place who request s told) past n
+finds-stepped shape place who request s told past n calm late grant own was low =
+    finds-apart shape place who request s told past grant (found_none s calm grant.key grant.token (late grant.key grant.token low).1)
+
+pub finds-none : (shape : Shape) (place : ℕ) (who : Sid) (request : Wanted) (s : Step) (told : Reply) (past : List Event) (n : ℕ)
+    → ((key : QKey) (token : ℕ) → grants_as key token s ≡ false) → Finds shape (Stepped place who request s told) past n
+finds-none shape place who request s told past n none grant own was low =
+    finds-apart shape place who request s told past grant (none grant.key grant.token)
+
+pub finds-called : (shape : Shape) (who : Sid) (request : Wanted) (told : Reply) (past : List Event) (n : ℕ) → Finds shape (Called who request told) past n
+finds-called shape who request told past n grant own was low = (refl, λ quar e. (quar, e, refl))
+
+pub finds-ticked : (shape : Shape) (now : ℕ) (past : List Event) (n : ℕ) → Finds shape (Ticked now) past n
+finds-ticked shape now past n grant own was low = (refl, λ quar e. (quar, e, refl))
+
+pub finds-unmade : (shape : Shape) (place : ℕ) (request : SweepWanted) (told : SweepReply) (past : List Event) (n : ℕ)
+    → Finds shape (Swept place request None told) past n
+finds-unmade shape place request told past n grant own was low = (
+  refl,
+  λ quar e. (quar, sym (ap (λ l. quar_of grant.key grant.token l) (unmade-steps (shard_of grant.key shape.shards) place request told past)) ∙ e, refl),
+)
+
+pub finds-swept : (shape : Shape) (place : ℕ) (request : SweepWanted) (s : Step) (told : SweepReply) (past : List Event) (n : ℕ)
+    → ((key : QKey) (token : ℕ) → grants_as key token s ≡ false) → Finds shape (Swept place request (Some s) told) past n
+finds-swept shape place request s told past n none grant own was low =
+    (refl, stands-apart shape place s past grant (none grant.key grant.token))
 
 -- a token that was drawn stays so, and so does the number of a commit, and an old value
 pub drawn-more : (shape : Shape) (event : Event) (past : List Event) (grant : Permit) → IsDrawn shape past grant → IsDrawn shape (event ∷ past) grant
@@ -362,67 +470,137 @@ pub number-more : (event : Event) (past : List Event) (n number : ℕ) → IsNum
 number-more event past n number h =
     record { place = h.place; commit = h.commit; is = h.is; at = slice-front (log_of past) (commits_in event) h.place h.commit h.at; own = h.own }
 
-pub old-more : (shape : Shape) (event : Event) (past : List Event) (one : Given)
-    → DrawsLate shape past event → IsDrawn shape past one.permit → IsOld past one → IsOld (event ∷ past) one
-old-more shape event past one late low h =
-    record { found = h.found; at = found-more shape event past one.permit.key one.permit.token late low ∙ h.at; old = h.old }
+pub old-more : (event : Event) (past : List Event) (one : Given)
+    → found_at one.permit.key one.permit.token (event ∷ past) ≡ found_at one.permit.key one.permit.token past → IsOld past one → IsOld (event ∷ past) one
+old-more event past one same h = record { found = h.found; at = same ∙ h.at; old = h.old }
+
+-- so is each that the session was given
+pub olds-more : (shape : Shape) (event : Event) (past : List Event) (n : ℕ) (heard : List Reply) (writing : Writing)
+    → Finds shape event past n → Writer shape past n heard writing
+    → (i : ℕ) (one : Given) → slice_get (given heard) i ≡ Some one → IsOld (event ∷ past) one
+olds-more shape event past n heard writing finds w i one e =
+    let at = given-granted heard i one e in
+    old-more event past one (finds one.permit (w.fits i one.permit at).own (w.was i one.permit at) (w.drawn i one.permit at)).0 (w.olds i one e)
+
+-- a quarantine that stands under the token of a grant has the grant's mode, whether or not the session is closed
+pub suits-more : (shape : Shape) (event : Event) (past : List Event) (n : ℕ) (heard : List Reply) (writing : Writing)
+    → Finds shape event past n → Writer shape past n heard writing
+    → (i : ℕ) (grant : Permit) → slice_get (granted heard) i ≡ Some grant → Suits shape (event ∷ past) grant
+suits-more shape event past n heard writing finds w i grant at quar e =
+    let old = (finds grant (w.fits i grant at).own (w.was i grant at) (w.drawn i grant at)).1 quar e in
+    sym old.2 ∙ w.suits i grant at old.0 old.1
+
+pub granted-more : (shape : Shape) (event : Event) (past : List Event) (grant : Permit)
+    → list_any (grants grant) (steps_of (shard_of grant.key shape.shards) past) ≡ true
+    → list_any (grants grant) (steps_of (shard_of grant.key shape.shards) (event ∷ past)) ≡ true
+granted-more shape event past grant h =
+    any-back (grants grant) (steps_in (shard_of grant.key shape.shards) event) (steps_of (shard_of grant.key shape.shards) past) h
 
 -- a writer stays one after an event
 pub writer-more : (shape : Shape) (event : Event) (past : List Event) (n : ℕ) (heard : List Reply) (writing : Writing)
-    → DrawsLate shape past event → Keeps shape event past n
+    → Finds shape event past n → Keeps shape event past n
     → Writer shape past n heard writing → Writer shape (event ∷ past) n heard writing
-writer-more shape event past n heard writing late keeps w = record {
+writer-more shape event past n heard writing finds keeps w = record {
   once = w.once;
-  fits = w.fits;
+  placed = w.placed;
   had = w.had;
+  asked = w.asked;
+  fits = w.fits;
+  apart = w.apart;
+  unspent = λ still. w.unspent (still-open n event past still);
+  unraised = w.unraised;
+  raising = w.raising;
+  was = λ i grant e. granted-more shape event past grant (w.was i grant e);
+  suits = suits-more shape event past n heard writing finds w;
   drawn = λ i grant e. drawn-more shape event past grant (w.drawn i grant e);
   stood = λ i grant e not_yet. keeps grant (w.fits i grant e).own (w.stood i grant e not_yet);
   shut = shut-more n event past heard w.shut;
   ending = λ e. closed-more n event past (w.ending e);
   going = w.going;
   numbered = λ number e. number-more event past n number (w.numbered number e);
-  olds = λ i one e. old-more shape event past one late (w.drawn i one.permit (given-granted heard i one e)) (w.olds i one e);
+  olds = olds-more shape event past n heard writing finds w;
 }
 
 no-given : (told : Reply) → grants_in told ≡ [] → given_in told ≡ []
 no-given (reply.Quar (quarantine.Granted grant old)) e = cc
 no-given other e = refl
 
+-- the quarantine that is found under the token of a grant that stands has its mode
+pub found-mode : (grant : Permit) (quars : List Quar) (quar : Quar) → AllOfOwnToken quars → list_any (is_of_permit grant) quars ≡ true
+    → find (has_token grant.token) quars ≡ Some quar → quar.mode ≡ grant.mode
+found-mode grant quars quar distinct stands e =
+    let it = find_permit grant quars distinct stands in
+    ap (λ (q : Quar). q.mode) (some_quar (sym e ∙ it.1)) ∙ it.2.mode
+  where
+    some_quar : {a b : Quar} → Some a ≡ Some b → a ≡ b
+    some_quar e = cc
+
+-- a grant that is given stands behind those that stood
+pub stands-granted : (on : QKey) (who : Sid) (mode : Mode) (token place : ℕ) (shift : ℤ) (deadline : ℕ) (xs : List Quar)
+    → list_any (is_of_permit (record { shard = place; key = on; sid = who; mode = mode; token = token }))
+    (cond (same_key on on) (xs ++ record { sid = who; mode = mode; token = token; deadline = deadline; shift = shift } ∷ []) xs) ≡ true
+stands-granted on who mode token place shift deadline xs =
+    let made : Permit = record { shard = place; key = on; sid = who; mode = mode; token = token } in
+    let quar : Quar = record { sid = who; mode = mode; token = token; deadline = deadline; shift = shift } in
+    choose (λ l. list_any (is_of_permit made) l ≡ true) (same_key on on) (xs ++ quar ∷ []) xs
+    (λ _. any-back (is_of_permit made) xs (quar ∷ []) (any_one (is_of_permit made) quar
+    (and_intro _ _ (and_intro _ _ (eq-eqb who.number who.number refl) (same_way-refl mode)) (eq-eqb token token refl))))
+    (λ other. absurd (not_both (same_key-refl on) other))
+
+-- a reply brings no grant, and leaves those that the session has
+pub record Brings (told : Reply) : Type 0 where
+  pub none : grants_in told ≡ []
+  pub kept : (place : ℕ) (grants : List Permit) → granted_by told place grants ≡ grants
+  pub left : (place : ℕ) (ones : List Given) → given_by told place ones ≡ ones
+
 -- a writer that is told a reply which brings no grant stays one, where each grant that isn't released stands, and its end and its number are right
 pub writer-told : (shape : Shape) (event : Event) (past : List Event) (n : ℕ) (told : Reply) (heard : List Reply) (writing : Writing)
-    → grants_in told ≡ [] → is_had told ≡ false → DrawsLate shape past event
+    → Brings told → is_had told ≡ false → Finds shape event past n
     → ((i : ℕ) (grant : Permit) → slice_get (granted heard) i ≡ Some grant → released (told ∷ heard) ≤ i → Stood shape (event ∷ past) n grant)
     → (released (told ∷ heard) ≡ 0) ⊎ (closed n (event ∷ past) ≡ true)
     → (is_ending (told ∷ heard) ≡ true → closed n (event ∷ past) ≡ true)
     → ((number : ℕ) → number_of (told ∷ heard) ≡ Some number → IsNumber (log_of (event ∷ past)) n number)
+    → (is_going (told ∷ heard) ≡ true → (was_committed (told ∷ heard) ≡ false) × (released (told ∷ heard) ≡ 0))
+    → (is_raised told ≡ true → writing.mode ≡ Invalidate)
     → Writer shape past n heard writing → Writer shape (event ∷ past) n (told ∷ heard) writing
-writer-told shape event past n told heard writing brings none late stood shut ending numbered w =
-    let same : granted (told ∷ heard) ≡ granted heard = ap (λ l. granted heard ++ l) brings ∙ append-nil (granted heard) in
-    let all : given (told ∷ heard) ≡ given heard = ap (λ l. given heard ++ l) (no-given told brings) ∙ append-nil (given heard) in
+writer-told shape event past n told heard writing brings none finds stood shut ending numbered going raising w =
+    let same : granted (told ∷ heard) ≡ granted heard = ap (λ l. granted_by told (turned heard) (granted heard) ++ l) brings.none
+    ∙ append-nil (granted_by told (turned heard) (granted heard)) ∙ brings.kept (turned heard) (granted heard) in
+    let all : given (told ∷ heard) ≡ given heard = ap (λ l. given_by told (turned heard) (given heard) ++ l) (no-given told brings.none)
+    ∙ append-nil (given_by told (turned heard) (given heard)) ∙ brings.left (turned heard) (given heard) in
+    let evers : ever (told ∷ heard) ≡ ever heard = ap (λ l. ever heard ++ l) brings.none ∙ append-nil (ever heard) in
     let a = count-cons is_had told heard in
     let b = zero_if (is_had told) none in
     let had = w.had in
-    let len = ap length same in
+    let len = ap length evers in
     let old : (i : ℕ) (grant : Permit) → slice_get (granted (told ∷ heard)) i ≡ Some grant
     → slice_get (granted heard) i ≡ Some grant = λ i grant e. sym (ap (λ l. slice_get l i) same) ∙ e in
     record {
       once = w.once;
-      fits = λ i grant e. w.fits i grant (old i grant e);
+      placed = λ i grant e. w.placed i grant (sym (ap (λ l. slice_get l i) evers) ∙ e);
       had = omega (arith, a, b, had, len);
+      asked = λ asks. absurd (not_both asks none);
+      fits = λ i grant e. w.fits i grant (old i grant e);
+      apart = λ i j one two at_one at_two. w.apart i j one two (old i one at_one) (old j two at_two);
+      unspent = λ still key who own covered.
+          ap (λ l. is_covered who l key) same ∙ w.unspent (still-open n event past still) key who own (sym (ap (λ l. is_covered who l key) evers) ∙ covered);
+      was = λ i grant e. granted-more shape event past grant (w.was i grant (old i grant e));
+      suits = λ i grant e. suits-more shape event past n heard writing finds w i grant (old i grant e);
       drawn = λ i grant e. drawn-more shape event past grant (w.drawn i grant (old i grant e));
       stood = λ i grant e not_yet. stood i grant (old i grant e) not_yet;
       shut = shut;
       ending = ending;
-      going = λ asks. absurd (not_both asks none);
+      going = going;
+      unraised = λ i grant e late. let d = count-cons is_turn told heard in w.unraised i grant (old i grant e) (omega (arith, late, d));
+      raising = raising;
       numbered = numbered;
-      olds = λ i one e.
-          let here = sym (ap (λ l. slice_get l i) all) ∙ e in
-          old-more shape event past one late (w.drawn i one.permit (given-granted heard i one here)) (w.olds i one here);
+      olds = λ i one e. olds-more shape event past n heard writing finds w i one (sym (ap (λ l. slice_get l i) all) ∙ e);
     }
 
 -- a reply that brings no grant, and is none of a release or a commit
 pub record Mild (told : Reply) : Type 0 where
-  pub brings : grants_in told ≡ []
+  pub brings : Brings told
+  pub calm : is_raised told ≡ false
   pub had : is_had told ≡ false
   pub release : is_release told ≡ false
   pub commit : is_commit told ≡ false
@@ -432,14 +610,16 @@ no-number (reply.Committed number txn grants) heard e = cc
 no-number other heard e = refl
 
 pub writer-mild : (shape : Shape) (event : Event) (past : List Event) (n : ℕ) (told : Reply) (heard : List Reply) (writing : Writing)
-    → Mild told → DrawsLate shape past event → Keeps shape event past n
-    → (is_ending (told ∷ heard) ≡ true → closed n (event ∷ past) ≡ true)
+    → Mild told → Finds shape event past n → Keeps shape event past n
+    → (is_ending (told ∷ heard) ≡ true → closed n (event ∷ past) ≡ true) → (is_going (told ∷ heard) ≡ true → is_going heard ≡ true)
     → Writer shape past n heard writing → Writer shape (event ∷ past) n (told ∷ heard) writing
-writer-mild shape event past n told heard writing mild late keeps ending w =
+writer-mild shape event past n told heard writing mild finds keeps ending goes w =
     let c = count-cons is_release told heard in
     let d = zero_if (is_release told) mild.release in
     let rel : released (told ∷ heard) ≡ released heard = omega (arith, c, d) in
-    writer-told shape event past n told heard writing mild.brings mild.had late
+    writer-told shape event past n told heard writing mild.brings mild.had finds
     (λ i grant at not_yet. keeps grant (w.fits i grant at).own (w.stood i grant at (omega (arith, not_yet, rel))))
     (subst (λ r. (r ≡ 0) ⊎ (closed n (event ∷ past) ≡ true)) (sym rel) (shut-more n event past heard w.shut)) ending
-    (λ number e. number-more event past n number (w.numbered number (sym (no-number told heard mild.commit) ∙ e))) w
+    (λ number e. number-more event past n number (w.numbered number (sym (no-number told heard mild.commit) ∙ e)))
+    (λ on. (ap (λ b. b || was_committed heard) mild.commit ∙ (w.going (goes on)).0, rel ∙ (w.going (goes on)).1))
+    (λ on. absurd (not_both on mild.calm)) w

@@ -27,7 +27,7 @@ use Rattle.session_client.specs.declared.plans.Shape.{Shape}
 use Rattle.session_client.specs.declared.replies.Reply.{Reply}
 use Rattle.session_client.specs.declared.replies.Wanted.{Wanted}
 use Rattle.core_history.specs.Events.{Event, Stepped, Called, Ticked, Swept, steps_of, steps_in}
-use Rattle.core_history.specs.Machine.{stepped_on, terms_of, out_of, out_by}
+use Rattle.core_history.specs.Machine.{shown_on, terms_of, out_of, out_by}
 use Rattle.core_history.specs.Cores.{HasShards, HasHomes, KeepAll, shard_after}
 
 -- a step at home that draws no last token isn't refused
@@ -248,16 +248,16 @@ step_is shape past key place shard f is =
 
 -- the shards after a request on one of them
 pub shards_made : (shape : Shape) (past : List Event) (who : Sid)
-    (request : Wanted) (key : QKey) (f : Terms → List Step → Step) (shards : List ShardView) (place : ℕ) (shard new : ShardView)
+    (request : Wanted) (key : QKey) (f : Terms → List Step → Step) (shows : Terms → List Step → Step → Reply) (shards : List ShardView) (place : ℕ) (shard new : ShardView)
     → HasShards shards shape past → IsShardOf shape past key place shard → new ≡ grown shard request (f shard.terms (past_of shard)) →
-    HasShards (set shards place new) shape (stepped_on shape past who request key f ∷ past)
-shards_made shape past who request key f shards place shard new has is grew =
+    HasShards (set shards place new) shape (shown_on shape past who request key f shows ∷ past)
+shards_made shape past who request key f shows shards place shard new has is grew =
     let home = shard_of key shape.shards in
     let made = f (terms_of shape home) (steps_of home past) in
     let after : new ≡ grown (shard_after shape past home) request made =
     grew ∙ ap (λ (s : Step). grown shard request s) (step_is shape past key place shard f is) ∙ ap (λ (v : ShardView). grown v request made) is.same in
-    let P : ℕ → Type 0 = λ n. HasShards (set shards n new) shape (stepped_on shape past who request key f ∷ past) in
-    let Q : ShardView → Type 0 = λ v. HasShards (set shards home v) shape (stepped_on shape past who request key f ∷ past) in
+    let P : ℕ → Type 0 = λ n. HasShards (set shards n new) shape (shown_on shape past who request key f shows ∷ past) in
+    let Q : ShardView → Type 0 = λ v. HasShards (set shards home v) shape (shown_on shape past who request key f shows ∷ past) in
     subst P (sym is.here) (subst Q (sym after) (shards_after_step shape past who request made _ home shards has is.within))
 
 -- one more element leaves those that are there

@@ -29,7 +29,7 @@ use Rattle.core_history.specs.Sweeps.{IsHitSince}
 use Rattle.core_history.proofs.ExclusiveLemmas.{writes_alone}
 use Rattle.core_history.proofs.GoodEvents.{IsTold, SetsTold, WritesOwn, IsGoodStep, IsGoodEvent}
 use Rattle.core_history.proofs.HeldEvents.{steps_at, IsBetween, Holds, Gives, recorded_cases}
-use Rattle.core_history.proofs.KeyLemmas.{IsSteady, quar-old}
+use Rattle.core_history.proofs.KeyLemmas.{StandsIn, quar-kept}
 use Rattle.core_history.proofs.EventLemmas.{unmade-steps}
 use Rattle.core_history.proofs.SessionLemmas.{maybe-step}
 use Rattle.core_history.proofs.ListLemmas.{choose, and_intro, not_both}
@@ -84,12 +84,6 @@ gives_leases : (key : QKey) (lease : ReadLease) (s : Step) → Gives key lease s
 gives_leases key lease (step.Lease on sid floor now token deadline) gives =
     and_intro (same_key key on) (token == lease.token) gives.0 (eq-eqb token lease.token gives.1)
 gives_leases key lease other gives = absurd gives
-
--- a good step neither raises nor renews
-good_steady : (past : List Event) (steps : List Step) (who : Sid) (s : Step) → IsGoodStep past steps who s → IsSteady s
-good_steady past steps who (step.Raised on sid token) good = good
-good_steady past steps who (step.Renewed on sid token now deadline) good = good
-good_steady past steps who other good = tt
 
 some_same : {a b : ℕ} → Some a ≡ Some b → a ≡ b
 some_same e = cc
@@ -192,9 +186,9 @@ module _ (shape : Shape) (key : QKey) (least : ℕ) (past : List Event) (holds :
       grant_after token quar found true gives stands other at =
           let now = ap (λ (f : Found). f.commits) (some_found at) in omega (arith, grown, now)
       grant_after token quar found false none stands other at =
-          let Stood : List Step → Type 0 = λ l. quar_of key token l ≡ Some quar → quar_of key token steps ≡ Some quar in
-          since.granted token quar found (maybe-step Stood here s steps
-          (λ _ e. quar-old s key token steps quar (good_steady past (steps_of home past) who s good) none e) (λ _ e. e) stands) other at
+          let Stood : List Step → Type 0 = λ l. quar_of key token l ≡ Some quar → StandsIn key token steps quar in
+          let old = maybe-step Stood here s steps (λ _ e. quar-kept s key token steps quar none e) (λ _ e. (quar, e, refl)) stands in
+          since.granted token old.0 found old.1 (λ e. other (sym old.2 ∙ e)) at
 
   -- each good event
   pub event_since : (event : Event) → IsGoodEvent shape past event → Since shape key least (event ∷ past)

@@ -50,6 +50,8 @@ event_turn shape world who (wanted.Dar grant) said = stepped_turn who (wanted.Da
 event_turn shape world who (wanted.Sar grant value stamp) said = stepped_turn who (wanted.Sar grant value stamp) _ _ _
 event_turn shape world who (wanted.Apply grant stamp) said = stepped_turn who (wanted.Apply grant stamp) _ _ _
 event_turn shape world who (wanted.Abort grant) said = stepped_turn who (wanted.Abort grant) _ _ _
+event_turn shape world who (wanted.Raise grant) said = stepped_turn who (wanted.Raise grant) _ _ _
+event_turn shape world who (wanted.Renew grant) said = stepped_turn who (wanted.Renew grant) _ _ _
 event_turn shape world who wanted.Nothing said = called_turn who wanted.Nothing _
 
 -- the line of what was asked and answered is the event's

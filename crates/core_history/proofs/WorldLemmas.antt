@@ -7,7 +7,7 @@ use Rattle.rows_model.specs.declared.keys.QKey.{QKey}
 use Rattle.rows_model.specs.declared.keys.Sid.{Sid}
 use Rattle.key_shard.specs.Past.{next_token}
 use Rattle.session_client.specs.declared.plans.Plan.{Plan}
-use Rattle.session_client.specs.declared.plans.Plan.TheVariants.{Read, Write, Look, Quit, Skip}
+use Rattle.session_client.specs.declared.plans.Plan.TheVariants.{Read, Write, Look, Quit, Skip, Raise, Renew}
 use Rattle.session_client.specs.declared.plans.Shape.{Shape}
 use Rattle.session_client.specs.declared.plans.Turn.{Turn}
 use Rattle.session_client.specs.declared.plans.Turn.TheVariants as turn
@@ -20,7 +20,10 @@ use Rattle.core_history.specs.Events.{Event, Called, steps_of, told_to, log_of, 
 use Rattle.core_history.specs.Machine.{World, Move, Begin, Take, Said, start, world_of, begun, taken, later, turn_event, terms_of, plan_at, wanted_by}
 use Rattle.core_history.proofs.GrantFacts.{IsDrawnBelow}
 use Rattle.core_history.proofs.ListLemmas.{zero_if, count-cons, not_both, every-weaker}
-use Rattle.core_history.proofs.SessionLemmas.{Writer}
+use Rattle.core_history.proofs.SessionLemmas.{Writer, raises_last}
+use Rattle.core_history.proofs.EventLemmas.{ever}
+use Rattle.sql_keeper.specs.Commits.{is_covered}
+use Rattle.std.proofs.lemmas.Bool.{false≢true}
 use Rattle.core_history.proofs.PlannedLemmas.{GrantsPlanned, planned-begun, logged-begun}
 use Rattle.core_history.proofs.SweepingLemmas.{sweeping-begun}
 use Rattle.core_history.proofs.InnerLemmas.{Inner, IsIdle, IsSession, IsHolding, IsCovered, ticked-inner}
@@ -60,6 +63,12 @@ session-turn shape world who said inner = by (plan_at who.number world.plans) re
     by (Some (Skip key txn)) is =
         write-turn shape world who said (Skip key txn) inner
         (record { at = is; may = refl; writer = subst S is (inner.sessions who.number); stays = λ event told w. subst (T event told) (sym is) w })
+    by (Some (Raise txn)) is =
+        write-turn shape world who said (Raise txn) inner
+        (record { at = is; may = refl; writer = subst S is (inner.sessions who.number); stays = λ event told w. subst (T event told) (sym is) w })
+    by (Some (Renew mode txn)) is =
+        write-turn shape world who said (Renew mode txn) inner
+        (record { at = is; may = refl; writer = subst S is (inner.sessions who.number); stays = λ event told w. subst (T event told) (sym is) w })
 
 -- so does every turn
 pub taken-inner : (shape : Shape) (world : World) (turn : Turn) (said : Said) → Inner shape world
@@ -83,6 +92,9 @@ idle-reply P p (reply.End was) h = absurd h
 idle-reply P p (reply.Rel told) h = absurd h
 idle-reply P p (reply.SarBack grant) h = absurd h
 idle-reply P p (reply.Fault fault) h = absurd h
+idle-reply P p (reply.Raise told) h = absurd h
+idle-reply P p (reply.RaiseBack grant) h = absurd h
+idle-reply P p (reply.Renew grant told) h = absurd h
 
 -- what a reply of Nothing leaves as it was is as at first
 idle-same : {X : Type 0} (f : List Reply → X) (heard : List Reply)
@@ -97,6 +109,9 @@ idle-given heard h = idle-same given heard (λ rest. append-nil (given rest)) h
 pub idle-grants : (heard : List Reply) → AllByRecursion IsIdle heard → granted heard ≡ []
 idle-grants heard h = idle-same granted heard (λ rest. append-nil (granted rest)) h
 
+pub idle-ever : (heard : List Reply) → AllByRecursion IsIdle heard → ever heard ≡ []
+idle-ever heard h = idle-same ever heard (λ rest. append-nil (ever rest)) h
+
 idle-count : (p : Reply → Bool) (heard : List Reply) → p reply.Nothing ≡ false → AllByRecursion IsIdle heard → count_by p heard ≡ 0
 idle-count p heard e h =
     idle-same (count_by p) heard (λ rest. let a = count-cons p reply.Nothing rest in let b = zero_if (p reply.Nothing) e in omega (arith, a, b)) h
@@ -104,6 +119,10 @@ idle-count p heard e h =
 idle-ending : (heard : List Reply) → AllByRecursion IsIdle heard → is_ending heard ≡ false
 idle-ending [] h = refl
 idle-ending (told ∷ heard) h = idle-reply (λ r. is_ending (r ∷ heard) ≡ false) refl told h.0
+
+idle-raises : (heard : List Reply) → AllByRecursion IsIdle heard → raises_last heard ≡ false
+idle-raises [] h = refl
+idle-raises (told ∷ heard) h = idle-reply (λ r. raises_last (r ∷ heard) ≡ false) refl told h.0
 
 not_there : {X : Type 0} (i : ℕ) (x : X) → slice_get [] i ≡ Some x → ⊥
 not_there i x e = cc
@@ -115,15 +134,24 @@ idle-writer : (shape : Shape) (past : List Event) (n : ℕ) (heard : List Reply)
     → AllByRecursion IsIdle heard → Writer shape past n heard (writing_of plan)
 idle-writer shape past n heard plan h =
     let none = idle-grants heard h in
+    let nothing = idle-ever heard h in
     record {
       once = plan-once plan;
+      placed = λ i grant e. absurd (no_place (ever heard) i grant nothing e);
+      had = idle-count is_had heard refl h ∙ sym (ap length nothing);
+      asked = λ _. none ∙ sym nothing;
       fits = λ i grant e. absurd (no_place (granted heard) i grant none e);
-      had = idle-count is_had heard refl h ∙ sym (ap length none);
+      apart = λ i j one two at_one at_two same. absurd (no_place (granted heard) i one none at_one);
+      unspent = λ still key who own covered. absurd (false≢true (sym (ap (λ l. is_covered who l key) nothing) ∙ covered));
+      was = λ i grant e. absurd (no_place (granted heard) i grant none e);
+      suits = λ i grant e. absurd (no_place (granted heard) i grant none e);
       drawn = λ i grant e. absurd (no_place (granted heard) i grant none e);
       stood = λ i grant e late. absurd (no_place (granted heard) i grant none e);
       shut = inl (idle-count is_release heard refl h);
       ending = λ e. absurd (not_both e (idle-ending heard h));
-      going = λ e. idle-same was_committed heard (λ rest. refl) h;
+      going = λ e. (idle-same was_committed heard (λ rest. refl) h, idle-count is_release heard refl h);
+      unraised = λ i grant e late. absurd (no_place (granted heard) i grant none e);
+      raising = λ on. absurd (not_both on (idle-raises heard h));
       numbered = λ number e. let none : number_of heard ≡ None = idle-same number_of heard (λ rest. refl) h in
           let clash : None ≡ Some number = sym none ∙ e in cc;
       olds = λ i one e. absurd (no_place (given heard) i one (idle-given heard h) e);
@@ -138,11 +166,13 @@ idle-session : (shape : Shape) (past : List Event) (n : ℕ) (heard : List Reply
 idle-session shape past n heard None h = h
 idle-session shape past n heard (Some (Read key floor)) h =
     let next = next_token (terms_of shape (shard_of key shape.shards)) (steps_of (shard_of key shape.shards) past) in
-    (every-weaker IsIdle (IsDrawnBelow next) heard (idle-reply (IsDrawnBelow next) tt) h, idle-grants heard h, idle-holding key n past heard h)
+    (every-weaker IsIdle (IsDrawnBelow next) heard (idle-reply (IsDrawnBelow next) tt) h, idle-grants heard h, idle-ever heard h, idle-holding key n past heard h)
 idle-session shape past n heard (Some (Write mode txn)) h = idle-writer shape past n heard (Write mode txn) h
 idle-session shape past n heard (Some (Look mode key txn)) h = idle-writer shape past n heard (Look mode key txn) h
 idle-session shape past n heard (Some (Quit mode txn)) h = idle-writer shape past n heard (Quit mode txn) h
 idle-session shape past n heard (Some (Skip key txn)) h = idle-writer shape past n heard (Skip key txn) h
+idle-session shape past n heard (Some (Raise txn)) h = idle-writer shape past n heard (Raise txn) h
+idle-session shape past n heard (Some (Renew mode txn)) h = idle-writer shape past n heard (Renew mode txn) h
 
 -- a session that begins keeps the facts
 plan_stays : (plans : List Plan) (plan : Plan) (i : ℕ) → (slice_get (plans ++ plan ∷ []) i ≡ slice_get plans i) ⊎ (slice_get plans i ≡ None)

@@ -9,6 +9,7 @@ use Rattle.rows_model.specs.declared.keys.Sid.{Sid}
 use Rattle.rows_model.specs.Key.{same_key}
 use Rattle.rows_model.proofs.SameKey.{same_key-true}
 use Rattle.rows_model.specs.Placement.{shard_of}
+use Rattle.lease_table.specs.declared.records.Mode.TheVariants.{Refresh, Delta}
 use Rattle.lease_table.specs.declared.records.Quar.{Quar}
 use Rattle.lease_table.specs.Leases.{is_of}
 use Rattle.key_shard.specs.Permit.{Permit}
@@ -28,7 +29,7 @@ use Rattle.core_history.specs.Machine.{World, terms_of, plan_at, is_writer, is_o
 use Rattle.core_history.specs.Facts.{stands_for}
 use Rattle.core_history.proofs.ListLemmas.{and_elim, not_both, not_true, any-weaker, place_of, count-some, some-count}
 use Rattle.core_history.proofs.KeyLemmas.{granted_standing, was-quar}
-use Rattle.core_history.proofs.EventLemmas.{closed}
+use Rattle.core_history.proofs.EventLemmas.{closed, ever}
 use Rattle.core_history.proofs.SessionLemmas.{Writer}
 use Rattle.core_history.proofs.PlannedLemmas.{IsPlanned, planned-quar}
 use Rattle.core_history.proofs.InnerLemmas.{Inner, IsSession}
@@ -52,11 +53,11 @@ none_asked shape world who writing key inner w at stands =
     let heard = told_to who.number world.past in
     let given = count-some (quarantines key who) steps (granted_standing key who steps stands) in
     let counts = inner.counts key who in
-    let found = place_of (covers who key) (granted heard) (some-count (covers who key) (granted heard) (omega (arith, given, counts))) in
+    let found = place_of (covers who key) (ever heard) (some-count (covers who key) (ever heard) (omega (arith, given, counts))) in
     let same = same_key-true key found.1.key (and_elim (same_key key found.1.key) (found.1.sid.number == who.number) found.3).0 in
-    let placed = (w.fits found.0 found.1 found.2).at_key in
+    let placed = (w.placed found.0 found.1 found.2).at_key in
     let i : found.0 ≡ count_by is_had heard = w.once found.0 (count_by is_had heard) key (placed ∙ ap (λ k. Some k) (sym same)) at in
-    let within = slice_get_within (granted heard) found.0 found.1 found.2 in
+    let within = slice_get_within (ever heard) found.0 found.1 found.2 in
     let had = w.had in
     absurd (omega (arith, i, within, had))
 
@@ -141,8 +142,8 @@ granted-stands shape past who heard writing w still key covered =
 pub record IsMine (n : ℕ) (plan : Plan) (grant : Permit) (quar : Quar) : Type 0 where
   pub of : IsOf grant quar
   pub own : quar.sid.number ≡ n
-  pub in_mode : grant.mode ≡ mode_on (mode_of plan) grant.key
-  pub by : quar.shift ≡ shift_in grant.mode grant.key (changes_of plan)
+  pub in_mode : (grant.mode ≡ mode_on (mode_of plan) grant.key) ⊎ (grant.mode ≡ Refresh)
+  pub by : grant.mode ≡ Delta → quar.shift ≡ shift_in Delta grant.key (changes_of plan)
 
 -- one number has one plan
 pub some_plan : {a b : Plan} → Some a ≡ Some b → a ≡ b
@@ -150,21 +151,20 @@ some_plan e = cc
 
 pub stands-mine : (shape : Shape) (world : World) (who : Sid) (plan : Plan) (i : ℕ) (grant : Permit) (quar : Quar)
     → Inner shape world → IsWriter shape world who.number plan
-    → slice_get (granted (told_to who.number world.past)) i ≡ Some grant → released (told_to who.number world.past) ≤ i
+    → slice_get (granted (told_to who.number world.past)) i ≡ Some grant
     → quar_of grant.key grant.token (steps_of (shard_of grant.key shape.shards) world.past) ≡ Some quar → IsMine who.number plan grant quar
-stands-mine shape world who plan i grant quar inner w at late found =
+stands-mine shape world who plan i grant quar inner w at found =
     let home = shard_of grant.key shape.shards in
     let steps = steps_of home world.past in
-    let stood = w.writer.stood i grant at late in
     let fits = w.writer.fits i grant at in
-    let same : quar.sid ≡ grant.sid = was-quar (terms_of shape home) steps grant quar (inner.legal home) stood.was found in
+    let same : quar.sid ≡ grant.sid = was-quar (terms_of shape home) steps grant quar (inner.legal home) (w.writer.was i grant at) found in
     let own : quar.sid.number ≡ who.number = ap (λ (s : Sid). s.number) same ∙ fits.own in
     let planned : IsPlanned world.plans grant.key quar = planned-quar world.plans grant.key grant.token steps quar (inner.planned home) found in
     let one : planned.plan ≡ plan = some_plan (sym planned.at ∙ ap (λ n. plan_at n world.plans) own ∙ w.at) in
-    let mode : quar.mode ≡ grant.mode = planned.in_mode ∙ ap (λ p. mode_on (mode_of p) grant.key) one ∙ sym fits.in_mode in
+    let mode : quar.mode ≡ grant.mode = w.writer.suits i grant at quar found in
     record {
       of = record { sid = same; mode = mode };
       own = own;
       in_mode = fits.in_mode;
-      by = planned.by ∙ ap (λ m. shift_in m grant.key (changes_of planned.plan)) mode ∙ ap (λ p. shift_in grant.mode grant.key (changes_of p)) one;
+      by = λ delta. planned.by (mode ∙ delta) ∙ ap (λ p. shift_in Delta grant.key (changes_of p)) one;
     }
