@@ -181,3 +181,35 @@ pub returns-in-Abort-clause-belongs : goal.returns-in-Abort-clause-belongs
 returns-in-Abort-clause-belongs g c =
     let P : Wanted → Type 0 = λ w. Belongs c.args.who w c.make_release-in-Abort.result in
     subst P (sym c.in-Abort.is) (c.make_release-in-Abort.ensures.belongs c.args.who)
+
+pub make_raise-requires-clause-home : goal.make_raise-requires-clause-home
+make_raise-requires-clause-home g c = c.requires.homes c.in-Raise.grant.key
+
+pub make_renewal-requires-clause-home : goal.make_renewal-requires-clause-home
+make_renewal-requires-clause-home g c = c.requires.homes c.in-Renew.grant.key
+
+pub returns-in-Raise-clause-makes : goal.returns-in-Raise-clause-makes
+returns-in-Raise-clause-makes g c origin world stands time =
+    let who = c.args.who in
+    let request : Wanted = wanted.Raise c.in-Raise.grant in
+    let P : Wanted → Type 0 = λ w. Makes origin world who w c.make_raise.new.shards.items c.args.store.now c.make_raise.result in
+    subst P (sym c.in-Raise.is) (makes_step origin world who request c.make_raise.new.shards.items c.args.store.now c.make_raise.result tt stands.1
+    (c.make_raise.ensures.makes origin.shape world who stands.0))
+
+pub returns-in-Renew-clause-makes : goal.returns-in-Renew-clause-makes
+returns-in-Renew-clause-makes g c origin world stands time =
+    let who = c.args.who in
+    let request : Wanted = wanted.Renew c.in-Renew.grant in
+    let P : Wanted → Type 0 = λ w. Makes origin world who w c.make_renewal.new.shards.items c.args.store.now c.make_renewal.result in
+    subst P (sym c.in-Renew.is) (makes_step origin world who request c.make_renewal.new.shards.items c.args.store.now c.make_renewal.result tt stands.1
+    (c.make_renewal.ensures.makes origin.shape world who stands.0 time))
+
+pub returns-in-Raise-clause-belongs : goal.returns-in-Raise-clause-belongs
+returns-in-Raise-clause-belongs g c =
+    let P : Wanted → Type 0 = λ w. IfOk c.make_raise.result (Belongs c.args.who w) in
+    subst P (sym c.in-Raise.is) (c.make_raise.ensures.belongs c.args.who)
+
+pub returns-in-Renew-clause-belongs : goal.returns-in-Renew-clause-belongs
+returns-in-Renew-clause-belongs g c =
+    let P : Wanted → Type 0 = λ w. IfOk c.make_renewal.result (Belongs c.args.who w) in
+    subst P (sym c.in-Renew.is) (c.make_renewal.ensures.belongs c.args.who)
