@@ -17,6 +17,9 @@ pub mod WritingLemmas
 pub mod AskTurnLemmas
 pub mod CallTurnLemmas
 pub mod ReleaseTurnLemmas
+pub mod TurnLists
+pub mod RaisedLemmas
+pub mod RaisedWriters
 pub mod RaiseTurnLemmas
 pub mod SweepTurnLemmas
 pub mod WriteTurnLemmas

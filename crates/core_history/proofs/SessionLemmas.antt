@@ -314,7 +314,7 @@ stood-new shape who request on mode shift now token deadline told past none =
     }
 
 -- the end of one grant leaves each other that is out
-without-other : (grant gone : Permit) (out : List Permit) → (gone ≡ grant → ⊥)
+pub without-other : (grant gone : Permit) (out : List Permit) → (gone ≡ grant → ⊥)
     → list_any (same_permit grant) out ≡ true → list_any (same_permit grant) (without_permit gone out) ≡ true
 without-other grant gone out other h =
     any-filter (same_permit grant) (λ x. not (same_permit gone x)) out (each out) h
@@ -421,7 +421,7 @@ found_none (step.Raised on sid token) calm key t none = absurd calm
 found_none other calm key t none = refl
 
 -- a step that grants none of them, and raises none, leaves what they found and their modes
-finds-apart : (shape : Shape) (place : ℕ) (who : Sid) (request : Wanted) (s : Step) (told : Reply) (past : List Event) (grant : Permit)
+pub finds-apart : (shape : Shape) (place : ℕ) (who : Sid) (request : Wanted) (s : Step) (told : Reply) (past : List Event) (grant : Permit)
     → grants_as grant.key grant.token s ≡ false
     → (found_at grant.key grant.token (Stepped place who request s told ∷ past) ≡ found_at grant.key grant.token past)
     × ((quar : Quar) → quar_of grant.key grant.token (steps_of (shard_of grant.key shape.shards) (Stepped place who request s told ∷ past)) ≡ Some quar

@@ -71,8 +71,8 @@ write-turn shape world who said plan inner w =
     (λ key looks going e. staged-turn shape world who said plan key (changes_of plan) inner w
     (going-on writing heard (wanted.Staged key writing.txn) e (λ no. cc) going))
     (λ going e. end-turn shape world who said plan inner w)
-    (λ grant at going e. raise-turn shape world who said plan grant inner w at (going-on writing heard (wanted.Raise grant) e (λ no. cc) going) e)
-    (λ grant at going e. renew-turn shape world who said plan grant inner w at (going-on writing heard (wanted.Renew grant) e (λ no. cc) going))
+    (λ grant at going e. raise-turn shape world who plan grant inner w at (going-on writing heard (wanted.Raise grant) e (λ no. cc) going) e said)
+    (λ grant at going e. renew-turn shape world who plan grant inner w at (going-on writing heard (wanted.Renew grant) e (λ no. cc) going) said)
     (λ one at ending none e. abort-turn shape world who said plan one inner w (due (wanted.Abort one.permit) one (λ t s out. refl) at ending) none)
     (λ one at ending e. dar-turn shape world who said plan one inner w (due (wanted.Dar one.permit) one (λ t s out. refl) at ending))
     (λ one number at ending told refresh e. sar-turn shape world who said plan one number inner w (due _ one (λ t s out. refl) at ending) told refresh)
