@@ -162,7 +162,8 @@ asks-none Delta key txn grant h = h
 writer-out : (shape : Shape) (world : World) (n : ℕ) (grant : Permit) (writing : Writing) → Writer shape world.past n (told_to n world.past) writing
     → IsOutFor shape world grant (write_wants writing false (told_to n world.past))
 writer-out shape world n grant writing w =
-    write_cases (λ request. write_wants writing false (told_to n world.past) ≡ request → IsOutFor shape world grant request) writing false (told_to n world.past)
+    write_cases (λ request. write_wants writing false (told_to n world.past) ≡ request → IsOutFor shape world grant request) writing false
+        (told_to n world.past)
     (λ key at asks e h. absurd (asks-none (mode_on writing.mode key) key writing.txn grant h))
     (λ going e h. absurd h) (λ key looks asks none e h. absurd h) (λ key looks going e h. absurd h) (λ going e h. absurd h)
     (λ one at going e same. turn-out shape world n grant writing one w at (going-on writing (told_to n world.past) (wanted.Raise one) e (λ no. cc) going) same)

@@ -45,7 +45,8 @@ use Rattle.core_history.proofs.KeyLemmas.{IsQuietStep, quiet-as, quiet-grants, g
 use Rattle.core_history.proofs.EventLemmas.{ever, closed, closed-more, unmade-steps, IsLate, late-stepped, late-called, late-ticked, late-swept}
 use Rattle.core_history.proofs.EventLemmas.{IsKnown, known-more, IsCounted, counts-more, counted-mild, counted-called, counted-ticked}
 use Rattle.core_history.proofs.EventLemmas.{counted-swept, counted-unmade, told-mine, told-other}
-use Rattle.core_history.proofs.SessionLemmas.{Keeps, Finds, finds-none, finds-called, finds-ticked, finds-swept, finds-unmade, ReleasesNone, DrawsLate, IsLateDraw, Writer, writer-more, maybe-step, late-draw}
+use Rattle.core_history.proofs.SessionLemmas.{Keeps, Finds, finds-none, finds-called, finds-ticked, finds-swept, finds-unmade, ReleasesNone}
+use Rattle.core_history.proofs.SessionLemmas.{DrawsLate, IsLateDraw, Writer, writer-more, maybe-step, late-draw}
 use Rattle.core_history.proofs.SessionLemmas.{stood-quiet, stood-called, stood-ticked, stood-unmade, stood-swept, leaves-ended}
 use Rattle.core_history.proofs.PlannedLemmas.{GrantsPlanned, ArePlanned, IsPlannedReply, IsPlannedEvent, quiet-planned, mild-planned, logged-more}
 use Rattle.core_history.proofs.SweepingLemmas.{IsSweeping, due-more, sweeping-more}
@@ -159,13 +160,16 @@ pub session-more : (shape : Shape) (event : Event) (past : List Event) (n : ℕ)
     → IsSession shape past n heard plan → IsSession shape (event ∷ past) n heard plan
 session-more shape event past n heard None late finds keeps h = h
 session-more shape event past n heard (Some (Read key floor)) late finds keeps h = reader-more shape event past n heard key late h
-session-more shape event past n heard (Some (Write mode txn)) late finds keeps h = writer-more shape event past n heard (writing_of (Write mode txn)) finds keeps h
+session-more shape event past n heard (Some (Write mode txn)) late finds keeps h = writer-more shape event past n heard (writing_of
+    (Write mode txn)) finds keeps h
 session-more shape event past n heard (Some (Look mode key txn)) late finds keeps h =
     writer-more shape event past n heard (writing_of (Look mode key txn)) finds keeps h
-session-more shape event past n heard (Some (Quit mode txn)) late finds keeps h = writer-more shape event past n heard (writing_of (Quit mode txn)) finds keeps h
+session-more shape event past n heard (Some (Quit mode txn)) late finds keeps h = writer-more shape event past n heard (writing_of
+    (Quit mode txn)) finds keeps h
 session-more shape event past n heard (Some (Skip key txn)) late finds keeps h = writer-more shape event past n heard (writing_of (Skip key txn)) finds keeps h
 session-more shape event past n heard (Some (Raise txn)) late finds keeps h = writer-more shape event past n heard (writing_of (Raise txn)) finds keeps h
-session-more shape event past n heard (Some (Renew mode txn)) late finds keeps h = writer-more shape event past n heard (writing_of (Renew mode txn)) finds keeps h
+session-more shape event past n heard (Some (Renew mode txn)) late finds keeps h = writer-more shape event past n heard (writing_of
+    (Renew mode txn)) finds keeps h
 
 covered-told : (shape : Shape) (past : List Event) (who : Sid) (told : Reply) → IsQuarantinedReply shape past who told → IsCovered shape past
     → (place : ℕ) (commit : Commit) (key : QKey) → slice_get (log_of past ++ commits_told who told) place ≡ Some commit → touches commit.txn key ≡ true
@@ -359,7 +363,8 @@ ticked-inner shape world now inner =
       committed = tt;
       quarantined = tt;
       sweeping = sweeping-more shape world.plans event world.past (sweeps_of world.past) tt inner.sweeping;
-      sessions = sessions-still shape world event inner tt (λ n. finds-ticked shape now world.past n) (λ n grant own. stood-ticked shape now world.past n grant);
+      sessions = sessions-still shape world event inner tt (λ n. finds-ticked shape now world.past n)
+          (λ n grant own. stood-ticked shape now world.past n grant);
     })
 
 -- a sweep that makes no step

@@ -367,11 +367,6 @@ was-below next grant past below was =
     let found = every-any (GrantsSo (IsBelow next)) (grants grant) past below was in
     grant-below next grant found.0 found.1 found.2
 
--- the token of a grant that was given is below the next
-pub was-drawn : (terms : Terms) (past : List Step) (grant : Permit) → IsLegalPast terms past → list_any (grants grant) past ≡ true
-    → grant.token < next_token terms past
-was-drawn terms past grant legal was = was-below (next_token terms past) grant past (grants-below terms past legal) was
-
 -- the step that is the grant, one of an earlier token, and one of a later
 one-here : (grant : Permit) (s : Step) → grants grant s ≡ true → GrantsSo (OfOne grant) s
 one-here grant (step.Granted on sid mode shift now token deadline) is =

@@ -41,7 +41,8 @@ raised-planned plans key token quar h = record {
     by true e = cc
     by false e = h.by e
 
-renewed-planned : (plans : List Plan) (key : QKey) (token deadline : ℕ) (quar : Quar) → IsPlanned plans key quar → IsPlanned plans key (renewed token deadline quar)
+renewed-planned : (plans : List Plan) (key : QKey) (token deadline : ℕ) (quar : Quar) → IsPlanned plans key quar
+    → IsPlanned plans key (renewed token deadline quar)
 renewed-planned plans key token deadline quar h = record {
   plan = h.plan;
   at = subst (λ (w : Sid). plan_at w.number plans ≡ Some h.plan) (sym (renewed-same (λ q. q.sid) token deadline quar refl)) h.at;
@@ -49,7 +50,8 @@ renewed-planned plans key token deadline quar h = record {
   by = by (has_token token quar);
 }
   where
-    by : (b : Bool) → (cond b (prolonged deadline quar) quar).mode ≡ Delta → (cond b (prolonged deadline quar) quar).shift ≡ shift_in Delta key (changes_of h.plan)
+    by : (b : Bool) → (cond b (prolonged deadline quar) quar).mode ≡ Delta → (cond b (prolonged deadline quar) quar).shift ≡ shift_in Delta key
+        (changes_of h.plan)
     by true e = h.by e
     by false e = h.by e
 

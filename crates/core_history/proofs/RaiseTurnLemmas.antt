@@ -1,8 +1,8 @@
 -- A turn in which a writer raises or renews a quarantine keeps the facts.
-use Rattle.std.proofs.Common.{ℕ, ◌≡◌, ◌≤◌, ◌==◌, Bool, true, false, cond, List, [], ◌∷◌, map, find, Option, Some, None, is_some, slice_get, refl, sym, ap, subst, ◌∙◌, inl, inr, arith}
+use Rattle.std.proofs.Common.{ℕ, ◌≡◌, Bool, true, false, cond, List, ◌∷◌, map, find, Option, Some, None, is_some, slice_get, refl, sym, ap, subst}
+use Rattle.std.proofs.Common.{◌∙◌, inl, inr, arith}
 use Rattle.std.specs.List.{list_any}
 use Rattle.std.proofs.lemmas.Bool.{false≢true, eq-eqb}
-use Rattle.rows_model.specs.declared.keys.QKey.{QKey}
 use Rattle.rows_model.specs.declared.keys.Sid.{Sid}
 use Rattle.rows_model.specs.Key.{same_key}
 use Rattle.rows_model.specs.Placement.{shard_of}
@@ -18,7 +18,6 @@ use Rattle.key_shard.specs.declared.steps.Step.{Step}
 use Rattle.key_shard.specs.declared.steps.Step.TheVariants as step
 use Rattle.key_shard.specs.Past.{Terms, standing, entry, quar_of, grants, deadline_at}
 use Rattle.key_shard.specs.Answers.{Answers, IsOf, Raise, Renew, OwesRaise, OwesRenew, raise_by, raise_step, shared_step, renew_step}
-use Rattle.key_shard.specs.Shards.{raised_permit}
 use Rattle.key_shard.proofs.CaseLemmas.{raise_cases, renew_cases}
 use Rattle.key_shard.proofs.LegalLemmas.{distinct}
 use Rattle.key_shard.proofs.OutRaises.{raise-none, raise-beside}
@@ -32,7 +31,7 @@ use Rattle.session_client.specs.declared.replies.Reply.TheVariants as reply
 use Rattle.session_client.specs.declared.replies.Wanted.{Wanted}
 use Rattle.session_client.specs.declared.replies.Wanted.TheVariants as wanted
 use Rattle.session_client.specs.Plans.{mode_of, mode_on}
-use Rattle.session_client.specs.Wants.{granted, is_release, released, turned, writing_of, write_wants}
+use Rattle.session_client.specs.Wants.{granted, is_release, turned, writing_of, write_wants}
 use Rattle.core_history.specs.Events.{Event, Stepped, steps_of, told_to, log_of, now_of, has_committed}
 use Rattle.core_history.specs.Machine.{World, Said, terms_of, raise_shown, renewal_shown}
 use Rattle.core_history.proofs.ListLemmas.{choose, count-cons, not_both}

@@ -1,6 +1,6 @@
 -- What a raise finds: whose quarantines stand on the key, and which session is to raise.
-use Rattle.std.proofs.Common.{ℕ, ◌≡◌, ◌≤◌, ◌==◌, Bool, true, false, not, cond, ◌&&◌, ◌||◌, List, [], ◌∷◌, map, Option, Some, None, option_map, is_some, slice_get, refl, sym, ap}
-use Rattle.std.proofs.Common.{subst, ◌∙◌, inl, inr, ◌⊎◌}
+use Rattle.std.proofs.Common.{ℕ, ◌≡◌, Bool, true, false, not, cond, ◌&&◌, ◌||◌, List, [], ◌∷◌, map, Option, Some, None, option_map, slice_get, refl, sym, ap}
+use Rattle.std.proofs.Common.{◌∙◌, inl, inr, ◌⊎◌}
 use Rattle.std.specs.List.{list_any}
 use Rattle.std.specs.Prelude.{count_by}
 use Rattle.std.proofs.lemmas.Bool.{false≢true, eqb-true}
@@ -25,8 +25,8 @@ use Rattle.session_client.specs.declared.replies.Reply.{Reply}
 use Rattle.session_client.specs.declared.replies.Reply.TheVariants as reply
 use Rattle.session_client.specs.declared.replies.Wanted.TheVariants as wanted
 use Rattle.session_client.specs.Plans.{mode_of, mode_on}
-use Rattle.session_client.specs.Wants.{Writing, Then, Commits, Looks, Quits, Raises, Renews, then_of, writing_of, granted, turned, is_had, has_all, write_wants}
-use Rattle.session_client.specs.Wants.{quarantine_as, quarantine_or_then, quarantine_next, then_wants, look_after, after_fault, raise_or_commit, renew_or_commit}
+use Rattle.session_client.specs.Wants.{Writing, Then, Commits, Looks, Quits, Raises, Renews, then_of, granted, turned, is_had, has_all, write_wants}
+use Rattle.session_client.specs.Wants.{quarantine_as, quarantine_or_then, quarantine_next, then_wants, look_after, after_fault, renew_or_commit}
 use Rattle.core_history.proofs.ListLemmas.{and_elim}
 use Rattle.core_history.proofs.SessionLemmas.{is_going, raises_last}
 

@@ -1,10 +1,9 @@
 -- What the grants of a writer are after a raise.
-use Rattle.std.proofs.Common.{ℕ, ◌≡◌, ◌≢◌, ◌<◌, ◌≤◌, ◌+◌, ◌==◌, ◌&&◌, Bool, true, false, cond, List, [], ◌∷◌, ◌++◌, length, map, set, find, append-nil, count_by, Some, None}
+use Rattle.std.proofs.Common.{ℕ, ◌≡◌, ◌≢◌, ◌+◌, ◌==◌, ◌&&◌, Bool, true, false, cond, List, [], ◌∷◌, length, map, set, find, append-nil, Some}
 use Rattle.std.proofs.Common.{slice_get, refl, sym, ap, subst, ◌∙◌, inl, inr, ◌⊎◌, arith}
 use Rattle.std.specs.Prelude.{Option}
 use Rattle.std.specs.List.{list_any, remove}
 use Rattle.std.proofs.lemmas.Bool.{false≢true, eq-eqb, eqb-true}
-use Rattle.rows_model.specs.declared.keys.QKey.{QKey}
 use Rattle.rows_model.specs.declared.keys.Sid.{Sid}
 use Rattle.rows_model.specs.Key.{same_key}
 use Rattle.rows_model.proofs.SameKey.{same_key-true, same_key-refl}
@@ -16,8 +15,8 @@ use Rattle.key_shard.specs.Permit.{Permit, same_permit}
 use Rattle.key_shard.specs.declared.steps.Step.{Step}
 use Rattle.key_shard.specs.declared.steps.Step.TheVariants as step
 use Rattle.key_shard.specs.declared.replies.Raising.TheVariants as raising
-use Rattle.key_shard.specs.Past.{Terms, standing, quar_of, entry, grants}
-use Rattle.key_shard.specs.Shards.{raised_permit, without_permit}
+use Rattle.key_shard.specs.Past.{standing, quar_of, entry, grants}
+use Rattle.key_shard.specs.Shards.{raised_permit}
 use Rattle.key_shard.proofs.OutLemmas.{same_permit-true}
 use Rattle.key_shard.proofs.PermitLemmas.{is_of_permit}
 use Rattle.key_shard.proofs.RaiseLemmas.{lifted, raised-here, raised-apart, quar-raised}
@@ -26,15 +25,15 @@ use Rattle.session_client.specs.declared.plans.Shape.{Shape}
 use Rattle.session_client.specs.declared.replies.Reply.{Reply}
 use Rattle.session_client.specs.declared.replies.Reply.TheVariants as reply
 use Rattle.session_client.specs.declared.replies.Wanted.TheVariants as wanted
-use Rattle.session_client.specs.Plans.{mode_on}
-use Rattle.session_client.specs.Wants.{Given, Writing, given, granted, is_had, is_release, is_turn, released, turned}
+use Rattle.session_client.specs.Wants.{Writing, given, granted, is_had, is_release, is_turn, released, turned}
 use Rattle.session_client.proofs.WantCases.{given-granted}
 use Rattle.core_history.specs.Events.{Event, Stepped, steps_of, log_of}
 use Rattle.core_history.specs.Machine.{terms_of, out_of, out_by}
 use Rattle.core_history.specs.Facts.{Found, found_at, grants_as}
-use Rattle.core_history.proofs.ListLemmas.{choose, or_inl, and_intro, and_elim, not_both, not_true, any-weaker, count-cons}
+use Rattle.core_history.proofs.ListLemmas.{choose, and_intro, and_elim, not_both, not_true, any-weaker, count-cons}
 use Rattle.core_history.proofs.EventLemmas.{closed, closed-more, ever}
-use Rattle.core_history.proofs.SessionLemmas.{Stood, Suits, Fits, IsOld, IsDrawn, Writer, Finds, maybe-step, is_going, same_permit-refl, without-other, stood-stepped}
+use Rattle.core_history.proofs.SessionLemmas.{Stood, Suits, Fits, IsOld, IsDrawn, Writer, Finds, maybe-step, is_going, same_permit-refl}
+use Rattle.core_history.proofs.SessionLemmas.{without-other, stood-stepped}
 use Rattle.core_history.proofs.SessionLemmas.{finds-apart, finds-none, drawn-more, number-more, old-more, granted-more, shut-more, suits-more, olds-more}
 use Rattle.core_history.proofs.TurnLists.{WasAt, set-place, remove-place, was-other, was-one, any-set, any-changed}
 
@@ -104,7 +103,8 @@ same-grants grant (step.Granted on sid mode shift now token deadline) h = h
 same-grants grant other h = absurd (false≢true h)
 
 stood-lifted : (shape : Shape) (who : Sid) (grant : Permit) (told : Reply) (past : List Event) (n : ℕ) → Stood shape past n grant
-    → Stood shape (Stepped (shard_of grant.key shape.shards) who (wanted.Raise grant) (step.Raised grant.key grant.sid grant.token) told ∷ past) n (lifted_grant grant)
+    → Stood shape (Stepped (shard_of grant.key shape.shards) who (wanted.Raise grant) (step.Raised grant.key grant.sid grant.token) told ∷ past) n
+        (lifted_grant grant)
 stood-lifted shape who grant told past n h =
     let home = shard_of grant.key shape.shards in
     let s = step.Raised grant.key grant.sid grant.token in
@@ -122,7 +122,8 @@ stood-lifted shape who grant told past n h =
           (λ other. absurd (not_both here other));
       was = any-weaker (grants grant) (grants up) (steps_of home (event ∷ past)) (same-grants grant) (granted-more shape event past grant h.was);
       stands = λ still. maybe-step (λ l. list_any (is_of_permit up) (standing grant.key l) ≡ true) (home == home) s steps
-          (λ _. choose (λ l. list_any (is_of_permit up) l ≡ true) (same_key grant.key grant.key) (map (raised grant.token) (standing grant.key steps)) (standing grant.key steps)
+          (λ _. choose (λ l. list_any (is_of_permit up) l ≡ true) (same_key grant.key grant.key) (map (raised grant.token) (standing grant.key steps))
+              (standing grant.key steps)
           (λ _. any-changed (is_of_permit grant) (is_of_permit up) (raised grant.token) (standing grant.key steps) (lifted-stands grant)
           (h.stands (still-before event past n still)))
           (λ other. absurd (not_both (same_key-refl grant.key) other)))
@@ -134,7 +135,8 @@ stood-lifted shape who grant told past n h =
 
 -- a quarantine that stands under its token afterwards is to refresh
 suits-lifted : (shape : Shape) (who : Sid) (grant : Permit) (told : Reply) (past : List Event)
-    → Suits shape (Stepped (shard_of grant.key shape.shards) who (wanted.Raise grant) (step.Raised grant.key grant.sid grant.token) told ∷ past) (lifted_grant grant)
+    → Suits shape (Stepped (shard_of grant.key shape.shards) who (wanted.Raise grant) (step.Raised grant.key grant.sid grant.token) told ∷ past)
+        (lifted_grant grant)
 suits-lifted shape who grant told past quar =
     let home = shard_of grant.key shape.shards in
     let s = step.Raised grant.key grant.sid grant.token in
@@ -207,7 +209,8 @@ module _ (shape : Shape) (past : List Event) (who : Sid) (grant : Permit) (heard
       let was = (finds-apart shape home who (wanted.Raise grant) s told past g (raises-apart grant g (differs i g other e))).1 quar stands in
       sym was.2 ∙ w.suits i g e was.0 was.1
 
-  found-same : (i : ℕ) (g : Permit) → i ≢ turned heard → slice_get (granted heard) i ≡ Some g → found_at g.key g.token (event ∷ past) ≡ found_at g.key g.token past
+  found-same : (i : ℕ) (g : Permit) → i ≢ turned heard → slice_get (granted heard) i ≡ Some g
+      → found_at g.key g.token (event ∷ past) ≡ found_at g.key g.token past
   found-same i g other e = (finds-apart shape home who (wanted.Raise grant) s told past g (raises-apart grant g (differs i g other e))).0
 
   abbrev now_found : Found
@@ -269,7 +272,8 @@ module _ (shape : Shape) (past : List Event) (who : Sid) (grant : Permit) (heard
         ];
         raising = λ _. in_mode;
         numbered = λ number e. number-more event past n number (w.numbered number e);
-        olds = λ i one e. elim (set-place (given heard) (turned heard) i (record { permit = lifted_grant grant; old = old }) one (sym (ap (λ l. slice_get l i) gives) ∙ e)) [
+        olds = λ i one e. elim (set-place (given heard) (turned heard) i (record { permit = lifted_grant grant;
+            old = old }) one (sym (ap (λ l. slice_get l i) gives) ∙ e)) [
           | inl here ↦ subst (IsOld (event ∷ past)) here.1 (record {
             found = now_found;
             at = ap (λ b. cond b (Some now_found) (found_at grant.key grant.token past))
@@ -286,7 +290,8 @@ module _ (shape : Shape) (past : List Event) (who : Sid) (grant : Permit) (heard
 pub writer-spent : (shape : Shape) (past : List Event) (who : Sid) (grant : Permit) (heard : List Reply) (writing : Writing)
     → Writer shape past who.number heard writing → slice_get (granted heard) (turned heard) ≡ Some grant → is_going heard ≡ true → writing.mode ≡ Invalidate
     → closed who.number past ≡ true
-    → Writer shape (Stepped (shard_of grant.key shape.shards) who (wanted.Raise grant) (step.Gone grant.key grant.sid grant.token) (reply.Raise raising.Gone) ∷ past)
+    → Writer shape (Stepped (shard_of grant.key shape.shards) who (wanted.Raise grant) (step.Gone grant.key grant.sid grant.token)
+        (reply.Raise raising.Gone) ∷ past)
     who.number (reply.Raise raising.Gone ∷ heard) writing
 writer-spent shape past who grant heard writing w at going in_mode closed_now =
     let n = who.number in
@@ -324,7 +329,8 @@ writer-spent shape past who grant heard writing w at going in_mode closed_now =
           let other = was-other (granted heard) (turned heard) i g was in
           let low = other.1 in
           stood-stepped shape home who (wanted.Raise grant) s told past n g (λ _ _ stands. stands)
-          (λ terms out is. without-other g grant out (λ same. other.0 (w.apart was.place (turned heard) g grant was.at at (ap (λ (p : Permit). p.key) (sym same)))) is)
+          (λ terms out is. without-other g grant out (λ same. other.0 (w.apart was.place (turned heard) g grant was.at at (ap (λ (p : Permit). p.key)
+              (sym same)))) is)
           (w.stood was.place g was.at (omega (arith, late, fresh, low)));
       shut = subst (λ r. (r ≡ 0) ⊎ (closed n (event ∷ past) ≡ true)) (sym fresh) (shut-more n event past heard w.shut);
       ending = λ e. absurd (false≢true e);

@@ -43,7 +43,7 @@ use Rattle.core_history.proofs.EventLemmas.{counted-mild, IsKnown}
 use Rattle.core_history.proofs.SessionLemmas.{finds-none, ReturnsGrant, LeavesOpen, leaves-quiet, leaves-ended, stood-returned, IsNumber}
 use Rattle.core_history.proofs.WriterLemmas.{writer-released}
 use Rattle.core_history.proofs.PlannedLemmas.{GrantsPlanned}
-use Rattle.core_history.proofs.InnerLemmas.{Inner, with_event, stepped-inner, draws-late, stands_well}
+use Rattle.core_history.proofs.InnerLemmas.{Inner, with_event, stepped-inner, stands_well}
 use Rattle.core_history.proofs.ReadTurnLemmas.{After}
 use Rattle.core_history.proofs.WritingLemmas.{IsWriter, IsMine, some_plan, stands-mine}
 

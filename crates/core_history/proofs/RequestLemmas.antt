@@ -30,7 +30,8 @@ use Rattle.session_client.specs.declared.replies.Wanted.{Wanted}
 use Rattle.session_client.specs.declared.replies.Wanted.TheVariants as wanted
 use Rattle.core_history.specs.Cores.{HasShards}
 use Rattle.core_history.specs.Events.{Event, steps_of, now_of, reply_in}
-use Rattle.core_history.specs.Machine.{World, Failed, event_of, shown_on, stepped_on, terms_of, shown, put_step, raise_told, renewal_told, raise_shown, renewal_shown}
+use Rattle.core_history.specs.Machine.{World, Failed, event_of, shown_on, stepped_on, terms_of, shown, put_step, raise_told, renewal_told}
+use Rattle.core_history.specs.Machine.{raise_shown, renewal_shown}
 use Rattle.core_history.specs.Requests.{MakesStep, quarantined_as, quarantine_of, released_as}
 use Rattle.core_history.proofs.ShardsLemmas.{IsShardOf, grown, unrolled, shards_made}
 

@@ -1,5 +1,5 @@
 -- What a session was told, and which of its quarantines stand.
-use Rattle.std.proofs.Common.{append-nil, ℕ, ℤ, ◌≡◌, ◌<◌, ◌≤◌, ◌+◌, ◌==◌, ◌&&◌, ◌||◌, Bool, true, false, not, cond, find, Option, List, [], ◌∷◌, ◌++◌, length}
+use Rattle.std.proofs.Common.{append-nil, ℕ, ℤ, ◌≡◌, ◌<◌, ◌≤◌, ◌+◌, ◌==◌, ◌&&◌, ◌||◌, Bool, true, false, not, cond, find, List, [], ◌∷◌, ◌++◌, length}
 use Rattle.std.proofs.Common.{filter, count_by, Some, None, slice_get, refl, sym, ap, subst, ◌∙◌, inl, inr, ◌⊎◌, arith}
 use Rattle.std.specs.List.{AllByRecursion, list_any}
 use Rattle.std.proofs.lemmas.Bool.{eq-eqb, eqb-true, false≢true}
@@ -32,7 +32,8 @@ use Rattle.session_client.specs.declared.replies.Reply.{Reply}
 use Rattle.session_client.specs.declared.replies.Reply.TheVariants as reply
 use Rattle.session_client.specs.declared.replies.Wanted.{Wanted}
 use Rattle.session_client.specs.Plans.{mode_on}
-use Rattle.session_client.specs.Wants.{Given, given, given_in, given_by, granted_by, is_turn, turned, grants_in, granted, is_had, is_commit, is_release, released, was_committed, number_of, Writing, write_wants}
+use Rattle.session_client.specs.Wants.{Given, given, given_in, given_by, granted_by, is_turn, turned, grants_in, granted, is_had, is_commit}
+use Rattle.session_client.specs.Wants.{is_release, released, was_committed, number_of, Writing, write_wants}
 use Rattle.session_client.specs.declared.replies.Wanted.TheVariants as wanted
 use Rattle.session_client.proofs.WantCases.{is_asking, is_ending, AreOnce, given-granted}
 use Rattle.core_history.specs.Events.{Event, Stepped, Called, Ticked, Swept, steps_in, steps_of, commits_in, log_of}
@@ -40,7 +41,7 @@ use Rattle.core_history.specs.Machine.{terms_of, out_by, out_of}
 use Rattle.core_history.specs.Facts.{Found, found_at, leases, grants_as}
 use Rattle.core_history.proofs.ListLemmas.{choose, or_inl, and_intro, and_elim, not_both, not_true, any-filter, any-front, any-back}
 use Rattle.core_history.proofs.ListLemmas.{count-cons, zero_if, slice-front}
-use Rattle.core_history.proofs.KeyLemmas.{IsQuietStep, quiet-stands, quiet-out, quiet-as, stays-apart, DrawsNext, next-append, news_as, StandsIn, quar-kept}
+use Rattle.core_history.proofs.KeyLemmas.{IsQuietStep, quiet-stands, quiet-out, stays-apart, DrawsNext, next-append, news_as, StandsIn, quar-kept}
 use Rattle.core_history.proofs.EventLemmas.{closed, closed-more, still-open, unmade-steps, ever}
 use Rattle.sql_keeper.specs.Commits.{is_covered}
 

@@ -36,7 +36,8 @@ use Rattle.core_history.specs.Machine.{terms_of, stepped_on}
 use Rattle.core_history.specs.Facts.{found_at, grants_as}
 use Rattle.core_history.proofs.ListLemmas.{or_inl, and_intro, not_both, any-at, push-place, slice-last, count-cons}
 use Rattle.core_history.proofs.EventLemmas.{closed, closed-more, ever}
-use Rattle.core_history.proofs.SessionLemmas.{Stood, Fits, Placed, Suits, found-mode, stands-granted, Writer, Keeps, Finds, IsDrawn, IsOld, ReleasesNone, ReturnsGrant, IsLateDraw}
+use Rattle.core_history.proofs.SessionLemmas.{Stood, Fits, Placed, Suits, found-mode, stands-granted, Writer, Keeps, Finds, IsDrawn, IsOld}
+use Rattle.core_history.proofs.SessionLemmas.{ReleasesNone, ReturnsGrant, IsLateDraw}
 use Rattle.core_history.proofs.SessionLemmas.{asking-going, finds-stepped, finds-none, finds-called}
 use Rattle.core_history.proofs.SessionLemmas.{maybe-step, late-draw, number-more, writer-more, writer-told, stood-stepped}
 use Rattle.core_history.proofs.SessionLemmas.{stood-granted, stood-new, stood-called, out-other}
@@ -81,7 +82,8 @@ writer-granted shape past who request key mode shift now heard writing none at i
     let finds : Finds shape event past n = finds-stepped shape home who request s told past n tt late in
     let more = writer-more shape event past n heard writing finds keeps w in
     let new = stood-new shape who request key mode shift now token deadline told past none in
-    let here_stands : list_any (is_of_permit grant) (standing key (s ∷ steps)) ≡ true = stands-granted key who mode token home shift deadline (standing key steps) in
+    let here_stands : list_any (is_of_permit grant) (standing key (s ∷ steps)) ≡ true = stands-granted key who mode token home shift deadline
+        (standing key steps) in
     let fresh : (i : ℕ) (g : Permit) → slice_get (granted heard) i ≡ Some g → g.key ≡ key → ⊥ = λ i g e same.
     let here = ap (λ l. slice_get l i) (sym (w.asked asks)) ∙ e in
     let is = w.once i (count_by is_had heard) key ((w.placed i g here).at_key ∙ ap (λ k. Some k) same) at in
@@ -124,7 +126,8 @@ writer-granted shape past who request key mode shift now heard writing none at i
       ];
       suits = λ i g e. elim (push-place (granted heard) grant i g e) [
         | inl before ↦ more.suits i g before
-        | inr last ↦ subst (Suits shape (event ∷ past)) last.1 (λ quar. maybe-step (λ l. quar_of key token l ≡ Some quar → quar.mode ≡ mode) (home == home) s steps
+        | inr last ↦ subst (Suits shape (event ∷ past)) last.1 (λ quar. maybe-step (λ l. quar_of key token l ≡ Some quar
+            → quar.mode ≡ mode) (home == home) s steps
             (λ _ e. found-mode grant (standing key (s ∷ steps)) quar distinct here_stands e)
             (λ other. absurd (not_both here other)))
       ];
@@ -160,7 +163,8 @@ writer-granted shape past who request key mode shift now heard writing none at i
 -- a grant is released by a session that is closed, and ends or is gone
 pub writer-released : (shape : Shape) (past : List Event) (place : ℕ)
     (who : Sid) (request : Wanted) (s : Step) (rel : Rel) (gone : Permit) (heard : List Reply) (writing : Writing)
-    → ReturnsGrant gone request → ((key : QKey) (token : ℕ) → grants_as key token s ≡ false) → slice_get (granted heard) (released heard) ≡ Some gone → closed who.number past ≡ true
+    → ReturnsGrant gone request → ((key : QKey) (token : ℕ) → grants_as key token s ≡ false) → slice_get (granted heard) (released heard) ≡ Some gone
+        → closed who.number past ≡ true
     → Writer shape past who.number heard writing → Writer shape (Stepped place who request s (reply.Rel rel) ∷ past) who.number (reply.Rel rel ∷ heard) writing
 writer-released shape past place who request s rel gone heard writing returns none at shut w =
     let n = who.number in

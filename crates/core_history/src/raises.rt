@@ -35,11 +35,7 @@ pub(crate) fn make_raise(shards: &mut Vec<Shard>, grant: Grant) -> Result<Reply,
 }
 
 /// Renews a grant: its quarantine has a new deadline. For want of memory the grant is let go.
-pub(crate) fn make_renewal(
-    shards: &mut Vec<Shard>,
-    grant: Grant,
-    now: u64,
-) -> Result<Reply, Memory>
+pub(crate) fn make_renewal(shards: &mut Vec<Shard>, grant: Grant, now: u64) -> Result<Reply, Memory>
     requires home { HasHome shards.old.items grant.key }
     requires out { IsGrantOut shards.old.items grant }
     ensures makes { (shape : Shape) (world : World) (who : Sid) →
