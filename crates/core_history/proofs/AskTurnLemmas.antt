@@ -161,8 +161,13 @@ ask-turn shape world who plan request key mode shift inner w asked =
         let answers : Answers terms steps s = record { request = Quarantine key who mode shift now; at_home = refl; owed = asked.fits; answer = is } in
         quiet-inner shape world home who request s told inner answers tt asked.none refl refl
         (w.stays event told (writer-mild shape event past who.number told heard
-        (writing_of plan) (record { brings = record { none = refl; kept = λ p g. refl; left = λ p g. refl }; calm = refl; had = refl; release = refl;
-            commit = refl })
+        (writing_of plan) (record {
+          brings = record { none = refl; kept = λ p g. refl; left = λ p g. refl };
+          calm = refl;
+          had = refl;
+          release = refl;
+          commit = refl;
+        })
         (finds-stepped shape home who request s told past who.number tt (draws-late shape past home s answers))
         (λ g own. stood-quiet shape home who request s told past tt asked.none who.number g) (λ e. absurd (false≢true e))
-            (λ _. asking-going heard asked.asks) w.writer))
+        (λ _. asking-going heard asked.asks) w.writer))

@@ -61,8 +61,13 @@ end-turn shape world who said plan inner w = by (is_open world who) refl
     ended : (b : Bool) → closed who.number (Called who wanted.End (reply.End b) ∷ world.past) ≡ true
         → Inner shape (with_event world (Called who wanted.End (reply.End b)))
     ended b shut =
-        call-turn shape world who plan wanted.End (reply.End b) inner w (record { brings = record { none = refl; kept = λ p g. refl; left = λ p g. refl };
-            calm = refl; had = refl; release = refl; commit = refl }) (λ _. shut)
+        call-turn shape world who plan wanted.End (reply.End b) inner w (record {
+          brings = record { none = refl; kept = λ p g. refl; left = λ p g. refl };
+          calm = refl;
+          had = refl;
+          release = refl;
+          commit = refl;
+        }) (λ _. shut)
         (λ on. absurd (false≢true on))
 
     by : (b : Bool) → is_open world who ≡ b → Inner shape (with_event world (Called who wanted.End (reply.End b)))
@@ -82,8 +87,13 @@ pub nothing-turn : (shape : Shape) (world : World) (who : Sid) (said : Said) (pl
     → Inner shape world → IsWriter shape world who.number plan → After shape world who said wanted.Nothing
 nothing-turn shape world who said plan inner w = (
   call-turn shape world who plan wanted.Nothing reply.Nothing inner w
-      (record { brings = record { none = refl; kept = λ p g. refl; left = λ p g. refl }; calm = refl; had = refl; release = refl;
-          commit = refl }) (λ e. absurd (false≢true e))
+      (record {
+        brings = record { none = refl; kept = λ p g. refl; left = λ p g. refl };
+        calm = refl;
+        had = refl;
+        release = refl;
+        commit = refl;
+      }) (λ e. absurd (false≢true e))
       (λ on. absurd (false≢true on)),
   tt,
 )
@@ -101,26 +111,46 @@ staged-turn shape world who said plan key txn inner w going = by said
         × IsGoodEvent shape world.past (Called who request (staged_told txn s))
     by (Value value) = (
       call-turn shape world who plan request (reply.Staged value txn) inner w
-          (record { brings = record { none = refl; kept = λ p g. refl; left = λ p g. refl }; calm = refl; had = refl; release = refl;
-              commit = refl }) (λ e. absurd (false≢true e)) (λ _. going),
+          (record {
+            brings = record { none = refl; kept = λ p g. refl; left = λ p g. refl };
+            calm = refl;
+            had = refl;
+            release = refl;
+            commit = refl;
+          }) (λ e. absurd (false≢true e)) (λ _. going),
       tt,
     )
     by (Rejected index) = (
       call-turn shape world who plan request (reply.NotStaged (after.Rejected index) txn) inner w
-          (record { brings = record { none = refl; kept = λ p g. refl; left = λ p g. refl }; calm = refl; had = refl; release = refl;
-              commit = refl }) (λ e. absurd (false≢true e)) (λ _. going),
+          (record {
+            brings = record { none = refl; kept = λ p g. refl; left = λ p g. refl };
+            calm = refl;
+            had = refl;
+            release = refl;
+            commit = refl;
+          }) (λ e. absurd (false≢true e)) (λ _. going),
       tt,
     )
     by Made = (
       call-turn shape world who plan request (reply.NotStaged after.Failed txn) inner w
-          (record { brings = record { none = refl; kept = λ p g. refl; left = λ p g. refl }; calm = refl; had = refl; release = refl;
-              commit = refl }) (λ e. absurd (false≢true e)) (λ _. going),
+          (record {
+            brings = record { none = refl; kept = λ p g. refl; left = λ p g. refl };
+            calm = refl;
+            had = refl;
+            release = refl;
+            commit = refl;
+          }) (λ e. absurd (false≢true e)) (λ _. going),
       tt,
     )
     by Failed = (
       call-turn shape world who plan request (reply.NotStaged after.Failed txn) inner w
-          (record { brings = record { none = refl; kept = λ p g. refl; left = λ p g. refl }; calm = refl; had = refl; release = refl;
-              commit = refl }) (λ e. absurd (false≢true e)) (λ _. going),
+          (record {
+            brings = record { none = refl; kept = λ p g. refl; left = λ p g. refl };
+            calm = refl;
+            had = refl;
+            release = refl;
+            commit = refl;
+          }) (λ e. absurd (false≢true e)) (λ _. going),
       tt,
     )
 
@@ -181,8 +211,13 @@ commit-turn shape world who said plan inner w going = by (commit_fault (is_open 
         × IsGoodEvent shape past (Called who request (reply.NotCommitted fault txn lent))
     refused fault = (
       call-turn shape world who plan request (reply.NotCommitted fault txn lent) inner w
-          (record { brings = record { none = refl; kept = λ p g. refl; left = λ p g. refl }; calm = refl; had = refl; release = refl;
-              commit = refl }) (λ e. absurd (false≢true e)) (λ _. going),
+          (record {
+            brings = record { none = refl; kept = λ p g. refl; left = λ p g. refl };
+            calm = refl;
+            had = refl;
+            release = refl;
+            commit = refl;
+          }) (λ e. absurd (false≢true e)) (λ _. going),
       tt,
     )
 

@@ -47,6 +47,7 @@ use Rattle.core_history.proofs.InnerLemmas.{Inner, IsSession, IsCovered, stands_
 use Rattle.core_history.proofs.WritingLemmas.{open-closed, closed-shut, granted-stands}
 use Rattle.core_history.proofs.SweepTurnLemmas.{sweep_cases}
 use Rattle.core_history.proofs.NumberedLemmas.{runs_numbered}
+use Rattle.core_history.proofs.FirstLemmas.{runs_raised}
 use Rattle.core_history.proofs.WorldLemmas.{idle-grants, idle-ever, inner_of}
 
 -- quarantines stand apart from readers
@@ -163,7 +164,7 @@ writer-out : (shape : Shape) (world : World) (n : ℕ) (grant : Permit) (writing
     → IsOutFor shape world grant (write_wants writing false (told_to n world.past))
 writer-out shape world n grant writing w =
     write_cases (λ request. write_wants writing false (told_to n world.past) ≡ request → IsOutFor shape world grant request) writing false
-        (told_to n world.past)
+    (told_to n world.past)
     (λ key at asks e h. absurd (asks-none (mode_on writing.mode key) key writing.txn grant h))
     (λ going e h. absurd h) (λ key looks asks none e h. absurd h) (λ key looks going e h. absurd h) (λ going e h. absurd h)
     (λ one at going e same. turn-out shape world n grant writing one w at (going-on writing (told_to n world.past) (wanted.Raise one) e (λ no. cc) going) same)
@@ -274,4 +275,5 @@ runs_are_lawful_is shape moves some plans =
       covered = covered_is shape (world_of shape moves).past some inner.covered;
       quarantined = inner.quarantined;
       numbered = runs_numbered shape moves;
+      raised = runs_raised shape moves;
     }

@@ -26,6 +26,7 @@ pub mod WriteTurnLemmas
 pub mod WorldLemmas
 pub mod FoundLemmas
 pub mod NumberedLemmas
+pub mod FirstLemmas
 pub mod GrantLemmas
 pub mod LogLemmas
 pub mod ExclusiveFacts

@@ -104,7 +104,7 @@ same-grants grant other h = absurd (false≢true h)
 
 stood-lifted : (shape : Shape) (who : Sid) (grant : Permit) (told : Reply) (past : List Event) (n : ℕ) → Stood shape past n grant
     → Stood shape (Stepped (shard_of grant.key shape.shards) who (wanted.Raise grant) (step.Raised grant.key grant.sid grant.token) told ∷ past) n
-        (lifted_grant grant)
+    (lifted_grant grant)
 stood-lifted shape who grant told past n h =
     let home = shard_of grant.key shape.shards in
     let s = step.Raised grant.key grant.sid grant.token in
@@ -123,7 +123,7 @@ stood-lifted shape who grant told past n h =
       was = any-weaker (grants grant) (grants up) (steps_of home (event ∷ past)) (same-grants grant) (granted-more shape event past grant h.was);
       stands = λ still. maybe-step (λ l. list_any (is_of_permit up) (standing grant.key l) ≡ true) (home == home) s steps
           (λ _. choose (λ l. list_any (is_of_permit up) l ≡ true) (same_key grant.key grant.key) (map (raised grant.token) (standing grant.key steps))
-              (standing grant.key steps)
+          (standing grant.key steps)
           (λ _. any-changed (is_of_permit grant) (is_of_permit up) (raised grant.token) (standing grant.key steps) (lifted-stands grant)
           (h.stands (still-before event past n still)))
           (λ other. absurd (not_both (same_key-refl grant.key) other)))
@@ -136,7 +136,7 @@ stood-lifted shape who grant told past n h =
 -- a quarantine that stands under its token afterwards is to refresh
 suits-lifted : (shape : Shape) (who : Sid) (grant : Permit) (told : Reply) (past : List Event)
     → Suits shape (Stepped (shard_of grant.key shape.shards) who (wanted.Raise grant) (step.Raised grant.key grant.sid grant.token) told ∷ past)
-        (lifted_grant grant)
+    (lifted_grant grant)
 suits-lifted shape who grant told past quar =
     let home = shard_of grant.key shape.shards in
     let s = step.Raised grant.key grant.sid grant.token in
@@ -272,8 +272,10 @@ module _ (shape : Shape) (past : List Event) (who : Sid) (grant : Permit) (heard
         ];
         raising = λ _. in_mode;
         numbered = λ number e. number-more event past n number (w.numbered number e);
-        olds = λ i one e. elim (set-place (given heard) (turned heard) i (record { permit = lifted_grant grant;
-            old = old }) one (sym (ap (λ l. slice_get l i) gives) ∙ e)) [
+        olds = λ i one e. elim (set-place (given heard) (turned heard) i (record {
+          permit = lifted_grant grant;
+          old = old;
+        }) one (sym (ap (λ l. slice_get l i) gives) ∙ e)) [
           | inl here ↦ subst (IsOld (event ∷ past)) here.1 (record {
             found = now_found;
             at = ap (λ b. cond b (Some now_found) (found_at grant.key grant.token past))
@@ -291,7 +293,7 @@ pub writer-spent : (shape : Shape) (past : List Event) (who : Sid) (grant : Perm
     → Writer shape past who.number heard writing → slice_get (granted heard) (turned heard) ≡ Some grant → is_going heard ≡ true → writing.mode ≡ Invalidate
     → closed who.number past ≡ true
     → Writer shape (Stepped (shard_of grant.key shape.shards) who (wanted.Raise grant) (step.Gone grant.key grant.sid grant.token)
-        (reply.Raise raising.Gone) ∷ past)
+    (reply.Raise raising.Gone) ∷ past)
     who.number (reply.Raise raising.Gone ∷ heard) writing
 writer-spent shape past who grant heard writing w at going in_mode closed_now =
     let n = who.number in
@@ -330,7 +332,7 @@ writer-spent shape past who grant heard writing w at going in_mode closed_now =
           let low = other.1 in
           stood-stepped shape home who (wanted.Raise grant) s told past n g (λ _ _ stands. stands)
           (λ terms out is. without-other g grant out (λ same. other.0 (w.apart was.place (turned heard) g grant was.at at (ap (λ (p : Permit). p.key)
-              (sym same)))) is)
+          (sym same)))) is)
           (w.stood was.place g was.at (omega (arith, late, fresh, low)));
       shut = subst (λ r. (r ≡ 0) ⊎ (closed n (event ∷ past) ≡ true)) (sym fresh) (shut-more n event past heard w.shut);
       ending = λ e. absurd (false≢true e);

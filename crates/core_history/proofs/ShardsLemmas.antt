@@ -249,7 +249,7 @@ step_is shape past key place shard f is =
 -- the shards after a request on one of them
 pub shards_made : (shape : Shape) (past : List Event) (who : Sid)
     (request : Wanted) (key : QKey) (f : Terms → List Step → Step) (shows : Terms → List Step → Step
-        → Reply) (shards : List ShardView) (place : ℕ) (shard new : ShardView)
+    → Reply) (shards : List ShardView) (place : ℕ) (shard new : ShardView)
     → HasShards shards shape past → IsShardOf shape past key place shard → new ≡ grown shard request (f shard.terms (past_of shard)) →
     HasShards (set shards place new) shape (shown_on shape past who request key f shows ∷ past)
 shards_made shape past who request key f shows shards place shard new has is grew =

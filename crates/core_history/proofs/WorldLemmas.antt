@@ -165,9 +165,13 @@ idle-session : (shape : Shape) (past : List Event) (n : ℕ) (heard : List Reply
     → AllByRecursion IsIdle heard → IsSession shape past n heard plan
 idle-session shape past n heard None h = h
 idle-session shape past n heard (Some (Read key floor)) h =
-    let next = next_token (terms_of shape (shard_of key shape.shards)) (steps_of (shard_of key shape.shards) past) in
-    (every-weaker IsIdle (IsDrawnBelow next) heard (idle-reply (IsDrawnBelow next) tt) h, idle-grants heard h, idle-ever heard h, idle-holding key n past
-        heard h)
+    let next = next_token (terms_of shape (shard_of key shape.shards)) (steps_of (shard_of key shape.shards) past) in (
+      every-weaker IsIdle (IsDrawnBelow next) heard (idle-reply (IsDrawnBelow next) tt) h,
+      idle-grants heard h,
+      idle-ever heard h,
+      idle-holding key n past
+          heard h,
+    )
 idle-session shape past n heard (Some (Write mode txn)) h = idle-writer shape past n heard (Write mode txn) h
 idle-session shape past n heard (Some (Look mode key txn)) h = idle-writer shape past n heard (Look mode key txn) h
 idle-session shape past n heard (Some (Quit mode txn)) h = idle-writer shape past n heard (Quit mode txn) h

@@ -56,11 +56,16 @@ look-turn shape world who said plan key inner w going =
     let told = reply.Got found in
     let event = Stepped home who request s told in
     w.stays event told (writer-mild shape event world.past who.number told
-    (told_to who.number world.past) (writing_of plan) (record { brings = record { none = refl; kept = λ p g. refl; left = λ p g. refl }; calm = refl;
-        had = refl; release = refl; commit = refl })
+    (told_to who.number world.past) (writing_of plan) (record {
+      brings = record { none = refl; kept = λ p g. refl; left = λ p g. refl };
+      calm = refl;
+      had = refl;
+      release = refl;
+      commit = refl;
+    })
     (finds-none shape home who request s told world.past who.number (quiet-as s quiet))
     (λ grant own. stood-quiet shape home who request s told world.past quiet (λ t x out. refl) who.number grant) (λ e. absurd (false≢true e))
-        (λ _. going) w.writer))
+    (λ _. going) w.writer))
 
 -- whatever a writer wants
 pub write-turn : (shape : Shape) (world : World) (who : Sid) (said : Said) (plan : Plan) → Inner shape world → IsWriter shape world who.number plan

@@ -83,7 +83,7 @@ writer-granted shape past who request key mode shift now heard writing none at i
     let more = writer-more shape event past n heard writing finds keeps w in
     let new = stood-new shape who request key mode shift now token deadline told past none in
     let here_stands : list_any (is_of_permit grant) (standing key (s ∷ steps)) ≡ true = stands-granted key who mode token home shift deadline
-        (standing key steps) in
+    (standing key steps) in
     let fresh : (i : ℕ) (g : Permit) → slice_get (granted heard) i ≡ Some g → g.key ≡ key → ⊥ = λ i g e same.
     let here = ap (λ l. slice_get l i) (sym (w.asked asks)) ∙ e in
     let is = w.once i (count_by is_had heard) key ((w.placed i g here).at_key ∙ ap (λ k. Some k) same) at in
@@ -164,7 +164,7 @@ writer-granted shape past who request key mode shift now heard writing none at i
 pub writer-released : (shape : Shape) (past : List Event) (place : ℕ)
     (who : Sid) (request : Wanted) (s : Step) (rel : Rel) (gone : Permit) (heard : List Reply) (writing : Writing)
     → ReturnsGrant gone request → ((key : QKey) (token : ℕ) → grants_as key token s ≡ false) → slice_get (granted heard) (released heard) ≡ Some gone
-        → closed who.number past ≡ true
+    → closed who.number past ≡ true
     → Writer shape past who.number heard writing → Writer shape (Stepped place who request s (reply.Rel rel) ∷ past) who.number (reply.Rel rel ∷ heard) writing
 writer-released shape past place who request s rel gone heard writing returns none at shut w =
     let n = who.number in

@@ -1,5 +1,5 @@
 -- What holds of every run: of its log, its histories, and of each turn that commits.
-use Rattle.std.specs.Prelude.{ℕ, ◌≡◌, ◌≢◌, ◌+◌, true, List, [], ◌∷◌, map, reverse, Some, slice_get}
+use Rattle.std.specs.Prelude.{ℕ, ◌≡◌, ◌≢◌, ◌+◌, true, false, List, [], ◌∷◌, map, reverse, Some, slice_get}
 use Rattle.std.specs.List.{range_with_len, AllByRecursion}
 use Rattle.rows_model.specs.declared.keys.QKey.{QKey}
 use Rattle.rows_model.specs.declared.keys.Sid.{Sid}
@@ -8,7 +8,7 @@ use Rattle.rows_model.specs.Changes.{touches}
 use Rattle.rows_model.specs.Placement.{shard_of}
 use Rattle.key_shard.specs.declared.steps.Ended.TheVariants.{Put, Shift}
 use Rattle.key_shard.specs.declared.steps.Step.{Step}
-use Rattle.key_shard.specs.declared.steps.Step.TheVariants.{Released}
+use Rattle.key_shard.specs.declared.steps.Step.TheVariants.{Released, Raised}
 use Rattle.key_shard.specs.Past.{standing}
 use Rattle.key_shard.specs.Answers.{IsLegalPast}
 use Rattle.sql_keeper.specs.declared.stores.Commit.{Commit}
@@ -16,7 +16,7 @@ use Rattle.sql_keeper.specs.Fresh.{Fresh, Covered}
 use Rattle.session_client.specs.declared.plans.Shape.{Shape}
 use Rattle.session_client.specs.declared.replies.Reply.{Reply}
 use Rattle.session_client.specs.declared.replies.Reply.TheVariants as reply
-use Rattle.core_history.specs.Events.{Event, Stepped, Called, Ticked, Swept, steps_of, log_of}
+use Rattle.core_history.specs.Events.{Event, Stepped, Called, Ticked, Swept, steps_of, log_of, has_committed}
 use Rattle.core_history.specs.Machine.{Move, world_of, HasPlans, terms_of}
 use Rattle.core_history.specs.Truth.{IsTruePast}
 use Rattle.core_history.specs.Facts.{Facts, stands_for}
@@ -57,13 +57,32 @@ IsNumbered log (Released key sid token (Put value stamp evicted)) = IsCommitOf l
 IsNumbered log (Released key sid token (Shift by stamp)) = IsCommitOf log sid stamp
 IsNumbered log other = Unit {0}
 
+-- A quarantine is raised by a session that hasn't committed.
+abbrev pub IsRaisedFirst : List Event → Step → Type 0
+IsRaisedFirst past (Raised key sid token) = has_committed sid.number past ≡ false
+IsRaisedFirst past other = Unit {0}
+
+-- So it is in an event.
+abbrev pub RaisesFirst : List Event → Event → Type 0
+RaisesFirst past (Stepped shard who request step told) = IsRaisedFirst past step
+RaisesFirst past (Called who request told) = Unit {0}
+RaisesFirst past (Ticked now) = Unit {0}
+RaisesFirst past (Swept shard request made told) = Unit {0}
+
+-- So it is at each turn.
+abbrev pub AreRaisedFirst : List Event → Type 0
+AreRaisedFirst [] = Unit {0}
+AreRaisedFirst (event ∷ past) = RaisesFirst past event × AreRaisedFirst past
+
 -- What holds after any moves, whatever the keeper said: each history is legal, each commit is covered, and
--- was so when it was made, and each value that was put or shifted has the number of its session's commit.
+-- was so when it was made, each value that was put or shifted has the number of its session's commit, and
+-- each raise came before its session's commit.
 pub record IsLawful (shape : Shape) (past : List Event) : Type 0 where
   pub legal : (place : ℕ) → IsLegalPast (terms_of shape place) (steps_of place past)
   pub covered : Covered (log_of past) (histories_of shape past)
   pub quarantined : AreQuarantined shape past
   pub numbered : (place : ℕ) → AllByRecursion (IsNumbered (log_of past)) (steps_of place past)
+  pub raised : AreRaisedFirst past
 
 -- Whichever sessions begin, in whatever order they take their turns, and whatever the keeper says, the run is lawful.
 abbrev pub RunsAreLawful : Type 0
