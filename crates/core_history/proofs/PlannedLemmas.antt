@@ -21,7 +21,7 @@ use Rattle.core_history.specs.Machine.{plan_at}
 use Rattle.core_history.proofs.ListLemmas.{every-weaker, push-place, slice-front}
 use Rattle.core_history.proofs.KeyLemmas.{IsQuietStep, GrantsSo, standing-every, quar-every}
 
--- a quarantine of a key is one that the plan of its session has: the session writes, and the shift of a delta is that of its changes
+-- a quarantine of a key is one that the plan of its session has: the session writes. The shift of a delta is that of its changes
 pub record IsPlanned (plans : List Plan) (key : QKey) (quar : Quar) : Type 0 where
   pub plan : Plan
   pub at : plan_at quar.sid.number plans ≡ Some plan

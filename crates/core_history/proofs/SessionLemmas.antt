@@ -160,7 +160,8 @@ pub record IsOld (past : List Event) (one : Given) : Type 0 where
 abbrev pub IsDrawn : Shape → List Event → Permit → Type 0
 IsDrawn shape past grant = grant.token < next_token (terms_of shape (shard_of grant.key shape.shards)) (steps_of (shard_of grant.key shape.shards) past)
 
--- a session that writes was given its grants in the order of its keys, and each that it hasn't released or spent stands; it releases none before it is closed
+-- a session that writes was given its grants in the order of its keys. Each that it hasn't released or spent stands.
+-- It releases none before it is closed
 pub record Writer (shape : Shape) (past : List Event) (n : ℕ) (heard : List Reply) (writing : Writing) : Type 0 where
   pub once : AreOnce writing.keys
   pub placed : (i : ℕ) (grant : Permit) → slice_get (ever heard) i ≡ Some grant → Placed n writing i grant

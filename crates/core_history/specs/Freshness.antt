@@ -75,8 +75,8 @@ AreRaisedFirst [] = Unit {0}
 AreRaisedFirst (event ∷ past) = RaisesFirst past event × AreRaisedFirst past
 
 -- What holds after any moves, whatever the keeper said: each history is legal, each commit is covered, and
--- was so when it was made, each value that was put or shifted has the number of its session's commit, and
--- each raise came before its session's commit.
+-- was so when it was made. Each value that was put or shifted has the number of its session's commit. Each
+-- raise came before its session's commit.
 pub record IsLawful (shape : Shape) (past : List Event) : Type 0 where
   pub legal : (place : ℕ) → IsLegalPast (terms_of shape place) (steps_of place past)
   pub covered : Covered (log_of past) (histories_of shape past)

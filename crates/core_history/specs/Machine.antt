@@ -110,7 +110,7 @@ shown terms past (step.Raised key sid token) = reply.Nothing
 shown terms past (step.Shared key sid token holder) = reply.Nothing
 shown terms past (step.Renewed key sid token now deadline) = reply.Nothing
 
--- What is told of a raise of this grant: the grant as it is then, with the entry where it was raised, or who has a quarantine beside it.
+-- What is told of a raise of this grant: the raised grant with the entry, or who has a quarantine beside it, or that it is spent.
 abbrev pub raise_told : Permit → List Step → Step → Raising
 raise_told grant past (step.Raised key sid token) = raising.Raised (raised_permit grant.key grant.token grant) (entry key past)
 raise_told grant past (step.Shared key sid token holder) = raising.Shared grant holder
@@ -271,12 +271,12 @@ HasPlans [] = Unit {0}
 HasPlans (Begin plan ∷ moves) = IsPlan plan × HasPlans moves
 HasPlans (Take turn said ∷ moves) = HasPlans moves
 
--- The grants that are out at a shard after the step of a raise: where the quarantine was gone its grant is spent, and else it stays.
+-- The grants that are out at a shard after the step of a raise. Where the quarantine was gone its grant is spent.
 abbrev pub out_raised : Terms → Permit → Step → List Permit → List Permit
 out_raised terms grant (step.Gone key sid token) out = without_permit grant out
 out_raised terms grant step out = out_after terms step out
 
--- The grants that are out at a shard after a request and its step: a release takes its own away, a raise changes
+-- The grants that are out at a shard after a request and its step. A release takes its own away, a raise changes
 -- its own or spends it, and a granted quarantine adds one.
 abbrev pub out_by : Terms → Wanted → Step → List Permit → List Permit
 out_by terms (wanted.Dar grant) step out = without_permit grant out

@@ -62,7 +62,8 @@ quarantined_as Delta key by = wanted.Delta key by
 abbrev pub quarantine_of : ShardView → QKey → Sid → Mode → ℤ → ℕ → Step
 quarantine_of shard key who mode by now = quarantine_step shard.terms (past_of shard) key who mode by now
 
--- The session of this number waits for its turn: it was told what came of its last request, and a grant that it wants to release, raise or renew is out.
+-- The session of this number waits for its turn: it was told what came of its last request. A grant that it
+-- wants to release, raise or renew is out.
 pub record IsWaiting (shards : List ShardView) (who : Sid) (session : Session) : Type 0 where
   pub ready : IsReady session
   pub sid : sid_of session ≡ who

@@ -6,8 +6,8 @@ ghost use Rattle.core_history.specs.Voids.{VoidsAreInert};
 
 /// Every run is lawful, whichever sessions it begins, in whatever order it takes their turns, and
 /// whatever the keeper says: each history is legal, no transaction is committed that touches a key
-/// which its session hasn't quarantined, each value that is put or shifted has the number of its
-/// session's commit as its stamp, and each raise of a quarantine comes before its session's commit.
+/// which its session hasn't quarantined, and each value that is put or shifted has the number of its
+/// session's commit as its stamp. Each raise of a quarantine comes before its session's commit.
 pub fn runs_are_lawful()
     ensures { RunsAreLawful }
 {}
