@@ -284,8 +284,8 @@ release_cases P writing short heard abort dar sar apply nothing = by heard refl
     by (reply.Renew grant told ∷ rest) e = kept (reply.Renew grant told ∷ rest) refl e
     by (reply.Nothing ∷ rest) e = kept (reply.Nothing ∷ rest) refl e
 
--- what a writer wants: a quarantine, a commit, its own key, the store's answer after its transaction,
--- to be ended, a raise or a renewal of the next grant, one of four releases of the next grant, or nothing
+-- what a writer wants: a quarantine, a commit, its own key, the store's answer after its transaction, or to be ended;
+-- a raise or a renewal of the next grant, one of four releases of it, or nothing
 pub write_cases : (P : Wanted → Type 0) (writing : Writing) (short : Bool) (heard : List Reply)
     → ((key : QKey) → slice_get writing.keys (count_by is_had heard) ≡ Some key
     → is_asking heard ≡ true → P (quarantine_as (mode_on writing.mode key) key writing.txn))

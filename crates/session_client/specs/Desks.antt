@@ -26,8 +26,8 @@ abbrev pub sids_to : ℕ → List Sid
 sids_to zero = []
 sids_to (suc count) = record { number = suc count } ∷ sids_to count
 
--- A request that a desk can make: a delta is of a count, a new value goes with a grant to refresh, a shift with a grant of a delta,
--- and a grant to be raised is to invalidate.
+-- A request that a desk can make: a delta is of a count, a new value goes with a grant to refresh, and a shift with a grant of a delta.
+-- A grant to be raised is to invalidate.
 abbrev pub IsProper : Wanted → Type 0
 IsProper (wanted.Delta key by) = is_count key ≡ true
 IsProper (wanted.Sar grant (Some value) stamp) = grant.mode ≡ mode.Refresh

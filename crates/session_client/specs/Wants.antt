@@ -73,7 +73,7 @@ is_turn other = false
 abbrev pub turned : List Reply → ℕ
 turned heard = count_by is_turn heard
 
--- What was given, after a reply to the turn of the one at this place: a raised grant comes with the old value, and one whose quarantine stands no longer is spent.
+-- What was given, after a reply to the turn of the one at this place. A raised grant comes with the old value. One whose quarantine is gone is spent.
 abbrev pub given_by : Reply → ℕ → List Given → List Given
 given_by (reply.Raise (raising.Raised grant old)) place ones = set ones place (record { permit = grant; old = old })
 given_by (reply.Raise raising.Gone) place ones = remove ones place

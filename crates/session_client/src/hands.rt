@@ -209,7 +209,10 @@ impl Hand {
         ensures hand { self.new ≡ record {
           room = self.old.room;
           given = self.old.given;
-          grants = record { items = remove self.old.grants.items place; room = self.old.grants.room };
+          grants = record {
+            items = remove self.old.grants.items place;
+            room = self.old.grants.room;
+          };
           values = self.old.values;
         } }
     {
@@ -223,7 +226,10 @@ impl Hand {
         ensures { self.new ≡ record {
           room = self.old.room;
           given = self.old.given;
-          grants = record { items = insert self.old.grants.items place grant; room = self.old.grants.room };
+          grants = record {
+            items = insert self.old.grants.items place grant;
+            room = self.old.grants.room;
+          };
           values = self.old.values;
         } }
     {
@@ -239,7 +245,10 @@ impl Hand {
         ensures { self.new ≡ record {
           room = self.old.room;
           given = set self.old.given place grant;
-          grants = record { items = insert self.old.grants.items place grant; room = self.old.grants.room };
+          grants = record {
+            items = insert self.old.grants.items place grant;
+            room = self.old.grants.room;
+          };
           values = set self.old.values place (option_map (λ (o : List ℕ × ℕ). o.0) old);
         } }
     {

@@ -185,8 +185,8 @@ fn raise(shard: &mut Shard, grant: Grant) -> Reply
 }
 
 fn renew(shard: &mut Shard, grant: Grant, now: u64) -> Reply
-    ensures makes { TellsRenewal shard.old grant (renew_step shard.old.terms (past_of shard.old) grant now)
-        shard.new result }
+    ensures makes { TellsRenewal shard.old grant
+        (renew_step shard.old.terms (past_of shard.old) grant now) shard.new result }
     ensures belongs { (who : Sid) → Belongs who (wanted.Renew grant) result }
 {
     match shard.renew(&grant, now) {

@@ -123,7 +123,10 @@ fn mark_of(step: &Step, asked: Request) -> Mark {
             told: Response::Raised { token: *token },
         },
         Step::Shared {
-            key, token, holder, ..
+            key,
+            token,
+            holder,
+            ..
         } => Mark {
             asked: Request::Raise {
                 key: *key,

@@ -381,5 +381,11 @@ const RENEWS: &[(&str, &str)] = &[
 
 #[test]
 fn renews_each_quarantine(rt: HostRuntime) {
-    plays_anew(&rt, rt.alloc(), "renew 1 delta invite 1 2", RENEWS, COMMITTED);
+    plays_anew(
+        &rt,
+        rt.alloc(),
+        "renew 1 delta invite 1 2",
+        RENEWS,
+        COMMITTED,
+    );
 }

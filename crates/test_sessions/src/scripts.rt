@@ -124,11 +124,7 @@ const FAULTY: [(&str, u64, ScriptKind); 96] = [
     ("members 3\nquit 1 Delta rename 2 bob\nend", 2, Form),
     ("members 3\nquit 1 delta\nend", 2, Form),
     // Raises and renewals.
-    (
-        "members 3\nraise 1 invalidate rename 2 bob\nend",
-        2,
-        Form,
-    ),
+    ("members 3\nraise 1 invalidate rename 2 bob\nend", 2, Form),
     ("members 3\nraise 1\nend", 2, Form),
     ("members 3\nraise 2 rename 2 bob\nend", 2, Number),
     ("members 3\nrenew 1 rename 2 bob\nend", 2, Form),
