@@ -110,7 +110,7 @@ shown terms past (step.Raised key sid token) = reply.Nothing
 shown terms past (step.Shared key sid token holder) = reply.Nothing
 shown terms past (step.Renewed key sid token now deadline) = reply.Nothing
 
--- What is told of a raise of this grant: the raised grant with the entry, or who has a quarantine beside it, or that it is spent.
+-- What is told of a raise of this grant: the raised grant with the entry, or who stands beside it, or that it is spent.
 abbrev pub raise_told : Permit → List Step → Step → Raising
 raise_told grant past (step.Raised key sid token) = raising.Raised (raised_permit grant.key grant.token grant) (entry key past)
 raise_told grant past (step.Shared key sid token holder) = raising.Shared grant holder
