@@ -105,14 +105,7 @@ fn is_again(mark: &Mark) -> bool
 fn agains_in(row: &Row) -> u64
     ensures { result ≡ agains_in row.now }
 {
-    let marks = row.marks();
-    let mut count = 0u64;
-    for mark in marks {
-        if is_again(mark) {
-            count += 1;
-        }
-    }
-    count
+    row.marks().iter().filter(|mark| is_again(mark)).count() as u64
 }
 
 /// How often the sessions were told so. It stands still at its type's end.
