@@ -24,6 +24,8 @@ COLOURS = {
     "LEASE": ("#d1e9ff", "#2e90fa"),
     "AGAIN": ("#fef7c3", "#ca8504"),
     "GRANTED": ("#ffead5", "#ef6820"),
+    "RAISED": ("#ffead5", "#ef6820"),
+    "RENEWED": ("#ffead5", "#ef6820"),
     "RELEASED": ("#fff6ed", "#f9a06b"),
     "COMMITTED": ("#ebe9fe", "#7a5af8"),
     "VOID": ("#fee4e2", "#d92d20"),
@@ -36,13 +38,24 @@ COLOURS = {
 }
 
 # The verbs whose next word is a key.
-ON_A_KEY = ("get", "ask", "staged", "set", "qareg", "qaread", "delta", "dar", "sar", "apply", "abort")
+ON_A_KEY = ("get", "ask", "staged", "set", "qareg", "qaread", "delta", "raise", "renew", "dar", "sar", "apply", "abort")
 
 # What has a lane and is no session.
 OTHERS = {"tick": "clock", "sweep": "sweeper"}
 
 # The word behind the number of a session, by the verb of its line.
-ROLES = {"read": "reads", "write": "writes", "look": "writes and looks", "quit": "quits", "skip": "writes and skips"}
+ROLES = {
+    "read": "reads",
+    "write": "writes",
+    "look": "writes and looks",
+    "quit": "quits",
+    "skip": "writes and skips",
+    "raise": "writes and raises",
+    "renew": "writes and renews",
+}
+
+# How many words stand before the transaction of a session that writes. It is three where the verb isn't here.
+BEFORE_CHANGE = {"look": 4, "raise": 2}
 
 
 class Session:
@@ -51,11 +64,11 @@ class Session:
     def __init__(self, words):
         verb, self.number = words[:2]
         self.key = words[2] if verb == "read" else None
-        self.change = " ".join(words[4 if verb == "look" else 3 :]) if verb != "read" else ""
+        self.change = " ".join(words[BEFORE_CHANGE.get(verb, 3) :]) if verb != "read" else ""
         if verb == "read":
             self.head = [f"{self.number} reads", " ".join(words[2:])]
         else:
-            on = {"look": f"{words[2]}, {words[3]}"}.get(verb, words[2]) if len(words) > 3 else ""
+            on = {"look": f"{words[2]}, {words[3]}", "raise": "invalidate"}.get(verb, words[2]) if len(words) > 3 else ""
             self.head = [f"{self.number} {ROLES[verb]}, {on}", self.change]
 
 
@@ -120,6 +133,8 @@ class Turn:
             told = answer_text(self.answer)
         elif self.verb == "qaread" and self.word == "GRANTED" and self.answer[2] != "NONE":
             told = f"GRANTED {self.answer[1]} {answer_text(self.answer[2:])}"
+        elif self.word == "RAISED" and self.answer[1] != "NONE":
+            told = f"RAISED {answer_text(self.answer[1:])}"
         elif self.verb == "delta":
             told = f"{self.by:+} {' '.join(self.answer)}"
         elif self.word == "HIT":
@@ -170,6 +185,8 @@ class Replay:
             self.shifts[turn.who, key.name] = turn.by
             if turn.verb == "qaread" and turn.answer[2] != "NONE":
                 self.had.add((turn.who, key.name))
+        elif turn.word == "RAISED" and turn.answer[1] != "NONE":
+            self.had.add((turn.who, key.name))
         elif turn.word == "RELEASED":
             self.release(turn, key)
 
