@@ -5,6 +5,8 @@ use Rattle.rows_model.specs.declared.keys.Sid.{Sid}
 use Rattle.lease_table.specs.declared.records.Mode.{Mode}
 use Rattle.lease_table.specs.declared.records.Mode.TheVariants.{Invalidate, Refresh, Delta}
 use Rattle.key_shard.specs.Permit.{Permit}
+use Rattle.key_shard.specs.declared.replies.Got.{Got}
+use Rattle.key_shard.specs.declared.replies.Got.TheVariants as got
 use Rattle.key_shard.specs.declared.replies.QAnswer.{QAnswer}
 use Rattle.key_shard.specs.declared.replies.QAnswer.TheVariants as quarantine
 use Rattle.key_shard.specs.declared.replies.Raising.{Raising}
@@ -29,6 +31,11 @@ IsStoreFault faults.Keep = Unit {0}
 IsStoreFault faults.Memory = Unit {0}
 IsStoreFault faults.Spent = ⊥
 
+-- An answer to a get: the stamp of an entry is at least the floor that was asked for.
+abbrev pub IsGotOf : ℕ → Got → Type 0
+IsGotOf floor (got.Hit value stamp) = floor ≤ stamp
+IsGotOf floor other = Unit {0}
+
 -- A grant of the key, to this session, in this mode.
 pub record IsGrantOf (who : Sid) (key : QKey) (mode : Mode) (grant : Permit) : Type 0 where
   pub of_key : grant.key ≡ key
@@ -47,8 +54,9 @@ IsQuarantineOf who key mode (quarantine.Granted grant old) = IsGrantOf who key m
 IsQuarantineOf who key mode quarantine.Held = Unit {0}
 IsQuarantineOf who key mode (quarantine.Refused holder held) = Unit {0}
 
--- The grant of a quarantine that was raised: its key, its session and its token stay, and it is to refresh.
+-- The grant of a quarantine that was raised: its shard, its key, its session and its token stay, and it is to refresh.
 pub record IsRaised (lent back : Permit) : Type 0 where
+  pub same_shard : back.shard ≡ lent.shard
   pub same_key : back.key ≡ lent.key
   pub same_session : back.sid ≡ lent.sid
   pub same_token : back.token ≡ lent.token
@@ -67,7 +75,7 @@ pub record AreBack (lent back : GrantsView) : Type 0 where
 
 -- The reply belongs to the request of this session.
 abbrev pub Belongs : Sid → Wanted → Reply → Type 0
-Belongs who (wanted.Get key floor) (reply.Got got) = Unit {0}
+Belongs who (wanted.Get key floor) (reply.Got told) = IsGotOf floor told
 Belongs who (wanted.Get key floor) (reply.Fault fault) = IsShardFault fault
 Belongs who (wanted.Ask key) (reply.Answer answer) = answer.key ≡ key
 Belongs who (wanted.Ask key) (reply.Fault fault) = IsStoreFault fault
