@@ -20,7 +20,7 @@ use Rattle.expiry_sweeper.specs.declared.replies.SweepReply.{SweepReply}
 use Rattle.expiry_sweeper.specs.declared.replies.SweepReply.TheVariants as sweeps
 use Rattle.expiry_sweeper.specs.declared.replies.SweepWanted.{SweepWanted}
 use Rattle.expiry_sweeper.specs.declared.replies.SweepWanted.TheVariants as sweep
-use Rattle.expiry_sweeper.specs.Sweeps.{sweep_wants}
+use Rattle.expiry_sweeper.specs.Sweeps.{sweep_wants, scan_told}
 use Rattle.key_freshness.specs.Known.{IsAmong, IsOver, IsMore}
 use Rattle.key_freshness.specs.Marks.{marks_of}
 use Rattle.key_freshness.proofs.KnownLemmas.{more-trans, more-length, over-then}
@@ -31,7 +31,7 @@ use Rattle.session_client.specs.declared.replies.Wanted.{Wanted}
 use Rattle.session_client.specs.declared.replies.Wanted.TheVariants as wanted
 use Rattle.core_history.specs.Events.{Event, Stepped, Called, Ticked, Swept, steps_in, steps_of, swept_in, sweeps_of, commits_in, log_of}
 use Rattle.core_history.specs.Events.{ends_in, ended_of, known_of}
-use Rattle.core_history.specs.Machine.{World, Move, Begin, Take, Said, terms_of, is_open, scan_told, event_of, wanted_of, sweep_of}
+use Rattle.core_history.specs.Machine.{World, Move, Begin, Take, Said, terms_of, is_open, event_of, wanted_of, sweep_of}
 use Rattle.core_history.specs.Machine.{swept_next, turn_event, world_of}
 use Rattle.core_history.specs.Freshness.{IsCommitOf}
 use Rattle.core_history.specs.Sweeps.{IsHitSince, AreHitsSince, WasEnded, SweepsAreFinal}

@@ -19,7 +19,8 @@ use Rattle.session_client.specs.declared.plans.Turn.{Turn}
 use Rattle.session_client.specs.declared.plans.Turn.TheVariants as turn
 use Rattle.session_client.specs.declared.replies.Reply.{Reply}
 use Rattle.core_history.specs.Events.{Event, steps_of, told_in, told_to, swept_in, sweeps_of, now_of}
-use Rattle.core_history.specs.Machine.{World, Move, Begin, Take, Said, terms_of, wanted_of, scan_told, sweep_of, swept_next, turn_event, world_of}
+use Rattle.expiry_sweeper.specs.Sweeps.{scan_told}
+use Rattle.core_history.specs.Machine.{World, Move, Begin, Take, Said, terms_of, wanted_of, sweep_of, swept_next, turn_event, world_of}
 use Rattle.core_history.specs.Sweeping.{IsNumbered}
 use Rattle.core_history.proofs.EventLemmas.{IsKnown, ever}
 use Rattle.core_history.proofs.InnerLemmas.{Inner}

@@ -1,10 +1,13 @@
 -- A request that was made on the shard of its key is the machine's event.
-use Rattle.std.proofs.Common.{ℕ, ℤ, ◌≡◌, pos, List, ◌∷◌, Option, Some, Ok, refl, sym, ap, subst, set, ◌∙◌}
+use Rattle.std.proofs.Common.{ℕ, zero, suc, ◌≡◌, ◌<◌, ◌-◌, ◌^◌, ◌==◌, ◌&&◌, ◌⊎◌, pos, Bool, true, false, List, [], ◌∷◌, Option, Some, None, Result, Ok, Err}
+use Rattle.std.proofs.Common.{length, slice_get, refl, sym, ap, subst, set, inl, inr, arith, ◌∙◌}
+use Rattle.std.proofs.lemmas.Bool.{eqb-true, false≢true}
 use Rattle.std.proofs.lemmas.List.{reverse-reverse}
+use Rattle.std.specs.Prelude.{MatchBool}
 use Rattle.rows_model.specs.declared.keys.QKey.{QKey}
 use Rattle.rows_model.specs.declared.keys.Sid.{Sid}
+use Rattle.rows_model.specs.declared.refusals.Memory.{Memory}
 use Rattle.rows_model.specs.Placement.{shard_of}
-use Rattle.lease_table.specs.declared.records.Mode.{Mode}
 use Rattle.lease_table.specs.declared.records.Mode.TheVariants.{Invalidate, Refresh, Delta}
 use Rattle.key_shard.specs.Permit.{Permit}
 use Rattle.key_shard.specs.declared.steps.Step.{Step}
@@ -15,90 +18,61 @@ use Rattle.key_shard.specs.declared.replies.QAnswer.{QAnswer}
 use Rattle.key_shard.specs.declared.replies.Rel.{Rel}
 use Rattle.key_shard.specs.declared.replies.Raising.{Raising}
 use Rattle.key_shard.specs.declared.replies.Renewal.{Renewal}
-use Rattle.key_shard.specs.declared.replies.How.{How}
 use Rattle.key_shard.specs.declared.replies.How.TheVariants as how
-use Rattle.key_shard.specs.Past.{Terms}
-use Rattle.key_shard.specs.Answers.{FitsShift, get_step, set_step, quarantine_step, release_step, raise_step, renew_step}
+use Rattle.key_shard.specs.Past.{Terms, draws, next_token}
+use Rattle.key_shard.specs.Answers.{get_step, set_step, quarantine_step, release_step, replace_step, raise_step, renew_step}
 use Rattle.key_shard.specs.Replies.{ShowsGot, ShowsSet, ShowsQuarantine, ShowsRelease, ShowsRaise, ShowsRenewal}
-use Rattle.key_shard.specs.Shards.{ShardView, past_of, rolled, stepped, returned, after_raise}
-use Rattle.session_client.specs.Belongs.{Belongs}
-use Rattle.session_client.proofs.QuarantineLemmas.{quarantine_belongs as quarantine_answers}
+use Rattle.key_shard.specs.Shards.{ShardView, past_of, is_out, rolled, stepped, returned, after_raise}
 use Rattle.session_client.specs.declared.plans.Shape.{Shape}
+use Rattle.session_client.specs.declared.replies.Fault.TheVariants as faults
 use Rattle.session_client.specs.declared.replies.Reply.{Reply}
 use Rattle.session_client.specs.declared.replies.Reply.TheVariants as reply
 use Rattle.session_client.specs.declared.replies.Wanted.{Wanted}
 use Rattle.session_client.specs.declared.replies.Wanted.TheVariants as wanted
+use Rattle.executor.specs.OnShard.{is_spent, TellsGot, TellsSet, TellsQuarantine, TellsRelease, TellsPut, TellsRaise, TellsRenewal, MakesOnShard}
+use Rattle.executor.specs.Requests.{key_of}
 use Rattle.core_history.specs.Cores.{HasShards}
 use Rattle.core_history.specs.Events.{Event, steps_of, now_of, reply_in}
 use Rattle.core_history.specs.Machine.{World, Failed, event_of, shown_on, stepped_on, terms_of, shown, put_step, raise_told, renewal_told}
 use Rattle.core_history.specs.Machine.{raise_shown, renewal_shown}
-use Rattle.core_history.specs.Requests.{MakesStep, quarantined_as, quarantine_of, released_as}
-use Rattle.core_history.proofs.ShardsLemmas.{IsShardOf, grown, unrolled, shards_made}
+use Rattle.core_history.specs.Requests.{MakesStep, IsOutWhereReleased, GoesOn, tells_memory}
+use Rattle.core_history.proofs.ShardsLemmas.{IsShardOf, grown, unrolled, shards_made, shard_found}
 
+-- what is told is what the step shows
 tells_got : (terms : Terms) (past : List Step) (s : Step) (answer : Got) → ShowsGot s answer → reply.Got answer ≡ shown terms past s
 tells_got terms past (step.Hit key sid floor value stamp) answer h = ap reply.Got h
 tells_got terms past (step.Lease key sid floor now token deadline) answer h = ap reply.Got h
 tells_got terms past (step.Again key sid floor now standing) answer h = ap reply.Got h
 tells_got terms past (step.Own key sid) answer h = ap reply.Got h
-tells_got terms past (step.Stored key token now value stamp evicted) answer h = absurd h
-tells_got terms past (step.Void key token now) answer h = absurd h
-tells_got terms past (step.Granted key sid mode shift now token deadline) answer h = absurd h
-tells_got terms past (step.Held key sid mode) answer h = absurd h
-tells_got terms past (step.Refused key sid mode holder held) answer h = absurd h
-tells_got terms past (step.Released key sid token how) answer h = absurd h
-tells_got terms past (step.Gone key sid token) answer h = absurd h
-tells_got terms past (step.Raised key sid token) answer h = absurd h
-tells_got terms past (step.Shared key sid token holder) answer h = absurd h
-tells_got terms past (step.Renewed key sid token now deadline) answer h = absurd h
+tells_got terms past other answer h = absurd h
 
 tells_set : (terms : Terms) (past : List Step) (s : Step) (answer : SetAnswer) → ShowsSet s answer → reply.Set answer ≡ shown terms past s
-tells_set terms past (step.Hit key sid floor value stamp) answer h = absurd h
-tells_set terms past (step.Lease key sid floor now token deadline) answer h = absurd h
-tells_set terms past (step.Again key sid floor now standing) answer h = absurd h
-tells_set terms past (step.Own key sid) answer h = absurd h
 tells_set terms past (step.Stored key token now value stamp evicted) answer h = ap reply.Set h
 tells_set terms past (step.Void key token now) answer h = ap reply.Set h
-tells_set terms past (step.Granted key sid mode shift now token deadline) answer h = absurd h
-tells_set terms past (step.Held key sid mode) answer h = absurd h
-tells_set terms past (step.Refused key sid mode holder held) answer h = absurd h
-tells_set terms past (step.Released key sid token how) answer h = absurd h
-tells_set terms past (step.Gone key sid token) answer h = absurd h
-tells_set terms past (step.Raised key sid token) answer h = absurd h
-tells_set terms past (step.Shared key sid token holder) answer h = absurd h
-tells_set terms past (step.Renewed key sid token now deadline) answer h = absurd h
+tells_set terms past other answer h = absurd h
 
 tells_quarantine : (terms : Terms) (past : List Step) (s : Step) (answer : QAnswer)
     → ShowsQuarantine terms past s answer → reply.Quar answer ≡ shown terms past s
-tells_quarantine terms past (step.Hit key sid floor value stamp) answer h = absurd h
-tells_quarantine terms past (step.Lease key sid floor now token deadline) answer h = absurd h
-tells_quarantine terms past (step.Again key sid floor now standing) answer h = absurd h
-tells_quarantine terms past (step.Own key sid) answer h = absurd h
-tells_quarantine terms past (step.Stored key token now value stamp evicted) answer h = absurd h
-tells_quarantine terms past (step.Void key token now) answer h = absurd h
 tells_quarantine terms past (step.Granted key sid mode shift now token deadline) answer h = ap reply.Quar h
 tells_quarantine terms past (step.Held key sid mode) answer h = ap reply.Quar h
 tells_quarantine terms past (step.Refused key sid mode holder held) answer h = ap reply.Quar h
-tells_quarantine terms past (step.Released key sid token how) answer h = absurd h
-tells_quarantine terms past (step.Gone key sid token) answer h = absurd h
-tells_quarantine terms past (step.Raised key sid token) answer h = absurd h
-tells_quarantine terms past (step.Shared key sid token holder) answer h = absurd h
-tells_quarantine terms past (step.Renewed key sid token now deadline) answer h = absurd h
+tells_quarantine terms past other answer h = absurd h
 
 tells_release : (terms : Terms) (past : List Step) (s : Step) (answer : Rel) → ShowsRelease s answer → reply.Rel answer ≡ shown terms past s
-tells_release terms past (step.Hit key sid floor value stamp) answer h = absurd h
-tells_release terms past (step.Lease key sid floor now token deadline) answer h = absurd h
-tells_release terms past (step.Again key sid floor now standing) answer h = absurd h
-tells_release terms past (step.Own key sid) answer h = absurd h
-tells_release terms past (step.Stored key token now value stamp evicted) answer h = absurd h
-tells_release terms past (step.Void key token now) answer h = absurd h
-tells_release terms past (step.Granted key sid mode shift now token deadline) answer h = absurd h
-tells_release terms past (step.Held key sid mode) answer h = absurd h
-tells_release terms past (step.Refused key sid mode holder held) answer h = absurd h
 tells_release terms past (step.Released key sid token how) answer h = ap reply.Rel h
 tells_release terms past (step.Gone key sid token) answer h = ap reply.Rel h
-tells_release terms past (step.Raised key sid token) answer h = absurd h
-tells_release terms past (step.Shared key sid token holder) answer h = absurd h
-tells_release terms past (step.Renewed key sid token now deadline) answer h = absurd h
+tells_release terms past other answer h = absurd h
+
+tells_raise : (past : List Step) (grant : Permit) (s : Step) (answer : Raising) → ShowsRaise past grant s answer → answer ≡ raise_told grant past s
+tells_raise past grant (step.Raised key sid token) answer h = h
+tells_raise past grant (step.Shared key sid token holder) answer h = h
+tells_raise past grant (step.Gone key sid token) answer h = h
+tells_raise past grant other answer h = absurd h
+
+tells_renewal : (s : Step) (answer : Renewal) → ShowsRenewal s answer → answer ≡ renewal_told s
+tells_renewal (step.Renewed key sid token now deadline) answer h = h
+tells_renewal (step.Gone key sid token) answer h = h
+tells_renewal other answer h = absurd h
 
 -- what follows a shard's own past is what follows the steps on it
 shown_is : (shape : Shape) (past : List Event) (key : QKey) (place : ℕ) (shard : ShardView) (g : Terms → List Step → Reply)
@@ -138,154 +112,229 @@ step_made : (shape : Shape) (world : World) (who : Sid) (request : Wanted)
 step_made shape world who request key f shards place shard new told event has is grew tells =
     shown_made shape world who request key f shown shards place shard new told event has is grew tells
 
-pub got_made : (shape : Shape) (world : World) (who : Sid) (key : QKey) (floor now : ℕ) (shards : List ShardView)
-    (place : ℕ) (shard new : ShardView) (answer : Got) → now ≡ now_of world.past
+-- so it is where the step goes by the time
+timely : (shape : Shape) (world : World) (who : Sid) (request : Wanted) (key : QKey) (f : ℕ → Terms → List Step → Step)
+    (now : ℕ) (shards : List ShardView) (place : ℕ) (shard new : ShardView) (told : Reply) → now ≡ now_of world.past →
+    event_of shape world who request Failed ≡ stepped_on shape world.past who request key (f (now_of world.past))
     → HasShards shards shape world.past → IsShardOf shape world.past key place shard →
-    new ≡ stepped (rolled shard) (get_step shard.terms (past_of shard) key who floor now)
-    → ShowsGot (get_step shard.terms (past_of shard) key who floor now) answer
-    → MakesStep shape world who (wanted.Get key floor) (set shards place new) (Ok (reply.Got answer))
-got_made shape world who key floor now shards place shard new answer time has is grew shows =
-    let f : ℕ → Terms → List Step → Step = λ n terms steps. get_step terms steps key who floor n in
-    step_made shape world who (wanted.Get key floor) key (f now) shards place shard new
-    (reply.Got answer) (ap (λ (n : ℕ). stepped_on shape world.past who (wanted.Get key floor) key (f n)) (sym time)) has is
-    (stepped_whole shape world.past key place shard new _ is grew) (tells_got shard.terms (past_of shard) _ answer shows)
+    new ≡ grown shard request (f now shard.terms (past_of shard)) → told ≡ shown shard.terms (past_of shard) (f now shard.terms (past_of shard))
+    → MakesStep shape world who request (set shards place new) (Ok told)
+timely shape world who request key f now shards place shard new told time event has is grew tells =
+    step_made shape world who request key (f now) shards place shard new told
+    (event ∙ ap (λ (n : ℕ). stepped_on shape world.past who request key (f n)) (sym time)) has is grew tells
 
-pub set_made : (shape : Shape) (world : World) (who : Sid) (key : QKey) (token : ℕ) (value : List ℕ) (stamp now : ℕ) (shards : List ShardView) (place : ℕ)
-    (shard new : ShardView) (answer : SetAnswer) → now ≡ now_of world.past → HasShards shards shape world.past → IsShardOf shape world.past key place shard →
-    new ≡ stepped (rolled shard) (set_step shard.terms (past_of shard) key token value stamp now)
-    → ShowsSet (set_step shard.terms (past_of shard) key token value stamp now) answer
-    → MakesStep shape world who (wanted.Set key token value stamp) (set shards place new) (Ok (reply.Set answer))
-set_made shape world who key token value stamp now shards place shard new answer time has is grew shows =
-    let f : ℕ → Terms → List Step → Step = λ n terms steps. set_step terms steps key token value stamp n in
-    step_made shape world who (wanted.Set key token value stamp) key (f now) shards place shard new
-    (reply.Set answer) (ap (λ (n : ℕ). stepped_on shape world.past who (wanted.Set key token value stamp) key (f n)) (sym time)) has is
-    (stepped_whole shape world.past key place shard new _ is grew) (tells_set shard.terms (past_of shard) _ answer shows)
+-- What came of a request on a shard: it was made, and the shard is the one after that; or memory ran out, and the shard is as before.
+abbrev Became : {A : Type 0} → (A → Reply) → (A → Type 0) → ShardView → ShardView → ShardView → Reply → Type 0
+Became {A} variant shows old next new told =
+    ((answer : A) × (told ≡ variant answer) × (tells_memory told ≡ false) × (new ≡ next) × shows answer)
+    ⊎ ((tells_memory told ≡ true) × (new ≡ old))
 
--- a quarantine is the event of its mode, and its grant is out afterwards
-quarantine_in : (shape : Shape) (world : World) (who : Sid) (key : QKey) (mode : Mode) (by : ℤ) (now : ℕ) (shards : List ShardView) (place : ℕ)
-    (shard new : ShardView) (told : Reply) → FitsShift mode by → now ≡ now_of world.past
-    → HasShards shards shape world.past → IsShardOf shape world.past key place shard →
-    new ≡ stepped shard (quarantine_of shard key who mode by now) → told ≡ shown shard.terms (past_of shard) (quarantine_of shard key who mode by now)
-    → MakesStep shape world who (quarantined_as mode key by) (set shards place new) (Ok told)
-quarantine_in shape world who key Invalidate by now shards place shard new told fits time has is grew tells =
-    let f : ℤ → ℕ → Terms → List Step → Step = λ z n terms steps. quarantine_step terms steps key who Invalidate z n in
-    let E : ℤ → ℕ → Event = λ z n. stepped_on shape world.past who (wanted.QaReg key) key (f z n) in
-    step_made shape world who (wanted.QaReg key) key (f by now) shards place shard new told (ap (λ (n : ℕ). E (pos 0) n) (sym time)
-    ∙ ap (λ (z : ℤ). E z now) (sym fits)) has is grew tells
-quarantine_in shape world who key Refresh by now shards place shard new told fits time has is grew tells =
-    let f : ℤ → ℕ → Terms → List Step → Step = λ z n terms steps. quarantine_step terms steps key who Refresh z n in
-    let E : ℤ → ℕ → Event = λ z n. stepped_on shape world.past who (wanted.QaRead key) key (f z n) in
-    step_made shape world who (wanted.QaRead key) key (f by now) shards place shard new told (ap (λ (n : ℕ). E (pos 0) n) (sym time)
-    ∙ ap (λ (z : ℤ). E z now) (sym fits)) has is grew tells
-quarantine_in shape world who key Delta by now shards place shard new told fits time has is grew tells =
-    let f : ℕ → Terms → List Step → Step = λ n terms steps. quarantine_step terms steps key who Delta by n in
-    step_made shape world who (wanted.Delta key by) key (f now) shards place shard new told
-    (ap (λ (n : ℕ). stepped_on shape world.past who (wanted.Delta key by) key (f n)) (sym time)) has is grew tells
+-- there is a token left
+unspent : (draw : Bool) (next : ℕ) → next < 2 ^ 64 - 1 → (draw && (next == 2 ^ 64 - 1)) ≡ true → ⊥
+unspent true next below e = let last : next ≡ 2 ^ 64 - 1 = eqb-true next (2 ^ 64 - 1) e in omega (arith, last)
+unspent false next below e = false≢true e
 
-pub quarantine_made : (shape : Shape) (world : World) (who : Sid) (key : QKey) (mode : Mode) (by : ℤ) (now : ℕ) (shards : List ShardView) (place : ℕ)
-    (shard new : ShardView) (answer : QAnswer) → FitsShift mode by
-    → now ≡ now_of world.past → HasShards shards shape world.past → IsShardOf shape world.past key place shard →
-    new ≡ stepped (rolled shard) (quarantine_of shard key who mode by now)
-    → ShowsQuarantine shard.terms (past_of shard) (quarantine_of shard key who mode by now) answer
-    → MakesStep shape world who (quarantined_as mode key by) (set shards place new) (Ok (reply.Quar answer))
-quarantine_made shape world who key mode by now shards place shard new answer fits time has is grew shows =
-    quarantine_in shape world who key mode by now shards place shard new
-    (reply.Quar answer) fits time has is (stepped_whole shape world.past key place shard new _ is grew)
-    (tells_quarantine shard.terms (past_of shard) _ answer shows)
+-- the part that is so of a grant that is out
+of_out : {X Y : Type 0} (b : Bool) → b ≡ true → MatchBool b X Y → X
+of_out true e h = h
+of_out false e h = absurd (false≢true e)
 
--- a release is the event of how it is made, and its grant is out no more
-release_in : (shape : Shape) (world : World) (who : Sid) (grant : Permit) (way : How) (shards : List ShardView)
-    (place : ℕ) (shard new : ShardView) (told : Reply) → HasShards shards shape world.past → IsShardOf shape world.past grant.key place shard →
-    new ≡ returned shard grant (release_step (past_of shard) grant way) → told ≡ shown shard.terms (past_of shard) (release_step (past_of shard) grant way)
-    → MakesStep shape world who (released_as grant way) (set shards place new) (Ok told)
-release_in shape world who grant how.Keep shards place shard new told has is grew tells =
-    step_made shape world who (wanted.Abort grant) grant.key
-    (λ terms steps. release_step steps grant how.Keep) shards place shard new told refl has is grew tells
-release_in shape world who grant how.Drop shards place shard new told has is grew tells =
-    step_made shape world who (wanted.Dar grant) grant.key (λ terms steps. release_step steps grant how.Drop) shards place shard new told refl has is grew tells
-release_in shape world who grant (how.Shift stamp) shards place shard new told has is grew tells =
-    step_made shape world who (wanted.Apply grant stamp) grant.key
-    (λ terms steps. release_step steps grant (how.Shift stamp)) shards place shard new told refl has is grew tells
+got_became : (old new : ShardView) (s : Step) (told : Reply) → next_token old.terms (past_of old) < 2 ^ 64 - 1 → TellsGot old s new told
+    → Became reply.Got (ShowsGot s) old (stepped (rolled old) s) new told
+got_became old new s (reply.Got got) below h = inl (got, refl, refl, h.0, h.1.0)
+got_became old new s (reply.Fault faults.Memory) below h = inr (refl, h.0)
+got_became old new s (reply.Fault faults.Spent) below h = absurd (unspent (draws s) (next_token old.terms (past_of old)) below h.1)
+got_became old new s (reply.Fault faults.Keep) below h = absurd h.1
+got_became old new s other below h = absurd h
 
-pub release_made : (shape : Shape) (world : World) (who : Sid) (grant : Permit) (way : How) (shards : List ShardView)
-    (place : ℕ) (shard new : ShardView) (answer : Rel) → HasShards shards shape world.past → IsShardOf shape world.past grant.key place shard →
-    new ≡ returned shard grant (release_step (past_of shard) grant way) → ShowsRelease (release_step (past_of shard) grant way) answer
-    → MakesStep shape world who (released_as grant way) (set shards place new) (Ok (reply.Rel answer))
-release_made shape world who grant way shards place shard new answer has is grew shows =
-    release_in shape world who grant way shards place shard new (reply.Rel answer) has is grew (tells_release shard.terms (past_of shard) _ answer shows)
+quarantine_became : (old new : ShardView) (s : Step) (told : Reply) → next_token old.terms (past_of old) < 2 ^ 64 - 1 → TellsQuarantine old s new told
+    → Became reply.Quar (ShowsQuarantine old.terms (past_of old) s) old (stepped (rolled old) s) new told
+quarantine_became old new s (reply.Quar answer) below h = inl (answer, refl, refl, h.0, h.1.0)
+quarantine_became old new s (reply.Fault faults.Memory) below h = inr (refl, h.0)
+quarantine_became old new s (reply.Fault faults.Spent) below h = absurd (unspent (draws s) (next_token old.terms (past_of old)) below h.1)
+quarantine_became old new s (reply.Fault faults.Keep) below h = absurd h.1
+quarantine_became old new s other below h = absurd h
 
-pub sar_made : (shape : Shape) (world : World) (who : Sid) (grant : Permit) (value : Option (List ℕ)) (stamp : ℕ) (shards : List ShardView)
-    (place : ℕ) (shard new : ShardView) (answer : Rel) → HasShards shards shape world.past → IsShardOf shape world.past grant.key place shard →
-    new ≡ returned shard grant (put_step shard.terms (past_of shard) grant value stamp)
-    → ShowsRelease (put_step shard.terms (past_of shard) grant value stamp) answer
-    → MakesStep shape world who (wanted.Sar grant value stamp) (set shards place new) (Ok (reply.Rel answer))
-sar_made shape world who grant value stamp shards place shard new answer has is grew shows =
-    step_made shape world who (wanted.Sar grant value stamp) grant.key
-    (λ terms steps. put_step terms steps grant value stamp) shards place shard new (reply.Rel answer) refl has is grew
-    (tells_release shard.terms (past_of shard) _ answer shows)
+set_became : (old new : ShardView) (s : Step) (told : Reply) → TellsSet old s new told → Became reply.Set (ShowsSet s) old (stepped (rolled old) s) new told
+set_became old new s (reply.Set answer) h = inl (answer, refl, refl, h.0, h.1)
+set_became old new s (reply.Fault faults.Memory) h = inr (refl, h.0)
+set_became old new s (reply.Fault faults.Spent) h = absurd cc
+set_became old new s (reply.Fault faults.Keep) h = absurd cc
+set_became old new s other h = absurd h
 
--- what is told of a raise is what its step shows
-tells_raise : (past : List Step) (grant : Permit) (s : Step) (answer : Raising) → ShowsRaise past grant s answer → answer ≡ raise_told grant past s
-tells_raise past grant (step.Raised key sid token) answer h = h
-tells_raise past grant (step.Shared key sid token holder) answer h = h
-tells_raise past grant (step.Gone key sid token) answer h = h
-tells_raise past grant (step.Hit key sid floor value stamp) answer h = absurd h
-tells_raise past grant (step.Lease key sid floor now token deadline) answer h = absurd h
-tells_raise past grant (step.Again key sid floor now standing) answer h = absurd h
-tells_raise past grant (step.Own key sid) answer h = absurd h
-tells_raise past grant (step.Stored key token now value stamp evicted) answer h = absurd h
-tells_raise past grant (step.Void key token now) answer h = absurd h
-tells_raise past grant (step.Granted key sid mode shift now token deadline) answer h = absurd h
-tells_raise past grant (step.Held key sid mode) answer h = absurd h
-tells_raise past grant (step.Refused key sid mode holder held) answer h = absurd h
-tells_raise past grant (step.Released key sid token how) answer h = absurd h
-tells_raise past grant (step.Renewed key sid token now deadline) answer h = absurd h
+release_became : (old new : ShardView) (grant : Permit) (s : Step) (told : Reply) → is_out old grant ≡ true → TellsRelease old grant s new told
+    → Became reply.Rel (ShowsRelease s) old (returned old grant s) new told
+release_became old new grant s (reply.Rel answer) out h = let made = of_out (is_out old grant) out h in inl (answer, refl, refl, made.0, made.1)
+release_became old new grant s other out h = absurd h
 
-tells_renewal : (s : Step) (answer : Renewal) → ShowsRenewal s answer → answer ≡ renewal_told s
-tells_renewal (step.Renewed key sid token now deadline) answer h = h
-tells_renewal (step.Gone key sid token) answer h = h
-tells_renewal (step.Hit key sid floor value stamp) answer h = absurd h
-tells_renewal (step.Lease key sid floor now token deadline) answer h = absurd h
-tells_renewal (step.Again key sid floor now standing) answer h = absurd h
-tells_renewal (step.Own key sid) answer h = absurd h
-tells_renewal (step.Stored key token now value stamp evicted) answer h = absurd h
-tells_renewal (step.Void key token now) answer h = absurd h
-tells_renewal (step.Granted key sid mode shift now token deadline) answer h = absurd h
-tells_renewal (step.Held key sid mode) answer h = absurd h
-tells_renewal (step.Refused key sid mode holder held) answer h = absurd h
-tells_renewal (step.Released key sid token how) answer h = absurd h
-tells_renewal (step.Raised key sid token) answer h = absurd h
-tells_renewal (step.Shared key sid token holder) answer h = absurd h
+put_became : (old new : ShardView) (grant : Permit) (s : Step) (told : Reply) → is_out old grant ≡ true → TellsPut old grant s new told
+    → Became reply.Rel (ShowsRelease s) old (returned old grant s) new told
+put_became old new grant s (reply.Rel answer) out h = let made = of_out (is_out old grant) out h in inl (answer, refl, refl, made.0, made.1)
+put_became old new grant s (reply.SarBack back) out h = inr (refl, h.0)
+put_became old new grant s other out h = absurd h
 
--- the shard after the step of a raise
+raise_became : (old new : ShardView) (grant : Permit) (s : Step) (told : Reply) → is_out old grant ≡ true → TellsRaise old grant s new told
+    → Became reply.Raise (ShowsRaise (past_of old) grant s) old (after_raise old grant s) new told
+raise_became old new grant s (reply.Raise answer) out h = let made = of_out (is_out old grant) out h in inl (answer, refl, refl, made.0, made.1)
+raise_became old new grant s (reply.RaiseBack back) out h = inr (refl, h.0)
+raise_became old new grant s other out h = absurd h
+
+-- what is told of a renewal of this grant
+abbrev renewed_as : Permit → Renewal → Reply
+renewed_as grant answer = reply.Renew grant (Some answer)
+
+renewal_became : (old new : ShardView) (grant : Permit) (s : Step) (told : Reply) → is_out old grant ≡ true → TellsRenewal old grant s new told
+    → Became (renewed_as grant) (ShowsRenewal s) old (stepped old s) new told
+renewal_became old new grant s (reply.Renew back (Some answer)) out h =
+    let made = of_out (is_out old grant) out h.1 in
+    inl (answer, ap (λ (p : Permit). reply.Renew p (Some answer)) h.0, refl, made.0, made.1)
+renewal_became old new grant s (reply.Renew back None) out h = inr (refl, h.1)
+renewal_became old new grant s other out h = absurd h
+
+-- a list stays where a place is written with what it has
+set_same : {X : Type 0} (xs : List X) (place : ℕ) (x : X) → slice_get xs place ≡ Some x → set xs place x ≡ xs
+set_same [] place x is = refl
+set_same {X} (y ∷ xs) zero x is = ap (λ (z : X). z ∷ xs) cc
+set_same {X} (y ∷ xs) (suc place) x is = ap (λ (l : List X). y ∷ l) (set_same xs place x is)
+
+-- the turn is the event where the request was made, and leaves the shards where memory ran out
+made_by : {A : Type 0} (variant : A → Reply) (shows : A → Type 0) (shape : Shape) (world : World) (who : Sid) (request : Wanted) (shards : List ShardView)
+    (place : ℕ) (shard next new : ShardView) (told : Reply) (result : Result Reply Memory) → HasShards shards shape world.past
+    → slice_get shards place ≡ Some shard → ((answer : A) → shows answer → MakesStep shape world who request (set shards place next) (Ok (variant answer)))
+    → Became variant shows shard next new told → GoesOn told result → MakesStep shape world who request (set shards place new) result
+made_by variant shows shape world who request shards place shard next new told (Ok kept) has there made (inl h) goes =
+    let P : Reply → Type 0 = λ r. MakesStep shape world who request (set shards place new) (Ok r) in
+    let Q : ShardView → Type 0 = λ v. MakesStep shape world who request (set shards place v) (Ok (variant h.0)) in
+    subst P (sym (goes.0 ∙ h.1)) (subst Q (sym h.2.1) (made h.0 h.2.2))
+made_by variant shows shape world who request shards place shard next new told (Err memory) has there made (inl h) goes =
+    absurd (false≢true (sym h.2.0 ∙ goes))
+made_by variant shows shape world who request shards place shard next new told (Ok kept) has there made (inr h) goes =
+    absurd (false≢true (sym goes.1 ∙ h.0))
+made_by variant shows shape world who request shards place shard next new told (Err memory) has there made (inr h) goes =
+    let P : List ShardView → Type 0 = λ xs. HasShards xs shape world.past in
+    let Q : ShardView → Type 0 = λ v. HasShards (set shards place v) shape world.past in
+    subst Q (sym h.1) (subst P (sym (set_same shards place shard there)) has)
+
+-- The shard at this place is that of the request's key, and has a token left.
+pub record IsAsked (shards : List ShardView) (request : Wanted) (place : ℕ) (shard : ShardView) : Type 0 where
+  pub at : (key : QKey) → key_of request ≡ Some key → place ≡ shard_of key (length shards)
+  pub found : (key : QKey) → key_of request ≡ Some key → slice_get shards (shard_of key (length shards)) ≡ Some shard
+  pub there : slice_get shards place ≡ Some shard
+  pub left : next_token shard.terms (past_of shard) < 2 ^ 64 - 1
+
 raise_grown : (shard : ShardView) (grant : Permit) (s : Step) → after_raise shard grant s ≡ grown shard (wanted.Raise grant) s
 raise_grown shard grant (step.Gone key sid token) = refl
 raise_grown shard grant other = refl
 
-pub raise_made : (shape : Shape) (world : World) (who : Sid) (grant : Permit) (shards : List ShardView)
-    (place : ℕ) (shard new : ShardView) (answer : Raising) → HasShards shards shape world.past → IsShardOf shape world.past grant.key place shard →
-    new ≡ after_raise shard grant (raise_step (past_of shard) grant) → ShowsRaise (past_of shard) grant (raise_step (past_of shard) grant) answer
-    → MakesStep shape world who (wanted.Raise grant) (set shards place new) (Ok (reply.Raise answer))
-raise_made shape world who grant shards place shard new answer has is grew shows =
-    shown_made shape world who (wanted.Raise grant) grant.key (λ terms steps. raise_step steps grant) (raise_shown grant) shards place shard new
-    (reply.Raise answer) refl has is (grew ∙ raise_grown shard grant (raise_step (past_of shard) grant))
-    (ap reply.Raise (tells_raise (past_of shard) grant (raise_step (past_of shard) grant) answer shows))
+-- what the executor made of a shard is the event of the request
+pub request_made : (shape : Shape) (world : World) (who : Sid) (request : Wanted) (now : ℕ) (shards : List ShardView) (place : ℕ)
+    (shard new : ShardView) (told : Reply) (result : Result Reply Memory) → IsAsked shards request place shard → IsOutWhereReleased shards request
+    → now ≡ now_of world.past → HasShards shards shape world.past → MakesOnShard shard who request now new told → GoesOn told result
+    → MakesStep shape world who request (set shards place new) result
+request_made shape world who request now shards place shard new told result asked out time has makes goes =
+    by request asked out makes
+  where
+    past : List Step
+    past = past_of shard
 
-pub renewal_made : (shape : Shape) (world : World) (who : Sid) (grant : Permit) (now : ℕ) (shards : List ShardView)
-    (place : ℕ) (shard new : ShardView) (answer : Renewal) → now ≡ now_of world.past
-    → HasShards shards shape world.past → IsShardOf shape world.past grant.key place shard →
-    new ≡ stepped shard (renew_step shard.terms (past_of shard) grant now) → ShowsRenewal (renew_step shard.terms (past_of shard) grant now) answer
-    → MakesStep shape world who (wanted.Renew grant) (set shards place new) (Ok (reply.Renew grant (Some answer)))
-renewal_made shape world who grant now shards place shard new answer time has is grew shows =
-    let f : ℕ → Terms → List Step → Step = λ n terms steps. renew_step terms steps grant n in
-    shown_made shape world who (wanted.Renew grant) grant.key (f now) (renewal_shown grant) shards place shard new
-    (reply.Renew grant (Some answer))
-    (ap (λ (n : ℕ). shown_on shape world.past who (wanted.Renew grant) grant.key (f n) (renewal_shown grant)) (sym time)) has is grew
-    (ap (λ (r : Renewal). reply.Renew grant (Some r)) (tells_renewal (renew_step shard.terms (past_of shard) grant now) answer shows))
+    whole : (key : QKey) (s : Step) → IsShardOf shape world.past key place shard → stepped (rolled shard) s ≡ stepped shard s
+    whole key s is = stepped_whole shape world.past key place shard (stepped (rolled shard) s) s is refl
 
--- and so it belongs to that request
-pub quarantine_belongs : (terms : Terms) (past : List Step) (key : QKey) (who : Sid) (mode : Mode) (by : ℤ) (now : ℕ) (answer : QAnswer)
-    → ShowsQuarantine terms past (quarantine_step terms past key who mode by now) answer → Belongs who (quarantined_as mode key by) (reply.Quar answer)
-quarantine_belongs terms past key who Invalidate by now answer shows = quarantine_answers terms past key who Invalidate by now answer shows
-quarantine_belongs terms past key who Refresh by now answer shows = quarantine_answers terms past key who Refresh by now answer shows
-quarantine_belongs terms past key who Delta by now answer shows = quarantine_answers terms past key who Delta by now answer shows
+    home : (request : Wanted) (key : QKey) → IsAsked shards request place shard → key_of request ≡ Some key → IsShardOf shape world.past key place shard
+    home request key asked e = shard_found shape world.past key shards place shard has (asked.at key e) (asked.found key e)
+
+    by : (request : Wanted) → IsAsked shards request place shard → IsOutWhereReleased shards request → MakesOnShard shard who request now new told
+        → MakesStep shape world who request (set shards place new) result
+    by (wanted.Get key floor) asked out makes =
+        let w = wanted.Get key floor in
+        let is = home w key asked refl in
+        let f : ℕ → Terms → List Step → Step = λ n terms steps. get_step terms steps key who floor n in
+        let s = f now shard.terms past in
+        made_by reply.Got (ShowsGot s) shape world who w shards place shard (stepped (rolled shard) s) new told result has asked.there
+        (λ answer shows. timely shape world who w key f now shards place shard (stepped (rolled shard) s) (reply.Got answer) time refl has is
+        (whole key s is) (tells_got shard.terms past s answer shows)) (got_became shard new s told asked.left makes) goes
+    by (wanted.Set key token value stamp) asked out makes =
+        let w = wanted.Set key token value stamp in
+        let is = home w key asked refl in
+        let f : ℕ → Terms → List Step → Step = λ n terms steps. set_step terms steps key token value stamp n in
+        let s = f now shard.terms past in
+        made_by reply.Set (ShowsSet s) shape world who w shards place shard (stepped (rolled shard) s) new told result has asked.there
+        (λ answer shows. timely shape world who w key f now shards place shard (stepped (rolled shard) s) (reply.Set answer) time refl has is
+        (whole key s is) (tells_set shard.terms past s answer shows)) (set_became shard new s told makes) goes
+    by (wanted.QaReg key) asked out makes =
+        let w = wanted.QaReg key in
+        let is = home w key asked refl in
+        let f : ℕ → Terms → List Step → Step = λ n terms steps. quarantine_step terms steps key who Invalidate (pos 0) n in
+        let s = f now shard.terms past in
+        made_by reply.Quar (ShowsQuarantine shard.terms past s) shape world who w shards place shard (stepped (rolled shard) s) new told result has asked.there
+        (λ answer shows. timely shape world who w key f now shards place shard (stepped (rolled shard) s) (reply.Quar answer) time refl has is
+        (whole key s is) (tells_quarantine shard.terms past s answer shows)) (quarantine_became shard new s told asked.left makes) goes
+    by (wanted.QaRead key) asked out makes =
+        let w = wanted.QaRead key in
+        let is = home w key asked refl in
+        let f : ℕ → Terms → List Step → Step = λ n terms steps. quarantine_step terms steps key who Refresh (pos 0) n in
+        let s = f now shard.terms past in
+        made_by reply.Quar (ShowsQuarantine shard.terms past s) shape world who w shards place shard (stepped (rolled shard) s) new told result has asked.there
+        (λ answer shows. timely shape world who w key f now shards place shard (stepped (rolled shard) s) (reply.Quar answer) time refl has is
+        (whole key s is) (tells_quarantine shard.terms past s answer shows)) (quarantine_became shard new s told asked.left makes) goes
+    by (wanted.Delta key more) asked out makes =
+        let w = wanted.Delta key more in
+        let is = home w key asked refl in
+        let f : ℕ → Terms → List Step → Step = λ n terms steps. quarantine_step terms steps key who Delta more n in
+        let s = f now shard.terms past in
+        made_by reply.Quar (ShowsQuarantine shard.terms past s) shape world who w shards place shard (stepped (rolled shard) s) new told result has asked.there
+        (λ answer shows. timely shape world who w key f now shards place shard (stepped (rolled shard) s) (reply.Quar answer) time refl has is
+        (whole key s is) (tells_quarantine shard.terms past s answer shows)) (quarantine_became shard new s told asked.left makes) goes
+    by (wanted.Dar grant) asked out makes =
+        let w = wanted.Dar grant in
+        let s = release_step past grant how.Drop in
+        made_by reply.Rel (ShowsRelease s) shape world who w shards place shard (returned shard grant s) new told result has asked.there
+        (λ answer shows. step_made shape world who w grant.key (λ terms steps. release_step steps grant how.Drop) shards place shard (returned shard grant s)
+        (reply.Rel answer) refl has (home w grant.key asked refl) refl (tells_release shard.terms past s answer shows))
+        (release_became shard new grant s told (out shard (asked.found grant.key refl)) makes) goes
+    by (wanted.Abort grant) asked out makes =
+        let w = wanted.Abort grant in
+        let s = release_step past grant how.Keep in
+        made_by reply.Rel (ShowsRelease s) shape world who w shards place shard (returned shard grant s) new told result has asked.there
+        (λ answer shows. step_made shape world who w grant.key (λ terms steps. release_step steps grant how.Keep) shards place shard (returned shard grant s)
+        (reply.Rel answer) refl has (home w grant.key asked refl) refl (tells_release shard.terms past s answer shows))
+        (release_became shard new grant s told (out shard (asked.found grant.key refl)) makes) goes
+    by (wanted.Apply grant stamp) asked out makes =
+        let w = wanted.Apply grant stamp in
+        let s = release_step past grant (how.Shift stamp) in
+        made_by reply.Rel (ShowsRelease s) shape world who w shards place shard (returned shard grant s) new told result has asked.there
+        (λ answer shows. step_made shape world who w grant.key (λ terms steps. release_step steps grant (how.Shift stamp)) shards place shard
+        (returned shard grant s) (reply.Rel answer) refl has (home w grant.key asked refl) refl (tells_release shard.terms past s answer shows))
+        (release_became shard new grant s told (out shard (asked.found grant.key refl)) makes) goes
+    by (wanted.Sar grant None stamp) asked out makes =
+        let w = wanted.Sar grant None stamp in
+        let s = release_step past grant how.Drop in
+        made_by reply.Rel (ShowsRelease s) shape world who w shards place shard (returned shard grant s) new told result has asked.there
+        (λ answer shows. step_made shape world who w grant.key (λ terms steps. put_step terms steps grant None stamp) shards place shard
+        (returned shard grant s) (reply.Rel answer) refl has (home w grant.key asked refl) refl (tells_release shard.terms past s answer shows))
+        (release_became shard new grant s told (out shard (asked.found grant.key refl)) makes) goes
+    by (wanted.Sar grant (Some value) stamp) asked out makes =
+        let w = wanted.Sar grant (Some value) stamp in
+        let s = replace_step shard.terms past grant value stamp in
+        made_by reply.Rel (ShowsRelease s) shape world who w shards place shard (returned shard grant s) new told result has asked.there
+        (λ answer shows. step_made shape world who w grant.key (λ terms steps. put_step terms steps grant (Some value) stamp) shards place shard
+        (returned shard grant s) (reply.Rel answer) refl has (home w grant.key asked refl) refl (tells_release shard.terms past s answer shows))
+        (put_became shard new grant s told (out shard (asked.found grant.key refl)) makes) goes
+    by (wanted.Raise grant) asked out makes =
+        let w = wanted.Raise grant in
+        let s = raise_step past grant in
+        made_by reply.Raise (ShowsRaise past grant s) shape world who w shards place shard (after_raise shard grant s) new told result has asked.there
+        (λ answer shows. shown_made shape world who w grant.key (λ terms steps. raise_step steps grant) (raise_shown grant) shards place shard
+        (after_raise shard grant s) (reply.Raise answer) refl has (home w grant.key asked refl) (raise_grown shard grant s)
+        (ap reply.Raise (tells_raise past grant s answer shows)))
+        (raise_became shard new grant s told (out shard (asked.found grant.key refl)) makes) goes
+    by (wanted.Renew grant) asked out makes =
+        let w = wanted.Renew grant in
+        let f : ℕ → Terms → List Step → Step = λ n terms steps. renew_step terms steps grant n in
+        let s = f now shard.terms past in
+        made_by (renewed_as grant) (ShowsRenewal s) shape world who w shards place shard (stepped shard s) new told result has asked.there
+        (λ answer shows. shown_made shape world who w grant.key (f now) (renewal_shown grant) shards place shard (stepped shard s) (renewed_as grant answer)
+        (ap (λ (n : ℕ). shown_on shape world.past who w grant.key (f n) (renewal_shown grant)) (sym time)) has (home w grant.key asked refl) refl
+        (ap (renewed_as grant) (tells_renewal s answer shows)))
+        (renewal_became shard new grant s told (out shard (asked.found grant.key refl)) makes) goes
+    by other asked out makes = absurd makes

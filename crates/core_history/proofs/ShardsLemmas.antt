@@ -30,27 +30,6 @@ use Rattle.core_history.specs.Events.{Event, Stepped, Called, Ticked, Swept, ste
 use Rattle.core_history.specs.Machine.{shown_on, terms_of, out_of, out_by}
 use Rattle.core_history.specs.Cores.{HasShards, HasHomes, KeepAll, shard_after}
 
--- a step at home that draws no last token isn't refused
-never_spent : (draw : Bool) (next : ℕ) → next < 2 ^ 64 - 1 → cond (draw && (next == 2 ^ 64 - 1)) (Some (faults.Spent next)) None ≡ None
-never_spent true next h = grind (arith, rules)
-never_spent false next h = refl
-
-at_home : (b : Bool) (spent : Option ShardFault) (shard : ℕ) → b ≡ true → spent ≡ None → cond b spent (Some (faults.Stranger shard)) ≡ None
-at_home true spent shard h n = n
-at_home false spent shard h n = absurd (false≢true h)
-
-pub not_refused : (shard : ShardView) (key : QKey) (s : Step) → IsAtHome shard.terms key → next_token shard.terms (past_of shard) < 2 ^ 64 - 1
-    → refusal shard key s ≡ None
-not_refused shard key s home unspent =
-    at_home (shard_of key shard.terms.count == shard.terms.no) (spent_at (next_token shard.terms (past_of shard)) s) (shard_of key shard.terms.count)
-    (eq-eqb _ _ home) (never_spent (draws s) (next_token shard.terms (past_of shard)) unspent)
-
--- a fault that is no refusal is want of memory
-pub only_memory : (X : Type 0) (fault : ShardFault) → Refuses {X = X} None (Err fault) → fault ≡ faults.Memory
-only_memory X faults.Memory h = refl
-only_memory X (faults.Stranger shard) h = absurd h
-only_memory X (faults.Spent next) h = absurd h
-
 -- the place that is written, and another one
 pub slice_get-set_same : {X : Type 0} (xs : List X) (place : ℕ) (x : X) → place < length xs → slice_get (set xs place x) place ≡ Some x
 slice_get-set_same [] place x h = absurd (omega arith)

@@ -1,23 +1,19 @@
 -- How the store of a core follows an event.
 use Rattle.std.proofs.Common.{ℕ, min, ◌-◌, ◌^◌, ◌+◌, ◌≡◌, ◌≢◌, ◌≤◌, Bool, true, false, List, [], ◌∷◌, ◌++◌, length, count_by, Option, Some}
-use Rattle.std.proofs.Common.{None, IsSome, Result, Ok, Err, OnOk, IfOk, IfErr, MatchResult, refl, sym, ap, subst, ◌∙◌, inl, inr}
-use Rattle.std.proofs.Common.{append-nil, arith}
+use Rattle.std.proofs.Common.{None, IsSome, Result, Ok, Err, refl, sym, ap, subst, ◌∙◌, inl, inr, append-nil, arith}
+use Rattle.std.proofs.lemmas.Bool.{false≢true}
 use Rattle.rows_model.specs.declared.changes.Change.{Change}
 use Rattle.rows_model.specs.declared.refusals.Memory.{Memory}
 use Rattle.rows_model.specs.declared.keys.QKey.{QKey}
 use Rattle.rows_model.specs.declared.keys.Sid.{Sid}
 use Rattle.rows_model.specs.Rows.{Tables}
 use Rattle.rows_model.specs.Changes.{apply_all}
-use Rattle.rows_model.specs.Query.{answer as answer_on}
 use Rattle.key_shard.specs.declared.steps.Step.{Step}
 use Rattle.key_shard.specs.declared.steps.Step.TheVariants as step
 use Rattle.key_shard.specs.Past.{Terms}
 use Rattle.sql_keeper.specs.declared.stores.Answer.{Answer}
 use Rattle.sql_keeper.specs.declared.stores.Commit.{Commit}
-use Rattle.sql_keeper.specs.declared.faults.AfterFault.{AfterFault}
 use Rattle.sql_keeper.specs.declared.faults.AfterFault.TheVariants as staged
-use Rattle.sql_keeper.specs.declared.faults.KeepFault.{KeepFault}
-use Rattle.sql_keeper.specs.declared.faults.KeepFault.TheVariants as keep
 use Rattle.sql_keeper.specs.declared.faults.CommitFault.{CommitFault}
 use Rattle.sql_keeper.specs.declared.faults.CommitFault.TheVariants as faults
 use Rattle.sql_keeper.specs.Log.{rows_after}
@@ -26,9 +22,8 @@ use Rattle.sql_keeper.specs.Stores.{Ledger, StoreView, with_call, with_commit, w
 use Rattle.key_shard.specs.Permit.{Permit}
 use Rattle.sql_keeper.specs.declared.stores.Phase.{Phase}
 use Rattle.sql_keeper.specs.declared.stores.Phase.TheVariants.{Committed}
-use Rattle.sql_keeper.specs.Faults.{keep_failed, staged_failed, is_failure, Counts}
-use Rattle.sql_keeper.specs.Keepers.{AnswersAfter}
-use Rattle.sql_keeper.specs.Sessions.{is_open as may_commit, with_phase}
+use Rattle.sql_keeper.specs.Faults.{is_failure, Counts}
+use Rattle.sql_keeper.specs.Sessions.{is_open as may_commit, ended, with_phase}
 use Rattle.session_client.specs.Grants.{GrantsView}
 use Rattle.session_client.specs.declared.replies.Reply.{Reply}
 use Rattle.session_client.specs.declared.replies.Reply.TheVariants as reply
@@ -41,8 +36,9 @@ use Rattle.core_history.specs.Cores.{Origin, HasStore, HasPhases, RoseBy}
 use Rattle.core_history.specs.Events.{Event, Stepped, Called, Ticked, Swept, commits_in, ends_in, log_of}
 use Rattle.core_history.specs.Lines.{is_fault, tells_fault}
 use Rattle.core_history.specs.Machine.{World, Said, Value, Made, Rejected, Failed, shown, ask_told, is_open, commit_by, log_cap}
-use Rattle.core_history.specs.Requests.{StandsStore, MakesCall, IsToldOfCommit, after}
-use Rattle.core_history.proofs.OpenLemmas.{phases_same, phases_committed}
+use Rattle.executor.specs.OnStore.{Goes, TellsAnswer, TellsStaged, TellsCommit, TellsEnd, MakesAtStore}
+use Rattle.core_history.specs.Requests.{StandsStore, MakesCall, GoesOn, tells_memory, after}
+use Rattle.core_history.proofs.OpenLemmas.{phases_same, phases_committed, phases_ended}
 use Rattle.core_history.specs.Truth.{IsTrueReply, IsTrueEvent}
 use Rattle.core_history.proofs.ListLemmas.{count-cons, tick, zero_if}
 
@@ -199,9 +195,9 @@ store_committed old new origin past who txn event has ledger same fault commits 
 
 -- the store after a session was ended, by a turn of its own or by the sweeper
 pub store_ended : (old new : StoreView) (origin : Origin) (past : List Event) (who : Sid) (event : Event)
-    → HasStore old origin past → new.ledger ≡ with_end who old.ledger → new.told ≡ old.told → new.faults ≡ old.faults →
+    → HasStore old origin past → new.ledger ≡ with_end who old.ledger → (IsSome new.told → IsSome old.told) → new.faults ≡ old.faults →
     is_fault event ≡ false → commits_in event ≡ [] → ((rows : Tables) → IsTrueEvent rows event) → HasStore new origin (event ∷ past)
-store_ended old new origin past who event has ledger rows faults fault no_commit truth =
+store_ended old new origin past who event has ledger told faults fault no_commit truth =
     store_called new new false origin past event between refl refl (omega arith) fault no_commit (λ h. h) (λ is_told. truth _)
   where
     between : HasStore new origin past
@@ -212,8 +208,8 @@ store_ended old new origin past who event has ledger rows faults fault no_commit
       failed = ap (λ (l : Ledger). l.failed) ledger ∙ has.failed;
       faults = subst (λ (n : ℕ). RoseBy (count_by is_fault past) origin.faults n) (sym faults) has.faults;
       quiet = λ none. faults ∙ has.quiet none;
-      telling = λ is_told. has.telling (subst (λ (o : Option Tables). IsSome o) rows is_told);
-      truth = λ is_told. has.truth (subst (λ (o : Option Tables). IsSome o) rows is_told);
+      telling = λ is_told. has.telling (told is_told);
+      truth = λ is_told. has.truth (told is_told);
     }
 
 -- the store after a call of the keeper that made no commit and ended nobody
@@ -236,81 +232,67 @@ call_unmade old new origin world stands ledger same told =
       subst H (sym (ap (λ (l : Ledger). l.sessions) ledger)) stands.1,
     )
 
--- what a store says of the answer to a key
-pub record SaysAnswer (old new : StoreView) (key : QKey) (made : Result Answer KeepFault) : Type 0 where
-  pub ledger : new.ledger ≡ with_call (keep_failed made) old.ledger
-  pub answer : IfOk made (λ given. (given.key ≡ key) × (given.stamp ≡ length old.ledger.log))
-  pub tells : IsSome new.told → IsSome old.told × IfOk made (λ given. given.value ≡ answer_on key (rows_after old.ledger.opening old.ledger.log))
-  pub counts : Counts (keep_failed made) old.faults new.faults
-  pub never_falls : old.faults ≤ new.faults
+-- want of memory leaves the store, but perhaps that it tells its rows no more
+unmade : (old new : StoreView) (origin : Origin) (world : World) → StandsStore old origin world → Goes false old.ledger old new → StandsStore new origin world
+unmade old new origin world stands goes = call_unmade old new origin world stands goes.ledger_is goes.counted goes.told_before
 
--- a key was answered
-pub ask_made : (old new : StoreView) (origin : Origin) (world : World) (who : Sid) (key : QKey) (given : Answer)
-    → StandsStore old origin world → SaysAnswer old new key (Ok given) → MakesCall origin world who (wanted.Ask key) new (Ok (reply.Answer given))
-ask_made old new origin world who key given stands says =
+-- what the executor made of the store for an ask is the event of the request
+ask_made : (old new : StoreView) (origin : Origin) (world : World) (who : Sid) (key : QKey) (told : Reply) (result : Result Reply Memory)
+    → StandsStore old origin world → old.faults ≤ new.faults → TellsAnswer key old new told → GoesOn told result
+    → MakesCall origin world who (wanted.Ask key) new result
+ask_made old new origin world who key (reply.Answer given) (Ok kept) stands more (goes, answer) on =
     let event : Event = Called who (wanted.Ask key) (ask_told world.past key (Value given.value)) in
-    let stamp : given.stamp ≡ length (log_of world.past) = says.answer.1 ∙ ap (λ (l : List Commit). length l) stands.0.log in (
+    let stamp : given.stamp ≡ length (log_of world.past) = answer.stamped ∙ ap (λ (l : List Commit). length l) stands.0.log in (
       Value given.value,
-      ap (λ (a : Answer). reply.Answer a) (answer_is given key (length (log_of world.past)) says.answer.0 stamp),
-      call_made old new false origin world event stands says.ledger says.counts says.never_falls refl refl refl
-          (λ told. (says.tells told).0) (λ told. (says.tells told).1),
+      on.0 ∙ ap (λ (a : Answer). reply.Answer a) (answer_is given key (length (log_of world.past)) answer.of_key stamp),
+      call_made old new false origin world event stands goes.ledger_is goes.counted more refl refl refl goes.told_before answer.value_is,
     )
   where
     answer_is : (given : Answer) (key : QKey) (stamp : ℕ) → given.key ≡ key
         → given.stamp ≡ stamp → given ≡ record { key = key; value = given.value; stamp = stamp }
     answer_is given key stamp e f = λ i. record { key = e i; value = given.value; stamp = f i }
-
--- the keeper failed to answer a key
-pub ask_failed : (old new : StoreView) (origin : Origin) (world : World) (who : Sid) (key : QKey)
-    → StandsStore old origin world → SaysAnswer old new key (Err keep.Failed) → MakesCall origin world who (wanted.Ask key) new (Ok (reply.Fault causes.Keep))
-ask_failed old new origin world who key stands says = (
+ask_made old new origin world who key (reply.Answer given) (Err memory) stands more made on = absurd (false≢true on)
+ask_made old new origin world who key (reply.Fault causes.Keep) (Ok kept) stands more goes on = (
   Failed,
-  refl,
+  on.0,
   call_made old new true origin world (Called who (wanted.Ask key) (reply.Fault causes.Keep))
-      stands says.ledger says.counts says.never_falls refl refl refl (λ told. (says.tells told).0) (λ told. tt),
+      stands goes.ledger_is goes.counted more refl refl refl goes.told_before (λ told. tt),
 )
+ask_made old new origin world who key (reply.Fault causes.Keep) (Err memory) stands more goes on = absurd (false≢true on)
+ask_made old new origin world who key (reply.Fault causes.Memory) (Ok kept) stands more goes on = absurd (false≢true (sym on.1))
+ask_made old new origin world who key (reply.Fault causes.Memory) (Err memory) stands more goes on = unmade old new origin world stands goes
+ask_made old new origin world who key (reply.Fault causes.Spent) result stands more made on = absurd made
+ask_made old new origin world who key other result stands more made on = absurd made
 
--- what a store says of the answer that a transaction would leave
-pub record SaysStaged (old new : StoreView) (key : QKey) (txn : List Change) (made : Result (List ℕ) AfterFault) : Type 0 where
-  pub ledger : new.ledger ≡ with_call (staged_failed made) old.ledger
-  pub tells : IsSome new.told → IsSome old.told × AnswersAfter txn key (rows_after old.ledger.opening old.ledger.log) made
-  pub counts : Counts (staged_failed made) old.faults new.faults
-  pub never_falls : old.faults ≤ new.faults
-
--- a key was answered as after a transaction
-pub staged_made : (old new : StoreView) (origin : Origin) (world : World) (who : Sid) (key : QKey) (txn : List Change) (value : List ℕ)
-    → StandsStore old origin world → SaysStaged old new key txn (Ok value) →
-    MakesCall origin world who (wanted.Staged key txn) new (Ok (reply.Staged value txn))
-staged_made old new origin world who key txn value stands says = (
+-- so it is for an ask of the rows after a transaction
+staged_made : (old new : StoreView) (origin : Origin) (world : World) (who : Sid) (key : QKey) (txn : List Change) (told : Reply) (result : Result Reply Memory)
+    → StandsStore old origin world → old.faults ≤ new.faults → TellsStaged key txn old new told → GoesOn told result
+    → MakesCall origin world who (wanted.Staged key txn) new result
+staged_made old new origin world who key txn (reply.Staged value back) (Ok kept) stands more (same, made) on = (
   Value value,
-  refl,
+  on.0 ∙ ap (λ (t : List Change). reply.Staged value t) same,
   call_made old new false origin world (Called who (wanted.Staged key txn) (reply.Staged value txn))
-      stands says.ledger says.counts says.never_falls refl refl refl (λ told. (says.tells told).0) (λ told. (says.tells told).1),
+      stands made.goes.ledger_is made.goes.counted more refl refl refl made.goes.told_before made.value_is,
 )
-
--- the transaction is rejected
-pub staged_rejected : (old new : StoreView) (origin : Origin) (world : World) (who : Sid) (key : QKey) (txn : List Change) (index : ℕ)
-    → StandsStore old origin world → SaysStaged old new key txn (Err (staged.Rejected index)) →
-    MakesCall origin world who (wanted.Staged key txn) new (Ok (reply.NotStaged (staged.Rejected index) txn))
-staged_rejected old new origin world who key txn index stands says =
-    let event : Event = Called who (wanted.Staged key txn) (reply.NotStaged (staged.Rejected index) txn) in (
-      Rejected index,
-      refl,
-      call_made old new false origin world event stands says.ledger says.counts says.never_falls refl refl refl
-          (λ told. (says.tells told).0) (λ told. (says.tells told).1),
-    )
-
--- the keeper failed to answer a key as after a transaction
-pub staged_fails : (old new : StoreView) (origin : Origin) (world : World) (who : Sid) (key : QKey) (txn : List Change)
-    → StandsStore old origin world → SaysStaged old new key txn (Err staged.Failed) →
-    MakesCall origin world who (wanted.Staged key txn) new (Ok (reply.NotStaged staged.Failed txn))
-staged_fails old new origin world who key txn stands says =
-    let event : Event = Called who (wanted.Staged key txn) (reply.NotStaged staged.Failed txn) in (
-      Failed,
-      refl,
-      call_made old new true origin world event stands says.ledger says.counts says.never_falls refl refl refl
-          (λ told. (says.tells told).0) (λ told. tt),
-    )
+staged_made old new origin world who key txn (reply.Staged value back) (Err memory) stands more made on = absurd (false≢true on)
+staged_made old new origin world who key txn (reply.NotStaged (staged.Rejected index) back) (Ok kept) stands more (same, made) on = (
+  Rejected index,
+  on.0 ∙ ap (λ (t : List Change). reply.NotStaged (staged.Rejected index) t) same,
+  call_made old new false origin world (Called who (wanted.Staged key txn) (reply.NotStaged (staged.Rejected index) txn))
+      stands made.goes.ledger_is made.goes.counted more refl refl refl made.goes.told_before made.value_is,
+)
+staged_made old new origin world who key txn (reply.NotStaged (staged.Rejected index) back) (Err memory) stands more made on = absurd (false≢true on)
+staged_made old new origin world who key txn (reply.NotStaged staged.Failed back) (Ok kept) stands more (same, made) on = (
+  Failed,
+  on.0 ∙ ap (λ (t : List Change). reply.NotStaged staged.Failed t) same,
+  call_made old new true origin world (Called who (wanted.Staged key txn) (reply.NotStaged staged.Failed txn))
+      stands made.goes.ledger_is made.goes.counted more refl refl refl made.goes.told_before (λ told. tt),
+)
+staged_made old new origin world who key txn (reply.NotStaged staged.Failed back) (Err memory) stands more made on = absurd (false≢true on)
+staged_made old new origin world who key txn (reply.NotStaged staged.Memory back) (Ok kept) stands more made on = absurd (false≢true (sym on.1))
+staged_made old new origin world who key txn (reply.NotStaged staged.Memory back) (Err memory) stands more (same, made) on =
+    unmade old new origin world stands made.goes
+staged_made old new origin world who key txn other result stands more made on = absurd made
 
 -- a reply of this fault tells of the keeper where the fault is that of one that failed
 fault_is : (fault : CommitFault) (txn : List Change) (grants : GrantsView) → tells_fault (reply.NotCommitted fault txn grants) ≡ is_failure fault
@@ -411,32 +393,68 @@ commit_made old new origin world who txn grants items number stands some same ad
     ) in
     (Made, is, subst S is there)
 
--- what a store says of a commit
-pub record SaysCommit (old new : StoreView) (who : Sid) (items : List Permit) (txn : List Change) (made : Result ℕ (CommitFault × List Change)) : Type 0 where
-  pub admitted : OnOk made (commit_fault (may_commit who old.ledger.sessions) who items txn (length old.ledger.log) old.ledger.cap ≡ None)
-  pub refusal : IfErr made (λ back. IsRefusal (commit_fault (may_commit who old.ledger.sessions) who items txn (length old.ledger.log) old.ledger.cap) back.0)
-  pub ledger : OnOk made (new.ledger ≡ with_commit who txn old.ledger)
-  pub number : IfOk made (λ number. number ≡ length old.ledger.log + 1)
-  pub err : IfErr made (λ back. new.ledger ≡ with_call (is_failure back.0) old.ledger)
-  pub tells : IsSome new.told → IsSome old.told
-  pub applied : IsSome new.told → OnOk made ((rows : Tables) × (apply_all txn (rows_after old.ledger.opening old.ledger.log) ≡ Ok rows))
-  pub rejected : IsSome new.told → IfErr made (λ back. IsTrueFault txn (rows_after old.ledger.opening old.ledger.log) back.0)
-  pub counts : MatchResult made (λ _. new.faults ≡ old.faults) (λ back. Counts (is_failure back.0) old.faults new.faults)
-  pub never_falls : old.faults ≤ new.faults
+-- a reply of this fault tells of memory where the fault is its want
+memory_is : (fault : CommitFault) (txn : List Change) (grants : GrantsView) → tells_memory (reply.NotCommitted fault txn grants) ≡ true → fault ≡ faults.Memory
+memory_is faults.Memory txn grants e = refl
+memory_is other txn grants e = absurd (false≢true e)
 
--- a commit was asked for
-pub commit_makes : (old new : StoreView) (origin : Origin) (world : World) (who : Sid) (txn : List Change) (grants : GrantsView) (items : List Permit)
-    (made : Result ℕ (CommitFault × List Change)) (told : Result Reply Memory) → StandsStore old origin world → 1 ≤ who.number → items ≡ grants.items →
-    SaysCommit old new who items txn made → IsToldOfCommit made txn grants told → MakesCall origin world who (wanted.Commit txn grants) new told
-commit_makes old new origin world who txn grants items (Ok number) told stands some same says is =
-    let P : Result Reply Memory → Type 0 = λ r. MakesCall origin world who (wanted.Commit txn grants) new r in
-    subst P (sym is)
-    (commit_made old new origin world who txn grants items number stands some same says.admitted says.number says.ledger says.counts says.tells says.applied)
-commit_makes old new origin world who txn grants items (Err back) (Ok told) stands some same says is =
+no_memory : (fault : CommitFault) (txn : List Change) (grants : GrantsView) → tells_memory (reply.NotCommitted fault txn grants) ≡ false → fault ≢ faults.Memory
+no_memory faults.Memory txn grants e = absurd (false≢true (sym e))
+no_memory faults.Ended txn grants e = λ z. cc
+no_memory (faults.Uncovered key) txn grants e = λ z. cc
+no_memory (faults.LogFull count) txn grants e = λ z. cc
+no_memory (faults.Rejected index) txn grants e = λ z. cc
+no_memory faults.KeepFault txn grants e = λ z. cc
+
+-- so it is for a commit
+commit_tells : (old new : StoreView) (origin : Origin) (world : World) (who : Sid) (txn : List Change) (grants : GrantsView) (told : Reply)
+    (result : Result Reply Memory) → StandsStore old origin world → 1 ≤ who.number → old.faults ≤ new.faults
+    → TellsCommit who txn grants.items old new told → GoesOn told result → MakesCall origin world who (wanted.Commit txn grants) new result
+commit_tells old new origin world who txn grants (reply.Committed number back kept) (Ok said) stands some more (same, held, made) on =
     let P : Reply → Type 0 = λ r. MakesCall origin world who (wanted.Commit txn grants) new (Ok r) in
-    subst P (sym is.0) (commit_refused old new origin world who txn
-    grants items back.0 stands some same is.1 says.refusal says.err says.counts says.never_falls says.tells says.rejected)
-commit_makes old new origin world who txn grants items (Err back) (Err memory) stands some same says is =
-    let ledger : new.ledger ≡ old.ledger = says.err ∙ ap (λ (f : CommitFault). with_call (is_failure f) old.ledger) is in
-    let same : new.faults ≡ old.faults = subst (λ (f : CommitFault). Counts (is_failure f) old.faults new.faults) is says.counts in
-    call_unmade old new origin world stands ledger same says.tells
+    let is : reply.Committed number back kept ≡ reply.Committed number txn grants = λ i. reply.Committed number (same i) (held i) in
+    subst P (sym (on.0 ∙ is)) (commit_made old new origin world who txn grants grants.items number stands some refl
+    made.admitted made.number_is made.goes.ledger_is made.goes.counted made.goes.told_before made.applied)
+commit_tells old new origin world who txn grants (reply.Committed number back kept) (Err memory) stands some more made on = absurd (false≢true on)
+commit_tells old new origin world who txn grants (reply.NotCommitted fault back kept) (Ok said) stands some more (same, held, made) on =
+    let P : Reply → Type 0 = λ r. MakesCall origin world who (wanted.Commit txn grants) new (Ok r) in
+    let is : reply.NotCommitted fault back kept ≡ reply.NotCommitted fault txn grants = λ i. reply.NotCommitted fault (same i) (held i) in
+    subst P (sym (on.0 ∙ is)) (commit_refused old new origin world who txn grants grants.items fault stands some refl (no_memory fault back kept on.1)
+    made.refusal made.goes.ledger_is made.goes.counted more made.goes.told_before made.true_place)
+commit_tells old new origin world who txn grants (reply.NotCommitted fault back kept) (Err memory) stands some more (same, held, made) on =
+    let is = memory_is fault back kept on in
+    let ledger : new.ledger ≡ old.ledger = made.goes.ledger_is ∙ ap (λ (f : CommitFault). with_call (is_failure f) old.ledger) is in
+    let counted : new.faults ≡ old.faults = subst (λ (f : CommitFault). Counts (is_failure f) old.faults new.faults) is made.goes.counted in
+    call_unmade old new origin world stands ledger counted made.goes.told_before
+commit_tells old new origin world who txn grants other result stands some more made on = absurd made
+
+-- so it is for an end
+end_made : (old new : StoreView) (origin : Origin) (world : World) (who : Sid) (told : Reply) (result : Result Reply Memory)
+    → StandsStore old origin world → 1 ≤ who.number → TellsEnd who old new told → GoesOn told result → MakesCall origin world who wanted.End new result
+end_made old new origin world who (reply.End was) (Ok said) stands some (is, goes) on =
+    let open = is_open world who in
+    let sessions : new.ledger.sessions ≡ ended who old.ledger.sessions = ap (λ (l : Ledger). l.sessions) goes.ledger_is in
+    let event : Event = Called who wanted.End (reply.End open) in
+    let P : List Phase → Type 0 = λ xs. HasPhases xs (after world event) in (
+      Failed,
+      on.0 ∙ ap reply.End (is ∙ stands.1.opens who some),
+      (
+        store_ended old new origin world.past who event stands.0 goes.ledger_is goes.told_before goes.counted refl refl (λ rows. tt),
+        subst P (sym sessions) (phases_ended old.ledger.sessions world who stands.1 some),
+      ),
+    )
+end_made old new origin world who (reply.End was) (Err memory) stands some made on = absurd (false≢true on)
+end_made old new origin world who other result stands some made on = absurd made
+
+-- what the executor made of the store is the event of the request
+pub call_is : (old new : StoreView) (origin : Origin) (world : World) (who : Sid) (request : Wanted) (told : Reply) (result : Result Reply Memory)
+    → StandsStore old origin world → 1 ≤ who.number → old.faults ≤ new.faults → MakesAtStore old who request new told → GoesOn told result
+    → MakesCall origin world who request new result
+call_is old new origin world who (wanted.Ask key) told result stands some more made on =
+    ask_made old new origin world who key told result stands more made on
+call_is old new origin world who (wanted.Staged key txn) told result stands some more made on =
+    staged_made old new origin world who key txn told result stands more made on
+call_is old new origin world who (wanted.Commit txn grants) told result stands some more made on =
+    commit_tells old new origin world who txn grants told result stands some more made on
+call_is old new origin world who wanted.End told result stands some more made on = end_made old new origin world who told result stands some made on
+call_is old new origin world who other told result stands some more made on = absurd made

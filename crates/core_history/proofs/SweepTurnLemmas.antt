@@ -17,14 +17,14 @@ use Rattle.key_shard.specs.Answers.{IsAtHome, IsLegalPast}
 use Rattle.key_shard.specs.Replies.{sweep_told}
 use Rattle.key_shard.proofs.LegalLemmas.{own_token}
 use Rattle.key_shard.proofs.SweepLemmas.{sweep_by}
-use Rattle.expiry_sweeper.specs.Sweeps.{sweep_wants, shard_at}
+use Rattle.expiry_sweeper.specs.Sweeps.{sweep_wants, shard_at, scan_told}
 use Rattle.expiry_sweeper.specs.declared.replies.SweepReply.{SweepReply}
 use Rattle.expiry_sweeper.specs.declared.replies.SweepReply.TheVariants as sweeps
 use Rattle.expiry_sweeper.specs.declared.replies.SweepWanted.{SweepWanted}
 use Rattle.expiry_sweeper.specs.declared.replies.SweepWanted.TheVariants as sweep
 use Rattle.session_client.specs.declared.plans.Shape.{Shape}
 use Rattle.core_history.specs.Events.{Event, Swept, steps_of, sweeps_of, now_of, has_committed, was_ended}
-use Rattle.core_history.specs.Machine.{World, terms_of, plan_at, is_open, scan_told, sweep_of, swept_next}
+use Rattle.core_history.specs.Machine.{World, terms_of, plan_at, is_open, sweep_of, swept_next}
 use Rattle.core_history.proofs.ListLemmas.{choose, or_inl, or_inr, not_both, every-append, every-found}
 use Rattle.core_history.proofs.GoodEvents.{IsGoodEvent}
 use Rattle.core_history.proofs.KeyLemmas.{DrawsNext, answers-draw}

@@ -19,7 +19,7 @@ use Rattle.expiry_sweeper.specs.declared.replies.SweepWanted.{SweepWanted}
 use Rattle.expiry_sweeper.specs.declared.replies.SweepWanted.TheVariants as sweep
 use Rattle.expiry_sweeper.specs.declared.sweepers.Sweeper.{Sweeper}
 use Rattle.expiry_sweeper.specs.Follows.{shards_of, Follows}
-use Rattle.expiry_sweeper.specs.Sweeps.{sweep_wants}
+use Rattle.expiry_sweeper.specs.Sweeps.{sweep_wants, scan_told}
 use Rattle.sql_keeper.specs.declared.stores.Phase.{Phase}
 use Rattle.sql_keeper.specs.Sessions.{is_open as may_commit, ended}
 use Rattle.sql_keeper.specs.Stores.{Ledger, StoreView, with_end}
@@ -27,7 +27,7 @@ use Rattle.session_client.specs.declared.plans.Shape.{Shape}
 use Rattle.core_history.specs.declared.told.Told.{Told}
 use Rattle.core_history.specs.Cores.{Origin, HasShards, HasPhases, HasSweeper, shard_after}
 use Rattle.core_history.specs.Events.{Event, Swept, steps_of, sweeps_of, now_of}
-use Rattle.core_history.specs.Machine.{World, scan_told, sweep_of}
+use Rattle.core_history.specs.Machine.{World, sweep_of}
 use Rattle.core_history.specs.Requests.{Stands, StandsStore, after}
 use Rattle.core_history.specs.Sweeping.{IsToldSweeper, SweepsShards, SweepsStore, Sweeps, TakesSweep}
 use Rattle.core_history.specs.Told.{IsToldOf}
@@ -63,7 +63,7 @@ end_told_is old new origin world who was stands some was_is ledger told faults =
     let P : List Phase → Type 0 = λ xs. HasPhases xs (after world event) in (
       ap (λ (b : Bool). sweeps.Ended b ∷ []) (sym (was_is ∙ stands.1.opens who some)),
       (
-        store_ended old new origin world.past who event stands.0 ledger told faults refl refl (λ rows. tt),
+        store_ended old new origin world.past who event stands.0 ledger (subst (λ (o : Option Tables). IsSome o) told) faults refl refl (λ rows. tt),
         subst P (sym sessions) (phases_swept old.ledger.sessions world who stands.1 some),
       ),
     )

@@ -12,14 +12,14 @@ use Rattle.session_client.specs.declared.replies.Wanted.{Wanted}
 use Rattle.session_client.specs.declared.replies.Wanted.TheVariants as wanted
 use Rattle.session_client.specs.declared.sessions.Session.{Session}
 use Rattle.session_client.specs.Follows.{Follows}
-use Rattle.core_history.specs.declared.lines.Asked.{Asked}
+use Rattle.executor.specs.Requests.{request_of}
+use Rattle.executor.specs.declared.requests.Request.{Request}
 use Rattle.core_history.specs.declared.told.Told.{Told}
 use Rattle.core_history.specs.Cores.{Origin}
 use Rattle.core_history.specs.Events.{Event, Stepped, Called, reply_in, told_by, told_in, swept_in, now_of}
 use Rattle.core_history.specs.Lines.{line, request_words, reply_words, turn_words, event_words, line_of, tells_fault, is_fault}
 use Rattle.core_history.specs.Machine.{World, Said, event_of}
 use Rattle.core_history.specs.Requests.{Makes, TakesTurn}
-use Rattle.core_history.specs.Words.{asked_words}
 
 -- the event is a turn of this session, in which it made this request: it is told, and nobody else is, and neither clock nor sweeper moves
 pub record IsTurn (who : Sid) (request : Wanted) (event : Event) : Type 0 where
@@ -55,28 +55,28 @@ event_turn shape world who (wanted.Renew grant) said = stepped_turn who (wanted.
 event_turn shape world who wanted.Nothing said = called_turn who wanted.Nothing _
 
 -- the line of what was asked and answered is the event's
-line_is : (event : Event) (who : Sid) (request : Wanted) (reply : Reply) (asked : Asked)
-    → IsTurn who request event → reply ≡ reply_in event → asked_words asked ≡ request_words request →
-    line (decimal who.number ∷ asked_words asked ++ reply_words reply) ≡ line_of event
+line_is : (event : Event) (who : Sid) (request : Wanted) (reply : Reply) (asked : Request)
+    → IsTurn who request event → reply ≡ reply_in event → asked ≡ request_of request →
+    line (decimal who.number ∷ request_words asked ++ reply_words reply) ≡ line_of event
 unfolding line_of
-line_is event who request reply asked turn reply_is words =
-    ap (λ (w : List (List ℕ)). line (decimal who.number ∷ w ++ reply_words reply)) words
+line_is event who request reply asked turn reply_is bare =
+    ap (λ (r : Request). line (decimal who.number ∷ request_words r ++ reply_words reply)) bare
     ∙ ap (λ (r : Reply). line (turn_words who request r)) reply_is
     ∙ ap line (sym turn.words)
 
 -- a request was made, its line written, and its session told
-pub turn_told : (origin : Origin) (world : World) (who : Sid) (request : Wanted) (asked : Asked) (heard : List Reply) (shards : List ShardView)
+pub turn_told : (origin : Origin) (world : World) (who : Sid) (request : Wanted) (asked : Request) (heard : List Reply) (shards : List ShardView)
     (store : StoreView) (session : Session) (reply : Reply) (text : Result (Vec ℕ Global) Memory) (fault : Bool) (told : Result Told Memory) →
-    asked_words asked ≡ request_words request → IfOk text (λ t. t.items ≡ line (decimal who.number ∷ asked_words asked ++ reply_words reply))
+    asked ≡ request_of request → IfOk text (λ t. t.items ≡ line (decimal who.number ∷ request_words asked ++ reply_words reply))
     → fault ≡ tells_fault reply → IfOk told (λ t. (text ≡ Ok t.line) × (t.fault ≡ fault)) →
     Makes origin world who request shards store (Ok reply) → Follows session false (reply ∷ heard)
     → TakesTurn origin world who request heard shards store session told
-turn_told origin world who request asked heard shards store session reply text fault (Ok told) words written faulty is made next =
+turn_told origin world who request asked heard shards store session reply text fault (Ok told) bare written faulty is made next =
     let event = event_of origin.shape world who request made.0 in
-    let T : Result (Vec ℕ Global) Memory → Type 0 = λ r. IfOk r (λ t. t.items ≡ line (decimal who.number ∷ asked_words asked ++ reply_words reply)) in
+    let T : Result (Vec ℕ Global) Memory → Type 0 = λ r. IfOk r (λ t. t.items ≡ line (decimal who.number ∷ request_words asked ++ reply_words reply)) in
     let F : Reply → Type 0 = λ r. Follows session false (r ∷ heard) in
     let turn = event_turn origin.shape world who request made.0 in
-    let printed : told.line.items ≡ line_of event = subst T is.0 written ∙ line_is event who request reply asked turn made.1 words in
+    let printed : told.line.items ≡ line_of event = subst T is.0 written ∙ line_is event who request reply asked turn made.1 bare in
     (made.0, (printed, is.1 ∙ faulty ∙ ap tells_fault made.1 ∙ sym turn.fault), made.2, subst F made.1 next)
-turn_told origin world who request asked heard shards store session reply text fault (Err memory) words written faulty is made next =
+turn_told origin world who request asked heard shards store session reply text fault (Err memory) bare written faulty is made next =
     inr (made.0, made.2)

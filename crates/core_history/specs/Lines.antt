@@ -34,7 +34,9 @@ use Rattle.session_client.specs.declared.replies.Fault.TheVariants as causes
 use Rattle.session_client.specs.declared.replies.Reply.{Reply}
 use Rattle.session_client.specs.declared.replies.Reply.TheVariants as reply
 use Rattle.session_client.specs.declared.replies.Wanted.{Wanted}
-use Rattle.session_client.specs.declared.replies.Wanted.TheVariants as wanted
+use Rattle.executor.specs.Requests.{request_of}
+use Rattle.executor.specs.declared.requests.Request.{Request}
+use Rattle.executor.specs.declared.requests.Request.TheVariants as request
 use Rattle.expiry_sweeper.specs.declared.replies.SweepReply.{SweepReply}
 use Rattle.expiry_sweeper.specs.declared.replies.SweepReply.TheVariants as sweeps
 use Rattle.expiry_sweeper.specs.declared.replies.SweepWanted.{SweepWanted}
@@ -51,23 +53,23 @@ shown [] = codes "."
 shown (byte ∷ bytes) = byte ∷ bytes
 
 -- The words that print a request: what it is, and the key that it is on, if it is on one. A session that is done wants nothing.
-abbrev pub request_words : Wanted → List (List ℕ)
-request_words (wanted.Get key floor) = codes "get" ∷ key_text key ∷ []
-request_words (wanted.Ask key) = codes "ask" ∷ key_text key ∷ []
-request_words (wanted.Staged key txn) = codes "staged" ∷ key_text key ∷ []
-request_words (wanted.Set key token value stamp) = codes "set" ∷ key_text key ∷ []
-request_words (wanted.QaReg key) = codes "qareg" ∷ key_text key ∷ []
-request_words (wanted.QaRead key) = codes "qaread" ∷ key_text key ∷ []
-request_words (wanted.Delta key by) = codes "delta" ∷ key_text key ∷ signed_decimal by ∷ []
-request_words (wanted.Commit txn grants) = codes "commit" ∷ []
-request_words wanted.End = codes "end" ∷ []
-request_words (wanted.Dar grant) = codes "dar" ∷ key_text grant.key ∷ []
-request_words (wanted.Sar grant value stamp) = codes "sar" ∷ key_text grant.key ∷ []
-request_words (wanted.Apply grant stamp) = codes "apply" ∷ key_text grant.key ∷ []
-request_words (wanted.Abort grant) = codes "abort" ∷ key_text grant.key ∷ []
-request_words (wanted.Raise grant) = codes "raise" ∷ key_text grant.key ∷ []
-request_words (wanted.Renew grant) = codes "renew" ∷ key_text grant.key ∷ []
-request_words wanted.Nothing = codes "done" ∷ []
+abbrev pub request_words : Request → List (List ℕ)
+request_words (request.Get key floor) = codes "get" ∷ key_text key ∷ []
+request_words (request.Ask key) = codes "ask" ∷ key_text key ∷ []
+request_words (request.Staged key) = codes "staged" ∷ key_text key ∷ []
+request_words (request.Set key token stamp) = codes "set" ∷ key_text key ∷ []
+request_words (request.QaReg key) = codes "qareg" ∷ key_text key ∷ []
+request_words (request.QaRead key) = codes "qaread" ∷ key_text key ∷ []
+request_words (request.Delta key by) = codes "delta" ∷ key_text key ∷ signed_decimal by ∷ []
+request_words request.Commit = codes "commit" ∷ []
+request_words request.End = codes "end" ∷ []
+request_words (request.Dar key token) = codes "dar" ∷ key_text key ∷ []
+request_words (request.Sar key token stamp) = codes "sar" ∷ key_text key ∷ []
+request_words (request.Apply key token stamp) = codes "apply" ∷ key_text key ∷ []
+request_words (request.Abort key token) = codes "abort" ∷ key_text key ∷ []
+request_words (request.Raise key token) = codes "raise" ∷ key_text key ∷ []
+request_words (request.Renew key token) = codes "renew" ∷ key_text key ∷ []
+request_words request.Nothing = codes "done" ∷ []
 
 abbrev pub stands_word : Stands → List ℕ
 stands_word stands.I = codes "I"
@@ -191,7 +193,7 @@ swept_words (sweeps.Dropped told) = release_words told
 
 -- The words of a session's turn: its number, its request, and what it was told.
 abbrev pub turn_words : Sid → Wanted → Reply → List (List ℕ)
-turn_words who request told = decimal who.number ∷ request_words request ++ reply_words told
+turn_words who request told = decimal who.number ∷ request_words (request_of request) ++ reply_words told
 
 -- The words of an event.
 abbrev pub event_words : Event → List (List ℕ)

@@ -7,7 +7,6 @@ use Rattle.rows_model.specs.declared.changes.Change.{Change}
 use Rattle.rows_model.specs.Placement.{shard_of}
 use Rattle.lease_table.specs.declared.records.Mode.{Mode}
 use Rattle.lease_table.specs.declared.records.Mode.TheVariants.{Invalidate, Refresh, Delta}
-use Rattle.lease_table.specs.declared.records.Due.{Due}
 use Rattle.key_shard.specs.Permit.{Permit}
 use Rattle.key_shard.specs.declared.steps.Step.{Step}
 use Rattle.key_shard.specs.declared.steps.Step.TheVariants as step
@@ -25,8 +24,7 @@ use Rattle.key_shard.specs.Past.{Terms, entry, evicted_by}
 use Rattle.key_shard.specs.Answers.{get_step, set_step, quarantine_step, release_step, replace_step, sweep_step, raise_step, renew_step}
 use Rattle.key_shard.specs.Replies.{old_value, sweep_told}
 use Rattle.key_shard.specs.Shards.{without_permit, out_after, raised_permit}
-use Rattle.expiry_sweeper.specs.Sweeps.{sweep_wants}
-use Rattle.expiry_sweeper.specs.declared.replies.SweepReply.{SweepReply}
+use Rattle.expiry_sweeper.specs.Sweeps.{sweep_wants, scan_told}
 use Rattle.expiry_sweeper.specs.declared.replies.SweepReply.TheVariants as sweeps
 use Rattle.expiry_sweeper.specs.declared.replies.SweepWanted.{SweepWanted}
 use Rattle.expiry_sweeper.specs.declared.replies.SweepWanted.TheVariants as sweep
@@ -211,11 +209,6 @@ event_of shape world who wanted.Nothing said = Called who wanted.Nothing reply.N
 -- What a session wants next.
 abbrev pub wanted_of : World → Sid → Wanted
 wanted_of world who = wanted_by (plan_at who.number world.plans) (told_to who.number world.past)
-
--- What a scan tells the sweeper.
-abbrev pub scan_told : Option Due → SweepReply
-scan_told None = sweeps.NoneFound
-scan_told (Some due) = sweeps.Found due
 
 -- The event of what the sweeper wants: a scan finds the first quarantine that is past its deadline,
 -- an end is one at the store, and a drop is a step on the shard of its key, where the quarantine stands.

@@ -1,25 +1,18 @@
 -- What a request that is made does to shards and store.
-use Rattle.std.specs.Prelude.{ℕ, ℤ, false, ◌≡◌, ◌≢◌, ◌-◌, List, ◌∷◌, Result, Ok, Err, MatchResult, length, Some, slice_get, slice_set, OnOk, IsTrue, ◌⊎◌}
-use Rattle.rows_model.specs.declared.keys.QKey.{QKey}
+use Rattle.std.specs.Prelude.{ℕ, Bool, true, false, ◌≡◌, ◌-◌, List, ◌∷◌, Result, MatchResult, length, Some, None, slice_get, slice_set, OnOk, IsTrue, ◌⊎◌}
+use Rattle.std.specs.Bool.{IsFalse}
 use Rattle.rows_model.specs.declared.keys.Sid.{Sid}
 use Rattle.rows_model.specs.declared.refusals.Memory.{Memory}
 use Rattle.rows_model.specs.Placement.{shard_of}
-use Rattle.lease_table.specs.declared.records.Mode.{Mode}
-use Rattle.lease_table.specs.declared.records.Mode.TheVariants.{Invalidate, Refresh, Delta}
 use Rattle.key_shard.specs.Permit.{Permit}
-use Rattle.key_shard.specs.declared.steps.Step.{Step}
-use Rattle.key_shard.specs.declared.replies.How.{How}
-use Rattle.key_shard.specs.declared.replies.How.TheVariants as how
-use Rattle.key_shard.specs.Answers.{quarantine_step}
-use Rattle.key_shard.specs.Shards.{ShardView, past_of, is_out}
+use Rattle.key_shard.specs.Shards.{ShardView, is_out}
 use Rattle.sql_keeper.specs.Stores.{StoreView}
 use Rattle.session_client.specs.declared.plans.Shape.{Shape}
 use Rattle.session_client.specs.declared.replies.Reply.{Reply}
 use Rattle.session_client.specs.declared.replies.Reply.TheVariants as reply
-use Rattle.session_client.specs.Grants.{GrantsView}
-use Rattle.sql_keeper.specs.declared.faults.CommitFault.{CommitFault}
+use Rattle.sql_keeper.specs.declared.faults.AfterFault.TheVariants as staged
 use Rattle.sql_keeper.specs.declared.faults.CommitFault.TheVariants as faults
-use Rattle.rows_model.specs.declared.changes.Change.{Change}
+use Rattle.session_client.specs.declared.replies.Fault.TheVariants as causes
 use Rattle.session_client.specs.declared.replies.Wanted.{Wanted}
 use Rattle.session_client.specs.declared.replies.Wanted.TheVariants as wanted
 use Rattle.session_client.specs.declared.sessions.Session.{Session}
@@ -46,21 +39,19 @@ IsOutWhereReleased shards (wanted.Raise grant) = IsGrantOut shards grant
 IsOutWhereReleased shards (wanted.Renew grant) = IsGrantOut shards grant
 IsOutWhereReleased shards other = Unit {0}
 
--- The release of a grant in this way, as a request.
-abbrev pub released_as : Permit → How → Wanted
-released_as grant how.Keep = wanted.Abort grant
-released_as grant how.Drop = wanted.Dar grant
-released_as grant (how.Shift stamp) = wanted.Apply grant stamp
+-- Whether a reply tells that memory ran out.
+abbrev pub tells_memory : Reply → Bool
+tells_memory (reply.Fault causes.Memory) = true
+tells_memory (reply.NotStaged staged.Memory txn) = true
+tells_memory (reply.NotCommitted faults.Memory txn grants) = true
+tells_memory (reply.SarBack grant) = true
+tells_memory (reply.RaiseBack grant) = true
+tells_memory (reply.Renew grant None) = true
+tells_memory other = false
 
--- The quarantine of a key in this mode, to be shifted by this much, as a request.
-abbrev pub quarantined_as : Mode → QKey → ℤ → Wanted
-quarantined_as Invalidate key by = wanted.QaReg key
-quarantined_as Refresh key by = wanted.QaRead key
-quarantined_as Delta key by = wanted.Delta key by
-
--- The step of a quarantine of this key on a shard, in this mode and to be shifted by this much.
-abbrev pub quarantine_of : ShardView → QKey → Sid → Mode → ℤ → ℕ → Step
-quarantine_of shard key who mode by now = quarantine_step shard.terms (past_of shard) key who mode by now
+-- A turn ends where its reply tells that memory ran out, and goes on with any other reply.
+abbrev pub GoesOn : Reply → Result Reply Memory → Type 0
+GoesOn told result = MatchResult result (λ kept. (kept ≡ told) × IsFalse (tells_memory told)) (λ _. IsTrue (tells_memory told))
 
 -- The session of this number waits for its turn: it was told what came of its last request. A grant that it
 -- wants to release, raise or renew is out.
@@ -103,12 +94,6 @@ Makes origin world who request shards store result =
     MatchResult result (λ told. (said : Said) × (told ≡ reply_in (event_of origin.shape world who request said))
     × Stands shards store origin (after world (event_of origin.shape world who request said)))
     (λ _. Stands shards store origin world)
-
--- A session is told what came of its commit, and that want of memory ends it.
-abbrev pub IsToldOfCommit : Result ℕ (CommitFault × List Change) → List Change → GrantsView → Result Reply Memory → Type 0
-IsToldOfCommit (Ok number) txn grants result = result ≡ Ok (reply.Committed number txn grants)
-IsToldOfCommit (Err back) txn grants result =
-    MatchResult result (λ told. (told ≡ reply.NotCommitted back.0 txn grants) × (back.0 ≢ faults.Memory)) (λ _. back.0 ≡ faults.Memory)
 
 -- A turn was taken in which this was wanted: shards, store and session stand after its
 -- event, whose line was told. For want of memory the event may have been made or not.

@@ -3,75 +3,29 @@ ghost use Rattle.std.specs.Prelude.{◌≡◌, ◌∷◌, ◌++◌, [], IfOk, On
 ghost use Rattle.std.specs.Fmt.{signed_decimal};
 ghost use Rattle.rows_model.specs.Key.{key_text};
 ghost use Rattle.core_history.specs.Lines.{line, shown, request_words, reply_words, stands_word, mode_word, evicts_words, got_words, set_words, old_words, brought_words, quarantine_words, commit_fault_words, staged_fault_words, open_words, release_words, raising_words, renewal_words, fault_words, tells_fault};
-ghost use Rattle.core_history.specs.Words.{spaced, asked_words};
+ghost use Rattle.core_history.specs.Words.{spaced};
 
+use executor::Request;
 use itoa::Buffer;
 use key_shard::{Got, QAnswer, Raising, Rel, Renewal, SetAnswer, Stands};
 use lease_table::Mode;
 use rows_model::{Memory, QKey, Sid, Value};
-use session_client::{Fault, Reply, Wanted};
+use session_client::{Fault, Reply};
 use sql_keeper::{AfterFault, CommitFault};
 use std::alloc::Global;
-
-/// What a request asks for, as its line says it. It stays when the request is made.
-#[derive(Clone, Copy)]
-pub enum Asked {
-    Get { key: QKey },
-    Ask { key: QKey },
-    Staged { key: QKey },
-    Set { key: QKey },
-    QaReg { key: QKey },
-    QaRead { key: QKey },
-    Delta { key: QKey, by: i32 },
-    Commit,
-    End,
-    Dar { key: QKey },
-    Sar { key: QKey },
-    Apply { key: QKey },
-    Abort { key: QKey },
-    Raise { key: QKey },
-    Renew { key: QKey },
-    Nothing,
-}
-
-impl Asked {
-    /// What this request asks for.
-    pub(crate) fn of(request: &Wanted) -> Asked
-        ensures { asked_words result ≡ request_words request.now }
-    {
-        match request {
-            Wanted::Get { key, .. } => Asked::Get { key: *key },
-            Wanted::Ask { key } => Asked::Ask { key: *key },
-            Wanted::Staged { key, .. } => Asked::Staged { key: *key },
-            Wanted::Set { key, .. } => Asked::Set { key: *key },
-            Wanted::QaReg { key } => Asked::QaReg { key: *key },
-            Wanted::QaRead { key } => Asked::QaRead { key: *key },
-            Wanted::Delta { key, by } => Asked::Delta { key: *key, by: *by },
-            Wanted::Commit { .. } => Asked::Commit,
-            Wanted::End => Asked::End,
-            Wanted::Dar { grant } => Asked::Dar { key: grant.key() },
-            Wanted::Sar { grant, .. } => Asked::Sar { key: grant.key() },
-            Wanted::Apply { grant, .. } => Asked::Apply { key: grant.key() },
-            Wanted::Abort { grant } => Asked::Abort { key: grant.key() },
-            Wanted::Raise { grant } => Asked::Raise { key: grant.key() },
-            Wanted::Renew { grant } => Asked::Renew { key: grant.key() },
-            Wanted::Nothing => Asked::Nothing,
-        }
-    }
-}
 
 /// The line of a turn: who took it, what was asked for, and the reply.
 pub(crate) fn line_of(
     alloc: Global,
     who: Sid,
-    asked: Asked,
+    asked: Request,
     reply: &Reply,
 ) -> Result<Vec<u8>, Memory>
     ensures { IfOk result (λ text.
-        text.items ≡ line (decimal who.number ∷ asked_words asked ++ reply_words reply.now)) }
+        text.items ≡ line (decimal who.number ∷ request_words asked ++ reply_words reply.now)) }
 {
     let mut text = begun(alloc, who)?;
-    push_asked(alloc, &mut text, asked)?;
+    push_request(alloc, &mut text, asked)?;
     push_reply(alloc, &mut text, reply)?;
     text.push(b'\n')?;
     Ok(text)
@@ -103,26 +57,26 @@ fn begun(alloc: Global, who: Sid) -> Result<Vec<u8>, Memory>
     Ok(Vec::from_slice(alloc, buffer.format(who.number).as_bytes())?)
 }
 
-fn push_asked(alloc: Global, text: &mut Vec<u8>, asked: Asked) -> Result<(), Memory>
-    ensures { OnOk result (text.new.items ≡ text.old.items ++ spaced (asked_words asked)) }
+fn push_request(alloc: Global, text: &mut Vec<u8>, asked: Request) -> Result<(), Memory>
+    ensures { OnOk result (text.new.items ≡ text.old.items ++ spaced (request_words asked)) }
 {
     match asked {
-        Asked::Get { key } => push_verb(alloc, text, b"get", &key),
-        Asked::Ask { key } => push_verb(alloc, text, b"ask", &key),
-        Asked::Staged { key } => push_verb(alloc, text, b"staged", &key),
-        Asked::Set { key } => push_verb(alloc, text, b"set", &key),
-        Asked::QaReg { key } => push_verb(alloc, text, b"qareg", &key),
-        Asked::QaRead { key } => push_verb(alloc, text, b"qaread", &key),
-        Asked::Delta { key, by } => push_delta(alloc, text, &key, by),
-        Asked::Commit => push_word(text, b"commit"),
-        Asked::End => push_word(text, b"end"),
-        Asked::Dar { key } => push_verb(alloc, text, b"dar", &key),
-        Asked::Sar { key } => push_verb(alloc, text, b"sar", &key),
-        Asked::Apply { key } => push_verb(alloc, text, b"apply", &key),
-        Asked::Abort { key } => push_verb(alloc, text, b"abort", &key),
-        Asked::Raise { key } => push_verb(alloc, text, b"raise", &key),
-        Asked::Renew { key } => push_verb(alloc, text, b"renew", &key),
-        Asked::Nothing => push_word(text, b"done"),
+        Request::Get { key, .. } => push_verb(alloc, text, b"get", &key),
+        Request::Ask { key } => push_verb(alloc, text, b"ask", &key),
+        Request::Staged { key } => push_verb(alloc, text, b"staged", &key),
+        Request::Set { key, .. } => push_verb(alloc, text, b"set", &key),
+        Request::QaReg { key } => push_verb(alloc, text, b"qareg", &key),
+        Request::QaRead { key } => push_verb(alloc, text, b"qaread", &key),
+        Request::Delta { key, by } => push_delta(alloc, text, &key, by),
+        Request::Commit => push_word(text, b"commit"),
+        Request::End => push_word(text, b"end"),
+        Request::Dar { key, .. } => push_verb(alloc, text, b"dar", &key),
+        Request::Sar { key, .. } => push_verb(alloc, text, b"sar", &key),
+        Request::Apply { key, .. } => push_verb(alloc, text, b"apply", &key),
+        Request::Abort { key, .. } => push_verb(alloc, text, b"abort", &key),
+        Request::Raise { key, .. } => push_verb(alloc, text, b"raise", &key),
+        Request::Renew { key, .. } => push_verb(alloc, text, b"renew", &key),
+        Request::Nothing => push_word(text, b"done"),
     }
 }
 

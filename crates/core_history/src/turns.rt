@@ -9,9 +9,10 @@ ghost use Rattle.core_history.specs.Events.{now_of};
 ghost use Rattle.core_history.specs.Machine.{World};
 ghost use Rattle.core_history.specs.Requests.{IsWaiting, Stands, TakesTurn, TakesOne};
 
-use crate::lines::{Asked, line_of, tells_fault};
+use crate::lines::{line_of, tells_fault};
 use crate::requests::make;
 use crate::told::Told;
+use executor::Request;
 use key_shard::Shard;
 use rows_model::{Memory, Sid};
 use session_client::Session;
@@ -62,7 +63,7 @@ fn take_turn<K: Keeper>(
         shards.new.items store.new session.new result }
 {
     let request = session.wants();
-    let asked = Asked::of(&request);
+    let asked = Request::of(&request);
     match make(store, shards, who, request, now) {
         Ok(reply) => {
             let line = line_of(alloc, who, asked, &reply);

@@ -1,5 +1,6 @@
 -- What a sweeper wants next, read off what it was told, the latest first.
-use Rattle.std.specs.Prelude.{ℕ, ◌<◌, ◌%◌, Bool, true, false, List, [], ◌∷◌, count_by}
+use Rattle.std.specs.Prelude.{ℕ, ◌<◌, ◌%◌, Bool, true, false, List, [], ◌∷◌, count_by, Option, Some, None}
+use Rattle.lease_table.specs.declared.records.Due.{Due}
 use Rattle.expiry_sweeper.specs.declared.replies.SweepReply.{SweepReply}
 use Rattle.expiry_sweeper.specs.declared.replies.SweepReply.TheVariants as reply
 use Rattle.expiry_sweeper.specs.declared.replies.SweepWanted.{SweepWanted}
@@ -27,6 +28,11 @@ sweep_wants shards (reply.Found due ∷ told) = wanted.End due.sid
 sweep_wants shards (reply.Ended was ∷ told) = drop_found shards told
 sweep_wants shards (reply.Dropped rel ∷ told) = wanted.Scan (shard_at shards told)
 sweep_wants shards (reply.NoneFound ∷ told) = wanted.Scan (shard_at shards (reply.NoneFound ∷ told))
+
+-- What a scan tells: the first quarantine that is due, or that there is none.
+abbrev pub scan_told : Option Due → SweepReply
+scan_told (Some due) = reply.Found due
+scan_told None = reply.NoneFound
 
 -- The reply belongs to what is wanted.
 abbrev pub BelongsTo : SweepWanted → SweepReply → Type 0

@@ -6,33 +6,12 @@ use Rattle.key_shard.specs.declared.replies.QAnswer.TheVariants as quarantine
 use Rattle.key_shard.specs.declared.replies.Raising.TheVariants as raising
 use Rattle.session_client.specs.Desks.{Call, Began, Asked}
 use Rattle.session_client.specs.declared.replies.Wanted.{Wanted}
-use Rattle.session_client.specs.declared.replies.Wanted.TheVariants as wanted
 use Rattle.session_client.specs.declared.replies.Reply.{Reply}
 use Rattle.session_client.specs.declared.replies.Reply.TheVariants as reply
+use Rattle.executor.specs.Requests.{request_of}
 use Rattle.gate_workers.specs.declared.marks.Mark.{Mark}
-use Rattle.gate_workers.specs.declared.marks.Request.{Request}
-use Rattle.gate_workers.specs.declared.marks.Request.TheVariants as request
 use Rattle.gate_workers.specs.declared.marks.Response.{Response}
 use Rattle.gate_workers.specs.declared.marks.Response.TheVariants as response
-
--- A request without its value, its transaction and its list of grants. Of a grant that is released, raised or renewed the key and the token are left.
-abbrev pub request_of : Wanted → Request
-request_of (wanted.Get key floor) = request.Get key floor
-request_of (wanted.Ask key) = request.Ask key
-request_of (wanted.Staged key txn) = request.Staged key
-request_of (wanted.Set key token value stamp) = request.Set key token stamp
-request_of (wanted.QaReg key) = request.QaReg key
-request_of (wanted.QaRead key) = request.QaRead key
-request_of (wanted.Delta key by) = request.Delta key by
-request_of (wanted.Commit txn grants) = request.Commit
-request_of wanted.End = request.End
-request_of (wanted.Dar grant) = request.Dar grant.key grant.token
-request_of (wanted.Sar grant value stamp) = request.Sar grant.key grant.token stamp
-request_of (wanted.Apply grant stamp) = request.Apply grant.key grant.token stamp
-request_of (wanted.Abort grant) = request.Abort grant.key grant.token
-request_of (wanted.Raise grant) = request.Raise grant.key grant.token
-request_of (wanted.Renew grant) = request.Renew grant.key grant.token
-request_of wanted.Nothing = request.Nothing
 
 -- A reply without values, the transaction and grants. Of a grant that is given the token is left.
 abbrev pub response_of : Reply → Response

@@ -2,7 +2,8 @@
 //! transcript of what its sessions asked and were told.
 #![tactic(auto)]
 
-pub use marks::{Mark, Request, Response};
+pub use executor::Request;
+pub use marks::{Mark, Response};
 pub use tallies::Tally;
 pub use transcripts::{Row, Transcript};
 pub use workers::work_all;

@@ -6,9 +6,10 @@ ghost use Rattle.session_client.specs.Plans.{IsPlan, writes};
 ghost use Rattle.session_client.specs.declared.plans.Plan.{Plan};
 ghost use Rattle.gate_workers.specs.Notes.{IsGoing, IsWanting, IsUnderWay, HasEnded, AddsRow, AddsStop};
 
-use crate::marks::{Mark, Request, Response};
+use crate::marks::{Mark, Response};
 use crate::notes::Notes;
 use crate::transcripts::Row;
+use executor::Request;
 use iq_outside::{Gate, Point};
 use rows_model::{Memory, Sid};
 use session_client::{Desk, Fault, Outcome, Plan, Session, Wanted};

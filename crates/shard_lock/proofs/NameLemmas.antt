@@ -5,17 +5,17 @@ use Rattle.rows_model.specs.declared.changes.Change.{Change}
 use Rattle.rows_model.specs.declared.keys.QKey.{QKey}
 use Rattle.rows_model.specs.declared.keys.Sid.{Sid}
 use Rattle.rows_model.specs.Rows.{Tables}
-use Rattle.key_shard.specs.Permit.{Permit}
 use Rattle.sql_keeper.specs.declared.faults.AfterFault.{AfterFault}
 use Rattle.sql_keeper.specs.Faults.{staged_failed, is_failure}
 use Rattle.sql_keeper.specs.Stores.{Ledger, StoreView, with_call, with_commit, with_end}
+use Rattle.session_client.specs.Grants.{GrantsView}
 use Rattle.session_client.specs.declared.replies.Fault.TheVariants as faults
 use Rattle.session_client.specs.declared.replies.Reply.{Reply}
 use Rattle.session_client.specs.declared.replies.Reply.TheVariants as reply
 use Rattle.session_client.specs.declared.replies.Wanted.{Wanted}
 use Rattle.session_client.specs.declared.replies.Wanted.TheVariants as wanted
 use Rattle.shard_lock.specs.Names.{IsNamedStore}
-use Rattle.shard_lock.specs.OnStore.{Goes, TellsAnswer, TellsStaged, TellsCommit, TellsEnd, MakesAtStore}
+use Rattle.executor.specs.OnStore.{Goes, TellsAnswer, TellsStaged, TellsCommit, TellsEnd, MakesAtStore}
 
 -- the opening rows and the cap of the one ledger are those of the other
 abbrev AreSame : Ledger → Ledger → Type 0
@@ -52,7 +52,7 @@ staged key txn old new (reply.NotStaged fault back) h =
     gone (staged_failed made) (with_call (staged_failed made) old.ledger) old new h.1.goes (called (staged_failed made) old.ledger)
 staged key txn old new other h = absurd h
 
-committed : (who : Sid) (txn : List Change) (grants : List Permit) (old new : StoreView) (told : Reply)
+committed : (who : Sid) (txn : List Change) (grants : GrantsView) (old new : StoreView) (told : Reply)
     → TellsCommit who txn grants old new told → Stays old new
 committed who txn grants old new (reply.Committed number back kept) h =
     gone false (with_commit who txn old.ledger) old new h.2.goes (refl, refl)
@@ -67,7 +67,7 @@ closed who old new other h = absurd h
 made : (old new : StoreView) (who : Sid) (request : Wanted) (told : Reply) → MakesAtStore old who request new told → Stays old new
 made old new who (wanted.Ask key) told h = asked key old new told h
 made old new who (wanted.Staged key txn) told h = staged key txn old new told h
-made old new who (wanted.Commit txn grants) told h = committed who txn grants.items old new told h
+made old new who (wanted.Commit txn grants) told h = committed who txn grants old new told h
 made old new who wanted.End told h = closed who old new told h
 made old new who other told h = absurd h
 

@@ -13,7 +13,7 @@ use Rattle.session_client.specs.declared.replies.Reply.TheVariants as reply
 use Rattle.session_client.specs.declared.replies.Wanted.{Wanted}
 use Rattle.session_client.specs.declared.replies.Wanted.TheVariants as wanted
 use Rattle.shard_lock.specs.Names.{IsNamed, IsTokenOf}
-use Rattle.shard_lock.specs.OnShard.{TellsGot, TellsQuarantine, TellsSet, Returns, TellsRelease, TellsPut, TellsRaise, TellsRenewal, MakesOnShard}
+use Rattle.executor.specs.OnShard.{TellsGot, TellsQuarantine, TellsSet, Returns, TellsRelease, TellsPut, TellsRaise, TellsRenewal, MakesOnShard}
 
 same_terms : (new old : ShardView) → new ≡ old → new.terms ≡ old.terms
 same_terms new old same = ap (λ (shard : ShardView). shard.terms) same

@@ -1,3 +1,1 @@
 pub mod Names
-pub mod OnShard
-pub mod OnStore

@@ -1,16 +1,12 @@
-ghost use Rattle.std.specs.Prelude.{◌≡◌, ◌≢◌, IfSome, IfNone};
-ghost use Rattle.key_shard.specs.Answers.{IsAtHome};
-ghost use Rattle.key_shard.specs.Past.{Terms};
+ghost use Rattle.std.specs.Prelude.{◌≡◌};
 ghost use Rattle.expiry_sweeper.specs.Follows.{shards_of};
-ghost use Rattle.session_client.specs.declared.replies.Wanted.TheVariants as wanted;
-ghost use Rattle.shard_lock.specs.OnShard.{IsFor};
-ghost use Rattle.shard_lock.specs.OnStore.{IsAtStore};
 
 use crate::hubs::Hub;
 use crate::names::HubName;
+use executor::key_of;
 use expiry_sweeper::{SweepReply, SweepWanted, Sweeper};
 use iq_outside::{Clock, Gate, Point};
-use rows_model::{Memory, QKey, Sid};
+use rows_model::{Memory, Sid};
 use session_client::{Desk, Reply, Wanted};
 use sql_keeper::Keeper;
 use std::marker::Model;
@@ -118,29 +114,5 @@ impl<'a, K: Keeper, H: HubName, C: Clock, G: Gate, R: Wait> Desk for HubDesk<'a,
             }
         };
         self.sweeper.told(told);
-    }
-}
-
-/// The key of a request on a shard, or none for one at the store.
-fn key_of(request: &Wanted) -> Option<QKey>
-    ensures on_shard { IfSome result (λ key. (terms : Terms) → IsAtHome terms key →
-        IsFor terms request.now) }
-    ensures at_store { IfNone result (request.now ≢ wanted.Nothing → IsAtStore request.now) }
-{
-    match request {
-        Wanted::Get { key, floor: _ } => Some(*key),
-        Wanted::Set { key, .. } => Some(*key),
-        Wanted::QaReg { key } | Wanted::QaRead { key } => Some(*key),
-        Wanted::Delta { key, by: _ } => Some(*key),
-        Wanted::Dar { grant } => Some(grant.key()),
-        Wanted::Sar { grant, .. } => Some(grant.key()),
-        Wanted::Apply { grant, stamp: _ } => Some(grant.key()),
-        Wanted::Abort { grant } => Some(grant.key()),
-        Wanted::Raise { grant } | Wanted::Renew { grant } => Some(grant.key()),
-        Wanted::Ask { .. }
-        | Wanted::Staged { .. }
-        | Wanted::Commit { .. }
-        | Wanted::End
-        | Wanted::Nothing => None,
     }
 }

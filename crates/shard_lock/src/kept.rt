@@ -1,5 +1,6 @@
 // What lies under the locks: a shard, room for all, and the store, each with what is named of it.
 ghost use Rattle.std.specs.Prelude.{◌≡◌, ◌≤◌, IfOk, OnOk, OnErr, length, vec_len, vec_capacity};
+ghost use Rattle.expiry_sweeper.specs.Sweeps.{scan_told};
 ghost use Rattle.key_shard.specs.Answers.{IsAtHome, Legal, sweep_step};
 ghost use Rattle.key_shard.specs.Dues.{first_due};
 ghost use Rattle.key_shard.specs.Replies.{sweep_told};
@@ -9,12 +10,11 @@ ghost use Rattle.session_client.specs.Desks.{IsProper};
 ghost use Rattle.sql_keeper.specs.Sessions.{is_open};
 ghost use Rattle.sql_keeper.specs.Stores.{with_session, with_end};
 ghost use Rattle.shard_lock.specs.Names.{IsNamed, IsNamedStore, IsTokenOf};
-ghost use Rattle.shard_lock.specs.OnShard.{IsFor, MakesOnShard, scanned};
-ghost use Rattle.shard_lock.specs.OnStore.{IsAtStore, MakesAtStore};
+ghost use Rattle.executor.specs.OnShard.{IsFor, MakesOnShard};
+ghost use Rattle.executor.specs.OnStore.{IsAtStore, MakesAtStore};
 
 use crate::names::{HubName, StartOf};
-use crate::shards::on_shard;
-use crate::stores::on_store;
+use executor::{on_shard, on_store};
 use expiry_sweeper::SweepReply;
 use key_shard::{Rel, Shard};
 use rows_model::{Memory, QKey, Sid};
@@ -75,7 +75,7 @@ impl<H: HubName> KeptShard<H> {
     /// Looks for the first quarantine, by key and then by token, whose deadline has come. The shard stays.
     pub fn scan(&mut self, now: u64) -> SweepReply
         ensures left { self.new ≡ self.old }
-        ensures found { result ≡ scanned (first_due now (past_of self.old)) }
+        ensures found { result ≡ scan_told (first_due now (past_of self.old)) }
     {
         match self.shard.expired(now) {
             Some(due) => SweepReply::Found { due },
