@@ -34,6 +34,7 @@ pub mod FreshRuns
 pub mod SinceLemmas
 pub mod FinalLemmas
 pub mod DeterminedLemmas
+pub mod GoingLemmas
 pub mod ShardsLemmas
 pub mod RequestLemmas
 pub mod OpenLemmas

@@ -1,5 +1,5 @@
--- A run is told by its script and by which of its turns were answered FAULT, where the keeper's word is true.
-use Rattle.std.specs.Prelude.{◌≡◌, List, map}
+-- What a script and a keeper whose word is true come to: one run for the turns that are answered FAULT, and one that can always be gone on with.
+use Rattle.std.specs.Prelude.{◌≡◌, List, ◌++◌, map, reverse}
 use Rattle.rows_model.specs.Rows.{Tables}
 use Rattle.session_client.specs.declared.plans.Plan.{Plan}
 use Rattle.session_client.specs.declared.plans.Shape.{Shape}
@@ -26,3 +26,15 @@ RunsAreDetermined =
     → IsTruePast opening (world_of shape moves).past → IsTruePast opening (world_of shape others).past
     → fault_turns (world_of shape moves).past ≡ fault_turns (world_of shape others).past
     → (world_of shape moves).past ≡ (world_of shape others).past
+
+-- More moves go on from these, each list the latest first: they make these calls, the keeper's word is true, and no turn more is answered FAULT.
+pub record GoesOnBy (shape : Shape) (opening : Tables) (moves : List Move) (calls : List Call) (more : List Move) : Type 0 where
+  pub makes : map call_of (reverse more) ≡ calls
+  pub truth : IsTruePast opening (world_of shape (more ++ moves)).past
+  pub quiet : fault_turns (world_of shape (more ++ moves)).past ≡ fault_turns (world_of shape moves).past
+
+-- Moves that are true so far can be gone on with, whatever calls come next.
+abbrev pub RunsGoOn : Type 0
+RunsGoOn =
+    (shape : Shape) (opening : Tables) (moves : List Move) (calls : List Call) → IsTruePast opening (world_of shape moves).past
+    → (more : List Move) × GoesOnBy shape opening moves calls more

@@ -1,6 +1,6 @@
 // Laws of the machine, each the clause of a function that does nothing.
 ghost use Rattle.core_history.specs.Freshness.{RunsAreLawful, RunsAreFresh};
-ghost use Rattle.core_history.specs.Determined.{RunsAreDetermined};
+ghost use Rattle.core_history.specs.Determined.{RunsAreDetermined, RunsGoOn};
 ghost use Rattle.core_history.specs.Sweeps.{SweepsAreFinal};
 ghost use Rattle.core_history.specs.Voids.{VoidsAreInert};
 
@@ -30,6 +30,13 @@ pub fn voids_are_inert()
 /// the same log, the same histories and the same lines.
 pub fn runs_are_determined()
     ensures { RunsAreDetermined }
+{}
+
+/// The first moves of a run, with a keeper whose word was true so far, are the first of some whole run:
+/// whatever the script says next, there are moves that do it, in which the keeper's word stays true and
+/// no turn is answered FAULT.
+pub fn runs_go_on()
+    ensures { RunsGoOn }
 {}
 
 /// What the sweeper drops is final, whatever the keeper says. After the drop no quarantine of that token
