@@ -236,8 +236,32 @@ one-text : (old old' new new' : Option (List ℕ)) (text text' rest : List ℕ)
 one-text old old' new new' text text' rest is same h k h' k' =
     all-read rest new' text' (sym (same ∙ is) ∙ h') k' ∙ sym (all-read rest new text (sym is ∙ h) k)
 
-gained : (old new : Option (List ℕ)) (printed : List ℕ) → old ≡ Some [] → Gains old new printed → new ≡ Some printed
+pub gained : (old new : Option (List ℕ)) (printed : List ℕ) → old ≡ Some [] → Gains old new printed → new ≡ Some printed
 gained old new printed none h = h ∙ ap (option_map (λ taken. taken ++ printed)) none
+
+-- Two runs of one text are runs of one script over the same rows.
+pub record AreOfOne (shape shape' : Shape) (acts acts' : List Act) (opening opening' : Tables) : Type 0 where
+  pub shapes : shape ≡ shape'
+  pub scripts : acts ≡ acts'
+  pub openings : opening' ≡ opening
+
+pub of-one : TextsTellScripts → (held held' : Held) (before after before' after' : Tells) (left left' : Left) (b : IsBegun held before after left)
+    (b' : IsBegun held' before' after' left') (rows rows' : Tables) → held.place ≡ place.Fresh → held'.place ≡ place.Fresh
+    → after.rows ≡ Some rows → after'.rows ≡ Some rows' → IsSome before.left → before'.left ≡ before.left
+    → AreOfOne b.shape b'.shape b.acts b'.acts b.opening b'.opening
+of-one texts held held' before after before' after' left left' b b' rows rows' new new' is is' told same =
+    let rest = some-at before.left told in
+    let text = one-text before.left before'.left after.left after'.left
+    b.read.text b'.read.text rest.0 rest.1 same b.read.takes b.read.at_end b'.read.takes b'.read.at_end in
+    let script = texts.one_script b.read.text b.shape b'.shape b.acts b'.acts b.read.is_script
+    (subst (λ (t : List ℕ). IsScript t b'.shape b'.acts) text b'.read.is_script) in
+    let opening = b.opened.opened rows is (start_tables b.shape.members) (b.opened.fresh new) in
+    let opening' = b'.opened.opened rows' is' (start_tables b'.shape.members) (b'.opened.fresh new') in
+    record {
+      shapes = script.0;
+      scripts = script.1;
+      openings = opening' ∙ ap (λ (s : Shape). start_tables s.members) (sym script.0) ∙ sym opening;
+    }
 
 -- two runs of one text, both to the end and without a FAULT, came to the same
 wholes-alike : TextsTellScripts → RunsAreDetermined → (held held' : Held) (before after before' after' : Tells) (left left' : Left) (written written' : ℕ)
@@ -246,23 +270,16 @@ wholes-alike : TextsTellScripts → RunsAreDetermined → (held held' : Held) (b
     → IsSome after'.rows → IsSome before.left → before'.left ≡ before.left → before.taken ≡ Some [] → before'.taken ≡ Some []
     → AreAlike after after' left left' written written'
 wholes-alike texts law held held' before after before' after' left left' written written' h h' new new' some some' told same none none' =
-    let rest = some-at before.left told in
     let rows = some-at after.rows some in
     let rows' = some-at after'.rows some' in
-    let text = one-text before.left before'.left after.left after'.left
-    h.read.text h'.read.text rest.0 rest.1 same h.read.takes h.read.at_end h'.read.takes h'.read.at_end in
-    let script = texts.one_script h.read.text h.shape h'.shape h.acts h'.acts h.read.is_script
-    (subst (λ (t : List ℕ). IsScript t h'.shape h'.acts) text h'.read.is_script) in
-    let opening = h.opened.opened rows.0 rows.1 (start_tables h.shape.members) (h.opened.fresh new) in
-    let opening' = h'.opened.opened rows'.0 rows'.1 (start_tables h'.shape.members) (h'.opened.fresh new') in
-    let openings : h'.opening ≡ h.opening = opening' ∙ ap (λ (s : Shape). start_tables s.members) (sym script.0) ∙ sym opening in
-    let made : AreMoves h.acts h'.moves = h'.made ∙ ap calls_of (sym script.1) in
-    let at' : past_of h'.shape h'.moves ≡ past_of h.shape h'.moves = ap (λ (s : Shape). past_of s h'.moves) (sym script.0) in
+    let one = of-one texts held held' before after before' after' left left' h.begun h'.begun rows.0 rows'.0 new new' rows.1 rows'.1 told same in
+    let made : AreMoves h.acts h'.moves = h'.made ∙ ap calls_of (sym one.scripts) in
+    let at' : past_of h'.shape h'.moves ≡ past_of h.shape h'.moves = ap (λ (s : Shape). past_of s h'.moves) (sym one.shapes) in
     let truth : IsTruePast h.opening (past_of h.shape h'.moves) =
-    subst (λ (o : Tables). IsTruePast o (past_of h.shape h'.moves)) openings (subst (IsTruePast h'.opening) at' (h'.keeps.truth rows'.0 rows'.1)) in
+    subst (λ (o : Tables). IsTruePast o (past_of h.shape h'.moves)) one.openings (subst (IsTruePast h'.opening) at' (h'.keeps.truth rows'.0 rows'.1)) in
     let turns : fault_turns (past_of h.shape h'.moves) ≡ [] = sym (h'.turns_are ∙ ap fault_turns at') in
     let bytes : out h.shape h'.moves ≡ out h.shape h.moves = h.the_text rows.0 rows.1 h'.moves made truth turns in
-    let outs : out h'.shape h'.moves ≡ out h.shape h.moves = ap (λ (s : Shape). out s h'.moves) (sym script.0) ∙ bytes in
+    let outs : out h'.shape h'.moves ≡ out h.shape h.moves = ap (λ (s : Shape). out s h'.moves) (sym one.shapes) ∙ bytes in
     let pasts : past_of h.shape h'.moves ≡ past_of h.shape h.moves =
     law h.shape h.opening h'.moves h.moves (unreversed h'.moves h.moves (made ∙ sym h.made)) truth (h.keeps.truth rows.0 rows.1) (turns ∙ h.turns_are) in
     let logs : left'.log ≡ left.log = h'.keeps.log_is ∙ ap log_of (at' ∙ pasts) ∙ sym h.keeps.log_is in
@@ -270,15 +287,15 @@ wholes-alike texts law held held' before after before' after' left left' written
       bytes = gained before'.taken after'.taken (out h'.shape h'.moves) none' h'.prints.gains
           ∙ ap Some outs ∙ sym (gained before.taken after.taken (out h.shape h.moves) none h.prints.gains);
       counts = h'.prints.counted ∙ ap (λ (l : List ℕ). min (length l) (2 ^ 64 - 1)) outs ∙ sym h.prints.counted;
-      openings = h'.opening_is ∙ ap Some openings ∙ sym h.opening_is;
+      openings = h'.opening_is ∙ ap Some one.openings ∙ sym h.opening_is;
       logs = logs;
       histories =
           h'.keeps.histories_are
-          ∙ ap (λ (s : Shape). histories_of s (past_of h'.shape h'.moves)) (sym script.0)
+          ∙ ap (λ (s : Shape). histories_of s (past_of h'.shape h'.moves)) (sym one.shapes)
           ∙ ap (histories_of h.shape) (at' ∙ pasts)
           ∙ sym h.keeps.histories_are;
       rows =
-          rows'.1 ∙ ap Some (h'.keeps.rows_are rows'.0 rows'.1 ∙ ap (λ (o : Tables). rows_after o left'.log) openings
+          rows'.1 ∙ ap Some (h'.keeps.rows_are rows'.0 rows'.1 ∙ ap (λ (o : Tables). rows_after o left'.log) one.openings
           ∙ ap (rows_after h.opening) logs ∙ sym (h.keeps.rows_are rows.0 rows.1))
           ∙ sym rows.1;
     }

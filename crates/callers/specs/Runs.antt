@@ -101,3 +101,10 @@ pub record AreAlike (after after' : Tells) (left left' : Left) (written written'
   pub openings : left'.opening ≡ left.opening
   pub logs : left'.log ≡ left.log
   pub histories : left'.histories ≡ left.histories
+
+-- What one sink took is the first part of what another took.
+pub record IsBeginning (some all : Option (List ℕ)) : Type 0 where
+  pub printed : List ℕ
+  pub more : List ℕ
+  pub part_is : some ≡ Some printed
+  pub whole_is : all ≡ Some (printed ++ more)

@@ -3,7 +3,7 @@ ghost use Rattle.std.specs.Prelude.{◌≡◌, ◌≢◌, ◌<◌, ◌-◌, ◌^
 ghost use Rattle.sql_keeper.specs.Fresh.{Covered};
 ghost use Rattle.top_run.specs.Runs.{told_by, moment, seen, histories_at, left_at};
 ghost use Rattle.callers.specs.Shards.{MeetsItsFloor};
-ghost use Rattle.callers.specs.Runs.{IsFreshRun, IsCleanLoad, IsDoneServer, HitsHoldCommits, IsUnharmed, AreAlike};
+ghost use Rattle.callers.specs.Runs.{IsFreshRun, IsCleanLoad, IsDoneServer, HitsHoldCommits, IsUnharmed, AreAlike, IsBeginning};
 ghost use Rattle.run_inputs.specs.Words.{AreWork};
 ghost use Rattle.run_inputs.specs.declared.loads.WorkSpec.{WorkSpec};
 ghost use Rattle.run_words.specs.Words.{AreServe};
@@ -12,7 +12,7 @@ ghost use Rattle.callers.specs.Writes.{HitsAfterWrites};
 ghost use Rattle.callers.specs.Drops.{IsSweptRun};
 
 use crate::shards::hits_meet_their_floors;
-use core_history::laws::{runs_are_determined, sweeps_are_final};
+use core_history::laws::{runs_are_determined, runs_go_on, sweeps_are_final};
 use iq_outside::{Clock, Door, Gate, ListDoor, Sink, Source};
 use run_inputs::texts_tell_scripts;
 use sql_keeper::{Keeper, MapKeeper, Place};
@@ -220,6 +220,33 @@ pub fn run_twice<S: Source, T: Source, W: Sink, V: Sink>(
     let first = replay(alloc, &Place::Fresh, source, sink, keepers.0);
     let then = replay(alloc, &Place::Fresh, second, other, keepers.1);
     (first, then)
+}
+
+/// What a run printed that stopped begins what a whole one prints. Of two runs of one text over keepers
+/// in memory, the first ended Done, and no call failed of the keeper of the second. However the second
+/// ended, its sink took the first part of what the sink of the first took.
+pub fn run_in_part<S: Source, T: Source, W: Sink, V: Sink>(
+    alloc: Global,
+    source: &mut S,
+    second: &mut T,
+    sink: &mut W,
+    other: &mut V,
+    keepers: (MapKeeper, MapKeeper),
+) -> (RunEnd<MapKeeper>, RunEnd<MapKeeper>)
+    requires told { IsSome (S.left source.old) }
+    requires one_text { T.left second.old ≡ S.left source.old }
+    requires empty { W.taken sink.old ≡ Some [] }
+    requires empty_too { V.taken other.old ≡ Some [] }
+    requires keeps { keepers.1.faults < 2 ^ 64 - 1 }
+    ensures { result.0.status ≡ Status.Done → result.1.keeper.faults ≡ keepers.1.faults →
+        IsBeginning (V.taken other.new) (W.taken sink.new) }
+{
+    texts_tell_scripts();
+    runs_are_determined();
+    runs_go_on();
+    let whole = replay(alloc, &Place::Fresh, source, sink, keepers.0);
+    let part = replay(alloc, &Place::Fresh, second, other, keepers.1);
+    (whole, part)
 }
 
 /// A run in which none of the three counts of faults rose ended Done, Script or Memory.
