@@ -13,9 +13,16 @@ use key_shard::Shard;
 use rows_model::{QKey, shard_number};
 use sql_keeper::{Keeper, Store};
 use std::alloc::Global;
+use std::hint::spin_loop;
 use std::marker::Model;
 use std::sync::ledger::{Blank, Book, Share, Total};
 use std::sync::{Mutex, MutexGuard, Wait};
+
+/// How often a thread looks again for a lock that another has, before it sleeps.
+const LOOKS: u32 = 64;
+
+/// How many hints to the processor a thread gives between two such looks.
+const PAUSE: u32 = 16;
 
 /// A cache that threads share: a lock round each of its shards, and one round its store. Contracts see
 /// how many shards there are.
@@ -127,14 +134,14 @@ impl<K: Keeper, H: HubName> Hub<K, H> {
 
     /// The lock of the store.
     pub(crate) fn lock_store<R: Wait>(&self, rt: &R) -> MutexGuard<'_, KeptStore<K, H>> {
-        self.store.lock(rt)
+        locked_soon(rt, &self.store)
     }
 
     /// The lock of the shard at this place.
     pub(crate) fn lock_at<R: Wait>(&self, rt: &R, place: u32) -> MutexGuard<'_, KeptShard<H>>
         requires { place < self.now }
     {
-        self.shards[place as usize].lock(rt)
+        locked_soon(rt, &self.shards[place as usize])
     }
 
     /// The lock of the key's shard. No type says that this lock has it: where another shard lies under
@@ -149,6 +156,20 @@ impl<K: Keeper, H: HubName> Hub<K, H> {
         }
         kept
     }
+}
+
+/// Takes a lock. Where another thread has it, this one looks again for a while before it sleeps: what is
+/// done under a lock here takes less time than to send a thread to sleep and to wake it.
+fn locked_soon<'a, T, R: Wait>(rt: &R, lock: &'a Mutex<T>) -> MutexGuard<'a, T> {
+    for _ in 0..LOOKS {
+        if let Some(guard) = lock.try_lock() {
+            return guard;
+        }
+        for _ in 0..PAUSE {
+            spin_loop();
+        }
+    }
+    lock.lock(rt)
 }
 
 /// Never returns.
