@@ -28,7 +28,7 @@ use Rattle.core_history.specs.Cores.{Origin, CoreView, HasPhases, RoseBy, IsAt, 
 use Rattle.core_history.specs.Events.{Event, Stepped, Called, Ticked, Swept, told_by, told_in, told_to, swept_in, ends_told, ends_swept}
 use Rattle.core_history.specs.Events.{ends_in, ended_of, was_ended, has_committed}
 use Rattle.core_history.specs.Lines.{is_fault}
-use Rattle.core_history.specs.Machine.{World, Move, Begin, Take, Said, is_writer, is_open, begun, event_of, wanted_of, sweep_of, swept_next}
+use Rattle.core_history.specs.Machine.{World, Move, Begin, Take, Said, is_writer, is_open, begun, event_of, wanted_of, sweep_of, swept_next, ended_as}
 use Rattle.core_history.specs.Machine.{turn_event, world_of}
 use Rattle.core_history.proofs.CoresLemmas.{NoneUnbegun, follow_begun, none_begun, plans_begun}
 use Rattle.core_history.proofs.EventLemmas.{committed-told}
@@ -81,7 +81,7 @@ spares_sweep shape world n (sweep.End who) none heard = by (is_open world who)
     apart : (who.number == n) ≡ false
     apart = false_from_ne_true (who.number == n) (λ same. heard (ap (λ m. told_to m world.past) (eqb-true who.number n same) ∙ none))
 
-    by : (was : Bool) → list_any (λ other. other == n) (ends_swept (sweep.End who) (sweeps.Ended was)) ≡ false
+    by : (was : Bool) → list_any (λ other. other == n) (ends_swept (sweep.End who) (ended_as who was)) ≡ false
     by true = ap (λ (b : Bool). b || false) apart
     by false = refl
 

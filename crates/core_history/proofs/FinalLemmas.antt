@@ -20,6 +20,7 @@ use Rattle.expiry_sweeper.specs.declared.replies.SweepReply.{SweepReply}
 use Rattle.expiry_sweeper.specs.declared.replies.SweepReply.TheVariants as sweeps
 use Rattle.expiry_sweeper.specs.declared.replies.SweepWanted.{SweepWanted}
 use Rattle.expiry_sweeper.specs.declared.replies.SweepWanted.TheVariants as sweep
+use Rattle.sql_keeper.specs.declared.stores.Closed.{Closed}
 use Rattle.expiry_sweeper.specs.Sweeps.{sweep_wants, scan_told}
 use Rattle.key_freshness.specs.Known.{IsAmong, IsOver, IsMore}
 use Rattle.key_freshness.specs.Marks.{marks_of}
@@ -31,7 +32,7 @@ use Rattle.session_client.specs.declared.replies.Wanted.{Wanted}
 use Rattle.session_client.specs.declared.replies.Wanted.TheVariants as wanted
 use Rattle.core_history.specs.Events.{Event, Stepped, Called, Ticked, Swept, steps_in, steps_of, swept_in, sweeps_of, commits_in, log_of}
 use Rattle.core_history.specs.Events.{ends_in, ended_of, known_of}
-use Rattle.core_history.specs.Machine.{World, Move, Begin, Take, Said, terms_of, is_open, event_of, wanted_of, sweep_of}
+use Rattle.core_history.specs.Machine.{World, Move, Begin, Take, Said, terms_of, is_open, event_of, wanted_of, sweep_of, ended_as}
 use Rattle.core_history.specs.Machine.{swept_next, turn_event, world_of}
 use Rattle.core_history.specs.Freshness.{IsCommitOf}
 use Rattle.core_history.specs.Sweeps.{IsHitSince, AreHitsSince, WasEnded, SweepsAreFinal}
@@ -119,55 +120,57 @@ turn_drop shape world turn.Sweep said home key token s told e = sweep_drop shape
 
 -- a drop is wanted of what a scan found, once that session was ended
 record IsFound (told : List SweepReply) (key : QKey) (token : ℕ) : Type 0 where
+  pub at : ℕ
   pub due : Due
-  pub was : Bool
+  pub closing : Closed
   pub rest : List SweepReply
-  pub last : told ≡ sweeps.Ended was ∷ sweeps.Found due ∷ rest
+  pub last : told ≡ sweeps.Ended closing ∷ sweeps.Found at due ∷ rest
   pub of_key : due.key ≡ key
   pub of_token : due.token ≡ token
 
 found_first : (shards : ℕ) (told : List SweepReply) (key : QKey) (token : ℕ) → sweep_wants shards told ≡ sweep.Drop key token → IsFound told key token
 found_first shards told key token =
-    sweep_cases (λ request. request ≡ sweep.Drop key token → IsFound told key token) shards told (λ place e. absurd cc) (λ due rest last e. absurd cc)
-    (λ due was rest last e. record { due = due; was = was; rest = rest; last = last; of_key = cc; of_token = cc })
+    sweep_cases (λ request. request ≡ sweep.Drop key token → IsFound told key token) shards told (λ place e. absurd cc) (λ at due rest last e. absurd cc)
+    (λ at due closing rest last e. record { at = at; due = due; closing = closing; rest = rest; last = last; of_key = cc; of_token = cc })
 
 -- where the sweeper was told last that a session was ended, after it was found, it ended that session
-abbrev IsEndTold : List Event → Bool → Due → List SweepReply → Type 0
-IsEndTold past was due rest = sweeps_of past ≡ sweeps.Ended was ∷ sweeps.Found due ∷ rest
+abbrev IsEndTold : List Event → Closed → ℕ → Due → List SweepReply → Type 0
+IsEndTold past closing at due rest = sweeps_of past ≡ sweeps.Ended closing ∷ sweeps.Found at due ∷ rest
 
 ended_longer : (event : Event) (past : List Event) (sid : Sid) → WasEnded sid past → WasEnded sid (event ∷ past)
 ended_longer event past sid end = record { was = end.was; between = event ∷ end.between; earlier = end.earlier; is = ap (λ l. event ∷ l) end.is }
 
-not_scanned : (found : Option Due) (was : Bool) → scan_told found ≡ sweeps.Ended was → ⊥
-not_scanned None was e = cc
-not_scanned (Some other) was e = cc
+not_scanned : (place : ℕ) (found : Option Due) (closing : Closed) → scan_told place found ≡ sweeps.Ended closing → ⊥
+not_scanned place None closing e = cc
+not_scanned place (Some other) closing e = cc
 
-ended_swept : (shape : Shape) (world : World) (request : SweepWanted) (was : Bool) (due : Due) (rest : List SweepReply) → swept_next shape world ≡ request
-    → IsEndTold (sweep_of shape world request ∷ world.past) was due rest → WasEnded due.sid (sweep_of shape world request ∷ world.past)
-ended_swept shape world (sweep.Scan place) was due rest wants told = absurd (not_scanned _ was (first_same told))
-ended_swept shape world (sweep.End who) was due rest wants told =
-    let found : sweeps_of world.past ≡ sweeps.Found due ∷ rest = rest_same told in
+ended_swept : (shape : Shape) (world : World) (request : SweepWanted) (closing : Closed) (at : ℕ) (due : Due) (rest : List SweepReply)
+    → swept_next shape world ≡ request → IsEndTold (sweep_of shape world request ∷ world.past) closing at due rest → WasEnded due.sid (sweep_of shape world request ∷ world.past)
+ended_swept shape world (sweep.Scan place) closing at due rest wants told = absurd (not_scanned place _ closing (first_same told))
+ended_swept shape world (sweep.End who) closing at due rest wants told =
+    let found : sweeps_of world.past ≡ sweeps.Found at due ∷ rest = rest_same told in
     let same : sweep.End who ≡ sweep.End due.sid = sym wants ∙ ap (sweep_wants shape.shards) found in
     let is : who ≡ due.sid = cc in
     subst (λ w. WasEnded w (sweep_of shape world (sweep.End who) ∷ world.past)) is
     (record { was = is_open world who; between = []; earlier = world.past; is = refl })
-ended_swept shape world (sweep.Drop key token) was due rest wants told = absurd cc
+ended_swept shape world (sweep.Drop key token) closing at due rest wants told = absurd cc
 
-ended_turn : (shape : Shape) (world : World) (turn : Turn) (said : Said) (was : Bool) (due : Due) (rest : List SweepReply)
-    → (IsEndTold world.past was due rest → WasEnded due.sid world.past)
-    → IsEndTold (turn_event shape world turn said ∷ world.past) was due rest → WasEnded due.sid (turn_event shape world turn said ∷ world.past)
-ended_turn shape world (turn.Session who) said was due rest before told =
+ended_turn : (shape : Shape) (world : World) (turn : Turn) (said : Said) (closing : Closed) (at : ℕ) (due : Due) (rest : List SweepReply)
+    → (IsEndTold world.past closing at due rest → WasEnded due.sid world.past)
+    → IsEndTold (turn_event shape world turn said ∷ world.past) closing at due rest → WasEnded due.sid (turn_event shape world turn said ∷ world.past)
+ended_turn shape world (turn.Session who) said closing at due rest before told =
     let none = session_turn shape world who said (wanted_of world who) in
     ended_longer (turn_event shape world (turn.Session who) said) world.past due.sid (before (sym (ap (λ l. l ++ sweeps_of world.past) none) ∙ told))
-ended_turn shape world (turn.Tick by) said was due rest before told = ended_longer (turn_event shape world (turn.Tick by) said) world.past due.sid (before told)
-ended_turn shape world turn.Sweep said was due rest before told = ended_swept shape world (swept_next shape world) was due rest refl told
+ended_turn shape world (turn.Tick by) said closing at due rest before told = ended_longer (turn_event shape world (turn.Tick by) said) world.past due.sid (before told)
+ended_turn shape world turn.Sweep said closing at due rest before told = ended_swept shape world (swept_next shape world) closing at due rest refl told
 
-ended_run : (shape : Shape) (moves : List Move) (was : Bool) (due : Due) (rest : List SweepReply) → IsEndTold (world_of shape moves).past was due rest
+ended_run : (shape : Shape) (moves : List Move) (closing : Closed) (at : ℕ) (due : Due) (rest : List SweepReply)
+    → IsEndTold (world_of shape moves).past closing at due rest
     → WasEnded due.sid (world_of shape moves).past
-ended_run shape [] was due rest told = absurd cc
-ended_run shape (Begin plan ∷ moves) was due rest told = ended_run shape moves was due rest told
-ended_run shape (Take turn said ∷ moves) was due rest told =
-    ended_turn shape (world_of shape moves) turn said was due rest (λ before. ended_run shape moves was due rest before) told
+ended_run shape [] closing at due rest told = absurd cc
+ended_run shape (Begin plan ∷ moves) closing at due rest told = ended_run shape moves closing at due rest told
+ended_run shape (Take turn said ∷ moves) closing at due rest told =
+    ended_turn shape (world_of shape moves) turn said closing at due rest (λ before. ended_run shape moves closing at due rest before) told
 
 -- where one quarantine stands, and one is found, it passes the test
 only_has : (p : Quar → Bool) (x y : Quar) → find p (x ∷ []) ≡ Some y → p x ≡ true
@@ -305,7 +308,7 @@ module _ (shape : Shape) (key : QKey) (token : ℕ) where
       let on_it = subst (λ k. quar_of k token (on_key k) ≡ Some drop.quar) (sym found.of_key) drop.stands in
       let stands = subst (λ (t : ℕ). quar_of due.key t (on_key due.key) ≡ Some drop.quar) (sym found.of_token) on_it in
       let mine : due.sid ≡ drop.quar.sid = sym (theirs.mine drop.quar stands) in
-      let ended = subst (λ w. WasEnded w past) mine (ended_run shape moves found.was due found.rest found.last) in
+      let ended = subst (λ w. WasEnded w past) mine (ended_run shape moves found.closing found.at due found.rest found.last) in
       let good = subst (IsGoodEvent shape past) is (taken-inner shape world turn said inner).1 in
       let D : ℕ → Step → Type 0 = λ h x. IsGoodEvent shape past (sweeping told h x) → IsDone x past [] (sweeping told h x ∷ past) in
       let here : D place (Released key drop.quar.sid token Drop) = λ g. drop_done world inner (run_holds shape moves) drop.quar drop.stands told g ended in
@@ -377,7 +380,7 @@ module _ (shape : Shape) (key : QKey) (token : ℕ) where
   -- the session's end came before the drop, and so did its commit, if there is one
   ended_before : (sid : Sid) (before : List Event) (end : WasEnded sid before) → length (log_of end.earlier) ≤ length (log_of before)
   ended_before sid before end =
-      let event = Swept 0 (sweep.End sid) None (sweeps.Ended end.was) in
+      let event = Swept 0 (sweep.End sid) None (ended_as sid end.was) in
       let one = log_longer (event ∷ []) end.earlier in
       let more = log_longer end.between (event ∷ end.earlier) in
       let same = ap (λ l. length (log_of l)) end.is in

@@ -43,13 +43,13 @@ heard-more event past number heard none = heard (none-behind (told_in number eve
 
 -- where a reply tells of what a scan found, its session was told something
 abbrev IsOfHeard : List Event → SweepReply → Type 0
-IsOfHeard past (sweeps.Found due) = IsHeard past due.sid.number
+IsOfHeard past (sweeps.Found at due) = IsHeard past due.sid.number
 IsOfHeard past other = Unit {0}
 
 of_heard-more : (event : Event) (past : List Event) (told : SweepReply) → IsOfHeard past told → IsOfHeard (event ∷ past) told
-of_heard-more event past (sweeps.Found due) h = heard-more event past due.sid.number h
-of_heard-more event past sweeps.NoneFound h = tt
-of_heard-more event past (sweeps.Ended was) h = tt
+of_heard-more event past (sweeps.Found at due) h = heard-more event past due.sid.number h
+of_heard-more event past (sweeps.NoneFound at) h = tt
+of_heard-more event past (sweeps.Ended closing) h = tt
 of_heard-more event past (sweeps.Dropped rel) h = tt
 
 -- so it is of all that the sweeper was told
@@ -97,7 +97,7 @@ sweep-heard shape world (sweep.Scan place) inner = (by (first_due (now_of world.
     event : Event
     event = sweep_of shape world (sweep.Scan place)
 
-    by : (found : Option Due) → first_due (now_of world.past) (steps_of place world.past) ≡ found → IsOfHeard (event ∷ world.past) (scan_told found)
+    by : (found : Option Due) → first_due (now_of world.past) (steps_of place world.past) ≡ found → IsOfHeard (event ∷ world.past) (scan_told place found)
     by None e = tt
     by (Some due) e = heard-more event world.past due.sid.number (scan-heard shape world place due inner e)
 sweep-heard shape world (sweep.End who) inner = (tt, tt)
@@ -130,8 +130,8 @@ pub ends_heard : (shape : Shape) (moves : List Move) → EndsHeard (world_of sha
 ends_heard shape moves =
     let past = (world_of shape moves).past in
     sweep_cases (EndsHeard past) shape.shards (sweeps_of past) (λ place. tt)
-    (λ due before told. let heard = subst (AllByRecursion (IsOfHeard past)) told (all-heard shape moves) in heard.0)
-    (λ due was before told. tt)
+    (λ at due before told. let heard = subst (AllByRecursion (IsOfHeard past)) told (all-heard shape moves) in heard.0)
+    (λ at due closing before told. tt)
 
 -- where no session of the number 0 was told anything, whom the sweeper wants to end has a number
 pub ends_numbered : (shape : Shape) (moves : List Move) → told_to 0 (world_of shape moves).past ≡ [] → IsNumbered (swept_next shape (world_of shape moves))

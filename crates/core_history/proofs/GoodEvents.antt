@@ -153,9 +153,14 @@ IsGoodSweep shape past place None = Unit {0}
 IsGoodSweep shape past place (Some (step.Released on sid token ended.Drop)) = IsGoodDrop shape past place on sid token
 IsGoodSweep shape past place (Some other) = ⊥
 
--- Whom the sweeper ended hasn't committed.
+-- A session that was open when it was ended hasn't committed.
+abbrev pub IsGoodClosing : Bool → List Event → ℕ → Type 0
+IsGoodClosing true past who = IsLogged (log_of past) who → ⊥
+IsGoodClosing false past who = Unit {0}
+
+-- So it is with whom the sweeper ended.
 abbrev pub IsGoodEnd : List Event → SweepWanted → SweepReply → Type 0
-IsGoodEnd past (sweep.End who) (sweeps.Ended true) = IsLogged (log_of past) who.number → ⊥
+IsGoodEnd past (sweep.End who) (sweeps.Ended closed) = IsGoodClosing closed.was past who.number
 IsGoodEnd past request told = Unit {0}
 
 abbrev pub IsGoodEvent : Shape → List Event → Event → Type 0

@@ -42,7 +42,7 @@ use Rattle.session_client.specs.declared.replies.Wanted.TheVariants as wanted
 use Rattle.core_history.specs.Events.{Event, Stepped, Called, Ticked, Swept, steps_of, commits_told, log_of, ends_told, ends_swept, ended_of, known_of}
 use Rattle.core_history.specs.Facts.{leases, leased_at, answers_in, answers_under, Found, grants_as, found_at}
 use Rattle.core_history.proofs.ExclusiveLemmas.{AreAlone, HasNoReader, grants-on, writes_held, apart_step, alone_step, alone-more, alone-after}
-use Rattle.core_history.proofs.GoodEvents.{IsTold, SetsTold, IsGoodStep, IsGoodSweep, IsGoodEnd, IsGoodEvent}
+use Rattle.core_history.proofs.GoodEvents.{IsTold, SetsTold, IsGoodStep, IsGoodSweep, IsGoodEnd, IsGoodEvent, IsGoodClosing}
 use Rattle.core_history.proofs.ListLemmas.{choose, every-append, every-weaker, not_both, and_elim}
 
 -- the steps of a key's shard
@@ -535,7 +535,13 @@ ended_holds shape past after who ongoing holds =
 swept_end : (shape : Shape) (past after : List Event) (request : SweepWanted) (told : SweepReply)
     → IsGoodEnd past request told → Holds shape after (known_of past)
     → Holds shape after (record { log = log_of past ++ []; ended = ends_swept request told ++ ended_of past })
-swept_end shape past after (sweep.End who) (sweeps.Ended true) good holds = ended_holds shape past after who.number good holds
+swept_end shape past after (sweep.End who) (sweeps.Ended closing) good holds =
+    by closing.was good
+  where
+    by : (b : Bool) → IsGoodClosing b past who.number
+        → Holds shape after (record { log = log_of past ++ []; ended = cond b (who.number ∷ []) [] ++ ended_of past })
+    by true good = ended_holds shape past after who.number good holds
+    by false good = subst (Holds shape after) (known_same past [] [] refl refl) holds
 swept_end shape past after request told good holds = subst (Holds shape after) (known_same past [] [] refl refl) holds
 
 -- what the sweeper drops

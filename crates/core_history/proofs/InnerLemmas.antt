@@ -35,7 +35,7 @@ use Rattle.session_client.specs.declared.replies.Reply.TheVariants as reply
 use Rattle.session_client.specs.declared.replies.Wanted.{Wanted}
 use Rattle.session_client.specs.Wants.{granted, grants_in, is_commit, writing_of}
 use Rattle.core_history.specs.Events.{Event, Stepped, Called, Ticked, Swept, steps_in, steps_of, told_by, told_to, commits_told, log_of, sweeps_of}
-use Rattle.core_history.specs.Machine.{World, terms_of, plan_at}
+use Rattle.core_history.specs.Machine.{World, terms_of, plan_at, ended_as}
 use Rattle.core_history.specs.Facts.{answers_in, answers_under}
 use Rattle.core_history.specs.Freshness.{IsQuarantinedReply, IsQuarantinedEvent, AreQuarantined}
 use Rattle.core_history.proofs.GrantFacts.{IsDrawnBelow}
@@ -399,15 +399,15 @@ scanned-inner shape world place told inner sweeping =
     (sweeping-more shape world.plans (Swept place (sweep.Scan place) None told) world.past (told ∷ sweeps_of world.past) tt sweeping)
 
 -- the end of the session of what was found
-pub ended-inner : (shape : Shape) (world : World) (who : Sid) (was : Bool) (due : Due) (before : List SweepReply)
-    → Inner shape world → sweeps_of world.past ≡ sweeps.Found due ∷ before
-    → closed due.sid.number (Swept 0 (sweep.End who) None (sweeps.Ended was) ∷ world.past) ≡ true
-    → Inner shape (with_event world (Swept 0 (sweep.End who) None (sweeps.Ended was)))
-ended-inner shape world who was due before inner found shut =
-    let event = Swept 0 (sweep.End who) None (sweeps.Ended was) in
+pub ended-inner : (shape : Shape) (world : World) (who : Sid) (was : Bool) (at : ℕ) (due : Due) (before : List SweepReply)
+    → Inner shape world → sweeps_of world.past ≡ sweeps.Found at due ∷ before
+    → closed due.sid.number (Swept 0 (sweep.End who) None (ended_as who was) ∷ world.past) ≡ true
+    → Inner shape (with_event world (Swept 0 (sweep.End who) None (ended_as who was)))
+ended-inner shape world who was at due before inner found shut =
+    let event = Swept 0 (sweep.End who) None (ended_as who was) in
     let is = subst (IsSweeping shape world.plans world.past) found inner.sweeping in
-    unmade-inner shape world 0 (sweep.End who) (sweeps.Ended was) inner
-    (subst (λ l. IsSweeping shape world.plans (event ∷ world.past) (sweeps.Ended was ∷ l))
+    unmade-inner shape world 0 (sweep.End who) (ended_as who was) inner
+    (subst (λ l. IsSweeping shape world.plans (event ∷ world.past) (ended_as who was ∷ l))
     (sym found) (due-more shape world.plans event world.past due tt is, shut))
 
 -- a drop of what no longer stands

@@ -18,7 +18,7 @@ use Rattle.session_client.specs.declared.replies.Reply.TheVariants as reply
 use Rattle.session_client.specs.declared.replies.Wanted.TheVariants as wanted
 use Rattle.core_history.specs.Cores.{HasPhases}
 use Rattle.core_history.specs.Events.{Event, Called, Swept, commits_in, ends_in, log_of, ended_of, was_ended, has_committed}
-use Rattle.core_history.specs.Machine.{World, plan_at, is_writer, is_open}
+use Rattle.core_history.specs.Machine.{World, plan_at, is_writer, is_open, ended_as}
 use Rattle.core_history.specs.Requests.{after}
 use Rattle.core_history.proofs.ShardsLemmas.{slice_get-set_same, slice_get-set_other}
 
@@ -195,6 +195,6 @@ phases_ended phases world who has some =
 
 -- the sessions after the sweeper ended one
 pub phases_swept : (phases : List Phase) (world : World) (who : Sid) → HasPhases phases world → 1 ≤ who.number →
-    HasPhases (ended who phases) (after world (Swept 0 (sweep.End who) None (sweeps.Ended (is_open world who))))
+    HasPhases (ended who phases) (after world (Swept 0 (sweep.End who) None (ended_as who (is_open world who))))
 phases_swept phases world who has some =
-    phases_closed phases world who (λ was. Swept 0 (sweep.End who) None (sweeps.Ended was)) has some (λ was. refl) refl refl
+    phases_closed phases world who (λ was. Swept 0 (sweep.End who) None (ended_as who was)) has some (λ was. refl) refl refl

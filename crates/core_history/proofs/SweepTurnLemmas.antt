@@ -17,6 +17,7 @@ use Rattle.key_shard.specs.Answers.{IsAtHome, IsLegalPast}
 use Rattle.key_shard.specs.Replies.{sweep_told}
 use Rattle.key_shard.proofs.LegalLemmas.{own_token}
 use Rattle.key_shard.proofs.SweepLemmas.{sweep_by}
+use Rattle.sql_keeper.specs.declared.stores.Closed.{Closed}
 use Rattle.expiry_sweeper.specs.Sweeps.{sweep_wants, shard_at, scan_told}
 use Rattle.expiry_sweeper.specs.declared.replies.SweepReply.{SweepReply}
 use Rattle.expiry_sweeper.specs.declared.replies.SweepReply.TheVariants as sweeps
@@ -24,7 +25,7 @@ use Rattle.expiry_sweeper.specs.declared.replies.SweepWanted.{SweepWanted}
 use Rattle.expiry_sweeper.specs.declared.replies.SweepWanted.TheVariants as sweep
 use Rattle.session_client.specs.declared.plans.Shape.{Shape}
 use Rattle.core_history.specs.Events.{Event, Swept, steps_of, sweeps_of, now_of, has_committed, was_ended}
-use Rattle.core_history.specs.Machine.{World, terms_of, plan_at, is_open, sweep_of, swept_next}
+use Rattle.core_history.specs.Machine.{World, terms_of, plan_at, is_open, ended_as, sweep_of, swept_next}
 use Rattle.core_history.proofs.ListLemmas.{choose, or_inl, or_inr, not_both, every-append, every-found}
 use Rattle.core_history.proofs.GoodEvents.{IsGoodEvent}
 use Rattle.core_history.proofs.KeyLemmas.{DrawsNext, answers-draw}
@@ -36,18 +37,19 @@ use Rattle.core_history.proofs.WritingLemmas.{open-uncommitted, shut-closed}
 
 -- what a sweeper wants: a scan, the end of the session of what was found, or the drop of what was found once its session was ended
 pub sweep_cases : (P : SweepWanted → Type 0) (shards : ℕ) (told : List SweepReply) → ((place : ℕ) → P (sweep.Scan place))
-    → ((due : Due) (before : List SweepReply) → told ≡ sweeps.Found due ∷ before → P (sweep.End due.sid))
-    → ((due : Due) (was : Bool) (before : List SweepReply) → told ≡ sweeps.Ended was ∷ sweeps.Found due ∷ before → P (sweep.Drop due.key due.token))
+    → ((at : ℕ) (due : Due) (before : List SweepReply) → told ≡ sweeps.Found at due ∷ before → P (sweep.End due.sid))
+    → ((at : ℕ) (due : Due) (closing : Closed) (before : List SweepReply) → told ≡ sweeps.Ended closing ∷ sweeps.Found at due ∷ before
+    → P (sweep.Drop due.key due.token))
     → P (sweep_wants shards told)
 sweep_cases P shards [] scan end drop = scan 0
-sweep_cases P shards (sweeps.Found due ∷ told) scan end drop = end due told refl
+sweep_cases P shards (sweeps.Found at due ∷ told) scan end drop = end at due told refl
 sweep_cases P shards (sweeps.Dropped rel ∷ told) scan end drop = scan (shard_at shards told)
-sweep_cases P shards (sweeps.NoneFound ∷ told) scan end drop = scan (shard_at shards (sweeps.NoneFound ∷ told))
-sweep_cases P shards (sweeps.Ended was ∷ []) scan end drop = scan (shard_at shards [])
-sweep_cases P shards (sweeps.Ended was ∷ sweeps.Found due ∷ told) scan end drop = drop due was told refl
-sweep_cases P shards (sweeps.Ended was ∷ sweeps.Ended before ∷ told) scan end drop = scan (shard_at shards (sweeps.Ended before ∷ told))
-sweep_cases P shards (sweeps.Ended was ∷ sweeps.Dropped rel ∷ told) scan end drop = scan (shard_at shards (sweeps.Dropped rel ∷ told))
-sweep_cases P shards (sweeps.Ended was ∷ sweeps.NoneFound ∷ told) scan end drop = scan (shard_at shards (sweeps.NoneFound ∷ told))
+sweep_cases P shards (sweeps.NoneFound at ∷ told) scan end drop = scan (shard_at shards (sweeps.NoneFound at ∷ told))
+sweep_cases P shards (sweeps.Ended closing ∷ []) scan end drop = scan (shard_at shards [])
+sweep_cases P shards (sweeps.Ended closing ∷ sweeps.Found at due ∷ told) scan end drop = drop at due closing told refl
+sweep_cases P shards (sweeps.Ended closing ∷ sweeps.Ended before ∷ told) scan end drop = scan (shard_at shards (sweeps.Ended before ∷ told))
+sweep_cases P shards (sweeps.Ended closing ∷ sweeps.Dropped rel ∷ told) scan end drop = scan (shard_at shards (sweeps.Dropped rel ∷ told))
+sweep_cases P shards (sweeps.Ended closing ∷ sweeps.NoneFound at ∷ told) scan end drop = scan (shard_at shards (sweeps.NoneFound at ∷ told))
 
 -- what is told as due is a quarantine that stands on a key of this shard, with its session
 pub record StandsFor (terms : Terms) (past : List Step) (due : Due) : Type 0 where
@@ -148,15 +150,15 @@ scan-turn : (shape : Shape) (world : World) (place : ℕ) → Inner shape world 
 scan-turn shape world place inner = by (first_due (now_of world.past) (steps_of place world.past)) refl
   where
     by : (o : Option Due) → first_due (now_of world.past) (steps_of place world.past) ≡ o
-        → Inner shape (with_event world (Swept place (sweep.Scan place) None (scan_told o)))
-        × IsGoodEvent shape world.past (Swept place (sweep.Scan place) None (scan_told o))
-    by None e = (scanned-inner shape world place sweeps.NoneFound inner tt, (tt, tt))
-    by (Some due) e = (scanned-inner shape world place (sweeps.Found due) inner (due-of shape world place due inner e), (tt, tt))
+        → Inner shape (with_event world (Swept place (sweep.Scan place) None (scan_told place o)))
+        × IsGoodEvent shape world.past (Swept place (sweep.Scan place) None (scan_told place o))
+    by None e = (scanned-inner shape world place (sweeps.NoneFound place) inner tt, (tt, tt))
+    by (Some due) e = (scanned-inner shape world place (sweeps.Found place due) inner (due-of shape world place due inner e), (tt, tt))
 
 -- the session of what was found is ended: it is closed then
-end-turn : (shape : Shape) (world : World) (due : Due) (before : List SweepReply)
-    → Inner shape world → sweeps_of world.past ≡ sweeps.Found due ∷ before → AfterSweep shape world (sweep.End due.sid)
-end-turn shape world due before inner told = by (is_open world who) refl
+end-turn : (shape : Shape) (world : World) (at : ℕ) (due : Due) (before : List SweepReply)
+    → Inner shape world → sweeps_of world.past ≡ sweeps.Found at due ∷ before → AfterSweep shape world (sweep.End due.sid)
+end-turn shape world at due before inner told = by (is_open world who) refl
   where
     who : Sid
     who = due.sid
@@ -165,26 +167,26 @@ end-turn shape world due before inner told = by (is_open world who) refl
     is = subst (IsSweeping shape world.plans world.past) told inner.sweeping
 
     event : Bool → Event
-    event b = Swept 0 (sweep.End who) None (sweeps.Ended b)
+    event b = Swept 0 (sweep.End who) None (ended_as who b)
 
     by : (b : Bool) → is_open world who ≡ b → Inner shape (with_event world (event b)) × IsGoodEvent shape world.past (event b)
     by true still = (
-      ended-inner shape world who true due before inner told
+      ended-inner shape world who true at due before inner told
           (or_inr (has_committed who.number (event true ∷ world.past)) (was_ended who.number (event true ∷ world.past))
           (or_inl (who.number == who.number) (was_ended who.number world.past) (eq-eqb who.number who.number refl))),
       (tt, λ logged. not_both (logged-committed who.number world.past logged) (open-uncommitted world who still)),
     )
     by false shut = (
-      ended-inner shape world who false due before inner told
+      ended-inner shape world who false at due before inner told
           (closed-more who.number (event false) world.past (shut-closed world who is.plan is.at is.may shut)),
       (tt, tt),
     )
 
 -- the quarantine that was found is dropped, or stands no longer
-drop-turn : (shape : Shape) (world : World) (due : Due) (was : Bool) (before : List SweepReply)
-    → Inner shape world → sweeps_of world.past ≡ sweeps.Ended was ∷ sweeps.Found due ∷ before
+drop-turn : (shape : Shape) (world : World) (at : ℕ) (due : Due) (closing : Closed) (before : List SweepReply)
+    → Inner shape world → sweeps_of world.past ≡ sweeps.Ended closing ∷ sweeps.Found at due ∷ before
     → AfterSweep shape world (sweep.Drop due.key due.token)
-drop-turn shape world due was before inner told = by (quar_of due.key due.token steps) refl
+drop-turn shape world at due closing before inner told = by (quar_of due.key due.token steps) refl
   where
     home : ℕ
     home = shard_of due.key shape.shards
@@ -218,4 +220,5 @@ drop-turn shape world due was before inner told = by (quar_of due.key due.token 
 pub sweep-turn : (shape : Shape) (world : World) → Inner shape world → AfterSweep shape world (swept_next shape world)
 sweep-turn shape world inner =
     sweep_cases (AfterSweep shape world) shape.shards (sweeps_of world.past) (λ place. scan-turn shape world place inner)
-    (λ due before told. end-turn shape world due before inner told) (λ due was before told. drop-turn shape world due was before inner told)
+    (λ at due before told. end-turn shape world at due before inner told)
+    (λ at due closing before told. drop-turn shape world at due closing before inner told)

@@ -27,8 +27,8 @@ pub record IsDueOf (shape : Shape) (plans : List Plan) (past : List Event) (due 
 
 -- where the sweeper was told last of what a scan found, that is due, and is closed where the sweeper has ended it
 abbrev pub IsSweeping : Shape → List Plan → List Event → List SweepReply → Type 0
-IsSweeping shape plans past (sweeps.Found due ∷ told) = IsDueOf shape plans past due
-IsSweeping shape plans past (sweeps.Ended was ∷ sweeps.Found due ∷ told) = IsDueOf shape plans past due × (closed due.sid.number past ≡ true)
+IsSweeping shape plans past (sweeps.Found at due ∷ told) = IsDueOf shape plans past due
+IsSweeping shape plans past (sweeps.Ended closing ∷ sweeps.Found at due ∷ told) = IsDueOf shape plans past due × (closed due.sid.number past ≡ true)
 IsSweeping shape plans past told = Unit {0}
 
 -- a quarantine that stands after an event, of a token that was drawn before it, stood before it, and was the same session's
@@ -70,10 +70,10 @@ pub sweeping-more : (shape : Shape) (plans : List Plan) (event : Event) (past : 
     → DrawsLate shape past event → IsSweeping shape plans past told
     → IsSweeping shape plans (event ∷ past) told
 sweeping-more shape plans event past [] late h = tt
-sweeping-more shape plans event past (sweeps.Found due ∷ told) late h = due-more shape plans event past due late h
-sweeping-more shape plans event past (sweeps.Ended was ∷ sweeps.Found due ∷ told) late h =
+sweeping-more shape plans event past (sweeps.Found at due ∷ told) late h = due-more shape plans event past due late h
+sweeping-more shape plans event past (sweeps.Ended closing ∷ sweeps.Found at due ∷ told) late h =
     (due-more shape plans event past due late h.0, closed-more due.sid.number event past h.1)
-sweeping-more shape plans event past (sweeps.Ended was ∷ other) late h = tt
+sweeping-more shape plans event past (sweeps.Ended closing ∷ other) late h = tt
 sweeping-more shape plans event past (other ∷ told) late h = tt
 
 -- with one plan more
@@ -85,7 +85,7 @@ due-begun shape plans more past due h =
 pub sweeping-begun : (shape : Shape) (plans : List Plan) (more : Plan) (past : List Event) (told : List SweepReply) → IsSweeping shape plans past told
     → IsSweeping shape (plans ++ more ∷ []) past told
 sweeping-begun shape plans more past [] h = tt
-sweeping-begun shape plans more past (sweeps.Found due ∷ told) h = due-begun shape plans more past due h
-sweeping-begun shape plans more past (sweeps.Ended was ∷ sweeps.Found due ∷ told) h = (due-begun shape plans more past due h.0, h.1)
-sweeping-begun shape plans more past (sweeps.Ended was ∷ other) h = tt
+sweeping-begun shape plans more past (sweeps.Found at due ∷ told) h = due-begun shape plans more past due h
+sweeping-begun shape plans more past (sweeps.Ended closing ∷ sweeps.Found at due ∷ told) h = (due-begun shape plans more past due h.0, h.1)
+sweeping-begun shape plans more past (sweeps.Ended closing ∷ other) h = tt
 sweeping-begun shape plans more past (other ∷ told) h = tt

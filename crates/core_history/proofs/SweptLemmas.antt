@@ -19,6 +19,7 @@ use Rattle.expiry_sweeper.specs.declared.replies.SweepWanted.{SweepWanted}
 use Rattle.expiry_sweeper.specs.declared.replies.SweepWanted.TheVariants as sweep
 use Rattle.expiry_sweeper.specs.declared.sweepers.Sweeper.{Sweeper}
 use Rattle.expiry_sweeper.specs.Follows.{shards_of, Follows}
+use Rattle.sql_keeper.specs.declared.stores.Closed.{Closed}
 use Rattle.expiry_sweeper.specs.Sweeps.{sweep_wants, scan_told}
 use Rattle.sql_keeper.specs.declared.stores.Phase.{Phase}
 use Rattle.sql_keeper.specs.Sessions.{is_open as may_commit, ended}
@@ -27,7 +28,7 @@ use Rattle.session_client.specs.declared.plans.Shape.{Shape}
 use Rattle.core_history.specs.declared.told.Told.{Told}
 use Rattle.core_history.specs.Cores.{Origin, HasShards, HasPhases, HasSweeper, shard_after}
 use Rattle.core_history.specs.Events.{Event, Swept, steps_of, sweeps_of, now_of}
-use Rattle.core_history.specs.Machine.{World, sweep_of}
+use Rattle.core_history.specs.Machine.{World, sweep_of, is_open}
 use Rattle.core_history.specs.Requests.{Stands, StandsStore, after}
 use Rattle.core_history.specs.Sweeping.{IsToldSweeper, SweepsShards, SweepsStore, Sweeps, TakesSweep}
 use Rattle.core_history.specs.Told.{IsToldOf}
@@ -45,23 +46,26 @@ past_is shape past place shard same = ap past_of same ∙ reverse-reverse (steps
 -- what a scan finds is told
 pub scan_told_is : (shape : Shape) (world : World) (place now : ℕ) (shards : List ShardView) (shard : ShardView) (found : Option Due)
     → HasShards shards shape world.past → place < length shards → slice_get shards place ≡ Some shard → now ≡ now_of world.past
-    → found ≡ first_due now (past_of shard) → IsToldSweeper shape world (sweep.Scan place) (scan_told found)
+    → found ≡ first_due now (past_of shard) → IsToldSweeper shape world (sweep.Scan place) (scan_told place found)
 scan_told_is shape world place now shards shard found has within there time is =
     let same : shard ≡ shard_after shape world.past place =
     some_is shard (shard_after shape world.past place) (sym there ∙ has.each place (omega (arith, within, has.count))) in
     let found_is : first_due (now_of world.past) (steps_of place world.past) ≡ found =
     ap (first_due (now_of world.past)) (sym (past_is shape world.past place shard same)) ∙ ap (λ (n : ℕ). first_due n (past_of shard)) (sym time) ∙ sym is in
-    ap (λ (o : Option Due). scan_told o ∷ []) found_is
+    ap (λ (o : Option Due). scan_told place o ∷ []) found_is
+
+closed_is : (closing : Closed) (who : Sid) (was : Bool) → closing.sid ≡ who → closing.was ≡ was → closing ≡ record { sid = who; was = was }
+closed_is closing who was e f = λ i. record { sid = e i; was = f i }
 
 -- a session that was ended
-pub end_told_is : (old new : StoreView) (origin : Origin) (world : World) (who : Sid) (was : Bool) → StandsStore old origin world → 1 ≤ who.number
-    → was ≡ may_commit who old.ledger.sessions → new.ledger ≡ with_end who old.ledger → new.told ≡ old.told → new.faults ≡ old.faults
-    → SweepsStore origin world (sweep.End who) new (sweeps.Ended was)
-end_told_is old new origin world who was stands some was_is ledger told faults =
+pub end_told_is : (old new : StoreView) (origin : Origin) (world : World) (who : Sid) (closing : Closed) → StandsStore old origin world → 1 ≤ who.number
+    → closing.sid ≡ who → closing.was ≡ may_commit who old.ledger.sessions → new.ledger ≡ with_end who old.ledger → new.told ≡ old.told → new.faults ≡ old.faults
+    → SweepsStore origin world (sweep.End who) new (sweeps.Ended closing)
+end_told_is old new origin world who closing stands some sid_is was_is ledger told faults =
     let event = sweep_of origin.shape world (sweep.End who) in
     let sessions : new.ledger.sessions ≡ ended who old.ledger.sessions = ap (λ (l : Ledger). l.sessions) ledger in
     let P : List Phase → Type 0 = λ xs. HasPhases xs (after world event) in (
-      ap (λ (b : Bool). sweeps.Ended b ∷ []) (sym (was_is ∙ stands.1.opens who some)),
+      sym (ap (λ (c : Closed). sweeps.Ended c ∷ []) (closed_is closing who (is_open world who) sid_is (was_is ∙ stands.1.opens who some))),
       (
         store_ended old new origin world.past who event stands.0 ledger (subst (λ (o : Option Tables). IsSome o) told) faults refl refl (λ rows. tt),
         subst P (sym sessions) (phases_swept old.ledger.sessions world who stands.1 some),

@@ -96,7 +96,7 @@ ends_told who other = []
 
 -- The session that the sweeper ended, if it did.
 abbrev pub ends_swept : SweepWanted → SweepReply → List ℕ
-ends_swept (sweep.End who) (sweeps.Ended true) = who.number ∷ []
+ends_swept (sweep.End who) (sweeps.Ended closed) = if closed.was then who.number ∷ [] else []
 ends_swept request told = []
 
 -- The session that an event ended, if it did.

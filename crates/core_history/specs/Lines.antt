@@ -186,9 +186,9 @@ sweep_words (sweep.Drop key token) = codes "drop" ∷ key_text key ∷ []
 
 -- The words that print what the sweeper was told.
 abbrev pub swept_words : SweepReply → List (List ℕ)
-swept_words (sweeps.Found due) = codes "FOUND" ∷ key_text due.key ∷ decimal due.sid.number ∷ []
-swept_words sweeps.NoneFound = codes "NONE" ∷ []
-swept_words (sweeps.Ended was) = open_words was
+swept_words (sweeps.Found at due) = codes "FOUND" ∷ key_text due.key ∷ decimal due.sid.number ∷ []
+swept_words (sweeps.NoneFound at) = codes "NONE" ∷ []
+swept_words (sweeps.Ended closed) = open_words closed.was
 swept_words (sweeps.Dropped told) = release_words told
 
 -- The words of a session's turn: its number, its request, and what it was told.

@@ -25,6 +25,7 @@ use Rattle.key_shard.specs.Answers.{get_step, set_step, quarantine_step, release
 use Rattle.key_shard.specs.Replies.{old_value, sweep_told}
 use Rattle.key_shard.specs.Shards.{without_permit, out_after, raised_permit}
 use Rattle.expiry_sweeper.specs.Sweeps.{sweep_wants, scan_told}
+use Rattle.expiry_sweeper.specs.declared.replies.SweepReply.{SweepReply}
 use Rattle.expiry_sweeper.specs.declared.replies.SweepReply.TheVariants as sweeps
 use Rattle.expiry_sweeper.specs.declared.replies.SweepWanted.{SweepWanted}
 use Rattle.expiry_sweeper.specs.declared.replies.SweepWanted.TheVariants as sweep
@@ -210,12 +211,16 @@ event_of shape world who wanted.Nothing said = Called who wanted.Nothing reply.N
 abbrev pub wanted_of : World → Sid → Wanted
 wanted_of world who = wanted_by (plan_at who.number world.plans) (told_to who.number world.past)
 
+-- What an end tells the sweeper: which session was ended, and whether it was open.
+abbrev pub ended_as : Sid → Bool → SweepReply
+ended_as who was = sweeps.Ended (record { sid = who; was = was })
+
 -- The event of what the sweeper wants: a scan finds the first quarantine that is past its deadline,
 -- an end is one at the store, and a drop is a step on the shard of its key, where the quarantine stands.
 abbrev pub sweep_of : Shape → World → SweepWanted → Event
 sweep_of shape world (sweep.Scan place) =
-    Swept place (sweep.Scan place) None (scan_told (first_due (now_of world.past) (steps_of place world.past)))
-sweep_of shape world (sweep.End who) = Swept 0 (sweep.End who) None (sweeps.Ended (is_open world who))
+    Swept place (sweep.Scan place) None (scan_told place (first_due (now_of world.past) (steps_of place world.past)))
+sweep_of shape world (sweep.End who) = Swept 0 (sweep.End who) None (ended_as who (is_open world who))
 sweep_of shape world (sweep.Drop key token) =
     let place = shard_of key shape.shards in
     let step = sweep_step (steps_of place world.past) key token in

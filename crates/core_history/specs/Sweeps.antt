@@ -9,12 +9,11 @@ use Rattle.key_shard.specs.declared.steps.Step.{Step}
 use Rattle.key_shard.specs.declared.steps.Step.TheVariants.{Hit, Released}
 use Rattle.key_shard.specs.Past.{quar_of}
 use Rattle.expiry_sweeper.specs.declared.replies.SweepReply.{SweepReply}
-use Rattle.expiry_sweeper.specs.declared.replies.SweepReply.TheVariants as sweeps
 use Rattle.expiry_sweeper.specs.declared.replies.SweepWanted.TheVariants as sweep
 use Rattle.key_freshness.specs.Known.{IsOver}
 use Rattle.session_client.specs.declared.plans.Shape.{Shape}
 use Rattle.core_history.specs.Events.{Event, Swept, steps_of, log_of, known_of}
-use Rattle.core_history.specs.Machine.{Move, world_of}
+use Rattle.core_history.specs.Machine.{Move, world_of, ended_as}
 use Rattle.core_history.specs.Freshness.{IsCommitOf}
 
 -- A hit on the key has a stamp of at least this.
@@ -33,7 +32,7 @@ pub record WasEnded (sid : Sid) (past : List Event) : Type 0 where
   -- the events that came after that, and those before it
   pub between : List Event
   pub earlier : List Event
-  pub is : past ≡ between ++ Swept 0 (sweep.End sid) None (sweeps.Ended was) ∷ earlier
+  pub is : past ≡ between ++ Swept 0 (sweep.End sid) None (ended_as sid was) ∷ earlier
 
 -- What holds once the sweeper made this step to drop the quarantine of this token from
 -- the key: of the events before it, of those after it, and of the past with all of them.

@@ -52,12 +52,12 @@ fn push_told(alloc: Global, text: &mut Vec<u8>, told: SweepReply) -> Result<(), 
     ensures { OnOk result (text.new.items ≡ text.old.items ++ spaced (swept_words told)) }
 {
     match told {
-        SweepReply::Found { due } => {
+        SweepReply::Found { shard: _, due } => {
             push_verb(alloc, text, b"FOUND", &due.key)?;
             push_number(text, due.sid.number)
         }
-        SweepReply::NoneFound => push_word(text, b"NONE"),
-        SweepReply::Ended { was } => push_open(text, was),
+        SweepReply::NoneFound { .. } => push_word(text, b"NONE"),
+        SweepReply::Ended { closed } => push_open(text, closed.was()),
         SweepReply::Dropped { told } => push_release(alloc, text, told),
     }
 }

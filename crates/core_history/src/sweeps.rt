@@ -77,8 +77,8 @@ fn scan(shards: &mut Vec<Shard>, shard: u32, now: u64) -> SweepReply
     ensures belongs { BelongsTo (sweep.Scan shard) result }
 {
     match shards[shard as usize].expired(now) {
-        Some(due) => SweepReply::Found { due },
-        None => SweepReply::NoneFound,
+        Some(due) => SweepReply::Found { shard, due },
+        None => SweepReply::NoneFound { shard },
     }
 }
 
@@ -91,7 +91,7 @@ fn end<K: Keeper>(store: &mut Store<K>, sid: Sid) -> SweepReply
     ensures unasked { (store.new.told ≡ store.old.told) × (store.new.faults ≡ store.old.faults) }
 {
     SweepReply::Ended {
-        was: store.end(sid),
+        closed: store.end(sid),
     }
 }
 

@@ -24,7 +24,7 @@ pub fn on_store<K: Keeper, N: Start>(store: &mut Store<K, N>, who: Sid, request:
         Wanted::Staged { key, txn } => ask_staged(store, key, txn),
         Wanted::Commit { txn, grants } => commit(store, who, txn, grants),
         Wanted::End => Reply::End {
-            was: store.end(who),
+            was: store.end(who).was(),
         },
         Wanted::Get { .. }
         | Wanted::Set { .. }

@@ -26,9 +26,9 @@ shard-kept shards told before other =
     ap (λ n. n % shards) same
 
 -- where none was found, the next shard is swept, and shard 0 after the last
-pub shard-none_found : (shards : ℕ) (before : List SweepReply)
-    → 0 < shards → shard_at shards (reply.NoneFound ∷ before) ≡ cond (ltb (shard_at shards before + 1) shards) (shard_at shards before + 1) 0
-shard-none_found shards before some =
+pub shard-none_found : (shards place : ℕ) (before : List SweepReply)
+    → 0 < shards → shard_at shards (reply.NoneFound place ∷ before) ≡ cond (ltb (shard_at shards before + 1) shards) (shard_at shards before + 1) 0
+shard-none_found shards place before some =
     ap (λ n. n % shards) one ∙ suc-mod n shards ∙ by (eq-or-lt_of_le next)
   where
     n : ℕ
@@ -37,9 +37,9 @@ shard-none_found shards before some =
     at : ℕ
     at = n % shards
 
-    one : count_by is_none_found (reply.NoneFound ∷ before) ≡ suc n
+    one : count_by is_none_found (reply.NoneFound place ∷ before) ≡ suc n
     one =
-        let counted = sum_by-cons (λ reply. cond (is_none_found reply) 1 0) reply.NoneFound before in
+        let counted = sum_by-cons (λ reply. cond (is_none_found reply) 1 0) (reply.NoneFound place) before in
         omega (arith, counted)
 
     next : suc at ≤ shards
@@ -57,17 +57,17 @@ shard-none_found shards before some =
 -- a scan that is wanted is of the shard that is being swept
 pub scan-at : (shards : ℕ) (told : List SweepReply) (shard : ℕ) → sweep_wants shards told ≡ wanted.Scan shard → shard_at shards told ≡ shard
 scan-at shards [] shard e = zero-mod shards ∙ cc
-scan-at shards (reply.Found due ∷ before) shard e = absurd cc
-scan-at shards (reply.NoneFound ∷ before) shard e = cc
+scan-at shards (reply.Found place due ∷ before) shard e = absurd cc
+scan-at shards (reply.NoneFound place ∷ before) shard e = cc
 scan-at shards (reply.Dropped rel ∷ before) shard e = shard-kept shards (reply.Dropped rel) before refl ∙ cc
-scan-at shards (reply.Ended was ∷ before) shard e = shard-kept shards (reply.Ended was) before refl ∙ by before e
+scan-at shards (reply.Ended closed ∷ before) shard e = shard-kept shards (reply.Ended closed) before refl ∙ by before e
   where
     by : (before : List SweepReply) → drop_found shards before ≡ wanted.Scan shard → shard_at shards before ≡ shard
     by [] e = cc
-    by (reply.Found due ∷ rest) e = absurd cc
-    by (reply.NoneFound ∷ rest) e = cc
+    by (reply.Found place due ∷ rest) e = absurd cc
+    by (reply.NoneFound place ∷ rest) e = cc
     by (reply.Dropped rel ∷ rest) e = cc
-    by (reply.Ended was ∷ rest) e = cc
+    by (reply.Ended closed ∷ rest) e = cc
 
 -- it is one of the shards
 pub wants-within : (shards : ℕ) (told : List SweepReply) → 0 < shards → IsWithin shards (sweep_wants shards told)
@@ -79,36 +79,36 @@ wants-within shards told some = by (sweep_wants shards told) refl
     by (wanted.End sid) e = tt
     by (wanted.Drop key token) e = tt
 
--- what is found belongs to a scan
-found-scanned : (due : _) (request : SweepWanted) → BelongsTo request (reply.Found due) → (shard : ℕ) × (request ≡ wanted.Scan shard)
-found-scanned due (wanted.Scan shard) h = (shard, refl)
-found-scanned due (wanted.End sid) h = absurd h
-found-scanned due (wanted.Drop key token) h = absurd h
+-- what is found belongs to a scan of its shard
+found-scanned : (place : ℕ) (due : _) (request : SweepWanted) → BelongsTo request (reply.Found place due) → request ≡ wanted.Scan place
+found-scanned place due (wanted.Scan shard) h = ap wanted.Scan (sym h)
+found-scanned place due (wanted.End sid) h = absurd h
+found-scanned place due (wanted.Drop key token) h = absurd h
 
 pub ends_before_drops : EndsBeforeDrops
 ends_before_drops shards [] key token are e = absurd cc
-ends_before_drops shards (reply.Found due ∷ told) key token are e = absurd cc
-ends_before_drops shards (reply.NoneFound ∷ told) key token are e = absurd cc
+ends_before_drops shards (reply.Found place due ∷ told) key token are e = absurd cc
+ends_before_drops shards (reply.NoneFound place ∷ told) key token are e = absurd cc
 ends_before_drops shards (reply.Dropped rel ∷ told) key token are e = absurd cc
-ends_before_drops shards (reply.Ended was ∷ told) key token are e = by told are e
+ends_before_drops shards (reply.Ended closed ∷ told) key token are e = by told are e
   where
-    by : (told : List SweepReply) → AreAnswers shards (reply.Ended was ∷ told)
-        → drop_found shards told ≡ wanted.Drop key token → EndedFirst shards (reply.Ended was ∷ told) key token
+    by : (told : List SweepReply) → AreAnswers shards (reply.Ended closed ∷ told)
+        → drop_found shards told ≡ wanted.Drop key token → EndedFirst shards (reply.Ended closed ∷ told) key token
     by [] are e = absurd cc
-    by (reply.NoneFound ∷ before) are e = absurd cc
+    by (reply.NoneFound place ∷ before) are e = absurd cc
     by (reply.Dropped rel ∷ before) are e = absurd cc
     by (reply.Ended had ∷ before) are e = absurd cc
-    by (reply.Found due ∷ before) are e =
-        let scan = found-scanned due (sweep_wants shards before) are.1.0 in
+    by (reply.Found place due ∷ before) are e =
         record {
           due = due;
-          was = was;
+          closed = closed;
+          at = place;
           before = before;
           last = refl;
           of_key = cc;
           of_token = cc;
-          scanned = scan.1 ∙ ap wanted.Scan (sym (scan-at shards before scan.0 scan.1));
-          ended = refl;
+          scanned = found-scanned place due (sweep_wants shards before) are.1.0;
+          ended = are.0;
         }
 
 -- the shard behind the one that is being swept
@@ -116,26 +116,27 @@ abbrev pub next_of : Sweeper → ℕ
 next_of sweeper = cond (ltb (sweeper.shard + 1) sweeper.shards) (sweeper.shard + 1) 0
 
 -- a sweeper that found none, and goes on to the next shard
-pub follows_none_found : (old new : Sweeper) (before : List SweepReply) → BelongsTo (wanted_of old) reply.NoneFound
-    → new.shards ≡ old.shards → new.shard ≡ next_of old → new.stage ≡ old.stage → Follows old before → Follows new (reply.NoneFound ∷ before)
-follows_none_found old new before belongs shards shard stage follows = record {
+pub follows_none_found : (old new : Sweeper) (place : ℕ) (before : List SweepReply) → wanted_of old ≡ wanted.Scan old.shard
+    → new.shards ≡ old.shards → new.shard ≡ next_of old → new.stage ≡ old.stage → Follows old before → Follows new (reply.NoneFound place ∷ before)
+follows_none_found old new place before scans shards shard stage follows = record {
   shard = here;
-  wants = scans.0 ∙ ap wanted.Scan here;
-  drops = scans.1;
+  wants = there.0 ∙ ap wanted.Scan here;
+  drops = there.1;
 }
   where
-    here : new.shard ≡ shard_at new.shards (reply.NoneFound ∷ before)
+    here : new.shard ≡ shard_at new.shards (reply.NoneFound place ∷ before)
     here =
         let some : 0 < old.shards = omega (arith, old.within) in
         shard ∙ ap (λ n. cond (ltb (n + 1) old.shards) (n + 1) 0) follows.shard
-        ∙ sym (shard-none_found old.shards before some) ∙ ap (λ n. shard_at n (reply.NoneFound ∷ before)) (sym shards)
+        ∙ sym (shard-none_found old.shards place before some) ∙ ap (λ n. shard_at n (reply.NoneFound place ∷ before)) (sym shards)
 
-    by : (at : Stage) → BelongsTo (wanted_at old.shard at) reply.NoneFound
-        → (wanted_at new.shard at ≡ wanted.Scan new.shard) × DropsFound new.shards at (reply.NoneFound ∷ before)
+    by : (at : Stage) → wanted_at old.shard at ≡ wanted.Scan old.shard
+        → (wanted_at new.shard at ≡ wanted.Scan new.shard) × DropsFound new.shards at (reply.NoneFound place ∷ before)
     by stages.Scanning h = (refl, tt)
-    by (stages.Ending due) h = absurd h
-    by (stages.Dropping due) h = absurd h
+    by (stages.Ending due) h = absurd cc
+    by (stages.Dropping due) h = absurd cc
 
-    scans : (wanted_of new ≡ wanted.Scan new.shard) × DropsFound new.shards new.stage (reply.NoneFound ∷ before)
-    scans =
-        subst (λ at. (wanted_at new.shard at ≡ wanted.Scan new.shard) × DropsFound new.shards at (reply.NoneFound ∷ before)) (sym stage) (by old.stage belongs)
+    there : (wanted_of new ≡ wanted.Scan new.shard) × DropsFound new.shards new.stage (reply.NoneFound place ∷ before)
+    there =
+        subst (λ at. (wanted_at new.shard at ≡ wanted.Scan new.shard) × DropsFound new.shards at (reply.NoneFound place ∷ before)) (sym stage)
+        (by old.stage scans)

@@ -1,5 +1,5 @@
 -- What a sweeper wants next, read off what it was told, the latest first.
-use Rattle.std.specs.Prelude.{ℕ, ◌<◌, ◌%◌, Bool, true, false, List, [], ◌∷◌, count_by, Option, Some, None}
+use Rattle.std.specs.Prelude.{ℕ, ◌≡◌, ◌<◌, ◌%◌, Bool, true, false, List, [], ◌∷◌, count_by, Option, Some, None}
 use Rattle.lease_table.specs.declared.records.Due.{Due}
 use Rattle.expiry_sweeper.specs.declared.replies.SweepReply.{SweepReply}
 use Rattle.expiry_sweeper.specs.declared.replies.SweepReply.TheVariants as reply
@@ -8,7 +8,7 @@ use Rattle.expiry_sweeper.specs.declared.replies.SweepWanted.TheVariants as want
 
 -- Whether a reply says that a shard has no quarantine that is past its deadline.
 abbrev pub is_none_found : SweepReply → Bool
-is_none_found reply.NoneFound = true
+is_none_found (reply.NoneFound at) = true
 is_none_found other = false
 
 -- The shard that is being swept: a sweeper goes on to the next one as often as none was found, and to shard 0 after the last.
@@ -17,28 +17,28 @@ shard_at shards told = count_by is_none_found told % shards
 
 -- What is wanted once a session was ended: to drop the key on which its quarantine was found just before.
 abbrev pub drop_found : ℕ → List SweepReply → SweepWanted
-drop_found shards (reply.Found due ∷ told) = wanted.Drop due.key due.token
+drop_found shards (reply.Found at due ∷ told) = wanted.Drop due.key due.token
 drop_found shards told = wanted.Scan (shard_at shards told)
 
 -- What a sweeper of so many shards wants: to end the session of what was found, then to
 -- drop the key, and then to scan the same shard again; where none was found, to scan the next.
 abbrev pub sweep_wants : ℕ → List SweepReply → SweepWanted
 sweep_wants shards [] = wanted.Scan 0
-sweep_wants shards (reply.Found due ∷ told) = wanted.End due.sid
-sweep_wants shards (reply.Ended was ∷ told) = drop_found shards told
+sweep_wants shards (reply.Found at due ∷ told) = wanted.End due.sid
+sweep_wants shards (reply.Ended closed ∷ told) = drop_found shards told
 sweep_wants shards (reply.Dropped rel ∷ told) = wanted.Scan (shard_at shards told)
-sweep_wants shards (reply.NoneFound ∷ told) = wanted.Scan (shard_at shards (reply.NoneFound ∷ told))
+sweep_wants shards (reply.NoneFound at ∷ told) = wanted.Scan (shard_at shards (reply.NoneFound at ∷ told))
 
--- What a scan tells: the first quarantine that is due, or that there is none.
-abbrev pub scan_told : Option Due → SweepReply
-scan_told (Some due) = reply.Found due
-scan_told None = reply.NoneFound
+-- What a scan of a shard tells: the first quarantine that is due, or that there is none.
+abbrev pub scan_told : ℕ → Option Due → SweepReply
+scan_told shard (Some due) = reply.Found shard due
+scan_told shard None = reply.NoneFound shard
 
--- The reply belongs to what is wanted.
+-- The reply belongs to what is wanted: a scan tells of that shard, and an end of that session.
 abbrev pub BelongsTo : SweepWanted → SweepReply → Type 0
-BelongsTo (wanted.Scan shard) (reply.Found due) = Unit {0}
-BelongsTo (wanted.Scan shard) reply.NoneFound = Unit {0}
-BelongsTo (wanted.End sid) (reply.Ended was) = Unit {0}
+BelongsTo (wanted.Scan shard) (reply.Found at due) = at ≡ shard
+BelongsTo (wanted.Scan shard) (reply.NoneFound at) = at ≡ shard
+BelongsTo (wanted.End sid) (reply.Ended closed) = closed.sid ≡ sid
 BelongsTo (wanted.Drop key token) (reply.Dropped rel) = Unit {0}
 BelongsTo request told = ⊥
 

@@ -1,6 +1,7 @@
 use key_shard::Rel;
 use lease_table::Due;
 use rows_model::{QKey, Sid};
+use sql_keeper::Closed;
 
 /// What a sweeper wants next.
 #[derive(Clone, Copy, PartialEq, Eq)]
@@ -16,12 +17,12 @@ pub enum SweepWanted {
 /// What a sweeper is told.
 #[derive(Clone, Copy)]
 pub enum SweepReply {
-    /// This quarantine is past its deadline.
-    Found { due: Due },
-    /// No quarantine of the shard is.
-    NoneFound,
-    /// Whether the session was open at the store. It isn't now.
-    Ended { was: bool },
+    /// This quarantine of the shard of this number is past its deadline.
+    Found { shard: u32, due: Due },
+    /// No quarantine of the shard of this number is.
+    NoneFound { shard: u32 },
+    /// The session was ended at the store, which alone can tell that.
+    Ended { closed: Closed },
     /// The answer to the drop.
     Dropped { told: Rel },
 }

@@ -1,7 +1,9 @@
 ghost use Rattle.std.specs.Prelude.{◌≡◌, ◌≤◌, ◌<◌, ◌↔◌, List, [], ◌∷◌, IsTrue};
+ghost use Rattle.expiry_sweeper.specs.Sweeps.{BelongsTo};
 
 use crate::replies::{SweepReply, SweepWanted};
 use lease_table::Due;
+use rows_model::Sid;
 
 /// Where a sweeper stands.
 #[derive(Clone, Copy)]
@@ -75,8 +77,8 @@ impl Sweeper {
         ensures { IsTrue result ↔ BelongsTo (wanted_of self.now) reply.now }
     {
         match self.stage {
-            Stage::Scanning => matches!(reply, SweepReply::Found { .. } | SweepReply::NoneFound),
-            Stage::Ending { .. } => matches!(reply, SweepReply::Ended { .. }),
+            Stage::Scanning => is_of_shard(reply, self.shard),
+            Stage::Ending { due } => is_of_session(reply, due.sid),
             Stage::Dropping { .. } => matches!(reply, SweepReply::Dropped { .. }),
         }
     }
@@ -89,9 +91,9 @@ impl Sweeper {
             → Follows self.new (reply ∷ told) }
     {
         match reply {
-            SweepReply::Found { due } => self.stage = Stage::Ending { due },
-            SweepReply::NoneFound => self.go_on(),
-            SweepReply::Ended { was: _ } => {
+            SweepReply::Found { shard: _, due } => self.stage = Stage::Ending { due },
+            SweepReply::NoneFound { .. } => self.go_on(),
+            SweepReply::Ended { closed: _ } => {
                 if let Stage::Ending { due } = self.stage {
                     self.stage = Stage::Dropping { due };
                 }
@@ -102,12 +104,32 @@ impl Sweeper {
 
     /// Goes on to the next shard, and to shard 0 after the last.
     fn go_on(&mut self)
-        requires { BelongsTo (wanted_of self.old) SweepReply.NoneFound }
+        requires { wanted_of self.old ≡ SweepWanted.Scan self.old.shard }
         ensures shards { shards_of self.new ≡ shards_of self.old }
         ensures follows { (told : List SweepReply) → Follows self.old told
-            → Follows self.new (SweepReply.NoneFound ∷ told) }
+            → Follows self.new (SweepReply.NoneFound self.old.shard ∷ told) }
     {
         let next = self.shard + 1;
         self.shard = if next < self.shards { next } else { 0 };
+    }
+}
+
+/// Whether a reply tells of a scan of this shard.
+fn is_of_shard(reply: &SweepReply, shard: u32) -> bool
+    ensures { IsTrue result ↔ BelongsTo (SweepWanted.Scan shard) reply.now }
+{
+    match reply {
+        SweepReply::Found { shard: place, .. } | SweepReply::NoneFound { shard: place } => *place == shard,
+        SweepReply::Ended { .. } | SweepReply::Dropped { .. } => false,
+    }
+}
+
+/// Whether a reply tells that this session was ended.
+fn is_of_session(reply: &SweepReply, sid: Sid) -> bool
+    ensures { IsTrue result ↔ BelongsTo (SweepWanted.End sid) reply.now }
+{
+    match reply {
+        SweepReply::Ended { closed } => closed.sid() == sid,
+        SweepReply::Found { .. } | SweepReply::NoneFound { .. } | SweepReply::Dropped { .. } => false,
     }
 }

@@ -102,7 +102,9 @@ impl<'a, K: Keeper, H: HubName, C: Clock, G: Gate, R: Wait> Desk for HubDesk<'a,
             SweepWanted::End { sid } => {
                 let mut kept = self.hub.lock_store(self.rt);
                 self.gate.at(self.worker, Point::AtStore);
-                SweepReply::Ended { was: kept.end(sid) }
+                SweepReply::Ended {
+                    closed: kept.end(sid),
+                }
             }
             SweepWanted::Drop { key, token } => {
                 let mut kept = self.hub.lock_of(self.rt, &key);

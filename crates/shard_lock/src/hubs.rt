@@ -137,24 +137,25 @@ impl<K: Keeper, H: HubName> Hub<K, H> {
         locked_soon(rt, &self.store)
     }
 
-    /// The lock of the shard at this place.
+    /// The lock of the shard of this number. No type says that this lock has it: where another shard lies
+    /// under it, the call waits for ever.
     pub(crate) fn lock_at<R: Wait>(&self, rt: &R, place: u32) -> MutexGuard<'_, KeptShard<H>>
         requires { place < self.now }
+        ensures number { (mutex_guard_value result).terms.no ≡ place }
+        ensures named { IsNamed H.terms (mutex_guard_value result) }
     {
-        locked_soon(rt, &self.shards[place as usize])
-    }
-
-    /// The lock of the key's shard. No type says that this lock has it: where another shard lies under
-    /// it, the call waits for ever.
-    pub(crate) fn lock_of<R: Wait>(&self, rt: &R, key: &QKey) -> MutexGuard<'_, KeptShard<H>>
-        ensures { IsAtHome (mutex_guard_value result).terms key.now }
-    {
-        let place = shard_number(key, self.count);
-        let kept = self.lock_at(rt, place);
+        let kept = locked_soon(rt, &self.shards[place as usize]);
         if kept.no() != place {
             wait_for_ever(rt);
         }
         kept
+    }
+
+    /// The lock of the key's shard.
+    pub(crate) fn lock_of<R: Wait>(&self, rt: &R, key: &QKey) -> MutexGuard<'_, KeptShard<H>>
+        ensures { IsAtHome (mutex_guard_value result).terms key.now }
+    {
+        self.lock_at(rt, shard_number(key, self.count))
     }
 }
 

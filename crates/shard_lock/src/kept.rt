@@ -19,7 +19,7 @@ use expiry_sweeper::SweepReply;
 use key_shard::{Rel, Shard};
 use rows_model::{Memory, QKey, Sid};
 use session_client::{Reply, Wanted};
-use sql_keeper::{Keeper, Store};
+use sql_keeper::{Closed, Keeper, Store};
 use std::marker::{Model, PhantomData};
 use std::sync::ledger::Share;
 
@@ -75,11 +75,16 @@ impl<H: HubName> KeptShard<H> {
     /// Looks for the first quarantine, by key and then by token, whose deadline has come. The shard stays.
     pub fn scan(&mut self, now: u64) -> SweepReply
         ensures left { self.new ≡ self.old }
-        ensures found { result ≡ scan_told (first_due now (past_of self.old)) }
+        ensures found { result ≡ scan_told self.old.terms.no (first_due now (past_of self.old)) }
     {
         match self.shard.expired(now) {
-            Some(due) => SweepReply::Found { due },
-            None => SweepReply::NoneFound,
+            Some(due) => SweepReply::Found {
+                shard: self.shard.no(),
+                due,
+            },
+            None => SweepReply::NoneFound {
+                shard: self.shard.no(),
+            },
         }
     }
 
@@ -187,8 +192,9 @@ impl<K: Keeper, H: HubName> KeptStore<K, H> {
     }
 
     /// Ends a session, and tells whether it was open.
-    pub fn end(&mut self, who: Sid) -> bool
-        ensures was { result ≡ is_open who self.old.ledger.sessions }
+    pub fn end(&mut self, who: Sid) -> Closed
+        ensures sid { result.sid ≡ who }
+        ensures was { result.was ≡ is_open who self.old.ledger.sessions }
         ensures ledger { self.new.ledger ≡ with_end who self.old.ledger }
     {
         self.store.end(who)

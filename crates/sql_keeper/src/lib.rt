@@ -5,7 +5,7 @@ pub use faults::{AfterFault, CommitFault, KeepFault};
 pub use keepers::{Keeper, Place};
 pub use map_keeper::MapKeeper;
 pub use store::{NoStore, Start, Store, Unnamed};
-pub use stores::{Answer, Commit, Phase};
+pub use stores::{Answer, Closed, Commit, Phase};
 
 pub mod faults;
 pub mod keepers;

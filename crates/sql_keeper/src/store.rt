@@ -14,7 +14,7 @@ use crate::keepers::{Keeper, Place};
 use crate::logs::rows_after;
 use crate::requests::admit;
 use crate::sessions::Sessions;
-use crate::stores::{Answer, Commit, Phase};
+use crate::stores::{Answer, Closed, Commit, Phase};
 use key_shard::Grant;
 use rows_model::{Memory, QKey, Rows, Sid, Txn, Value};
 use std::alloc::Global;
@@ -275,13 +275,14 @@ impl<K: Keeper, N: Start> Store<K, N> {
 
     /// Ends the session, if it is open, and tells whether it was. It isn't open afterwards. It takes no
     /// memory.
-    pub fn end(&mut self, sid: Sid) -> bool
-        ensures was { result ≡ is_open sid self.old.ledger.sessions }
+    pub fn end(&mut self, sid: Sid) -> Closed
+        ensures sid { result.sid ≡ sid }
+        ensures was { result.was ≡ is_open sid self.old.ledger.sessions }
         ensures ledger { self.new.ledger ≡ with_end sid self.old.ledger }
         ensures ended { IsFalse (is_open sid self.new.ledger.sessions) }
         ensures keeper { (self.new.told ≡ self.old.told) × (self.new.faults ≡ self.old.faults) }
     {
-        self.sessions.end(sid)
+        Closed::new(sid, self.sessions.end(sid))
     }
 
     /// Whether the session may still commit.

@@ -1,3 +1,4 @@
+ghost use Rattle.std.specs.Prelude.{◌≡◌};
 ghost use Rattle.sql_keeper.specs.Sessions.{closed};
 
 use rows_model::{QKey, Sid, Txn, Value};
@@ -17,6 +18,36 @@ pub struct Commit {
     pub txn: Txn,
 }
 
+/// That a session was ended at a store: it isn't open there, and never is again. Only the store makes one.
+#[derive(Clone, Copy)]
+pub struct Closed {
+    sid: Sid,
+    was: bool,
+}
+
+impl Closed {
+    pub(crate) fn new(sid: Sid, was: bool) -> Closed
+        ensures sid { result.sid ≡ sid }
+        ensures was { result.was ≡ was }
+    {
+        Closed { sid, was }
+    }
+
+    /// The session.
+    pub fn sid(self) -> Sid
+        ensures { result ≡ self.sid }
+    {
+        self.sid
+    }
+
+    /// Whether the session was open until then.
+    pub fn was(self) -> bool
+        ensures { result ≡ self.was }
+    {
+        self.was
+    }
+}
+
 /// Where a session stands with the store.
 #[derive(Clone, Copy)]
 pub enum Phase {
@@ -31,8 +62,6 @@ pub enum Phase {
 }
 
 impl Phase {
-    ghost use Rattle.std.specs.Prelude.{◌≡◌};
-
     /// Where the session stands once it was ended, if it was open.
     pub(crate) fn closed(self) -> Phase
         ensures { result ≡ closed self }

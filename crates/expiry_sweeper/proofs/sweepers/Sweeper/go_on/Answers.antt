@@ -13,4 +13,4 @@ returns-clause-follows c told follows =
       | else-next-self w ↦ let last : old.shards ≤ old.shard + 1 =
           omega (arith, w.if-next-self.false) in cond_above (old.shard + 1) old.shards (old.shard + 1) 0 c.if-next-self.self last w.self-is
     ] in
-    follows_none_found old _ told c.requires refl next refl follows
+    follows_none_found old _ old.shard told c.requires refl next refl follows
