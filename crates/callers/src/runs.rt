@@ -195,6 +195,9 @@ pub fn run_server<
 
 /// Two runs of one text over keepers in memory that both end Done put the same bytes into their sinks,
 /// in whatever pieces these are read and written, and leave the same opening rows, log and histories.
+/// What a run printed that stopped begins what a whole one prints: where the first ended Done, and no call
+/// failed of the keeper of the second, the sink of the second took the first part of what that of the
+/// first took, however the second ended.
 pub fn run_twice<S: Source, T: Source, W: Sink, V: Sink>(
     alloc: Global,
     source: &mut S,
@@ -207,46 +210,23 @@ pub fn run_twice<S: Source, T: Source, W: Sink, V: Sink>(
     requires one_text { T.left second.old ≡ S.left source.old }
     requires empty { W.taken sink.old ≡ Some [] }
     requires empty_too { V.taken other.old ≡ Some [] }
-    ensures { let after = moment (told_by S.Source source.new)
+    ensures alike { let after = moment (told_by S.Source source.new)
         (W.taken sink.new) (W.faults sink.new) result.0.keeper.rows result.0.keeper.faults in
         let after_too = moment (told_by T.Source second.new)
         (V.taken other.new) (V.faults other.new) result.1.keeper.rows result.1.keeper.faults in
         result.0.status ≡ Status.Done → result.1.status ≡ Status.Done →
         AreAlike after after_too (left_at result.0) (left_at result.1)
         result.0.written result.1.written }
-{
-    texts_tell_scripts();
-    runs_are_determined();
-    let first = replay(alloc, &Place::Fresh, source, sink, keepers.0);
-    let then = replay(alloc, &Place::Fresh, second, other, keepers.1);
-    (first, then)
-}
-
-/// What a run printed that stopped begins what a whole one prints. Of two runs of one text over keepers
-/// in memory, the first ended Done, and no call failed of the keeper of the second. However the second
-/// ended, its sink took the first part of what the sink of the first took.
-pub fn run_in_part<S: Source, T: Source, W: Sink, V: Sink>(
-    alloc: Global,
-    source: &mut S,
-    second: &mut T,
-    sink: &mut W,
-    other: &mut V,
-    keepers: (MapKeeper, MapKeeper),
-) -> (RunEnd<MapKeeper>, RunEnd<MapKeeper>)
-    requires told { IsSome (S.left source.old) }
-    requires one_text { T.left second.old ≡ S.left source.old }
-    requires empty { W.taken sink.old ≡ Some [] }
-    requires empty_too { V.taken other.old ≡ Some [] }
-    requires keeps { keepers.1.faults < 2 ^ 64 - 1 }
-    ensures { result.0.status ≡ Status.Done → result.1.keeper.faults ≡ keepers.1.faults →
+    ensures begins { result.0.status ≡ Status.Done → keepers.1.faults < 2 ^ 64 - 1 →
+        result.1.keeper.faults ≡ keepers.1.faults →
         IsBeginning (V.taken other.new) (W.taken sink.new) }
 {
     texts_tell_scripts();
     runs_are_determined();
     runs_go_on();
-    let whole = replay(alloc, &Place::Fresh, source, sink, keepers.0);
-    let part = replay(alloc, &Place::Fresh, second, other, keepers.1);
-    (whole, part)
+    let first = replay(alloc, &Place::Fresh, source, sink, keepers.0);
+    let then = replay(alloc, &Place::Fresh, second, other, keepers.1);
+    (first, then)
 }
 
 /// A run in which none of the three counts of faults rose ended Done, Script or Memory.
