@@ -71,7 +71,6 @@ part-begins texts law held held' before after before' after' left left' written 
 
     rows' : (r : Tables) × (after'.rows ≡ Some r)
     rows' = some-at after'.rows some'
-
     one = of-one texts held held' before after before' after' left left' h.begun h'.begun rows.0 rows'.0 new new' rows.1 rows'.1 told same
 
     at : past_of h'.shape h'.moves ≡ past_of h.shape h'.moves

@@ -47,9 +47,9 @@ staged shape rows world who key txn (Ok after) is = (Value (answer key after), (
 staged shape rows world who key txn (Err index) is = (Rejected index, is, refl)
 
 -- a commit is refused before the keeper is asked, or goes by whether the rows take its transaction
-committed : (rows : Tables) (who : Sid) (txn : List Change) (grants : GrantsView) (count cap : ℕ) (open : Bool) (found : Result Tables ℕ)
+committed : (rows : Tables) (who : Sid) (txn : List Change) (grants : GrantsView) (count cap : ℕ) (may : Bool) (found : Result Tables ℕ)
     → apply_all txn rows ≡ found
-    → CanSay rows (λ said. Called who (wanted.Commit txn grants) (commit_by count txn grants said (commit_fault open who grants.items txn count cap)))
+    → CanSay rows (λ said. Called who (wanted.Commit txn grants) (commit_by count txn grants said (commit_fault may who grants.items txn count cap)))
 committed rows who txn grants count cap false found is = (Failed, tt, refl)
 committed rows who txn grants count cap true found is =
     by_key (uncovered who grants.items txn)

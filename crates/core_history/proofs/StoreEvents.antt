@@ -432,9 +432,9 @@ commit_tells old new origin world who txn grants other result stands some more m
 end_made : (old new : StoreView) (origin : Origin) (world : World) (who : Sid) (told : Reply) (result : Result Reply Memory)
     → StandsStore old origin world → 1 ≤ who.number → TellsEnd who old new told → GoesOn told result → MakesCall origin world who wanted.End new result
 end_made old new origin world who (reply.End was) (Ok said) stands some (is, goes) on =
-    let open = is_open world who in
+    let was_open = is_open world who in
     let sessions : new.ledger.sessions ≡ ended who old.ledger.sessions = ap (λ (l : Ledger). l.sessions) goes.ledger_is in
-    let event : Event = Called who wanted.End (reply.End open) in
+    let event : Event = Called who wanted.End (reply.End was_open) in
     let P : List Phase → Type 0 = λ xs. HasPhases xs (after world event) in (
       Failed,
       on.0 ∙ ap reply.End (is ∙ stands.1.opens who some),

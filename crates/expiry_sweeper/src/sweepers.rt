@@ -119,7 +119,8 @@ fn is_of_shard(reply: &SweepReply, shard: u32) -> bool
     ensures { IsTrue result ↔ BelongsTo (SweepWanted.Scan shard) reply.now }
 {
     match reply {
-        SweepReply::Found { shard: place, .. } | SweepReply::NoneFound { shard: place } => *place == shard,
+        SweepReply::Found { shard: place, .. } | SweepReply::NoneFound { shard: place } => *place
+            == shard,
         SweepReply::Ended { .. } | SweepReply::Dropped { .. } => false,
     }
 }
@@ -130,6 +131,7 @@ fn is_of_session(reply: &SweepReply, sid: Sid) -> bool
 {
     match reply {
         SweepReply::Ended { closed } => closed.sid() == sid,
-        SweepReply::Found { .. } | SweepReply::NoneFound { .. } | SweepReply::Dropped { .. } => false,
+        SweepReply::Found { .. } | SweepReply::NoneFound { .. } | SweepReply::Dropped { .. } =>
+            false,
     }
 }

@@ -74,7 +74,7 @@ fn measure_all(rt: &HostRuntime) -> Result<(), Unmeasured> {
     for measure in ALL {
         let (few, many) = few_and_many(rt, measure)?;
         let grows = Ratio::of(TIMES, many, few);
-        let beside = Ratio::of(1, few, alone);
+        let beside = Ratio::of(measure.share(), few, alone);
         println!(rt;
             "{}: ten times as many {grows}, beside (a) {beside}",
             measure.name()
@@ -87,9 +87,10 @@ fn measure_all(rt: &HostRuntime) -> Result<(), Unmeasured> {
 /// that ten times as many took at once.
 fn few_and_many(rt: &HostRuntime, measure: Measure) -> Result<(u64, u64), Unmeasured> {
     let (mut few, mut many) = (u64::MAX, u64::MAX);
+    let requests = FULL.few / measure.share().max(1);
     for _ in 0..TRIES {
-        few = few.min(took_times(rt, measure, TIMES, FULL.few)?);
-        many = many.min(took_times(rt, measure, 1, TIMES * FULL.few)?);
+        few = few.min(took_times(rt, measure, TIMES, requests)?);
+        many = many.min(took_times(rt, measure, 1, requests.saturating_mul(TIMES))?);
     }
     Ok((few, many))
 }

@@ -81,6 +81,15 @@ impl Measure {
             Measure::Renewals => "(i) renewals where all are due",
         }
     }
+
+    /// One request is made of this kind where so many are of readers alone: of each quarantine that is due
+    /// there are two, and 10,000 and 100,000 are due at once.
+    pub fn share(self) -> u32 {
+        match self {
+            Measure::Sweeps | Measure::Renewals => 5,
+            _ => 1,
+        }
+    }
 }
 
 /// How many nanoseconds of the processor the requests take, without what is set up before. The shard is put

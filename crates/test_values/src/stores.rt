@@ -224,7 +224,10 @@ const ENDS: [(u64, bool); 5] = [(0, false), (1, true), (1, false), (2, false), (
 /// Ends sessions in turn, and compares whether each was open.
 fn ends_all(rt: &impl Abort, store: &mut Store<MapKeeper>) {
     for (number, was) in ENDS.iter() {
-        assert!(rt; store.end(Sid { number: *number }).was() == *was, "at {number}");
+        assert!(rt;
+            store.end(Sid { number: *number }).was() == *was,
+            "at {number}"
+        );
     }
 }
 
