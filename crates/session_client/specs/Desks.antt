@@ -1,5 +1,5 @@
 -- What a desk tells: lists that only grow, by one member at a time. The latest member is in front.
-use Rattle.std.specs.Prelude.{ℕ, zero, suc, ◌≡◌, ◌≢◌, ◌==◌, ◌⊎◌, Bool, true, IsTrue, List, [], ◌∷◌, All, Option, Some, None}
+use Rattle.std.specs.Prelude.{ℕ, zero, suc, ◌≡◌, ◌≢◌, ◌==◌, ◌+◌, ◌⊎◌, Bool, true, IsTrue, List, [], ◌∷◌, All, Option, Some, None}
 use Rattle.std.specs.List.{list_any}
 use Rattle.std.specs.Option.{ForSome}
 use Rattle.rows_model.specs.declared.keys.Sid.{Sid}
@@ -16,6 +16,11 @@ use Rattle.session_client.specs.declared.replies.Wanted.TheVariants as wanted
 abbrev pub with_member : {X : Type 0} → X → Option (List X) → Option (List X)
 with_member member (Some told) = Some (member ∷ told)
 with_member member None = None
+
+-- One more than a count. One that isn't told stays untold.
+abbrev pub one_more : Option ℕ → Option ℕ
+one_more (Some count) = Some (count + 1)
+one_more None = None
 
 -- The member is not in the list, where that is told.
 abbrev pub IsNew : {X : Type 0} → X → Option (List X) → Type 0

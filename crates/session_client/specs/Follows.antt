@@ -10,7 +10,7 @@ use Rattle.key_shard.specs.Permit.{Permit}
 use Rattle.sql_keeper.specs.declared.stores.Answer.{Answer}
 use Rattle.session_client.specs.Grants.{GrantsView}
 use Rattle.session_client.specs.Plans.{changes_of, mode_on}
-use Rattle.session_client.specs.Belongs.{IsShardFault, IsStoreFault, IsQuarantineOf, IsRaiseOf, AreBack}
+use Rattle.session_client.specs.Belongs.{IsShardFault, IsStoreFault, IsGotOf, IsQuarantineOf, IsRaiseOf, AreBack}
 use Rattle.session_client.specs.Wants.{agains, set_after, read_wants, is_had, given, granted, released, turned, number_of, Writing, Given, Looks}
 use Rattle.session_client.specs.Wants.{Drops, commit_with, quarantine_next, raise_next, renew_next, has_all, release_after, release_of, write_wants, wants}
 use Rattle.session_client.specs.Wants.{read_outcome, write_outcome, writing_outcome, outcome_of}
@@ -61,16 +61,21 @@ abbrev pub ReadIsReady : ReadStage → Type 0
 ReadIsReady reads.Storing = ⊥
 ReadIsReady stage = Unit {0}
 
--- The replies to the request that a reader of this key has out.
-abbrev pub ReadAwaits : QKey → ReadStage → Reply → Type 0
-ReadAwaits key (reads.Getting count) (reply.Got got) = Unit {0}
-ReadAwaits key (reads.Getting count) (reply.Fault fault) = IsShardFault fault
-ReadAwaits key (reads.Asking lease) (reply.Answer answer) = answer.key ≡ key
-ReadAwaits key (reads.Asking lease) (reply.Fault fault) = IsStoreFault fault
-ReadAwaits key reads.Storing (reply.Set told) = Unit {0}
-ReadAwaits key reads.Storing (reply.Fault fault) = fault ≡ faults.Memory
-ReadAwaits key (reads.Done ended) reply.Nothing = Unit {0}
-ReadAwaits key stage told = ⊥
+-- The replies to a get with this floor.
+abbrev pub GetAwaits : ℕ → Reply → Type 0
+GetAwaits floor (reply.Got told) = IsGotOf floor told
+GetAwaits floor (reply.Fault fault) = IsShardFault fault
+GetAwaits floor told = ⊥
+
+-- The replies to the request that a reader of this key and floor has out.
+abbrev pub ReadAwaits : QKey → ℕ → ReadStage → Reply → Type 0
+ReadAwaits key floor (reads.Getting count) told = GetAwaits floor told
+ReadAwaits key floor (reads.Asking lease) (reply.Answer answer) = answer.key ≡ key
+ReadAwaits key floor (reads.Asking lease) (reply.Fault fault) = IsStoreFault fault
+ReadAwaits key floor reads.Storing (reply.Set told) = Unit {0}
+ReadAwaits key floor reads.Storing (reply.Fault fault) = fault ≡ faults.Memory
+ReadAwaits key floor (reads.Done ended) reply.Nothing = Unit {0}
+ReadAwaits key floor stage told = ⊥
 
 -- Nothing is decided yet: the writer has each grant that it was given, the old value beside each, and no outcome.
 abbrev pub IsOpen : Writing → HandView → Bool → List Reply → Type 0
@@ -164,12 +169,6 @@ QuarantineAwaits who mode (Some key) (reply.Quar told) = IsQuarantineOf who key 
 QuarantineAwaits who mode (Some key) (reply.Fault fault) = IsShardFault fault
 QuarantineAwaits who mode key told = ⊥
 
--- The answers to the get of a key.
-abbrev pub GetAwaits : Reply → Type 0
-GetAwaits (reply.Got found) = Unit {0}
-GetAwaits (reply.Fault fault) = IsShardFault fault
-GetAwaits told = ⊥
-
 -- The replies to the question what the store would answer after this transaction.
 abbrev pub StagedAwaits : List Change → Reply → Type 0
 StagedAwaits changes (reply.Staged value txn) = txn ≡ changes
@@ -203,7 +202,7 @@ ReleaseAwaits back told = ⊥
 abbrev pub StageAwaits : Sid → Writing → List Permit → WriteStage → Reply → Type 0
 StageAwaits who writing given (writes.Quarantining count txn) told =
     QuarantineAwaits who writing.mode (slice_get writing.keys count) told
-StageAwaits who writing given (writes.Getting key txn) told = GetAwaits told
+StageAwaits who writing given (writes.Getting key txn) told = GetAwaits 0 told
 StageAwaits who writing given writes.Asking told = StagedAwaits writing.txn told
 StageAwaits who writing given (writes.Raised place txn) told = RaiseAwaits (slice_get given place) told
 StageAwaits who writing given (writes.Renewed place txn) told = RenewAwaits (slice_get given place) told
@@ -233,7 +232,7 @@ CourseIsReady (course.Write writer) = WriteIsReady writer.stage
 
 -- The replies to the request that is out.
 abbrev pub CourseAwaits : Sid → Plan → Course → Reply → Type 0
-CourseAwaits who plan (course.Read reader) told = ReadAwaits reader.key reader.stage told
+CourseAwaits who plan (course.Read reader) told = ReadAwaits reader.key reader.floor reader.stage told
 CourseAwaits who plan (course.Write writer) told = WriteAwaits who (changes_of plan) writer told
 
 -- Whether a reader is at its end.

@@ -1,9 +1,9 @@
-ghost use Rattle.std.specs.Prelude.{◌≡◌, Bool, true, List, Option, None, IfOk, OnErr};
+ghost use Rattle.std.specs.Prelude.{◌≡◌, ℕ, Bool, true, List, Option, None, IfOk, OnErr};
 ghost use Rattle.rows_model.specs.declared.keys.Sid.{Sid};
 ghost use Rattle.session_client.specs.declared.replies.Fault.TheVariants as fault;
 ghost use Rattle.session_client.specs.declared.replies.Reply.TheVariants as reply;
 ghost use Rattle.session_client.specs.Belongs.{Belongs};
-ghost use Rattle.session_client.specs.Desks.{IsNew, IsProper, Call, Began, Asked, with_member};
+ghost use Rattle.session_client.specs.Desks.{IsNew, IsProper, Call, Began, Asked, with_member, one_more};
 ghost use Rattle.session_client.specs.Desks.{AreIn, IsLatest, BeginsSeen};
 
 use crate::replies::{Reply, Wanted};
@@ -19,6 +19,9 @@ use rows_model::{Memory, Sid};
 /// `latest`, the session that it began last, and whether that may write. No session leaves `seen`.
 /// `is_spent` says that some shard may have no more tokens. It stays so, and is so from the start where
 /// the desk tells nothing of it.
+///
+/// A desk may tell `tends`, the number of steps of its sweep so far, from its making on. Only `tend`
+/// takes one.
 pub trait Desk {
     ghost begun: { Self → Option (List Sid) };
 
@@ -30,6 +33,8 @@ pub trait Desk {
 
     ghost is_spent: { Self → Bool } = { λ desk. true };
 
+    ghost tends: { Self → Option ℕ } = { λ desk. None };
+
     /// Begins a session and gives its number, which no session had that the desk began before. One
     /// that writes may commit once; another never does. For want of memory no session begins.
     fn begin(&mut self, writes: bool) -> Result<Sid, Memory>
@@ -39,6 +44,7 @@ pub trait Desk {
             record_of self.new ≡ with_member (Began writes sid) (record_of self.old)) }
         ensures err { OnErr result (begun self.new ≡ begun self.old) }
         ensures err_recorded { OnErr result (record_of self.new ≡ record_of self.old) }
+        ensures tends { tends self.new ≡ tends self.old }
         ensures latest { IfOk result (λ sid. IsLatest sid writes (seen self.new) (latest self.new)) }
         ensures seen_kept { AreIn (seen self.old) (seen self.new) }
         ensures seen_begun { AreIn (seen self.new) (begun self.new) }
@@ -51,6 +57,7 @@ pub trait Desk {
         ensures begun { begun self.new ≡ begun self.old }
         ensures recorded { record_of self.new
             ≡ with_member (Asked sid wanted result) (record_of self.old) }
+        ensures tends { tends self.new ≡ tends self.old }
         ensures first { BeginsSeen (latest self.old) sid wanted result (seen self.new) }
         ensures seen_kept { AreIn (seen self.old) (seen self.new) }
         ensures seen_begun { AreIn (seen self.new) (begun self.new) }
@@ -61,6 +68,7 @@ pub trait Desk {
     fn tend(&mut self)
         ensures begun { begun self.new ≡ begun self.old }
         ensures recorded { record_of self.new ≡ record_of self.old }
+        ensures tended { tends self.new ≡ one_more (tends self.old) }
         ensures seen_kept { AreIn (seen self.old) (seen self.new) }
         ensures seen_begun { AreIn (seen self.new) (begun self.new) }
         ensures spent_kept { is_spent self.old ≡ true → is_spent self.new ≡ true };

@@ -1,5 +1,6 @@
 ghost use Rattle.std.specs.Prelude.{◌≡◌, List, ◌∷◌, ◌↔◌, Bool, IsTrue};
 ghost use Rattle.rows_model.specs.declared.changes.Change.{Change};
+ghost use Rattle.session_client.specs.Belongs.{IsGotOf};
 ghost use Rattle.session_client.specs.Follows.{GetAwaits, PartsFollow, StagedAwaits, WriteIsReady};
 ghost use Rattle.session_client.specs.Wants.{Writing, granted};
 ghost use Rattle.session_client.specs.Writers.{HandView, HasRoom, HoldsAll};
@@ -15,27 +16,24 @@ use crate::stages::WriteStage;
 use key_shard::Got;
 use rows_model::{Change, QKey, Txn};
 
-/// Whether the reply is one to a get.
-pub fn answers_get(reply: &Reply) -> bool
-    ensures { IsTrue result ↔ GetAwaits reply.now }
+/// Whether this is an answer to a get with this floor.
+fn is_got_of(floor: u64, told: &Got) -> bool
+    ensures { IsTrue result ↔ IsGotOf floor told.now }
+{
+    match told {
+        Got::Hit { value: _, stamp } => floor <= *stamp,
+        Got::Lease { .. } | Got::Again { .. } | Got::Own => true,
+    }
+}
+
+/// Whether the reply is one to a get with this floor.
+pub fn answers_get(floor: u64, reply: &Reply) -> bool
+    ensures { IsTrue result ↔ GetAwaits floor reply.now }
 {
     match reply {
-        Reply::Got { .. } => true,
+        Reply::Got { got } => is_got_of(floor, got),
         Reply::Fault { fault } => fault.is_of_shard(),
-        Reply::Answer { .. }
-        | Reply::Set { .. }
-        | Reply::Quar { .. }
-        | Reply::Raise { .. }
-        | Reply::RaiseBack { .. }
-        | Reply::Renew { .. }
-        | Reply::Staged { .. }
-        | Reply::NotStaged { .. }
-        | Reply::Committed { .. }
-        | Reply::NotCommitted { .. }
-        | Reply::End { .. }
-        | Reply::Rel { .. }
-        | Reply::SarBack { .. }
-        | Reply::Nothing => false,
+        _ => false,
     }
 }
 
@@ -47,20 +45,7 @@ pub fn answers_staged(changes: &[Change], reply: &Reply) -> bool
         Reply::Staged { value: _, txn } | Reply::NotStaged { fault: _, txn } => {
             are_same(txn.changes(), changes)
         }
-        Reply::Got { .. }
-        | Reply::Answer { .. }
-        | Reply::Set { .. }
-        | Reply::Quar { .. }
-        | Reply::Raise { .. }
-        | Reply::RaiseBack { .. }
-        | Reply::Renew { .. }
-        | Reply::Committed { .. }
-        | Reply::NotCommitted { .. }
-        | Reply::End { .. }
-        | Reply::Rel { .. }
-        | Reply::SarBack { .. }
-        | Reply::Fault { .. }
-        | Reply::Nothing => false,
+        _ => false,
     }
 }
 
@@ -82,7 +67,7 @@ fn stage_after_got(key: QKey, txn: Txn, got: Got) -> WriteStage
 
 /// Where a writer stands that got this key, after the reply.
 pub fn stage_after_get(key: QKey, txn: Txn, reply: Reply) -> WriteStage
-    requires { GetAwaits reply }
+    requires { GetAwaits 0 reply }
     ensures ready { WriteIsReady result }
     ensures room { (next : Next) (keys : List QKey) (hand : HandView) → HoldsAll hand →
         HasRoom next keys hand result }
@@ -94,20 +79,7 @@ pub fn stage_after_get(key: QKey, txn: Txn, reply: Reply) -> WriteStage
     match reply {
         Reply::Got { got } => stage_after_got(key, txn, got),
         Reply::Fault { fault: _ } => WriteStage::Ready { txn },
-        other @ (Reply::Answer { .. }
-        | Reply::Set { .. }
-        | Reply::Quar { .. }
-        | Reply::Raise { .. }
-        | Reply::RaiseBack { .. }
-        | Reply::Renew { .. }
-        | Reply::Staged { .. }
-        | Reply::NotStaged { .. }
-        | Reply::Committed { .. }
-        | Reply::NotCommitted { .. }
-        | Reply::End { .. }
-        | Reply::Rel { .. }
-        | Reply::SarBack { .. }
-        | Reply::Nothing) => {
+        other => {
             other.let_go();
             WriteStage::Getting { key, txn }
         }
@@ -129,20 +101,7 @@ pub fn stage_after_staged(reply: Reply) -> WriteStage
     match reply {
         Reply::Staged { value: _, txn } => WriteStage::Ready { txn },
         Reply::NotStaged { fault: _, txn } => WriteStage::Ready { txn },
-        other @ (Reply::Got { .. }
-        | Reply::Answer { .. }
-        | Reply::Set { .. }
-        | Reply::Quar { .. }
-        | Reply::Raise { .. }
-        | Reply::RaiseBack { .. }
-        | Reply::Renew { .. }
-        | Reply::Committed { .. }
-        | Reply::NotCommitted { .. }
-        | Reply::End { .. }
-        | Reply::Rel { .. }
-        | Reply::SarBack { .. }
-        | Reply::Fault { .. }
-        | Reply::Nothing) => {
+        other => {
             other.let_go();
             WriteStage::Asking
         }

@@ -70,7 +70,8 @@ impl Note {
     pub fn is_raised_to(&self, grant: &Grant) -> bool
         ensures { IsTrue result ↔ IsRaised self.now grant.now }
     {
-        self.key == grant.key()
+        self.shard == grant.shard()
+            && self.key == grant.key()
             && self.sid == grant.sid()
             && self.token == grant.token()
             && grant.mode() == Mode::Refresh

@@ -60,20 +60,7 @@ pub fn answers_quarantine(who: Sid, mode: Mode, key: &QKey, reply: &Reply) -> bo
         }
         Reply::Quar { .. } => true,
         Reply::Fault { fault } => fault.is_of_shard(),
-        Reply::Got { .. }
-        | Reply::Answer { .. }
-        | Reply::Set { .. }
-        | Reply::Raise { .. }
-        | Reply::RaiseBack { .. }
-        | Reply::Renew { .. }
-        | Reply::Staged { .. }
-        | Reply::NotStaged { .. }
-        | Reply::Committed { .. }
-        | Reply::NotCommitted { .. }
-        | Reply::End { .. }
-        | Reply::Rel { .. }
-        | Reply::SarBack { .. }
-        | Reply::Nothing => false,
+        _ => false,
     }
 }
 
@@ -169,20 +156,7 @@ pub fn stage_after_quarantine(
         Reply::Fault { fault } => WriteStage::Ending {
             outcome: Outcome::Failed { fault },
         },
-        other @ (Reply::Got { .. }
-        | Reply::Answer { .. }
-        | Reply::Set { .. }
-        | Reply::Raise { .. }
-        | Reply::RaiseBack { .. }
-        | Reply::Renew { .. }
-        | Reply::Staged { .. }
-        | Reply::NotStaged { .. }
-        | Reply::Committed { .. }
-        | Reply::NotCommitted { .. }
-        | Reply::End { .. }
-        | Reply::Rel { .. }
-        | Reply::SarBack { .. }
-        | Reply::Nothing) => {
+        other => {
             other.let_go();
             WriteStage::Quarantining { count, txn }
         }

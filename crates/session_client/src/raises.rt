@@ -35,20 +35,7 @@ pub fn answers_raise(note: &Note, reply: &Reply) -> bool
     match reply {
         Reply::Raise { told } => is_raise_of(note, told),
         Reply::RaiseBack { grant } => note.is_of(grant),
-        Reply::Got { .. }
-        | Reply::Answer { .. }
-        | Reply::Set { .. }
-        | Reply::Quar { .. }
-        | Reply::Renew { .. }
-        | Reply::Staged { .. }
-        | Reply::NotStaged { .. }
-        | Reply::Committed { .. }
-        | Reply::NotCommitted { .. }
-        | Reply::End { .. }
-        | Reply::Rel { .. }
-        | Reply::SarBack { .. }
-        | Reply::Fault { .. }
-        | Reply::Nothing => false,
+        _ => false,
     }
 }
 
@@ -58,21 +45,7 @@ pub fn answers_renewal(note: &Note, reply: &Reply) -> bool
 {
     match reply {
         Reply::Renew { grant, told: _ } => note.is_of(grant),
-        Reply::Got { .. }
-        | Reply::Answer { .. }
-        | Reply::Set { .. }
-        | Reply::Quar { .. }
-        | Reply::Raise { .. }
-        | Reply::RaiseBack { .. }
-        | Reply::Staged { .. }
-        | Reply::NotStaged { .. }
-        | Reply::Committed { .. }
-        | Reply::NotCommitted { .. }
-        | Reply::End { .. }
-        | Reply::Rel { .. }
-        | Reply::SarBack { .. }
-        | Reply::Fault { .. }
-        | Reply::Nothing => false,
+        _ => false,
     }
 }
 
@@ -138,20 +111,7 @@ pub fn stage_after_raise(hand: &mut Hand, place: usize, txn: Txn, reply: Reply) 
             hand.put_at(place, grant);
             WriteStage::Raising { place: behind, txn }
         }
-        other @ (Reply::Got { .. }
-        | Reply::Answer { .. }
-        | Reply::Set { .. }
-        | Reply::Quar { .. }
-        | Reply::Renew { .. }
-        | Reply::Staged { .. }
-        | Reply::NotStaged { .. }
-        | Reply::Committed { .. }
-        | Reply::NotCommitted { .. }
-        | Reply::End { .. }
-        | Reply::Rel { .. }
-        | Reply::SarBack { .. }
-        | Reply::Fault { .. }
-        | Reply::Nothing) => {
+        other => {
             other.let_go();
             WriteStage::Raised { place, txn }
         }
@@ -179,21 +139,7 @@ pub fn stage_after_renewal(hand: &mut Hand, place: usize, txn: Txn, reply: Reply
             hand.put_at(place, grant);
             WriteStage::Renewing { place: behind, txn }
         }
-        other @ (Reply::Got { .. }
-        | Reply::Answer { .. }
-        | Reply::Set { .. }
-        | Reply::Quar { .. }
-        | Reply::Raise { .. }
-        | Reply::RaiseBack { .. }
-        | Reply::Staged { .. }
-        | Reply::NotStaged { .. }
-        | Reply::Committed { .. }
-        | Reply::NotCommitted { .. }
-        | Reply::End { .. }
-        | Reply::Rel { .. }
-        | Reply::SarBack { .. }
-        | Reply::Fault { .. }
-        | Reply::Nothing) => {
+        other => {
             other.let_go();
             WriteStage::Renewed { place, txn }
         }

@@ -1,10 +1,11 @@
-ghost use Rattle.std.specs.Prelude.{◌≡◌, ℕ, false, List, [], ◌∷◌, ◌↔◌, IsTrue, IfSome, None, if◌then◌else◌};
+ghost use Rattle.std.specs.Prelude.{◌≡◌, ℕ, false, List, [], ◌∷◌, ◌↔◌, IsTrue, IfSome, Option, None, if◌then◌else◌};
 ghost use Rattle.rows_model.specs.declared.keys.QKey.{QKey};
 ghost use Rattle.rows_model.specs.declared.keys.Sid.{Sid};
 ghost use Rattle.session_client.specs.Belongs.{Belongs};
 ghost use Rattle.session_client.specs.Wants.{read_wants, read_outcome, is_nothing};
 ghost use Rattle.session_client.specs.declared.replies.Reply.{Reply};
 
+use crate::looks::answers_get;
 use crate::replies::{Fault, Outcome, Reply, Wanted};
 use key_shard::{Got, SetAnswer};
 use rows_model::QKey;
@@ -64,7 +65,7 @@ impl Reader {
         ensures follows { (heard : List Reply) → ReadFollows self.old heard →
             ReadFollows self.new heard }
         ensures awaits { (who : Sid) (told : Reply) →
-            ReadAwaits self.new.key self.new.stage told ↔ Belongs who result told }
+            ReadAwaits self.new.key self.new.floor self.new.stage told ↔ Belongs who result told }
     {
         let key = self.key;
         match mem::replace(&mut self.stage, ReadStage::Storing) {
@@ -95,38 +96,21 @@ impl Reader {
 
     /// Whether the reply belongs to the request that is out.
     pub fn takes(&self, reply: &Reply) -> bool
-        ensures { IsTrue result ↔ ReadAwaits self.now.key self.now.stage reply.now }
+        ensures { IsTrue result ↔
+            ReadAwaits self.now.key self.now.floor self.now.stage reply.now }
     {
-        match reply {
-            Reply::Got { .. } => matches!(self.stage, ReadStage::Getting { .. }),
-            Reply::Answer { answer } => {
-                matches!(self.stage, ReadStage::Asking { .. }) && answer.key == self.key
-            }
-            Reply::Set { .. } => matches!(self.stage, ReadStage::Storing),
-            Reply::Fault { fault } => match self.stage {
-                ReadStage::Getting { .. } => fault.is_of_shard(),
-                ReadStage::Asking { .. } => fault.is_of_store(),
-                ReadStage::Storing => *fault == Fault::Memory,
-                ReadStage::Holding { .. } | ReadStage::Done { .. } => false,
-            },
-            Reply::Nothing => matches!(self.stage, ReadStage::Done { .. }),
-            Reply::Quar { .. }
-            | Reply::Raise { .. }
-            | Reply::RaiseBack { .. }
-            | Reply::Renew { .. }
-            | Reply::Staged { .. }
-            | Reply::NotStaged { .. }
-            | Reply::Committed { .. }
-            | Reply::NotCommitted { .. }
-            | Reply::End { .. }
-            | Reply::Rel { .. }
-            | Reply::SarBack { .. } => false,
+        match self.stage {
+            ReadStage::Getting { .. } => answers_get(self.floor, reply),
+            ReadStage::Asking { .. } => answers_ask(&self.key, reply),
+            ReadStage::Storing => answers_set(reply),
+            ReadStage::Done { .. } => matches!(reply, Reply::Nothing),
+            ReadStage::Holding { .. } => false,
         }
     }
 
     /// Takes in the reply to the request that is out.
     pub fn told(&mut self, reply: Reply)
-        requires { ReadAwaits self.old.key self.old.stage reply }
+        requires { ReadAwaits self.old.key self.old.floor self.old.stage reply }
         ensures key { self.new.key ≡ self.old.key }
         ensures floor { self.new.floor ≡ self.old.floor }
         ensures ready { ReadIsReady self.new.stage }
@@ -165,9 +149,33 @@ impl Reader {
 
 ghost use Rattle.session_client.specs.Follows.{ReadAwaits, ReadIsReady, StageFollows, read_is_over};
 
+/// Whether the reply is one to an ask for this key.
+fn answers_ask(key: &QKey, reply: &Reply) -> bool
+    ensures { (floor : ℕ) (lease : Option ℕ) →
+        IsTrue result ↔ ReadAwaits key.now floor (ReadStage.Asking lease) reply.now }
+{
+    match reply {
+        Reply::Answer { answer } => answer.key == *key,
+        Reply::Fault { fault } => fault.is_of_store(),
+        _ => false,
+    }
+}
+
+/// Whether the reply is one to a set.
+fn answers_set(reply: &Reply) -> bool
+    ensures { (key : QKey) (floor : ℕ) →
+        IsTrue result ↔ ReadAwaits key floor ReadStage.Storing reply.now }
+{
+    match reply {
+        Reply::Set { .. } => true,
+        Reply::Fault { fault } => *fault == Fault::Memory,
+        _ => false,
+    }
+}
+
 /// Where a reader of this key stands after a reply.
 fn next_stage(key: QKey, stage: ReadStage, reply: Reply) -> ReadStage
-    requires { ReadAwaits key stage reply }
+    requires { (floor : ℕ) × ReadAwaits key floor stage reply }
     ensures ready { ReadIsReady result }
     ensures follows { (floor : ℕ) (heard : List Reply) → StageFollows key floor stage heard →
         StageFollows key floor result (reply ∷ heard) }
@@ -190,18 +198,7 @@ fn next_stage(key: QKey, stage: ReadStage, reply: Reply) -> ReadStage
         Reply::Fault { fault } => ReadStage::Done {
             outcome: Outcome::Failed { fault },
         },
-        other @ (Reply::Quar { .. }
-        | Reply::Raise { .. }
-        | Reply::RaiseBack { .. }
-        | Reply::Renew { .. }
-        | Reply::Staged { .. }
-        | Reply::NotStaged { .. }
-        | Reply::Committed { .. }
-        | Reply::NotCommitted { .. }
-        | Reply::End { .. }
-        | Reply::Rel { .. }
-        | Reply::SarBack { .. }
-        | Reply::Nothing) => {
+        other => {
             other.let_go();
             stage
         }

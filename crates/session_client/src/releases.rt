@@ -40,20 +40,7 @@ pub fn answers_commit(hand: &Hand, changes: &[Change], reply: &Reply) -> bool
             txn,
             grants,
         } => are_same(txn.changes(), changes) && hand.are_back(grants),
-        Reply::Got { .. }
-        | Reply::Answer { .. }
-        | Reply::Set { .. }
-        | Reply::Quar { .. }
-        | Reply::Raise { .. }
-        | Reply::RaiseBack { .. }
-        | Reply::Renew { .. }
-        | Reply::Staged { .. }
-        | Reply::NotStaged { .. }
-        | Reply::End { .. }
-        | Reply::Rel { .. }
-        | Reply::SarBack { .. }
-        | Reply::Fault { .. }
-        | Reply::Nothing => false,
+        _ => false,
     }
 }
 
@@ -67,20 +54,7 @@ pub fn answers_release(back: &Option<Note>, reply: &Reply) -> bool
             Some(note) => note.is_of(grant),
             None => false,
         },
-        Reply::Got { .. }
-        | Reply::Answer { .. }
-        | Reply::Set { .. }
-        | Reply::Quar { .. }
-        | Reply::Raise { .. }
-        | Reply::RaiseBack { .. }
-        | Reply::Renew { .. }
-        | Reply::Staged { .. }
-        | Reply::NotStaged { .. }
-        | Reply::Committed { .. }
-        | Reply::NotCommitted { .. }
-        | Reply::End { .. }
-        | Reply::Fault { .. }
-        | Reply::Nothing => false,
+        _ => false,
     }
 }
 
@@ -208,20 +182,7 @@ pub fn stage_after_commit(
             };
             (stage, Ok(()))
         }
-        other @ (Reply::Got { .. }
-        | Reply::Answer { .. }
-        | Reply::Set { .. }
-        | Reply::Quar { .. }
-        | Reply::Raise { .. }
-        | Reply::RaiseBack { .. }
-        | Reply::Renew { .. }
-        | Reply::Staged { .. }
-        | Reply::NotStaged { .. }
-        | Reply::End { .. }
-        | Reply::Rel { .. }
-        | Reply::SarBack { .. }
-        | Reply::Fault { .. }
-        | Reply::Nothing) => {
+        other => {
             other.let_go();
             (WriteStage::Committing, Ok(()))
         }
@@ -242,21 +203,7 @@ pub fn stage_after_end(hand: &Hand, outcome: Outcome, reply: Reply) -> WriteStag
 {
     match reply {
         Reply::End { was: _ } => releasing(hand, outcome, Release::Keep),
-        other @ (Reply::Got { .. }
-        | Reply::Answer { .. }
-        | Reply::Set { .. }
-        | Reply::Quar { .. }
-        | Reply::Raise { .. }
-        | Reply::RaiseBack { .. }
-        | Reply::Renew { .. }
-        | Reply::Staged { .. }
-        | Reply::NotStaged { .. }
-        | Reply::Committed { .. }
-        | Reply::NotCommitted { .. }
-        | Reply::Rel { .. }
-        | Reply::SarBack { .. }
-        | Reply::Fault { .. }
-        | Reply::Nothing) => {
+        other => {
             other.let_go();
             WriteStage::Ending { outcome }
         }
@@ -290,20 +237,7 @@ pub fn stage_after_release(
             hand.put_back(grant);
             WriteStage::Dropping { outcome, how }
         }
-        other @ (Reply::Got { .. }
-        | Reply::Answer { .. }
-        | Reply::Set { .. }
-        | Reply::Quar { .. }
-        | Reply::Raise { .. }
-        | Reply::RaiseBack { .. }
-        | Reply::Renew { .. }
-        | Reply::Staged { .. }
-        | Reply::NotStaged { .. }
-        | Reply::Committed { .. }
-        | Reply::NotCommitted { .. }
-        | Reply::End { .. }
-        | Reply::Fault { .. }
-        | Reply::Nothing) => {
+        other => {
             other.let_go();
             WriteStage::Done { outcome }
         }

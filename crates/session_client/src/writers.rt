@@ -114,10 +114,7 @@ impl Writer {
                         grant: self.hand.take_at(place),
                     }
                 } else {
-                    Wanted::Commit {
-                        txn,
-                        grants: self.hand.lend(self.alloc),
-                    }
+                    commit(self.alloc, &mut self.hand, txn)
                 }
             }
             WriteStage::Renewing { place, txn } => {
@@ -127,16 +124,10 @@ impl Writer {
                         grant: self.hand.take_at(place),
                     }
                 } else {
-                    Wanted::Commit {
-                        txn,
-                        grants: self.hand.lend(self.alloc),
-                    }
+                    commit(self.alloc, &mut self.hand, txn)
                 }
             }
-            WriteStage::Ready { txn } => Wanted::Commit {
-                txn,
-                grants: self.hand.lend(self.alloc),
-            },
+            WriteStage::Ready { txn } => commit(self.alloc, &mut self.hand, txn),
             WriteStage::Ending { outcome } => {
                 self.stage = WriteStage::Ending { outcome };
                 Wanted::End
@@ -148,11 +139,8 @@ impl Writer {
                 request
             }
             WriteStage::Dropping { outcome, how } => {
-                self.stage = WriteStage::Returning {
-                    outcome,
-                    how,
-                    back: None,
-                };
+                let back = None;
+                self.stage = WriteStage::Returning { outcome, how, back };
                 Wanted::Dar {
                     grant: self.hand.take_alone(),
                 }
@@ -177,7 +165,7 @@ impl Writer {
             WriteStage::Quarantining { count, txn: _ } => {
                 answers_quarantine(who, self.mode, &self.keys[*count], reply)
             }
-            WriteStage::Getting { .. } => answers_get(reply),
+            WriteStage::Getting { .. } => answers_get(0, reply),
             WriteStage::Asking => answers_staged(changes, reply),
             WriteStage::Raised { place, txn: _ } => answers_raise(self.hand.note(*place), reply),
             WriteStage::Renewed { place, txn: _ } => {
@@ -261,6 +249,24 @@ impl Writer {
             stage: _,
         } = self;
         hand.let_go();
+    }
+}
+
+ghost use Rattle.session_client.specs.declared.replies.Wanted.TheVariants as Wanted;
+
+/// The request to commit the transaction with the grants in hand, which it hands over.
+fn commit(alloc: Global, hand: &mut Hand, txn: Txn) -> Wanted
+    ensures wanted { result ≡ Wanted.Commit txn hand.old.grants }
+    ensures lent { hand.new ≡ record {
+      room = hand.old.room;
+      given = hand.old.given;
+      grants = record { items = []; room = 0 };
+      values = hand.old.values;
+    } }
+{
+    Wanted::Commit {
+        txn,
+        grants: hand.lend(alloc),
     }
 }
 

@@ -54,7 +54,7 @@ returns-in-Raising-clause-wanted c = λ changes short heard follows.
     let h = rw (← c.self.view_is, ← c.replace.ensures.value, c.in-Raising.is) at follows in
     let past = c.if-place-len.false in
     let count = c.len.ensures in
-    rw (← c.self.view_is, c.lend.ensures.grants)
+    rw (← c.self.view_is, c.commit.ensures.wanted)
     (commits_raised _ c.self.inside.hand c.in-Raising.place c.in-Raising.txn short heard (omega (arith, past, count)) h.1)
 
 pub returns-in-Renewing-clause-wanted : goal.returns-in-Renewing-clause-wanted
@@ -62,5 +62,5 @@ returns-in-Renewing-clause-wanted c = λ changes short heard follows.
     let h = rw (← c.self.view_is, ← c.replace.ensures.value, c.in-Renewing.is) at follows in
     let past = c.if-place-len-2.false in
     let count = c.len-in-Renewing.ensures in
-    rw (← c.self.view_is, c.lend-else-place-len-2.ensures.grants)
+    rw (← c.self.view_is, c.commit-else-place-len-2.ensures.wanted)
     (commits_renewed _ c.self.inside.hand c.in-Renewing.place c.in-Renewing.txn short heard (omega (arith, past, count)) h.1)
