@@ -1,11 +1,11 @@
-ghost use Rattle.std.specs.Prelude.{◌≡◌, ◌<◌, ◌≤◌, None, Option, List, ℕ, length, take, IfOk, OnOk, OnErr};
+ghost use Rattle.std.specs.Prelude.{◌≡◌, ◌<◌, ◌≤◌, None, Option, List, ℕ, Ok, length, take, IfOk, OnOk, OnErr, IsErr};
 ghost use Rattle.std.specs.Io.KnownBytes.{ReadConsumes, WriteAppends};
 ghost use Rattle.iq_outside.specs.Outside.{Rose, Takes, ZeroAtEnd, Gains, count_up};
 
 use crate::failures::Failed;
 use crate::sinks::Sink;
 use crate::sources::Source;
-use std::io::{Read, Write};
+use std::io::{self, Read, Write};
 use std::marker::Model;
 
 /// A source over one of std's readers. It hands on what the reader gives, and counts each error of the
@@ -58,13 +58,11 @@ impl<R: Read + Drop> Source for ReaderSource<R> {
             (R.remaining self.old.reader) (R.remaining self.new.reader) result room.new }
         ensures err { OnErr result (self.new.faults ≡ count_up self.old.faults) }
     {
-        match self.reader.read(room) {
-            Ok(count) => Ok(count),
-            Err(_) => {
-                self.faults = self.faults.saturating_add(1);
-                Err(Failed)
-            }
+        let answer = bytes_given(self.reader.read(room));
+        if answer.is_err() {
+            self.faults = self.faults.saturating_add(1);
         }
+        answer
     }
 }
 
@@ -122,12 +120,35 @@ impl<W: Write + Drop> Sink for WriterSink<W> {
             (W.contents self.old.writer) (W.contents self.new.writer) result piece.now }
         ensures err { OnErr result (self.new.faults ≡ count_up self.old.faults) }
     {
-        match self.writer.write(piece) {
-            Ok(count) if count > 0 => Ok(count),
-            _ => {
-                self.faults = self.faults.saturating_add(1);
-                Err(Failed)
-            }
+        let answer = bytes_taken(self.writer.write(piece));
+        if answer.is_err() {
+            self.faults = self.faults.saturating_add(1);
         }
+        answer
+    }
+}
+
+/// What a source answers, by a reader's answer: how many bytes it gave. An error is a fault, and never the
+/// end of the bytes.
+pub(crate) fn bytes_given(answer: io::Result<usize>) -> Result<usize, Failed>
+    ensures count { IfOk answer (λ count. result ≡ Ok count) }
+    ensures fault { OnErr answer (IsErr result) }
+{
+    match answer {
+        Ok(count) => Ok(count),
+        Err(_) => Err(Failed),
+    }
+}
+
+/// What a sink answers, by a writer's answer: how many bytes it took. An error is a fault, and so is an
+/// answer that it took none.
+pub(crate) fn bytes_taken(answer: io::Result<usize>) -> Result<usize, Failed>
+    ensures count { IfOk answer (λ count. 1 ≤ count → result ≡ Ok count) }
+    ensures none { IfOk answer (λ count. count ≡ 0 → IsErr result) }
+    ensures fault { OnErr answer (IsErr result) }
+{
+    match answer {
+        Ok(count) if count > 0 => Ok(count),
+        _ => Err(Failed),
     }
 }

@@ -1,8 +1,10 @@
-ghost use Rattle.std.specs.Prelude.{◌≡◌, ◌<◌, length, Contains};
+ghost use Rattle.std.specs.Prelude.{◌≡◌, ◌<◌, ◌-◌, ◌/◌, ◌^◌, length, min, Contains, IfOk, OnErr};
+ghost use Rattle.std.specs.Duration.{as_nanos};
 
+use std::io;
 use std::marker::Model;
 use std::sync::atomic::{AtomicU64, Ordering};
-use std::time;
+use std::time::{self, Duration};
 
 /// Tells the time. Nothing is known of two answers: a clock may stand still, and it may go back.
 pub trait Clock: Sync {
@@ -74,12 +76,17 @@ impl<'a, R: time::Clock + Sync> RuntimeClock<'a, R> {
 impl<'a, R: time::Clock + Sync> Clock for RuntimeClock<'a, R> {
     /// The milliseconds since some start, which stop at 2^64 - 1.
     fn now(&self) -> u64 {
-        match self.rt.monotonic() {
-            Ok(since) => since
-                .as_secs()
-                .saturating_mul(1000)
-                .saturating_add(u64::from(since.subsec_millis())),
-            Err(_) => 0,
-        }
+        millis_in(self.rt.monotonic())
+    }
+}
+
+/// The whole milliseconds in a clock's answer, which stop at 2^64 - 1. An error has none.
+fn millis_in(answer: io::Result<Duration>) -> u64
+    ensures told { IfOk answer (λ since. result ≡ min (as_nanos since / 1_000_000) (2 ^ 64 - 1)) }
+    ensures unread { OnErr answer (result ≡ 0) }
+{
+    match answer {
+        Ok(since) => u64::try_from(since.as_millis()).unwrap_or(u64::MAX),
+        Err(_) => 0,
     }
 }

@@ -1,6 +1,7 @@
 ghost use Rattle.std.specs.Prelude.{◌≡◌, ◌<◌, ◌≤◌, None, is_none, false, length, refl, IfOk, OnOk, OnErr, IfSome};
 ghost use Rattle.iq_outside.specs.Outside.{Rose, count_up, lines_with};
 
+use crate::adapters::{bytes_given, bytes_taken};
 use crate::doors::Door;
 use crate::failures::Failed;
 use crate::lines::Line;
@@ -75,13 +76,11 @@ impl Source for TcpLine {
 
         ensures err { OnErr result (self.new.read_faults ≡ count_up self.old.read_faults) }
     {
-        match self.stream.read(room) {
-            Ok(count) => Ok(count),
-            Err(_) => {
-                self.read_faults = self.read_faults.saturating_add(1);
-                Err(Failed)
-            }
+        let answer = bytes_given(self.stream.read(room));
+        if answer.is_err() {
+            self.read_faults = self.read_faults.saturating_add(1);
         }
+        answer
     }
 }
 
@@ -105,13 +104,11 @@ impl Sink for TcpLine {
 
         ensures err { OnErr result (self.new.write_faults ≡ count_up self.old.write_faults) }
     {
-        match self.stream.write(piece) {
-            Ok(count) if count > 0 => Ok(count),
-            _ => {
-                self.write_faults = self.write_faults.saturating_add(1);
-                Err(Failed)
-            }
+        let answer = bytes_taken(self.stream.write(piece));
+        if answer.is_err() {
+            self.write_faults = self.write_faults.saturating_add(1);
         }
+        answer
     }
 }
 

@@ -10,7 +10,7 @@ use Rattle.rows_model.specs.declared.keys.QKey.{QKey}
 use Rattle.rows_model.specs.declared.keys.Sid.{Sid}
 use Rattle.key_shard.specs.Permit.{Permit}
 use Rattle.sql_keeper.specs.Commits.{commit_fault, covered_fault, uncovered}
-use Rattle.sql_keeper.specs.Faults.{FewFailed}
+use Rattle.sql_keeper.specs.Faults.{FailedSince}
 use Rattle.rows_model.specs.declared.changes.Change.{Change}
 use Rattle.rows_model.specs.Rows.{Tables}
 use Rattle.rows_model.specs.Changes.{apply_all}
@@ -131,9 +131,11 @@ admitted true who grants changes count cap h = (refl, room (uncovered who grants
     room (Some key) h = grind (arith, h)
     room None h = λ e. grind (arith, h, e)
 
--- a claim of few failed calls lasts where the count of faults stands still
-pub few-same : (first : Option ℕ) (failed before after : ℕ) → FewFailed first failed before → after ≡ before → FewFailed first failed after
-few-same first failed before after few same = λ start named. still start (few start named)
+-- the failed calls are still so many where no call fails
+pub failed-same : (first : Option ℕ) (failed before after : ℕ) → FailedSince first failed before → after ≡ before → FailedSince first failed after
+failed-same first failed before after since same = λ start named.
+    let was = since start named in
+    record { few = still start was.few; none = λ h. same ∙ was.none h }
   where
     still : (start : ℕ) → (start + failed ≤ before) ⊎ (before ≡ 2 ^ 64 - 1) → (start + failed ≤ after) ⊎ (after ≡ 2 ^ 64 - 1)
     still start (inl h) = inl (omega arith)

@@ -53,7 +53,12 @@ abbrev pub Counts : Bool → ℕ → ℕ → Type 0
 Counts true before after = Rose before after × (after ≤ 2 ^ 64 - 1)
 Counts false before after = after ≡ before
 
--- so many calls failed, and no more than the count of faults rose by since it stood
--- at the first number, where one is named; or the count stands at the end of its type
-abbrev pub FewFailed : Option ℕ → ℕ → ℕ → Type 0
-FewFailed first failed faults = ForSome first (λ start. (start + failed ≤ faults) ⊎ (faults ≡ 2 ^ 64 - 1))
+-- So many calls failed since the count of faults was at the start: it rose by no fewer,
+-- unless it is at the end of its type. Where no call failed it is as it was.
+pub record HaveFailed (start failed faults : ℕ) : Type 0 where
+  pub few : (start + failed ≤ faults) ⊎ (faults ≡ 2 ^ 64 - 1)
+  pub none : failed ≡ 0 → faults ≡ start
+
+-- so many calls failed since the count of faults was at this number, where one is named
+abbrev pub FailedSince : Option ℕ → ℕ → ℕ → Type 0
+FailedSince first failed faults = ForSome first (λ start. HaveFailed start failed faults)

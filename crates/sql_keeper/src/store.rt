@@ -6,7 +6,7 @@ ghost use Rattle.rows_model.specs.Query.{answer};
 ghost use Rattle.rows_model.specs.Changes.{apply_all};
 ghost use Rattle.sql_keeper.specs.Keepers.{AreHeld, HoldsFresh, AnswersAfter};
 ghost use Rattle.sql_keeper.specs.Sessions.{is_open, has_committed};
-ghost use Rattle.sql_keeper.specs.Faults.{has_failed, keep_failed, staged_failed, is_failure, Counts, FewFailed};
+ghost use Rattle.sql_keeper.specs.Faults.{has_failed, keep_failed, staged_failed, is_failure, Counts, FailedSince};
 ghost use Rattle.sql_keeper.specs.Stores.{rows_of, first_fault, opened, with_session, with_end, with_commit, with_call, rebased, IsRefusal, IsTrueFault};
 
 use crate::faults::{AfterFault, CommitFault, KeepFault};
@@ -50,7 +50,8 @@ impl Start for Unnamed {
 ///
 /// Where the keeper tells its rows, they are those after the log. Where they are told after a call,
 /// they were told before it. Where `N` names the count of faults at the start, no more calls have
-/// failed than that count has risen by since, unless it stands at 2^64 - 1.
+/// failed than that count has risen by since, unless it is at 2^64 - 1. Where no call has failed it
+/// is as it was.
 #[derive(Drop)]
 pub struct Store<K: Keeper, N: Start = Unnamed> {
     keeper: K,
@@ -66,7 +67,7 @@ impl<K: Keeper, N: Start> Model for Store<K, N> {
     ghost use Rattle.std.specs.Prelude.{◌≡◌};
     ghost use Rattle.std.specs.Option.{ForSome};
     ghost use Rattle.sql_keeper.specs.Log.{rows_after};
-    ghost use Rattle.sql_keeper.specs.Faults.{FewFailed};
+    ghost use Rattle.sql_keeper.specs.Faults.{FailedSince};
     ghost use Rattle.sql_keeper.specs.Stores.{StoreView, IsLedger};
 
     ghost Value = { StoreView };
@@ -92,7 +93,7 @@ impl<K: Keeper, N: Start> Model for Store<K, N> {
           failed = s.failed;
         })
         × ForSome (K.rows s.keeper) (λ told. told ≡ rows_after s.opening s.log.items)
-        × FewFailed N.count s.failed (K.faults s.keeper) };
+        × FailedSince N.count s.failed (K.faults s.keeper) };
 }
 
 /// A keeper that didn't start, and why. Its rows are as before, and its count of faults too, unless it
@@ -325,7 +326,7 @@ impl<K: Keeper, N: Start> Store<K, N> {
     /// takes no memory.
     pub fn failed(&self) -> u64
         ensures count { result ≡ self.now.ledger.failed }
-        ensures few { FewFailed N.count result self.now.faults }
+        ensures since { FailedSince N.count result self.now.faults }
     {
         self.failed
     }
@@ -374,7 +375,7 @@ impl<K: Keeper, N: Start> Store<K, N> {
         ensures opening { result.1 ≡ self.ledger.opening }
         ensures log { result.2.items ≡ self.ledger.log }
         ensures told { ForSome self.told (λ told. told ≡ rows_of self.ledger) }
-        ensures few { FewFailed N.count self.ledger.failed self.faults }
+        ensures since { FailedSince N.count self.ledger.failed self.faults }
     {
         let Store {
             keeper,

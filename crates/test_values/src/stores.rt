@@ -1,6 +1,6 @@
 //! The store: commits, sessions, and what its keeper did not do.
 ghost use Rattle.std.specs.Prelude.{◌≡◌, ◌≤◌, Some};
-ghost use Rattle.sql_keeper.specs.Faults.{FewFailed};
+ghost use Rattle.sql_keeper.specs.Faults.{FailedSince};
 
 use crate::txns::txn_of;
 use key_shard::{Grant, How, QAnswer, Shard};
@@ -344,15 +344,15 @@ fn hands_back_a_keeper_that_did_not_start(rt: HostRuntime) {
     assert!(rt; Store::new(rt.alloc(), keeper, &Place::Fresh, 3, 8).is_ok());
 }
 
-/// Two threads ask a store under a lock. How many calls failed is no more than the keeper counted, as
-/// the name of the count at the start tells once the threads have ended.
+/// Two threads ask a store under a lock. How many calls failed is no more than the keeper counted, and
+/// it is 0 only where the keeper counted none, as the name of the count tells once the threads have ended.
 fn asked_by_two<N: Start + Send + Sync, R: Threads + Wait + Abort + Sync>(
     rt: &R,
     alloc: Global,
     keeper: MapKeeper,
 ) -> (u64, MapKeeper)
     requires { N.count ≡ Some keeper.faults }
-    ensures { FewFailed (Some keeper.faults) result.0 result.1.faults }
+    ensures { FailedSince (Some keeper.faults) result.0 result.1.faults }
 {
     let store = match Store::new(alloc, keeper, &Place::Fresh, 3, 8) {
         Ok(store) => Mutex::new(store.named::<N>()),

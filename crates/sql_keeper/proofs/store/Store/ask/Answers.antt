@@ -1,6 +1,6 @@
 use Rattle.std.proofs.Common.{ap, ◌∙◌, is_some}
 use Rattle.rows_model.specs.Query.{answer}
-use Rattle.sql_keeper.proofs.StoreLemmas.{told-at, few-same}
+use Rattle.sql_keeper.proofs.StoreLemmas.{told-at, failed-same}
 use Rattle.sql_keeper.proofs.store.Store.ask.Goals as goal
 
 pub invariant_of-self : goal.invariant_of-self
@@ -8,7 +8,7 @@ invariant_of-self g c = (
   c.ask.ensures.started,
   c.self.invariant.1,
   λ told is_told. c.self.invariant.2 told (c.ask.ensures.tells told is_told).0,
-  few-same _ _ _ _ c.self.invariant.3 c.in-Ok.ensures.counts,
+  failed-same _ _ _ _ c.self.invariant.3 c.in-Ok.ensures.counts,
 )
 
 pub returns-in-Ok-clause-tells : goal.returns-in-Ok-clause-tells

@@ -4,7 +4,7 @@ use Rattle.rows_model.specs.Changes.{apply_all}
 use Rattle.sql_keeper.specs.Log.{rows_after}
 use Rattle.sql_keeper.specs.Sessions.{is_open}
 use Rattle.sql_keeper.specs.Stores.{Ledger, IsLedger, with_commit}
-use Rattle.sql_keeper.proofs.StoreLemmas.{told-at, rows-committed, ledger-committed, admitted, few-same}
+use Rattle.sql_keeper.proofs.StoreLemmas.{told-at, rows-committed, ledger-committed, admitted, failed-same}
 use Rattle.sql_keeper.proofs.store.Store.commit.Goals as goal
 
 pub returns-in-Err-clause-rejected : goal.returns-in-Err-clause-rejected
@@ -27,7 +27,7 @@ invariant_of-self-2 g c =
           rows-committed inside.opening inside.log.items c.args.sid c.args.txn told
           (subst (λ (rows : Tables). apply_all c.args.txn rows ≡ Ok told) log_is before.2)
           ∙ sym (ap (λ l. rows_after inside.opening l.log) same),
-      few-same _ _ _ _ c.self.invariant.3 c.in_default-commit.ensures.counts,
+      failed-same _ _ _ _ c.self.invariant.3 c.in_default-commit.ensures.counts,
     )
 
 pub returns-clause-applied : goal.returns-clause-applied
