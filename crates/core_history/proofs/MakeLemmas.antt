@@ -30,7 +30,7 @@ quiet_at shape world who request key made s =
     quiet_shown home who request made (terms_of shape home) (steps_of home world.past) s
 
 -- a request on a shard is quiet
-quiet_request : (shape : Shape) (world : World) (who : Sid) (request : Wanted) (key : QKey) → key_of request ≡ Some key
+pub quiet_request : (shape : Shape) (world : World) (who : Sid) (request : Wanted) (key : QKey) → key_of request ≡ Some key
     → IsQuiet (event_of shape world who request Failed)
 quiet_request shape world who (wanted.Get asked floor) key on = quiet_at shape world who _ asked _ _
 quiet_request shape world who (wanted.Set asked token value stamp) key on = quiet_at shape world who _ asked _ _

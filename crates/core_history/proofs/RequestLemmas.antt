@@ -1,8 +1,9 @@
 -- A request that was made on the shard of its key is the machine's event.
 use Rattle.std.proofs.Common.{ℕ, zero, suc, ◌≡◌, ◌<◌, ◌-◌, ◌^◌, ◌==◌, ◌&&◌, ◌⊎◌, pos, Bool, true, false, List, [], ◌∷◌, Option, Some, None, Result, Ok, Err}
-use Rattle.std.proofs.Common.{length, slice_get, refl, sym, ap, subst, set, inl, inr, arith, ◌∙◌}
+use Rattle.std.proofs.Common.{length, get_or, slice_get, refl, sym, ap, subst, set, inl, inr, arith, ◌∙◌}
 use Rattle.std.proofs.lemmas.Bool.{eqb-true, false≢true}
 use Rattle.std.proofs.lemmas.List.{reverse-reverse}
+use Rattle.std.proofs.lemmas.Option.{slice_get_read}
 use Rattle.std.specs.Prelude.{MatchBool}
 use Rattle.rows_model.specs.declared.keys.QKey.{QKey}
 use Rattle.rows_model.specs.declared.keys.Sid.{Sid}
@@ -31,12 +32,12 @@ use Rattle.session_client.specs.declared.replies.Wanted.{Wanted}
 use Rattle.session_client.specs.declared.replies.Wanted.TheVariants as wanted
 use Rattle.executor.specs.OnShard.{is_spent, TellsGot, TellsSet, TellsQuarantine, TellsRelease, TellsPut, TellsRaise, TellsRenewal, MakesOnShard}
 use Rattle.executor.specs.Requests.{key_of}
-use Rattle.core_history.specs.Cores.{HasShards}
+use Rattle.core_history.specs.Cores.{HasShards, HasHome}
 use Rattle.core_history.specs.Events.{Event, steps_of, now_of, reply_in}
 use Rattle.core_history.specs.Machine.{World, Failed, event_of, shown_on, stepped_on, terms_of, shown, put_step, raise_told, renewal_told}
 use Rattle.core_history.specs.Machine.{raise_shown, renewal_shown}
 use Rattle.core_history.specs.Requests.{MakesStep, IsOutWhereReleased, GoesOn, tells_memory}
-use Rattle.core_history.proofs.ShardsLemmas.{IsShardOf, grown, unrolled, shards_made, shard_found}
+use Rattle.core_history.proofs.ShardsLemmas.{IsShardOf, grown, unrolled, shards_made, shard_found, home_read}
 
 -- what is told is what the step shows
 tells_got : (terms : Terms) (past : List Step) (s : Step) (answer : Got) → ShowsGot s answer → reply.Got answer ≡ shown terms past s
@@ -135,13 +136,13 @@ unspent true next below e = let last : next ≡ 2 ^ 64 - 1 = eqb-true next (2 ^ 
 unspent false next below e = false≢true e
 
 -- the part that is so of a grant that is out
-of_out : {X Y : Type 0} (b : Bool) → b ≡ true → MatchBool b X Y → X
-of_out true e h = h
-of_out false e h = absurd (false≢true e)
+of_out : {X : Type 0} (Y : Type 0) (b : Bool) → b ≡ true → MatchBool b X Y → X
+of_out Y true e h = h
+of_out Y false e h = absurd (false≢true e)
 
 got_became : (old new : ShardView) (s : Step) (told : Reply) → next_token old.terms (past_of old) < 2 ^ 64 - 1 → TellsGot old s new told
     → Became reply.Got (ShowsGot s) old (stepped (rolled old) s) new told
-got_became old new s (reply.Got got) below h = inl (got, refl, refl, h.0, h.1.0)
+got_became old new s (reply.Got got) below h = inl (got, refl, refl, h.0, h.1)
 got_became old new s (reply.Fault faults.Memory) below h = inr (refl, h.0)
 got_became old new s (reply.Fault faults.Spent) below h = absurd (unspent (draws s) (next_token old.terms (past_of old)) below h.1)
 got_became old new s (reply.Fault faults.Keep) below h = absurd h.1
@@ -149,7 +150,7 @@ got_became old new s other below h = absurd h
 
 quarantine_became : (old new : ShardView) (s : Step) (told : Reply) → next_token old.terms (past_of old) < 2 ^ 64 - 1 → TellsQuarantine old s new told
     → Became reply.Quar (ShowsQuarantine old.terms (past_of old) s) old (stepped (rolled old) s) new told
-quarantine_became old new s (reply.Quar answer) below h = inl (answer, refl, refl, h.0, h.1.0)
+quarantine_became old new s (reply.Quar answer) below h = inl (answer, refl, refl, h.0, h.1)
 quarantine_became old new s (reply.Fault faults.Memory) below h = inr (refl, h.0)
 quarantine_became old new s (reply.Fault faults.Spent) below h = absurd (unspent (draws s) (next_token old.terms (past_of old)) below h.1)
 quarantine_became old new s (reply.Fault faults.Keep) below h = absurd h.1
@@ -164,18 +165,18 @@ set_became old new s other h = absurd h
 
 release_became : (old new : ShardView) (grant : Permit) (s : Step) (told : Reply) → is_out old grant ≡ true → TellsRelease old grant s new told
     → Became reply.Rel (ShowsRelease s) old (returned old grant s) new told
-release_became old new grant s (reply.Rel answer) out h = let made = of_out (is_out old grant) out h in inl (answer, refl, refl, made.0, made.1)
+release_became old new grant s (reply.Rel answer) out h = let made = of_out _ (is_out old grant) out h in inl (answer, refl, refl, made.0, made.1)
 release_became old new grant s other out h = absurd h
 
 put_became : (old new : ShardView) (grant : Permit) (s : Step) (told : Reply) → is_out old grant ≡ true → TellsPut old grant s new told
     → Became reply.Rel (ShowsRelease s) old (returned old grant s) new told
-put_became old new grant s (reply.Rel answer) out h = let made = of_out (is_out old grant) out h in inl (answer, refl, refl, made.0, made.1)
+put_became old new grant s (reply.Rel answer) out h = let made = of_out _ (is_out old grant) out h in inl (answer, refl, refl, made.0, made.1)
 put_became old new grant s (reply.SarBack back) out h = inr (refl, h.0)
 put_became old new grant s other out h = absurd h
 
 raise_became : (old new : ShardView) (grant : Permit) (s : Step) (told : Reply) → is_out old grant ≡ true → TellsRaise old grant s new told
     → Became reply.Raise (ShowsRaise (past_of old) grant s) old (after_raise old grant s) new told
-raise_became old new grant s (reply.Raise answer) out h = let made = of_out (is_out old grant) out h in inl (answer, refl, refl, made.0, made.1)
+raise_became old new grant s (reply.Raise answer) out h = let made = of_out _ (is_out old grant) out h in inl (answer, refl, refl, made.0, made.1)
 raise_became old new grant s (reply.RaiseBack back) out h = inr (refl, h.0)
 raise_became old new grant s other out h = absurd h
 
@@ -186,7 +187,7 @@ renewed_as grant answer = reply.Renew grant (Some answer)
 renewal_became : (old new : ShardView) (grant : Permit) (s : Step) (told : Reply) → is_out old grant ≡ true → TellsRenewal old grant s new told
     → Became (renewed_as grant) (ShowsRenewal s) old (stepped old s) new told
 renewal_became old new grant s (reply.Renew back (Some answer)) out h =
-    let made = of_out (is_out old grant) out h.1 in
+    let made = of_out _ (is_out old grant) out h.1 in
     inl (answer, ap (λ (p : Permit). reply.Renew p (Some answer)) h.0, refl, made.0, made.1)
 renewal_became old new grant s (reply.Renew back None) out h = inr (refl, h.1)
 renewal_became old new grant s other out h = absurd h
@@ -205,9 +206,9 @@ made_by : {A : Type 0} (variant : A → Reply) (shows : A → Type 0) (shape : S
 made_by variant shows shape world who request shards place shard next new told (Ok kept) has there made (inl h) goes =
     let P : Reply → Type 0 = λ r. MakesStep shape world who request (set shards place new) (Ok r) in
     let Q : ShardView → Type 0 = λ v. MakesStep shape world who request (set shards place v) (Ok (variant h.0)) in
-    subst P (sym (goes.0 ∙ h.1)) (subst Q (sym h.2.1) (made h.0 h.2.2))
+    subst P (sym (goes.0 ∙ h.1)) (subst Q (sym h.3) (made h.0 h.4))
 made_by variant shows shape world who request shards place shard next new told (Err memory) has there made (inl h) goes =
-    absurd (false≢true (sym h.2.0 ∙ goes))
+    absurd (false≢true (sym h.2 ∙ goes))
 made_by variant shows shape world who request shards place shard next new told (Ok kept) has there made (inr h) goes =
     absurd (false≢true (sym goes.1 ∙ h.0))
 made_by variant shows shape world who request shards place shard next new told (Err memory) has there made (inr h) goes =
@@ -221,6 +222,23 @@ pub record IsAsked (shards : List ShardView) (request : Wanted) (place : ℕ) (s
   pub found : (key : QKey) → key_of request ≡ Some key → slice_get shards (shard_of key (length shards)) ≡ Some shard
   pub there : slice_get shards place ≡ Some shard
   pub left : next_token shard.terms (past_of shard) < 2 ^ 64 - 1
+
+-- so it is of the shard that is read at the place of the request's key
+pub asked_at : (shards : List ShardView) (request : Wanted) (key : QKey) (place : ℕ) (shard : ShardView) → key_of request ≡ Some key
+    → HasHome shards key → place ≡ shard_of key (length shards) → place < length shards → shard ≡ get_or shards place shard
+    → IsAsked shards request place shard
+asked_at shards request key place shard on home here within read =
+    let found = home_read key shards here within read in
+    let F : QKey → Type 0 = λ k. slice_get shards (shard_of k (length shards)) ≡ Some shard in
+    record {
+      at = λ other e. here ∙ ap (λ (k : QKey). shard_of k (length shards)) (same (sym on ∙ e));
+      found = λ other e. subst F (same (sym on ∙ e)) found;
+      there = slice_get_read shards (length shards) place shard refl within read;
+      left = home.unspent shard found;
+    }
+  where
+    same : {a b : QKey} → Some a ≡ Some b → a ≡ b
+    same e = cc
 
 raise_grown : (shard : ShardView) (grant : Permit) (s : Step) → after_raise shard grant s ≡ grown shard (wanted.Raise grant) s
 raise_grown shard grant (step.Gone key sid token) = refl

@@ -409,7 +409,7 @@ no_memory faults.KeepFault txn grants e = λ z. cc
 -- so it is for a commit
 commit_tells : (old new : StoreView) (origin : Origin) (world : World) (who : Sid) (txn : List Change) (grants : GrantsView) (told : Reply)
     (result : Result Reply Memory) → StandsStore old origin world → 1 ≤ who.number → old.faults ≤ new.faults
-    → TellsCommit who txn grants.items old new told → GoesOn told result → MakesCall origin world who (wanted.Commit txn grants) new result
+    → TellsCommit who txn grants old new told → GoesOn told result → MakesCall origin world who (wanted.Commit txn grants) new result
 commit_tells old new origin world who txn grants (reply.Committed number back kept) (Ok said) stands some more (same, held, made) on =
     let P : Reply → Type 0 = λ r. MakesCall origin world who (wanted.Commit txn grants) new (Ok r) in
     let is : reply.Committed number back kept ≡ reply.Committed number txn grants = λ i. reply.Committed number (same i) (held i) in
