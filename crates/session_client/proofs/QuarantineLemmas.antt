@@ -69,7 +69,7 @@ quarantine_belongs_in terms past key who mode known by now answer shows is =
 
 raised_by : (grant : Permit) (b : Bool) → b ≡ true → IsRaised grant
     (if b then record { shard = grant.shard; key = grant.key; sid = grant.sid; mode = Refresh; token = grant.token } else grant)
-raised_by grant true e = record { same_key = refl; same_session = refl; same_token = refl; refreshes = refl }
+raised_by grant true e = record { same_shard = refl; same_key = refl; same_session = refl; same_token = refl; refreshes = refl }
 raised_by grant false e = cc
 
 -- a grant as it is once it is raised
