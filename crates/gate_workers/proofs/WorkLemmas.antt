@@ -130,8 +130,7 @@ row_from who plan ended before after later count now notes row e left same tende
     let l : IsLeft who ended notes row = left_by who ended notes row left in
     let noted : l.marks ≡ marks_of e.calls = subst (λ (n : Option (List Mark)). AreNoted n e.calls) l.kept e.noted in
     let view : RowView = record { sid = who; outcome = ended; marks = l.marks } in
-    let made : IsRow plan e.calls view = record { has_run = e.has_run; had_memory = l.had; marks = noted } in
-    (
+    let made : IsRow plan e.calls view = record { has_run = e.has_run; had_memory = l.had; marks = noted } in (
       e.calls,
       subst (λ (r : RowView). IsRow plan e.calls r) (sym l.is) made,
       told_by e.calls 1 before later count now (same ∙ e.recorded) (tended ∙ one_step count),

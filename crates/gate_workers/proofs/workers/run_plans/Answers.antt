@@ -21,8 +21,7 @@ loop-plan-preserved g c =
     let same = c.push_reserved.ensures.capacity in
     let roomy = c.loop-plan.invariant.1 in
     let more_rows = c.push_reserved.ensures.len in
-    let at = c.loop-plan.invariant.2 in
-    (
+    let at = c.loop-plan.invariant.2 in (
       subst (λ (some : List Plan). IsWork some before after c.push_reserved.new.self.items) {x = take i plans ++ plan ∷ []} (sym grown)
           (subst (λ (rows : List RowView). IsWork (take i plans ++ plan ∷ []) before after rows) {x = c.loop-plan.rows.items
           ++ c.in_ok-row.row ∷ []} (sym c.push_reserved.ensures.items) work),
