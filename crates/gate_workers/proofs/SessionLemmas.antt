@@ -1,8 +1,9 @@
 -- A session under way: how it begins, goes on and ends, with its calls and its marks.
 use Rattle.std.proofs.Common.{◌≡◌, ◌≢◌, if◌then◌else◌, Bool, true, false, List, [], ◌∷◌, ◌++◌, Option, Some, None, Result, Ok, Err}
-use Rattle.std.proofs.Common.{MatchResult, OnErr, refl, sym, ap, subst, ◌∙◌, inl, inr}
+use Rattle.std.proofs.Common.{MatchResult, OnErr, refl, sym, ap, subst, ◌∙◌, inl, inr, ℕ, ◌+◌, length, length-append, arith}
 use Rattle.rows_model.specs.declared.keys.Sid.{Sid}
 use Rattle.rows_model.specs.declared.refusals.Memory.{Memory}
+use Rattle.session_client.specs.Belongs.{Belongs}
 use Rattle.session_client.specs.Desks.{Call, Asked, with_member}
 use Rattle.session_client.specs.Follows.{Follows, IsReady, IsRefreshing, plan_of, sid_of}
 use Rattle.session_client.specs.Wants.{wants, outcome_of, done_by, is_nothing}
@@ -13,7 +14,7 @@ use Rattle.session_client.specs.declared.replies.Wanted.{Wanted}
 use Rattle.session_client.specs.declared.replies.Wanted.TheVariants as wanted
 use Rattle.session_client.specs.declared.sessions.Session.{Session}
 use Rattle.gate_workers.specs.declared.marks.Mark.{Mark}
-use Rattle.gate_workers.specs.Marks.{mark_of}
+use Rattle.gate_workers.specs.Marks.{mark_of, marks_of}
 use Rattle.gate_workers.specs.Rows.{IsShort, with_calls}
 use Rattle.std.proofs.lemmas.Bool.{false≢true}
 use Rattle.gate_workers.specs.Notes.{IsGoing, IsWanting, IsNoted, AreNoted, IsUnderWay, HasEnded}
@@ -24,12 +25,20 @@ pub with_more : (call : Call) (calls : List Call) (before now after : Option (Li
 with_more call calls (Some told) now after e f = f ∙ ap (with_member call) e
 with_more call calls None now after e f = f ∙ ap (with_member call) e
 
+one_mark_more : (marks : List Mark) (mark : Mark) → length (marks ++ mark ∷ []) ≡ length marks + 1
+one_mark_more marks mark = length-append marks (mark ∷ [])
+
 -- one mark more among those that are kept
 pub noted_more : (request : Wanted) (who : Sid) (told : Reply) (calls : List Call) (before after : Option (List Mark))
     → IsNoted (mark_of request told) before after → AreNoted before calls → AreNoted after (Asked who request told ∷ calls)
 noted_more request who told calls (Some before) (Some after) n h = n ∙ ap (λ (marks : List Mark). marks ++ mark_of request told ∷ []) h
-noted_more request who told calls (Some before) None n h = tt
-noted_more request who told calls None None n h = tt
+noted_more request who told calls (Some before) None n h =
+    let more = one_mark_more (marks_of calls) (mark_of request told) in
+    let kept = ap (λ (marks : List Mark). length marks) h in
+    omega (arith, n, more, kept)
+noted_more request who told calls None None n h =
+    let more = one_mark_more (marks_of calls) (mark_of request told) in
+    omega (arith, h, more)
 noted_more request who told calls None (Some after) n h = absurd n
 
 -- what a step does: the session wants something, the desk answers, the mark is noted and the session is told
@@ -39,6 +48,7 @@ pub record IsStep (session waits next : Session) (now after : Option (List Call)
   pub sid_then : sid_of waits ≡ sid_of session
   pub wanted : (short : Bool) (heard : List Reply) → Follows session short heard → asked ≡ wants (plan_of session) short heard
   pub waits_for : (short : Bool) (heard : List Reply) → Follows session short heard → Follows waits short heard
+  pub belongs : Belongs (sid_of session) asked told
   pub recorded : after ≡ with_member (Asked (sid_of session) asked told) now
   pub noted : IsNoted (mark_of asked told) notes notes'
   pub plan_now : plan_of next ≡ plan_of waits
@@ -75,6 +85,8 @@ goes_on who plan session waits next before now after notes notes' asked told res
     told_so next u.short u.heard told result (s.was_told u.short u.heard (s.waits_for u.short u.heard u.follows)) s.memory in
     let some : is_nothing (wants plan u.short u.heard) ≡ false =
     subst (λ (p : Plan). is_nothing (wants p u.short u.heard) ≡ false) of_plan (wanting u.short u.heard u.follows) in
+    let b : Belongs who (wants plan u.short u.heard) told =
+    subst (λ (r : Wanted). Belongs who r told) w (subst (λ (s : Sid). Belongs s asked told) of_number s.belongs) in
     let call : Call = Asked who (wants plan u.short u.heard) told in
     let same : Asked (sid_of session) asked told ≡ call = cc in
     record {
@@ -84,7 +96,7 @@ goes_on who plan session waits next before now after notes notes' asked told res
       of_plan = s.plan_now ∙ (s.plan_then ∙ of_plan);
       of_number = s.sid_now ∙ (s.sid_then ∙ of_number);
       follows = t.follows;
-      went = (u.short, u.calls, u.went, is_asked (wants plan u.short u.heard) some, t.is_short, refl);
+      went = (u.short, u.calls, u.went, is_asked (wants plan u.short u.heard) some, b, t.is_short, refl);
       recorded = with_more call u.calls before now after u.recorded (subst (λ (c : Call). after ≡ with_member c now) same s.recorded);
       noted =
           noted_more (wants plan u.short u.heard) who told u.calls notes notes'

@@ -1,5 +1,5 @@
 -- The marks of a session that is under way.
-use Rattle.std.specs.Prelude.{◌≡◌, Bool, false, List, [], ◌∷◌, ◌++◌, Option, Some, None}
+use Rattle.std.specs.Prelude.{ℕ, ◌≡◌, ◌≤◌, ◌<◌, Bool, false, List, [], ◌∷◌, ◌++◌, length, Option, Some, None}
 use Rattle.rows_model.specs.declared.keys.Sid.{Sid}
 use Rattle.session_client.specs.Desks.{Call}
 use Rattle.session_client.specs.Follows.{Follows, plan_of, sid_of}
@@ -10,7 +10,7 @@ use Rattle.session_client.specs.declared.replies.Reply.{Reply}
 use Rattle.session_client.specs.declared.sessions.Session.{Session}
 use Rattle.gate_workers.specs.declared.marks.Mark.{Mark}
 use Rattle.gate_workers.specs.Marks.{marks_of}
-use Rattle.gate_workers.specs.Rows.{RowView, Went, HasRun, IsRow, HasStopped, with_calls}
+use Rattle.gate_workers.specs.Rows.{RowView, Went, HasRun, IsRow, HasStopped, DeskView, marks_room, with_calls, with_work}
 
 -- There are replies that the session may have heard.
 abbrev pub IsGoing : Session → Type 0
@@ -21,16 +21,18 @@ abbrev pub IsWanting : Session → Type 0
 IsWanting session =
     (short : Bool) (heard : List Reply) → Follows session short heard → is_nothing (wants (plan_of session) short heard) ≡ false
 
--- A mark was put last among those that are kept, or they are lost. Lost ones stay lost.
+-- A mark was put last among those that are kept, or they are lost, as many as there was room for. Lost
+-- ones stay lost.
 abbrev pub IsNoted : Mark → Option (List Mark) → Option (List Mark) → Type 0
 IsNoted mark (Some before) (Some after) = after ≡ before ++ mark ∷ []
-IsNoted mark before None = Unit {0}
+IsNoted mark (Some before) None = marks_room ≤ length before
+IsNoted mark None None = Unit {0}
 IsNoted mark None (Some after) = ⊥
 
--- The marks that are kept are those of these calls.
+-- The marks that are kept are those of these calls. Lost ones are more than there was room for.
 abbrev pub AreNoted : Option (List Mark) → List Call → Type 0
 AreNoted (Some marks) calls = marks ≡ marks_of calls
-AreNoted None calls = Unit {0}
+AreNoted None calls = marks_room < length (marks_of calls)
 
 -- A session of this number and plan is under way: its calls so far were added to the
 -- record of its desk, where that is told, and its marks are theirs, where they are kept.
@@ -53,10 +55,13 @@ pub record HasEnded (who : Sid) (plan : Plan) (outcome : Outcome) (before after 
   pub recorded : after ≡ with_calls calls before
   pub noted : AreNoted notes calls
 
--- The session of this plan has run, this is its row, and where the desk tells its record exactly its calls were added to it.
-abbrev pub AddsRow : Plan → Option (List Call) → Option (List Call) → RowView → Type 0
-AddsRow plan before after row = (calls : List Call) × IsRow plan calls row × (after ≡ with_calls calls before)
+-- The session of this plan has run, and this is its row. Where the desk tells it, exactly its calls were
+-- added to the record, and one step of the sweep was taken.
+abbrev pub AddsRow : Plan → DeskView → DeskView → RowView → Type 0
+AddsRow plan before after row = (calls : List Call) × IsRow plan calls row × (after ≡ with_work calls 1 before)
 
--- The worker stops at this plan, and where the desk tells its record exactly its calls there were added to it.
-abbrev pub AddsStop : Plan → Option (List Call) → Option (List Call) → Type 0
-AddsStop plan before after = (calls : List Call) × HasStopped plan calls × (after ≡ with_calls calls before)
+-- The worker stops at this plan. Where the desk tells it, exactly its calls there were added to the
+-- record, and the steps that it took there to their count.
+abbrev pub AddsStop : Plan → DeskView → DeskView → Type 0
+AddsStop plan before after =
+    (calls : List Call) × (steps : ℕ) × HasStopped plan calls steps × (after ≡ with_work calls steps before)

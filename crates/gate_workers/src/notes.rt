@@ -1,4 +1,4 @@
-ghost use Rattle.std.specs.Prelude.{◌≡◌, ◌∷◌, [], Some, IfOk};
+ghost use Rattle.std.specs.Prelude.{◌≡◌, ◌∷◌, [], None, Some, IfOk, MatchOption};
 ghost use Rattle.gate_workers.specs.Notes.{IsNoted};
 
 use crate::marks::Mark;
@@ -6,8 +6,11 @@ use rows_model::Memory;
 use std::alloc::Global;
 use std::marker::Model;
 
-/// The marks of a session that is under way. Once memory ran out for one of them they are lost, and
-/// the session goes on without.
+/// For how many marks room is taken before a session begins.
+const ROOM: usize = 32;
+
+/// The marks of a session that is under way. There is room for 32. Once memory ran out for a further
+/// one they are lost, and the session goes on without.
 #[derive(Drop)]
 pub(crate) struct Notes {
     marks: Vec<Mark>,
@@ -15,23 +18,26 @@ pub(crate) struct Notes {
 }
 
 impl Model for Notes {
-    ghost use Rattle.std.specs.Prelude.{List, Option, None, Some, if◌then◌else◌};
+    ghost use Rattle.std.specs.Prelude.{◌≤◌, List, Option, None, Some, if◌then◌else◌, vec_capacity};
+    ghost use Rattle.gate_workers.specs.Rows.{marks_room};
     ghost use Rattle.gate_workers.specs.declared.marks.Mark.{Mark};
 
     ghost Value = { Option (List Mark) };
 
     ghost view = { λ notes. if notes.lost then None else Some notes.marks.items };
+
+    ghost invariant = { λ notes. marks_room ≤ vec_capacity notes.marks };
 }
 
 impl Notes {
-    /// No marks yet. It takes no memory.
-    pub(crate) fn new(alloc: Global) -> Notes
-        ensures { result ≡ Some [] }
+    /// No marks yet, and room for 32.
+    pub(crate) fn new(alloc: Global) -> Result<Notes, Memory>
+        ensures { IfOk result (λ notes. notes ≡ Some []) }
     {
-        Notes {
-            marks: Vec::new(alloc),
+        Ok(Notes {
+            marks: Vec::with_capacity(alloc, ROOM)?,
             lost: false,
-        }
+        })
     }
 
     /// Puts a mark last.
@@ -41,13 +47,15 @@ impl Notes {
         self.lost = self.lost || self.marks.push(mark).is_err();
     }
 
-    /// The marks, if none was lost.
-    pub(crate) fn kept(self) -> Result<Vec<Mark>, Memory>
-        ensures { IfOk result (λ marks. self ≡ Some marks.items) }
+    /// The marks, unless they are lost. Room that none needed is given back.
+    pub(crate) fn into_marks(self) -> Option<Vec<Mark>>
+        ensures { MatchOption result (self ≡ None) (λ marks. self ≡ Some marks.items) }
     {
-        if self.lost {
-            return Err(Memory);
+        let Notes { mut marks, lost } = self;
+        if lost {
+            return None;
         }
-        Ok(self.marks)
+        marks.shrink_to_fit();
+        Some(marks)
     }
 }

@@ -1,9 +1,10 @@
-ghost use Rattle.std.specs.Prelude.{◌≡◌, Bool, List, Option, IfOk, OnErr};
+ghost use Rattle.std.specs.Prelude.{◌≡◌, ℕ, Bool, List, Option, IfOk, OnErr};
 ghost use Rattle.rows_model.specs.declared.keys.Sid.{Sid};
 ghost use Rattle.session_client.specs.Desks.{Call};
 ghost use Rattle.session_client.specs.Follows.{IsReady};
 ghost use Rattle.session_client.specs.Plans.{IsPlan, writes};
 ghost use Rattle.session_client.specs.declared.plans.Plan.{Plan};
+ghost use Rattle.gate_workers.specs.Rows.{desk_view};
 ghost use Rattle.gate_workers.specs.Notes.{IsGoing, IsWanting, IsUnderWay, HasEnded, AddsRow, AddsStop};
 
 use crate::marks::{Mark, Response};
@@ -12,7 +13,7 @@ use crate::transcripts::Row;
 use executor::Request;
 use iq_outside::{Gate, Point};
 use rows_model::{Memory, Sid};
-use session_client::{Desk, Fault, Outcome, Plan, Session, Wanted};
+use session_client::{Desk, Outcome, Plan, Session, Wanted};
 use std::alloc::Global;
 use std::sync::Wait;
 
@@ -21,7 +22,8 @@ use std::sync::Wait;
 /// sweep.
 ///
 /// For want of memory there is no row. A session that had begun was ended all the same, and its grants
-/// were released.
+/// were released. One that ended otherwise than by want of memory has a row, unless it made more than 32
+/// requests.
 pub(crate) fn run_session<R: Wait, D: Desk, G: Gate>(
     rt: &R,
     alloc: Global,
@@ -31,29 +33,23 @@ pub(crate) fn run_session<R: Wait, D: Desk, G: Gate>(
     gate: &G,
 ) -> Result<Row, Memory>
     requires { IsPlan plan.now }
-    ensures row { IfOk result (λ row.
-        AddsRow plan.now (D.record_of desk.old) (D.record_of desk.new) row) }
-    ensures stop { OnErr result (AddsStop plan.now (D.record_of desk.old) (D.record_of desk.new)) }
+    ensures row { IfOk result (λ row. AddsRow plan.now
+        (desk_view D.record_of D.tends desk.old) (desk_view D.record_of D.tends desk.new) row) }
+    ensures stop { OnErr result (AddsStop plan.now
+        (desk_view D.record_of D.tends desk.old) (desk_view D.record_of D.tends desk.new)) }
 {
     let copy = plan.copy()?;
+    let mut notes = Notes::new(alloc)?;
     let sid = desk.begin(plan.writes())?;
     let Ok(mut session) = Session::new(alloc, sid, copy) else {
         desk.call(sid, Wanted::End).let_go();
         return Err(Memory);
     };
-    let mut notes = Notes::new(alloc);
     let outcome = drive(rt, worker, desk, &mut session, &mut notes, gate);
     session.let_go();
     gate.at(worker, Point::Answered);
     desk.tend();
-    if outcome
-        == (Outcome::Failed {
-            fault: Fault::Memory,
-        })
-    {
-        return Err(Memory);
-    }
-    Ok(Row::new(sid, outcome, notes.kept()?))
+    Row::of(sid, outcome, notes)
 }
 
 /// Makes the session's requests at the desk until it wants no more, and tells how it ended.
@@ -67,9 +63,10 @@ fn drive<R: Wait, D: Desk, G: Gate>(
 ) -> Outcome
     requires ready { IsReady session.old }
     requires going { IsGoing session.old }
-    ensures { (who : Sid) (plan : Plan) (before : Option (List Call)) →
+    ensures ended { (who : Sid) (plan : Plan) (before : Option (List Call)) →
         IsUnderWay who plan session.old before (D.record_of desk.old) notes.old →
         HasEnded who plan result before (D.record_of desk.new) notes.new }
+    ensures tends { D.tends desk.new ≡ D.tends desk.old }
 {
     for _ in rt.forever() {
         if let Some(outcome) = session.done() {
@@ -96,6 +93,7 @@ fn step<D: Desk, G: Gate>(
     ensures goes_on { (who : Sid) (plan : Plan) (before : Option (List Call)) →
         IsUnderWay who plan session.old before (D.record_of desk.old) notes.old →
         IsUnderWay who plan session.new before (D.record_of desk.new) notes.new }
+    ensures tends { D.tends desk.new ≡ D.tends desk.old }
 {
     let sid = session.sid();
     let wanted = session.wants();

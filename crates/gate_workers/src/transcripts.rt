@@ -1,9 +1,10 @@
-ghost use Rattle.std.specs.Prelude.{◌≡◌, ◌∷◌, ◌++◌, [], OnOk, OnErr};
+ghost use Rattle.std.specs.Prelude.{◌≡◌, Some, None, MatchResult};
+ghost use Rattle.gate_workers.specs.Rows.{is_short, row_of};
 
 use crate::marks::Mark;
+use crate::notes::Notes;
 use rows_model::{Memory, Sid};
-use session_client::Outcome;
-use std::alloc::Global;
+use session_client::{Fault, Outcome};
 use std::marker::Model;
 
 /// What became of one session: its number, how it ended, and the mark of each request that it made.
@@ -23,14 +24,22 @@ impl Model for Row {
 }
 
 impl Row {
-    /// The row of this session, which ended so and left these marks.
-    pub(crate) fn new(sid: Sid, outcome: Outcome, marks: Vec<Mark>) -> Row
-        ensures { result ≡ record { sid = sid; outcome = outcome; marks = marks.items } }
+    /// The row of this session, which ended so and left these notes. There is none exactly where memory
+    /// ran out for the session, or its marks are lost.
+    pub(crate) fn of(sid: Sid, outcome: Outcome, notes: Notes) -> Result<Row, Memory>
+        ensures { MatchResult result (λ row. row_of sid outcome notes ≡ Some row)
+            (λ _. row_of sid outcome notes ≡ None) }
     {
-        Row {
-            sid,
-            outcome,
-            marks,
+        if is_short(outcome) {
+            return Err(Memory);
+        }
+        match notes.into_marks() {
+            Some(marks) => Ok(Row {
+                sid,
+                outcome,
+                marks,
+            }),
+            None => Err(Memory),
         }
     }
 
@@ -56,6 +65,18 @@ impl Row {
     }
 }
 
+/// Whether a session ended so by want of memory.
+fn is_short(outcome: Outcome) -> bool
+    ensures { result ≡ is_short outcome }
+{
+    matches!(
+        outcome,
+        Outcome::Failed {
+            fault: Fault::Memory
+        }
+    )
+}
+
 /// What a worker's sessions did. Contracts see the list of its rows, one for each plan in their order.
 #[derive(Drop)]
 pub struct Transcript {
@@ -72,13 +93,11 @@ impl Model for Transcript {
 }
 
 impl Transcript {
-    /// No rows yet. It takes no memory.
-    pub(crate) fn new(alloc: Global) -> Transcript
-        ensures { result ≡ [] }
+    /// The transcript of these rows. It takes no memory.
+    pub(crate) fn of(rows: Vec<Row>) -> Transcript
+        ensures { result ≡ rows.items }
     {
-        Transcript {
-            rows: Vec::new(alloc),
-        }
+        Transcript { rows }
     }
 
     /// The rows, that of the first plan in front.
@@ -86,14 +105,5 @@ impl Transcript {
         ensures { result.now ≡ self.now }
     {
         self.rows.as_slice()
-    }
-
-    /// Puts a row last. For want of memory the rows are as before.
-    pub(crate) fn push(&mut self, row: Row) -> Result<(), Memory>
-        ensures added { OnOk result (self.new ≡ self.old ++ row ∷ []) }
-        ensures err { OnErr result (self.new ≡ self.old) }
-    {
-        self.rows.push(row)?;
-        Ok(())
     }
 }

@@ -1,7 +1,7 @@
 ghost use Rattle.std.specs.Prelude.{◌≡◌, ◌<◌, All, List, map, length, IfOk};
 ghost use Rattle.std.specs.Thread.{IsSync};
 ghost use Rattle.session_client.specs.Plans.{IsPlan};
-ghost use Rattle.gate_workers.specs.Rows.{IsWork, AllWork, HasWorked, AllWorked, AreJoined};
+ghost use Rattle.gate_workers.specs.Rows.{desk_view, IsWork, AllWork, HasWorked, AllWorked, AreJoined};
 
 use crate::sessions::run_session;
 use crate::transcripts::Transcript;
@@ -22,8 +22,8 @@ use std::thread::{Threads, join_mut};
 ///
 /// For want of memory there are no transcripts. A worker for which it ran out stopped at one of its
 /// plans. The sessions of the plans before have run, and so has that of this plan, with its grants
-/// released, unless it was ended before it asked for anything, or never began. The other workers
-/// went on.
+/// released, unless it was ended before it asked for anything, or never began. Where it has run, it
+/// failed for want of memory, or made more than 32 requests. The other workers went on.
 pub fn work_all<R: Threads + Wait + Sync, D: Desk + Send, G: Gate>(
     rt: &R,
     alloc: Global,
@@ -34,9 +34,11 @@ pub fn work_all<R: Threads + Wait + Sync, D: Desk + Send, G: Gate>(
     requires as_many { length plans.now ≡ length desks.old }
     requires plans { All (λ list. All IsPlan list.items) plans.now }
     ensures work { IfOk result (λ transcripts. AllWork (map (λ list. list.items) plans.now)
-        (map D.record_of desks.old) (map D.record_of desks.new) transcripts.items) }
+        (map (desk_view D.record_of D.tends) desks.old)
+        (map (desk_view D.record_of D.tends) desks.new) transcripts.items) }
     ensures worked { AllWorked (map (λ list. list.items) plans.now)
-        (map D.record_of desks.old) (map D.record_of desks.new) }
+        (map (desk_view D.record_of D.tends) desks.old)
+        (map (desk_view D.record_of D.tends) desks.new) }
 {
     work_from(rt, &alloc, plans, plans, gate, desks)
 }
@@ -55,9 +57,11 @@ fn work_from<R: Threads + Wait + Sync, D: Desk + Send, G: Gate>(
     requires as_many { length left.now ≡ length desks.old }
     requires plans { All (λ list. All IsPlan list.items) left.now }
     ensures work { IfOk result (λ transcripts. AllWork (map (λ list. list.items) left.now)
-        (map D.record_of desks.old) (map D.record_of desks.new) transcripts.items) }
+        (map (desk_view D.record_of D.tends) desks.old)
+        (map (desk_view D.record_of D.tends) desks.new) transcripts.items) }
     ensures worked { AllWorked (map (λ list. list.items) left.now)
-        (map D.record_of desks.old) (map D.record_of desks.new) }
+        (map (desk_view D.record_of D.tends) desks.old)
+        (map (desk_view D.record_of D.tends) desks.new) }
 {
     if desks.len() < 2 {
         return work_one(rt, alloc, all, left, left, gate, desks);
@@ -70,19 +74,23 @@ fn work_from<R: Threads + Wait + Sync, D: Desk + Send, G: Gate>(
             requires { (length first.now ≡ length front.now) × (length front.now < 2)
                 × All (λ list. All IsPlan list.items) first.now }
             ensures work { IfOk result (λ transcripts. AllWork
-                (map (λ list. list.items) first.entry.now) (map D.record_of front.entry.now)
-                (map D.record_of front.exit.now) transcripts.items) }
+                (map (λ list. list.items) first.entry.now)
+                (map (desk_view D.record_of D.tends) front.entry.now)
+                (map (desk_view D.record_of D.tends) front.exit.now) transcripts.items) }
             ensures worked { AllWorked (map (λ list. list.items) first.entry.now)
-                (map D.record_of front.entry.now) (map D.record_of front.exit.now) }
+                (map (desk_view D.record_of D.tends) front.entry.now)
+                (map (desk_view D.record_of D.tends) front.exit.now) }
         { work_one(rt, alloc, all, left, first, gate, front) },
         &mut ||
             requires { IsSync R.row × (length rest.now ≡ length back.now)
                 × All (λ list. All IsPlan list.items) rest.now }
             ensures work { IfOk result (λ transcripts. AllWork
-                (map (λ list. list.items) rest.entry.now) (map D.record_of back.entry.now)
-                (map D.record_of back.exit.now) transcripts.items) }
+                (map (λ list. list.items) rest.entry.now)
+                (map (desk_view D.record_of D.tends) back.entry.now)
+                (map (desk_view D.record_of D.tends) back.exit.now) transcripts.items) }
             ensures worked { AllWorked (map (λ list. list.items) rest.entry.now)
-                (map D.record_of back.entry.now) (map D.record_of back.exit.now) }
+                (map (desk_view D.record_of D.tends) back.entry.now)
+                (map (desk_view D.record_of D.tends) back.exit.now) }
         { work_from(rt, alloc, all, rest, gate, back) },
     );
     joined(first, rest)
@@ -115,9 +123,11 @@ fn work_one<R: Wait, D: Desk, G: Gate>(
     requires few { length desks.old < 2 }
     requires plans { All (λ list. All IsPlan list.items) plans.now }
     ensures work { IfOk result (λ transcripts. AllWork (map (λ list. list.items) plans.now)
-        (map D.record_of desks.old) (map D.record_of desks.new) transcripts.items) }
+        (map (desk_view D.record_of D.tends) desks.old)
+        (map (desk_view D.record_of D.tends) desks.new) transcripts.items) }
     ensures worked { AllWorked (map (λ list. list.items) plans.now)
-        (map D.record_of desks.old) (map D.record_of desks.new) }
+        (map (desk_view D.record_of D.tends) desks.old)
+        (map (desk_view D.record_of D.tends) desks.new) }
 {
     let mut transcripts = Vec::new(*alloc);
     if desks.is_empty() {
@@ -141,13 +151,15 @@ fn run_plans<R: Wait, D: Desk, G: Gate>(
 ) -> Result<Transcript, Memory>
     requires { All IsPlan plans.now }
     ensures work { IfOk result (λ rows.
-        IsWork plans.now (D.record_of desk.old) (D.record_of desk.new) rows) }
-    ensures worked { HasWorked plans.now (D.record_of desk.old) (D.record_of desk.new) }
+        IsWork plans.now (desk_view D.record_of D.tends desk.old)
+        (desk_view D.record_of D.tends desk.new) rows) }
+    ensures worked { HasWorked plans.now (desk_view D.record_of D.tends desk.old)
+        (desk_view D.record_of D.tends desk.new) }
 {
-    let mut transcript = Transcript::new(alloc);
+    let mut rows = Vec::with_capacity(alloc, plans.len())?;
     for plan in plans {
         let row = run_session(rt, alloc, worker, desk, plan, gate)?;
-        transcript.push(row)?;
+        rows.push_reserved(row);
     }
-    Ok(transcript)
+    Ok(Transcript::of(rows))
 }

@@ -1,11 +1,28 @@
-use Rattle.std.proofs.Common.{◌≡◌, ◌≢◌, rules}
-use Rattle.std.proofs.lemmas.Result.{MatchResult-from_err}
-use Rattle.session_client.specs.Desks.{Began, with_member}
+use Rattle.std.proofs.Common.{◌≡◌, ◌∙◌, ap}
+use Rattle.session_client.specs.Desks.{Began, one_more, with_member}
 use Rattle.session_client.specs.Plans.{writes}
-use Rattle.gate_workers.specs.Rows.{short_of_memory}
-use Rattle.gate_workers.specs.Notes.{HasEnded, AddsStop}
-use Rattle.gate_workers.proofs.WorkLemmas.{runs_to_end, row_from, stops_at_once, stops_after}
+use Rattle.gate_workers.specs.Notes.{AddsStop, HasEnded}
+use Rattle.gate_workers.specs.Rows.{desk_view}
+use Rattle.gate_workers.proofs.WorkLemmas.{runs_to_end, leaves, on_err_by, stops_at_once, stops_before, stops_unbegun}
 use Rattle.gate_workers.proofs.sessions.run_session.Goals as goal
+
+pub returns-in_err-copy-clause-stop : goal.returns-in_err-copy-clause-stop
+returns-in_err-copy-clause-stop g c =
+    let view = desk_view g.D.Desk.record_of g.D.Desk.tends c.args.desk.now in
+    on_err_by c.from_residual.result (AddsStop c.args.plan.now view view) (stops_before c.args.plan.now view)
+
+pub returns-in_err-notes-clause-stop : goal.returns-in_err-notes-clause-stop
+returns-in_err-notes-clause-stop g c =
+    let view = desk_view g.D.Desk.record_of g.D.Desk.tends c.args.desk.now in
+    on_err_by c.from_residual-in_err-notes.result (AddsStop c.args.plan.now view view) (stops_before c.args.plan.now view)
+
+pub returns-in_err-sid-clause-stop : goal.returns-in_err-sid-clause-stop
+returns-in_err-sid-clause-stop g c =
+    let old = desk_view g.D.Desk.record_of g.D.Desk.tends c.args.desk.now in
+    let new = desk_view g.D.Desk.record_of g.D.Desk.tends c.begin.new.self in
+    on_err_by c.from_residual-in_err-sid.result (AddsStop c.args.plan.now old new)
+    (stops_unbegun c.args.plan.now (g.D.Desk.record_of c.args.desk.now) (g.D.Desk.record_of c.begin.new.self)
+    (g.D.Desk.tends c.args.desk.now) (g.D.Desk.tends c.begin.new.self) c.in_err-sid.ensures.err_recorded c.begin.ensures.tends)
 
 pub returns-in_default-clause-stop : goal.returns-in_default-clause-stop
 returns-in_default-clause-stop g c =
@@ -14,36 +31,20 @@ returns-in_default-clause-stop g c =
     let before = g.D.Desk.record_of c.args.desk.now in
     let now = g.D.Desk.record_of c.begin.new.self in
     let begun : now ≡ with_member (Began (writes plan) who) before = cc (c.in_ok-sid.ensures.recorded, c.writes.ensures) in
-    stops_at_once plan who c.call.result before now (g.D.Desk.record_of c.call.new.self) begun c.call.ensures.recorded
+    stops_at_once plan who c.call.result before now (g.D.Desk.record_of c.call.new.self) (g.D.Desk.tends c.args.desk.now)
+    (g.D.Desk.tends c.call.new.self) begun c.call.ensures.recorded c.call.ensures.belongs (c.call.ensures.tends ∙ c.begin.ensures.tends)
 
-pub returns-then-eq-clause-stop : goal.returns-then-eq-clause-stop
-returns-then-eq-clause-stop g c =
+pub returns : goal.returns
+returns g c =
     let before = g.D.Desk.record_of c.args.desk.now in
-    let ended : HasEnded c.in_ok-sid.sid c.args.plan.now c.drive-outcome.result before (g.D.Desk.record_of c.drive-outcome.new.desk) c.drive-outcome.new.notes =
+    let count = g.D.Desk.tends c.args.desk.now in
+    let driven = g.D.Desk.record_of c.drive-outcome.new.desk in
+    let ended : HasEnded c.in_ok-sid.sid c.args.plan.now c.drive-outcome.result before driven c.drive-outcome.new.notes =
     runs_to_end c.in_ok-sid.sid c.args.plan.now c.in_ok-copy.copy c.writes.result c.in-Ok.session before (g.D.Desk.record_of c.begin.new.self)
-    (g.D.Desk.record_of c.drive-outcome.new.desk) c.new-notes.result c.drive-outcome.new.notes c.drive-outcome.result c.in-Ok.ensures.plan c.in_ok-copy.ensures
-    c.in-Ok.ensures.sid c.in-Ok.ensures.follows c.in_ok-sid.ensures.recorded c.writes.ensures c.new-notes.ensures c.drive-outcome.ensures in
-    stops_after c.in_ok-sid.sid c.args.plan.now c.drive-outcome.result before
-    (g.D.Desk.record_of c.drive-outcome.new.desk) (g.D.Desk.record_of c.tend.new.self) c.drive-outcome.new.notes ended c.tend.ensures.recorded
-
-pub returns-in_err-kept-clause-stop : goal.returns-in_err-kept-clause-stop
-returns-in_err-kept-clause-stop g c =
-    let before = g.D.Desk.record_of c.args.desk.now in
-    let ended : HasEnded c.in_ok-sid.sid c.args.plan.now c.drive-outcome.result before (g.D.Desk.record_of c.drive-outcome.new.desk) c.drive-outcome.new.notes =
-    runs_to_end c.in_ok-sid.sid c.args.plan.now c.in_ok-copy.copy c.writes.result c.in-Ok.session before (g.D.Desk.record_of c.begin.new.self)
-    (g.D.Desk.record_of c.drive-outcome.new.desk) c.new-notes.result c.drive-outcome.new.notes c.drive-outcome.result c.in-Ok.ensures.plan c.in_ok-copy.ensures
-    c.in-Ok.ensures.sid c.in-Ok.ensures.follows c.in_ok-sid.ensures.recorded c.writes.ensures c.new-notes.ensures c.drive-outcome.ensures in
-    MatchResult-from_err c.from_residual-in_err-kept.result (λ _. Unit {0}) (λ _. AddsStop c.args.plan.now before (g.D.Desk.record_of c.tend.new.self))
-    c.from_residual-in_err-kept.ensures.0 (λ _. stops_after c.in_ok-sid.sid c.args.plan.now c.drive-outcome.result before
-    (g.D.Desk.record_of c.drive-outcome.new.desk) (g.D.Desk.record_of c.tend.new.self) c.drive-outcome.new.notes ended c.tend.ensures.recorded)
-
-pub returns-clause-row : goal.returns-clause-row
-returns-clause-row g c =
-    let before = g.D.Desk.record_of c.args.desk.now in
-    let ended : HasEnded c.in_ok-sid.sid c.args.plan.now c.drive-outcome.result before (g.D.Desk.record_of c.drive-outcome.new.desk) c.drive-outcome.new.notes =
-    runs_to_end c.in_ok-sid.sid c.args.plan.now c.in_ok-copy.copy c.writes.result c.in-Ok.session before (g.D.Desk.record_of c.begin.new.self)
-    (g.D.Desk.record_of c.drive-outcome.new.desk) c.new-notes.result c.drive-outcome.new.notes c.drive-outcome.result c.in-Ok.ensures.plan c.in_ok-copy.ensures
-    c.in-Ok.ensures.sid c.in-Ok.ensures.follows c.in_ok-sid.ensures.recorded c.writes.ensures c.new-notes.ensures c.drive-outcome.ensures in
-    let had : c.drive-outcome.result ≢ short_of_memory = search rules in
-    row_from c.in_ok-sid.sid c.args.plan.now c.drive-outcome.result c.in_ok-kept.field-0.items before (g.D.Desk.record_of c.drive-outcome.new.desk)
-    (g.D.Desk.record_of c.tend.new.self) c.drive-outcome.new.notes c.new-2.result ended had c.in_ok-kept.ensures c.tend.ensures.recorded c.new-2.ensures
+    driven c.in_ok-notes.notes c.drive-outcome.new.notes c.drive-outcome.result c.in-Ok.ensures.plan c.in_ok-copy.ensures
+    c.in-Ok.ensures.sid c.in-Ok.ensures.follows c.in_ok-sid.ensures.recorded c.writes.ensures c.in_ok-notes.ensures c.drive-outcome.ensures.ended in
+    let tended : g.D.Desk.tends c.tend.new.self ≡ one_more count =
+    c.tend.ensures.tended ∙ ap one_more (c.drive-outcome.ensures.tends ∙ c.begin.ensures.tends) in
+    let l = leaves c.in_ok-sid.sid c.args.plan.now c.drive-outcome.result before driven (g.D.Desk.record_of c.tend.new.self)
+    count (g.D.Desk.tends c.tend.new.self) c.drive-outcome.new.notes c.of.result ended c.of.ensures c.tend.ensures.recorded tended in
+    record { row = l.row; stop = l.stop }

@@ -25,6 +25,7 @@ returns-clause-goes_on g c =
       sid_then = c.wants-wanted.ensures.sid;
       wanted = c.wants-wanted.ensures.wanted;
       waits_for = c.wants-wanted.ensures.follows;
+      belongs = subst (λ (who : Sid). Belongs who c.wants-wanted.result c.call-reply.result) c.sid-sid.ensures c.call-reply.ensures.belongs;
       recorded = cc (c.call-reply.ensures.recorded);
       noted = subst (λ (mark : Mark). IsNoted mark c.args.notes.now c.note.new.self) same c.note.ensures;
       plan_now = c.told.ensures.plan;

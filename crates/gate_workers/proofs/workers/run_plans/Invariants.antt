@@ -1,7 +1,9 @@
-use Rattle.std.proofs.Common.{take}
-use Rattle.gate_workers.specs.Rows.{IsWork}
+use Rattle.std.proofs.Common.{take, length, ◌≡◌, ◌≤◌, vec_capacity, vec_len}
+use Rattle.gate_workers.specs.Rows.{IsWork, desk_view}
 use Rattle.gate_workers.proofs.workers.run_plans.Given as goal
 
 abbrev pub invariant-loop-plan : goal.invariant-loop-plan
 invariant-loop-plan g l =
-    IsWork (take l.plan-index l.plans) (g.D.Desk.record_of l.initial.desk) (g.D.Desk.record_of l.desk) l.transcript
+    let view = desk_view g.D.Desk.record_of g.D.Desk.tends in
+    IsWork (take l.plan-index l.plans) (view l.initial.desk) (view l.desk) l.rows.items
+    × (length l.plans ≤ vec_capacity l.rows) × (vec_len l.rows ≡ l.plan-index)
