@@ -3,7 +3,6 @@
 #![tactic(auto)]
 
 use iq_outside::{OpenGate, ReaderSource, RuntimeClock, TcpDoor, WriterSink};
-use rows_model::QKey;
 use sql_keeper::MapKeeper;
 use std::process::ExitCode;
 use std::{env, io};
@@ -34,7 +33,7 @@ fn main(rt: HostRuntime) -> ExitCode {
         Err(status) => status,
     };
     tell(&rt, status);
-    ExitCode::from(exit_code(status))
+    ExitCode::from(status.exit_code())
 }
 
 /// The words behind the program's name, or how it ends without them.
@@ -63,45 +62,8 @@ fn ended_by(error: &io::Error) -> Status {
 
 /// Writes the one line of a fault to standard error.
 fn tell(rt: &HostRuntime, status: Status) {
-    let written = match status {
-        Status::Done => Ok(()),
-        Status::Usage => eprintln!(rt; "usage"),
-        Status::Script { line, kind } => eprintln!(rt; "script line {line} {}", kind.word()),
-        Status::ReadFault => eprintln!(rt; "read fault"),
-        Status::WriteFault => eprintln!(rt; "write fault"),
-        Status::DoorFault => eprintln!(rt; "door fault"),
-        Status::KeepFault => eprintln!(rt; "store fault"),
-        Status::Spent { shard } => eprintln!(rt; "spent {shard}"),
-        Status::Stale { shard, place } => eprintln!(rt; "stale {shard} {place}"),
-        Status::Uncovered { commit, key } => tell_uncovered(rt, commit, key),
-        Status::Memory => eprintln!(rt; "memory"),
-    };
-    // There is nowhere left to tell that a write failed.
-    let _ = written;
-}
-
-/// Writes which commit isn't covered, and on which key. Without memory for the key's text it tells that.
-fn tell_uncovered(rt: &HostRuntime, commit: u64, key: QKey) -> io::Result<()> {
-    let Ok(text) = key.text(rt.alloc()) else {
-        return eprintln!(rt; "memory");
-    };
-    let text = str::from_utf8(text.bytes()).unwrap_or("");
-    eprintln!(rt; "uncovered {commit} {text}")
-}
-
-/// The exit status, one for each way to end.
-fn exit_code(status: Status) -> u8 {
-    match status {
-        Status::Done => 0,
-        Status::Usage => 1,
-        Status::Script { .. } => 2,
-        Status::ReadFault => 3,
-        Status::WriteFault => 4,
-        Status::DoorFault => 5,
-        Status::KeepFault => 6,
-        Status::Stale { .. } => 7,
-        Status::Uncovered { .. } => 8,
-        Status::Memory => 10,
-        Status::Spent { .. } => 11,
+    if status != Status::Done {
+        // There is nowhere left to tell that a write failed.
+        let _ = eprintln!(rt; "{status}");
     }
 }

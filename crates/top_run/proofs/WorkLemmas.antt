@@ -1,5 +1,5 @@
 -- The ends of a load's run.
-use Rattle.std.proofs.Common.{ℕ, suc, ◌≡◌, ◌+◌, ◌-◌, ◌^◌, ◌<◌, ◌≤◌, List, [], ◌∷◌, ◌++◌, length, take, drop, drop-cons, add-one, arith, refl, sym, ap, ◌∙◌, subst, inl, inr, All}
+use Rattle.std.proofs.Common.{ℕ, suc, ◌≡◌, ◌+◌, ◌-◌, ◌^◌, ◌<◌, ◌≤◌, ◌≢◌, List, [], ◌∷◌, ◌++◌, length, take, drop, drop-cons, add-one, arith, refl, sym, ap, ◌∙◌, subst, inl, inr, All}
 use Rattle.std.specs.Prelude.{Bool, true, false, ◌⊎◌, nat_lt, cond, Option, Some, None, Result, Ok, Err, IfOk, IfErr, slice_get, option_map}
 use Rattle.std.specs.Prelude.{unwrap_or, is_some, get_or}
 use Rattle.std.specs.List.{position_from}
@@ -15,9 +15,12 @@ use Rattle.key_shard.specs.declared.steps.Step.{Step}
 use Rattle.key_shard.specs.Answers.{Legal}
 use Rattle.key_shard.specs.Past.{Terms}
 use Rattle.key_shard.specs.Shards.{ShardView, kept_of}
-use Rattle.sql_keeper.specs.Faults.{FewFailed}
+use Rattle.sql_keeper.specs.Faults.{HaveFailed, FailedSince}
 use Rattle.sql_keeper.specs.Stores.{StoreView, rows_of}
+use Rattle.session_client.specs.Desks.{Call}
+use Rattle.session_client.specs.declared.plans.Plan.{Plan}
 use Rattle.session_client.specs.declared.plans.Shape.{Shape}
+use Rattle.gate_workers.specs.Rows.{RowView, AllWork}
 use Rattle.core_history.specs.Machine.{log_cap}
 use Rattle.shard_lock.specs.Names.{AreAll, AreLegal, IsNamed}
 use Rattle.run_audit.specs.declared.findings.Finding.{Finding}
@@ -28,7 +31,7 @@ use Rattle.top_run.specs.declared.plays.Stop.{Stop}
 use Rattle.top_run.specs.declared.plays.Stop.TheVariants as stop
 use Rattle.top_run.specs.declared.runs.Status.TheVariants as status
 use Rattle.top_run.specs.Runs.{Held, Tells, Left, IsOpened, kept_in, is_read_fault, is_write_fault}
-use Rattle.top_run.specs.Works.{work_shape, hub_terms, has_spent, first_spent, work_status, end_status, at_write_told, IsTold, IsHalted, IsLeft, IsKept, WorkEnded}
+use Rattle.top_run.specs.Works.{work_shape, hub_terms, has_spent, first_spent, work_status, end_status, at_write_told, HaveRun, IsTold, IsHalted, IsLeft, IsKept, IsSummed, WorkEnded}
 
 -- ---- what the shards of a hub are
 
@@ -108,6 +111,13 @@ last_of terms shape keep shards are all legal place steps is =
           (legal_at terms shape (Some keep) shards are all legal place shard there.1);
     }
 
+-- ---- what the workers have run
+
+-- workers whose work is told have run their plans
+pub have_run : (plans : List (List Plan)) (before after : List (Option (List Call))) (transcripts : List (List RowView))
+    → AllWork plans before after transcripts → HaveRun plans transcripts
+have_run plans before after transcripts work = record { before = before; after = after; work = work }
+
 -- ---- the least shard that is spent
 
 -- all are left at first
@@ -131,12 +141,16 @@ spent_none shards i all = ap (λ (l : List ShardView). position_from has_spent i
 -- ---- how a run ends
 
 -- a keeper of which a call failed has a count that rose
-rose_of_failed : (start failed faults : ℕ) → nat_lt 0 failed ≡ true → FewFailed (Some start) failed faults → Rose start faults
-rose_of_failed start failed faults some few = by (few start refl)
+rose_of_failed : (start failed faults : ℕ) → nat_lt 0 failed ≡ true → HaveFailed start failed faults → Rose start faults
+rose_of_failed start failed faults some since = by since.few
   where
     by : ((start + failed ≤ faults) ⊎ (faults ≡ 2 ^ 64 - 1)) → Rose start faults
     by (inl h) = inl (grind (arith, some, h))
     by (inr h) = inr h
+
+-- and a keeper of which none failed has its count as before
+same_of_none : (start failed faults : ℕ) → nat_lt 0 failed ≡ false → HaveFailed start failed faults → faults ≡ start
+same_of_none start failed faults is since = since.none (grind (arith, is))
 
 -- what a run leaves
 abbrev pub left_of : StoreView → List (List Step) → Left
@@ -145,19 +159,18 @@ left_of store histories = record { opening = Some store.ledger.opening; log = st
 pub is_kept : (shape : Shape) (keep : Option ℕ) (held : Held) (before after : Tells) (store : StoreView) (histories : List (List Step)) (start : Option ℕ)
     → after.rows ≡ store.told → after.keeps_failed ≡ store.faults → start ≡ Some before.keeps_failed
     → length store.ledger.log ≤ store.ledger.cap → store.ledger.cap ≡ log_cap
-    → ForSome store.told (λ told. told ≡ rows_of store.ledger) → FewFailed start store.ledger.failed store.faults
+    → ForSome store.told (λ told. told ≡ rows_of store.ledger) → FailedSince start store.ledger.failed store.faults
     → ((place : ℕ) (steps : List Step) → slice_get histories place ≡ Some steps → IsLeft shape keep place steps) → length histories ≡ shape.shards
     → IsOpened held shape store.ledger.opening after.rows
     → IsKept shape keep held before after (left_of store histories) store.ledger.opening store.ledger.failed
-is_kept shape keep held before after store histories start rows count starts short cap told few legal many opened = record {
+is_kept shape keep held before after store histories start rows count starts short cap told since legal many opened = record {
   opening_is = refl;
   opened = opened;
   short = subst (λ (n : ℕ). length store.ledger.log ≤ n) cap short;
   rows_are = subst (λ (r : Option Tables). ForSome r (λ t. t ≡ rows_of store.ledger)) (sym rows) told;
   as_many = many;
   legal = legal;
-  few = subst (λ (n : ℕ). FewFailed (Some before.keeps_failed) store.ledger.failed n) (sym count)
-      (subst (λ (o : Option ℕ). FewFailed o store.ledger.failed store.faults) starts few);
+  since = subst (λ (n : ℕ). HaveFailed before.keeps_failed store.ledger.failed n) (sym count) (since before.keeps_failed starts);
 }
 
 module _ (spec : WorkSpec) (held : Held) (before after : Tells)
@@ -167,35 +180,36 @@ module _ (spec : WorkSpec) (held : Held) (before after : Tells)
   same_status b spent found is first =
       ap (λ (x : Bool). work_status x spent found) (sym is) ∙ ap (λ (o : Option ℕ). work_status (nat_lt 0 failed) o found) (sym first)
 
+  unfailed : nat_lt 0 failed ≡ false → after.keeps_failed ≡ before.keeps_failed
+  unfailed is = same_of_none before.keeps_failed failed after.keeps_failed is kept.since
+
+  summed_as : (b : Bool) (spent : Option ℕ) (found : Finding) → nat_lt 0 failed ≡ b → first_spent left.histories ≡ spent
+      → IsTold spec opening left.log left.histories before.taken after.taken written found
+      → (work_status b spent found ≢ status.KeepFault → after.keeps_failed ≡ before.keeps_failed)
+      → IsSummed spec held before after left written (work_status b spent found)
+  summed_as b spent found is first told still = record {
+    opening = opening;
+    failed = failed;
+    kept = kept;
+    found = found;
+    told = told;
+    ends = same_status b spent found is first;
+    unfailed = still;
+  }
+
   summed : (b : Bool) (spent : Option ℕ) (found : Finding) → nat_lt 0 failed ≡ b → first_spent left.histories ≡ spent
       → IsTold spec opening left.log left.histories before.taken after.taken written found
       → WorkEnded (work_status b spent found) spec held before after left written
   summed true spent found is first told = (
-    rose_of_failed before.keeps_failed failed after.keeps_failed is kept.few,
-    inr (record { opening = opening; failed = failed; kept = kept; found = found; told = told; ends = same_status true spent found is first }),
+    rose_of_failed before.keeps_failed failed after.keeps_failed is kept.since,
+    inr (summed_as true spent found is first told (λ other. absurd (other refl))),
   )
-  summed false (Some shard) found is first told =
-      record { opening = opening; failed = failed; kept = kept; found = found; told = told; ends = same_status false (Some shard) found is first }
-  summed false None finding.Clean is first told =
-      record { opening = opening; failed = failed; kept = kept; found = finding.Clean; told = told; ends = same_status false None finding.Clean is first }
+  summed false (Some shard) found is first told = summed_as false (Some shard) found is first told (λ _. unfailed is)
+  summed false None finding.Clean is first told = summed_as false None finding.Clean is first told (λ _. unfailed is)
   summed false None (finding.Stale shard place) is first told =
-      record {
-        opening = opening;
-        failed = failed;
-        kept = kept;
-        found = finding.Stale shard place;
-        told = told;
-        ends = same_status false None (finding.Stale shard place) is first;
-      }
+      summed_as false None (finding.Stale shard place) is first told (λ _. unfailed is)
   summed false None (finding.Uncovered commit key) is first told =
-      record {
-        opening = opening;
-        failed = failed;
-        kept = kept;
-        found = finding.Uncovered commit key;
-        told = told;
-        ends = same_status false None (finding.Uncovered commit key) is first;
-      }
+      summed_as false None (finding.Uncovered commit key) is first told (λ _. unfailed is)
 
   -- the end of a run that began
   pub work_ended : (told : Result Finding Stop)

@@ -5,3 +5,4 @@ pub mod Works
 pub mod Serves
 pub mod Ready
 pub mod Commands
+pub mod Exits

@@ -1,11 +1,12 @@
 -- What is there before a run over a hub begins.
-use Rattle.std.specs.Prelude.{ℕ, ◌≡◌, ◌≤◌, List, [], length, All, vec_capacity}
+use Rattle.std.specs.Prelude.{ℕ, ◌≡◌, ◌≤◌, List, [], length, map, All, vec_capacity}
 use Rattle.key_shard.specs.Past.{Terms}
 use Rattle.key_shard.specs.Shards.{ShardView}
 use Rattle.session_client.specs.declared.plans.Shape.{Shape}
 use Rattle.session_client.specs.Plans.{IsPlan}
 use Rattle.shard_lock.specs.Names.{AreAll, AreLegal}
 use Rattle.run_inputs.specs.declared.loads.WorkSpec.{WorkSpec}
+use Rattle.run_inputs.specs.Loads.{load}
 use Rattle.top_run.specs.declared.hubs.Parts.{Parts}
 use Rattle.top_run.specs.declared.serves.Ready.{Ready as ServeReady}
 use Rattle.top_run.specs.declared.works.Ready.{Ready}
@@ -32,9 +33,10 @@ pub record MakeHub (terms : ℕ → Terms) (name parts : ℕ) (shards : List Sha
   pub is_named : (its_name ≡ name) × (its_parts ≡ parts)
   pub one_each : its_parts ≡ length shards
 
--- There are plans for each worker of a load, and the parts of its hub.
+-- There are the plans of the load for each of its workers, and the parts of its hub.
 pub record IsReady (spec : WorkSpec) (terms : ℕ → Terms) (ready : Ready) : Type 0 where
   pub plans : All (λ list. All IsPlan list.items) ready.plans.items
+  pub are_load : map (λ list. list.items) ready.plans.items ≡ load spec
   pub workers : length ready.plans.items ≡ spec.workers
   pub parts : AreParts (work_shape spec) terms ready.parts
 

@@ -1,6 +1,6 @@
 -- What the run of a load prints and keeps.
-use Rattle.std.specs.Prelude.{ℕ, ◌≡◌, ◌≤◌, ◌-◌, ◌^◌, ◌==◌, ◌⊎◌, nat_lt, Bool, true, false, List, [], ◌∷◌, ◌++◌, length, position, count_by}
-use Rattle.std.specs.Prelude.{Option, Some, None, Result, Ok, Err, slice_get, codes, decimal}
+use Rattle.std.specs.Prelude.{ℕ, ◌≡◌, ◌≢◌, ◌≤◌, ◌-◌, ◌^◌, ◌==◌, ◌⊎◌, nat_lt, min, Bool, true, false, List, [], ◌∷◌, ◌++◌, length, position, count_by}
+use Rattle.std.specs.Prelude.{sum_by, Option, Some, None, Result, Ok, Err, slice_get, codes, decimal}
 use Rattle.std.specs.Option.{ForSome}
 use Rattle.iq_outside.specs.Outside.{Rose}
 use Rattle.rows_model.specs.Key.{key_text}
@@ -10,10 +10,14 @@ use Rattle.key_shard.specs.declared.steps.Step.TheVariants as step
 use Rattle.key_shard.specs.Answers.{Legal}
 use Rattle.key_shard.specs.Past.{Terms, draws}
 use Rattle.sql_keeper.specs.declared.stores.Commit.{Commit}
-use Rattle.sql_keeper.specs.Faults.{FewFailed}
+use Rattle.sql_keeper.specs.Faults.{HaveFailed}
 use Rattle.sql_keeper.specs.Log.{rows_after}
 use Rattle.sql_keeper.specs.Stores.{StoreView}
+use Rattle.session_client.specs.Desks.{Call}
+use Rattle.session_client.specs.declared.plans.Plan.{Plan}
 use Rattle.session_client.specs.declared.plans.Shape.{Shape}
+use Rattle.gate_workers.specs.Rows.{RowView, AllWork}
+use Rattle.gate_workers.specs.Tallies.{tally_of}
 use Rattle.core_history.specs.Lines.{line, count_in, is_hit, is_stored, is_again}
 use Rattle.core_history.specs.Machine.{terms_of, log_cap}
 use Rattle.shard_lock.specs.Names.{terms_at}
@@ -21,6 +25,7 @@ use Rattle.run_audit.specs.declared.findings.Finding.{Finding}
 use Rattle.run_audit.specs.declared.findings.Finding.TheVariants as finding
 use Rattle.run_audit.specs.Findings.{IsFinding}
 use Rattle.run_inputs.specs.declared.loads.WorkSpec.{WorkSpec}
+use Rattle.run_inputs.specs.Loads.{load}
 use Rattle.top_run.specs.declared.plays.Stop.{Stop}
 use Rattle.top_run.specs.declared.plays.Stop.TheVariants as stop
 use Rattle.top_run.specs.declared.runs.Status.{Status}
@@ -60,7 +65,7 @@ load_line spec =
     line (codes "work" ∷ codes "members" ∷ decimal spec.members ∷ codes "sessions" ∷ decimal spec.sessions
     ∷ codes "workers" ∷ decimal spec.workers ∷ codes "shards" ∷ decimal spec.shards ∷ codes "seed" ∷ decimal spec.seed ∷ [])
 
--- The second line: what the histories and the log count, and two numbers that neither tells.
+-- The second line: what the histories and the log count, and two numbers that only the transcripts tell.
 unfoldable pub totals_line : List Commit → List (List Step) → ℕ → ℕ → List ℕ
 totals_line log histories bypasses rejected =
     line (codes "hits" ∷ decimal (count_in is_hit histories) ∷ codes "stores" ∷ decimal (count_in is_stored histories)
@@ -117,12 +122,27 @@ pub record IsNameOf (shape : Shape) (keep : Option ℕ) (store : StoreView) (ter
   pub told_is : told ≡ store.told
   pub start_is : start ≡ Some store.faults
 
--- The text is the summary of this log and these histories, with what an audit finds of them, for some numbers of bypasses and rejections.
+-- Each worker has run its plans on a desk of its own, and these are their transcripts: a row for each plan.
+pub record HaveRun (plans : List (List Plan)) (transcripts : List (List RowView)) : Type 0 where
+  pub before : List (Option (List Call))
+  pub after : List (Option (List Call))
+  pub work : AllWork plans before after transcripts
+
+-- How many readers had no lease, by all transcripts. The number stops at its type's end.
+abbrev pub bypasses_in : List (List RowView) → ℕ
+bypasses_in transcripts = min (sum_by (λ (rows : List RowView). (tally_of rows).bypasses) transcripts) (2 ^ 64 - 1)
+
+-- How many writers had a change that doesn't apply, by all transcripts. The number stops at its type's end.
+abbrev pub rejected_in : List (List RowView) → ℕ
+rejected_in transcripts = min (sum_by (λ (rows : List RowView). (tally_of rows).rejected) transcripts) (2 ^ 64 - 1)
+
+-- The plans of the load have run, and the text is the summary of this log, these
+-- histories and the transcripts of the workers, with what an audit finds.
 pub record IsSummary (spec : WorkSpec) (opening : Tables) (log : List Commit) (histories : List (List Step)) (found : Finding) (text : List ℕ) : Type 0 where
   pub is_finding : IsFinding opening log histories found
-  pub bypasses : ℕ
-  pub rejected : ℕ
-  pub text_is : text ≡ summary spec log histories bypasses rejected found
+  pub transcripts : List (List RowView)
+  pub ran : HaveRun (load spec) transcripts
+  pub text_is : text ≡ summary spec log histories (bypasses_in transcripts) (rejected_in transcripts) found
 
 -- The summary was written.
 pub record IsTold (spec : WorkSpec) (opening : Tables) (log : List Commit)
@@ -160,8 +180,7 @@ IsLeft shape (Some keep) place steps = AreLast (hub_terms shape (Some keep) plac
 
 -- What a run over a hub that began leaves: the rows that it began with, which are those of the place, a log that isn't too long,
 -- and of each shard a legal history, or where the shards roll the last steps of one. Where the keeper tells its rows, they are
--- the opening rows after the log. So many of the keeper's calls failed, no more than its count of faults rose by, unless that
--- stands at the end of its type.
+-- the opening rows after the log. So many of the keeper's calls failed since its count of faults was as before the run.
 pub record IsKept (shape : Shape) (keep : Option ℕ) (held : Held) (before after : Tells) (left : Left) (opening : Tables) (failed : ℕ) : Type 0 where
   pub opening_is : left.opening ≡ Some opening
   pub opened : IsOpened held shape opening after.rows
@@ -169,9 +188,10 @@ pub record IsKept (shape : Shape) (keep : Option ℕ) (held : Held) (before afte
   pub rows_are : ForSome after.rows (λ told. told ≡ rows_after opening left.log)
   pub as_many : length left.histories ≡ shape.shards
   pub legal : (place : ℕ) (history : List Step) → slice_get left.histories place ≡ Some history → IsLeft shape keep place history
-  pub few : FewFailed (Some before.keeps_failed) failed after.keeps_failed
+  pub since : HaveFailed before.keeps_failed failed after.keeps_failed
 
--- A run ended with its summary written. Its status is that of what it keeps.
+-- A run ended with its summary written. Its status is that of what it keeps. Unless
+-- it is a store fault, no call of the keeper failed and its count of faults is as before.
 pub record IsSummed (spec : WorkSpec) (held : Held) (before after : Tells) (left : Left) (written : ℕ) (ended : Status) : Type 0 where
   pub opening : Tables
   pub failed : ℕ
@@ -179,6 +199,7 @@ pub record IsSummed (spec : WorkSpec) (held : Held) (before after : Tells) (left
   pub found : Finding
   pub told : IsTold spec opening left.log left.histories before.taken after.taken written found
   pub ends : ended ≡ work_status (nat_lt 0 failed) (first_spent left.histories) found
+  pub unfailed : ended ≢ status.KeepFault → after.keeps_failed ≡ before.keeps_failed
 
 -- A run that began stopped at a write: the first bytes of its summary are written.
 pub record IsCutShort (spec : WorkSpec) (held : Held) (before after : Tells) (left : Left) (written : ℕ) : Type 0 where

@@ -1,7 +1,7 @@
 // What runs over a hub have in common: the parts of which it is made, the desks, and the end.
 ghost use Rattle.std.specs.Prelude.{◌≡◌, ◌≤◌, [], List, Option, Some, IfOk, IfSome, length, vec_capacity};
 ghost use Rattle.std.specs.Option.{ForSome};
-ghost use Rattle.sql_keeper.specs.Faults.{FewFailed};
+ghost use Rattle.sql_keeper.specs.Faults.{FailedSince};
 ghost use Rattle.sql_keeper.specs.Stores.{rows_of};
 ghost use Rattle.run_audit.specs.Findings.{histories_in, AreWhole};
 ghost use Rattle.top_run.specs.Ready.{AreParts};
@@ -93,7 +93,7 @@ pub(crate) fn ended_hub<K: Keeper, N: Start>(
     ensures ends { result.ends ≡ ends }
     ensures written { result.written ≡ written }
     ensures told { ForSome store.told (λ told. told ≡ rows_of store.ledger) }
-    ensures few { FewFailed N.count store.ledger.failed store.faults }
+    ensures since { FailedSince N.count store.ledger.failed store.faults }
 {
     // A store tells of its log that it is no longer than it may be.
     let _ = store.log();

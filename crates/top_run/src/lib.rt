@@ -6,6 +6,7 @@
 pub use runs::{RunEnd, Status, replay, run};
 
 mod endings;
+mod exits;
 mod hubs;
 mod plays;
 mod printing;

@@ -84,7 +84,7 @@ pub struct RunEnd<K> {
 
 /// Replays a script over a store with this keeper, at this place: the script comes from the source, and a
 /// line a turn and a last line go to the sink. A turn is a session's, a tick of the clock, or a step of
-/// the sweeper. It starts no thread and waits for nobody.
+/// the sweeper. It starts no thread, and waits only where the source or the sink does.
 ///
 /// The script is read whole before anything is printed; of a text that is too long 16,777,217 bytes
 /// are taken. The bytes printed are always the first of what the whole run prints. A keeper that fails
@@ -127,10 +127,11 @@ pub fn replay<S: Source, W: Sink, K: Keeper>(
 /// `work <members> <sessions> <workers> <shards> <seed>` run a load that is drawn from the seed: each
 /// worker runs its sessions in a thread of its own over one cache; then the kept log and histories are
 /// audited, and a summary of three lines goes to the sink. All numbers in it but the bypasses and the
-/// rejections are counted in what is kept. Nothing is read then. Where a call of the keeper failed, the
-/// status is `KeepFault`; else it is `Spent` where a shard has no token left; else it tells what the audit
-/// found. At a write that fails, or where memory runs out, no summary stands whole; what a load that
-/// began has kept is never thrown away. The call may wait.
+/// rejections are counted in what is kept, and these two in what the sessions were told. Nothing is read
+/// then. Where a call of the keeper failed, the status is `KeepFault`; else the keeper's count of faults is
+/// as before, and it is `Spent` where a shard has no token left; else it tells what the audit found. At a
+/// write that fails, or where memory runs out, no summary stands whole; what a load that began has kept is
+/// never thrown away. The call may wait.
 ///
 /// The words `serve <addr> <conns> <workers> <shards> <members>` serve the lines that the door gives at this
 /// address: the workers accept and serve them in turn, until so many were accepted or no more come. `ready`

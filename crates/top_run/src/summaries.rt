@@ -2,7 +2,7 @@
 ghost use Rattle.std.specs.Prelude.{◌≡◌, ◌≤◌, ◌++◌, IfOk, OnOk, count_by, length, decimal};
 ghost use Rattle.core_history.specs.Lines.{count_in};
 ghost use Rattle.run_audit.specs.Findings.{histories_in, AreWhole};
-ghost use Rattle.top_run.specs.Works.{test_of, load_line, totals_line, audit_line, summary};
+ghost use Rattle.top_run.specs.Works.{test_of, bypasses_in, rejected_in, load_line, totals_line, audit_line, summary};
 
 use gate_workers::Transcript;
 use itoa::Buffer;
@@ -130,8 +130,11 @@ pub(crate) struct Others {
     pub(crate) rejected: u64,
 }
 
-/// The sums over all transcripts. They stand still at their type's end.
-pub(crate) fn others_in(transcripts: &[Transcript]) -> Others {
+/// The sums over all transcripts. They stop at their type's end.
+pub(crate) fn others_in(transcripts: &[Transcript]) -> Others
+    ensures bypasses { result.bypasses ≡ bypasses_in transcripts.now }
+    ensures rejected { result.rejected ≡ rejected_in transcripts.now }
+{
     let mut others = Others {
         bypasses: 0,
         rejected: 0,

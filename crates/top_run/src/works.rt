@@ -1,6 +1,6 @@
 // The run of a load: its sessions over a hub, each worker in a thread of its own, and then the audit and
 // the summary.
-ghost use Rattle.std.specs.Prelude.{◌≡◌, ◌≢◌, ◌≤◌, ◌<◌, [], List, Option, Some, None, All, IfOk, IfErr, IsSome, count_by, length, vec_capacity, nat_lt};
+ghost use Rattle.std.specs.Prelude.{◌≡◌, ◌≢◌, ◌≤◌, ◌<◌, [], List, Option, Some, None, All, IfOk, IfErr, OnErr, IsErr, IsSome, Ok, Err, map, count_by, length, vec_capacity, nat_lt};
 ghost use Rattle.std.specs.Bool.{IsFalse};
 ghost use Rattle.std.specs.Option.{ForSome};
 ghost use Rattle.rows_model.specs.Rows.{Tables};
@@ -8,15 +8,15 @@ ghost use Rattle.key_shard.specs.Past.{draws};
 ghost use Rattle.key_shard.specs.declared.steps.Step.{Step};
 ghost use Rattle.sql_keeper.specs.declared.stores.Commit.{Commit};
 ghost use Rattle.run_inputs.specs.declared.loads.WorkSpec.{WorkSpec};
-ghost use Rattle.sql_keeper.specs.Faults.{FewFailed};
+ghost use Rattle.sql_keeper.specs.Faults.{FailedSince};
 ghost use Rattle.sql_keeper.specs.Stores.{rows_of};
 ghost use Rattle.session_client.specs.Plans.{IsPlan};
 ghost use Rattle.core_history.specs.Machine.{log_cap};
 ghost use Rattle.shard_lock.specs.Names.{AreAll, AreLegal, IsNamedStore};
 ghost use Rattle.run_audit.specs.Findings.{histories_in, AreNumbered, AreWhole};
-ghost use Rattle.run_inputs.specs.Loads.{IsWork};
+ghost use Rattle.run_inputs.specs.Loads.{IsWork, load};
 ghost use Rattle.top_run.specs.Runs.{Held, Input, moment, seen, held_at, histories_at, left_at, IsOpened, RoseWhere, CountsWhere, is_read_fault, is_write_fault};
-ghost use Rattle.top_run.specs.Works.{work_shape, hub_terms, has_spent, first_spent, work_status, end_status, at_write_told, IsNameOf, IsSummary, IsTold, IsHalted, WorkEnded};
+ghost use Rattle.top_run.specs.Works.{work_shape, hub_terms, has_spent, first_spent, work_status, end_status, at_write_told, IsNameOf, HaveRun, IsSummary, IsTold, IsHalted, WorkEnded};
 ghost use Rattle.top_run.specs.Ready.{IsReady, MakeHub};
 
 use crate::endings::{not_started, start_status};
@@ -209,6 +209,8 @@ fn run_plans<
     requires parts { MakeHub H.terms H.name H.parts shards.items ledger.name ledger.parts }
     requires plans { All (λ list. All IsPlan list.items) plans.now }
     requires few_workers { length plans.now ≤ 64 }
+    ensures ran { IfOk result.transcripts (λ transcripts.
+        HaveRun (map (λ list. list.items) plans.now) transcripts.items) }
     ensures store { IsNamedStore H.opening H.cap H.told H.start result.store }
     ensures as_many { length result.shards.items ≡ length shards.items }
     ensures all { AreAll H.terms result.shards.items }
@@ -249,6 +251,8 @@ fn run_over<
 ) -> Result<Vec<Transcript>, Memory>
     requires plans { All (λ list. All IsPlan list.items) plans.now }
     requires few { length plans.now ≤ 64 }
+    ensures { IfOk result (λ transcripts.
+        HaveRun (map (λ list. list.items) plans.now) transcripts.items) }
 {
     let mut desks = desks_over(rt, alloc, hub, plans.len() as u32, clock, gate)?;
     work_all(rt, alloc, desks.as_mut_slice(), plans, gate)
@@ -261,7 +265,7 @@ struct Made {
     text: Vec<u8>,
 }
 
-/// Audits what was kept, and makes the summary.
+/// Audits what was kept, and makes the summary. Without transcripts there is none.
 fn summed_up(
     alloc: Global,
     spec: &WorkSpec,
@@ -274,8 +278,10 @@ fn summed_up(
     requires few { length shards.now ≤ 64 }
     requires numbered { AreNumbered shards.now }
     requires whole { AreWhole shards.now }
-    ensures { IfOk result (λ made. IsSummary spec.now opening.now log.now (histories_in shards.now)
-        made.finding made.text.items) }
+    requires ran { IfOk transcripts (λ transcripts. HaveRun (load spec.now) transcripts.items) }
+    ensures summary { IfOk result (λ made. IsSummary spec.now opening.now log.now
+        (histories_in shards.now) made.finding made.text.items) }
+    ensures memory { OnErr transcripts (IsErr result) }
 {
     let transcripts = transcripts?;
     let finding = audit(alloc, opening, log, shards)?;
@@ -302,6 +308,7 @@ fn tell<W: Sink>(
         IfOk made (λ one. IsSummary spec opening log histories one.finding one.text.items) →
         IfErr result (IsHalted spec opening log histories (W.taken sink.old) (W.taken sink.new)
         written.new) }
+    ensures memory { OnErr made (result ≡ Err Stop.Memory) }
     ensures counts { RoseWhere W.faults (at_write_told result) sink.old sink.new }
     ensures never_falls { W.faults sink.old ≤ W.faults sink.new }
 {
@@ -338,7 +345,7 @@ fn ended_work<K: Keeper, N: Start>(
     ensures written { result.written ≡ written }
     ensures no_ends { result.ends.items ≡ [] }
     ensures told { ForSome store.told (λ told. told ≡ rows_of store.ledger) }
-    ensures few { FewFailed N.count store.ledger.failed store.faults }
+    ensures since { FailedSince N.count store.ledger.failed store.faults }
 {
     let failed = store.failed() > 0;
     let status = end_status(failed, first_spent(shards.as_slice()), told);

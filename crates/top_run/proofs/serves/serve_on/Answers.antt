@@ -35,7 +35,7 @@ returns-clause-ended g c = λ unread rows held opens.
     length-map shards kept_of ∙ c.serve_hub-store.ensures.as_many ∙ c.requires.ready.parts.as_many in
     let last = last_of g.H.HubName.terms shape 256 shards c.requires.named.terms_are c.serve_hub-store.ensures.all c.serve_hub-store.ensures.legal in
     let kept = is_kept shape serve_keep held before after store (kept_in shards) g.H.HubName.start refl refl c.requires.named.start_is
-    c.ended_hub.ensures.short (named.cap_is ∙ c.requires.named.cap_is) c.ended_hub.ensures.told c.ended_hub.ensures.few
+    c.ended_hub.ensures.short (named.cap_is ∙ c.requires.named.cap_is) c.ended_hub.ensures.told c.ended_hub.ensures.since
     last many opened in
     let course : Course = record {
       held = held;

@@ -1,11 +1,14 @@
-use Rattle.std.proofs.Common.{arith, Bool, None, ◌≡◌, length, refl, sym, ap, subst, ◌∙◌}
+use Rattle.std.proofs.Common.{arith, Bool, None, List, ◌≡◌, length, map, refl, sym, ap, subst, ◌∙◌}
 use Rattle.run_audit.specs.Findings.{histories_in, AreWhole}
-use Rattle.std.specs.Prelude.{nat_lt, Option, IsSome}
+use Rattle.std.specs.Prelude.{nat_lt, Option, IsSome, Vec}
+use Rattle.std.specs.Global.{Global}
+use Rattle.std.proofs.lemmas.Result.{IfOk-weaker}
 use Rattle.std.proofs.lemmas.List.{length-map}
 use Rattle.key_shard.specs.Shards.{ShardView}
 use Rattle.rows_model.specs.Rows.{Tables}
 use Rattle.top_run.specs.Runs.{moment, IsOpened, RoseWhere, is_read_fault, is_write_fault}
-use Rattle.top_run.specs.Works.{first_spent, work_shape}
+use Rattle.session_client.specs.declared.plans.Plan.{Plan}
+use Rattle.top_run.specs.Works.{HaveRun, first_spent, work_shape}
 use Rattle.top_run.proofs.KeepLemmas.{opened_since}
 use Rattle.top_run.proofs.ReadyLemmas.{make_hub}
 use Rattle.top_run.proofs.WorkLemmas.{numbered_of, whole_of, legal_of, left_of, is_kept, work_ended, no_usage, no_read, at_write_end}
@@ -26,6 +29,13 @@ summed_up-made-requires-clause-whole g c =
     subst AreWhole (sym c.as_slice-2.ensures.value)
     (whole_of g.H.HubName.terms (work_shape c.args.spec.now) c.run_plans-store.result.shards.items c.requires.named.terms_are c.run_plans-store.ensures.all)
 
+pub summed_up-made-requires-clause-ran : goal.summed_up-made-requires-clause-ran
+summed_up-made-requires-clause-ran g c =
+    let are_load = ap (λ (lists : List (Vec Plan Global)). map (λ list. list.items) lists) c.as_slice.ensures.value ∙ c.requires.ready.are_load in
+    IfOk-weaker c.run_plans-store.result.transcripts _ _
+    (λ transcripts ran. subst (λ (plans : List (List Plan)). HaveRun plans transcripts.items) are_load ran)
+    c.run_plans-store.ensures.ran
+
 pub ended_work-requires-clause-whole : goal.ended_work-requires-clause-whole
 ended_work-requires-clause-whole g c =
     whole_of g.H.HubName.terms (work_shape c.args.spec.now) c.run_plans-store.result.shards.items c.requires.named.terms_are c.run_plans-store.ensures.all
@@ -36,7 +46,7 @@ returns-clause-ended g c = λ unread rows held opens.
     let shards = c.run_plans-store.result.shards.items in
     let spec = c.args.spec.now in
     let short = (rw c.log.ensures.items at c.log.ensures.few) in
-    let made = (rw (c.opening.ensures, c.log.ensures.items, c.as_slice-2.ensures.value) at c.summed_up-made.ensures) in
+    let made = (rw (c.opening.ensures, c.log.ensures.items, c.as_slice-2.ensures.value) at c.summed_up-made.ensures.summary) in
     let before = moment unread (g.W.Sink.taken c.args.sink.now) (g.W.Sink.faults c.args.sink.now) rows c.args.store.faults in
     let after = moment unread (g.W.Sink.taken c.tell-told.new.sink) (g.W.Sink.faults c.tell-told.new.sink) store.told store.faults in
     let named = c.run_plans-store.ensures.store in
@@ -48,7 +58,7 @@ returns-clause-ended g c = λ unread rows held opens.
     length-map shards (λ (s : ShardView). s.history) ∙ c.run_plans-store.ensures.as_many ∙ c.requires.ready.parts.as_many in
     let legal = legal_of g.H.HubName.terms (work_shape spec) shards c.requires.named.terms_are c.run_plans-store.ensures.all c.run_plans-store.ensures.legal in
     let kept = is_kept (work_shape spec) None held before after store (histories_in shards) g.H.HubName.start refl refl c.requires.named.start_is
-    short (c.run_plans-store.ensures.store.cap_is ∙ c.requires.named.cap_is) c.ended_work.ensures.told c.ended_work.ensures.few
+    short (c.run_plans-store.ensures.store.cap_is ∙ c.requires.named.cap_is) c.ended_work.ensures.told c.ended_work.ensures.since
     legal many opened in
     rw (
       c.ended_work.ensures.status,
