@@ -2,6 +2,7 @@
 use Rattle.std.proofs.Common.{ℕ, ◌+◌, ◌≡◌, ◌<◌, ◌≤◌, Bool, true, false, List, [], ◌∷◌, ◌++◌, length, Some, None, arith, refl, sym, ap, ◌∙◌}
 use Rattle.std.proofs.Common.{append_assoc, append-nil, length-append, subst}
 use Rattle.std.specs.Prelude.{nat_lt, if◌then◌else◌, flat_map, not}
+use Rattle.std.proofs.lemmas.Bool.{false≢true}
 use Rattle.std.proofs.lemmas.Bool.Decides.{nat_tests}
 use Rattle.std.proofs.lemmas.Grind.{flat_map-append}
 use Rattle.run_inputs.specs.declared.lines.Line.{Line}
@@ -11,26 +12,13 @@ use Rattle.run_inputs.specs.declared.stages.Progress.{Progress}
 use Rattle.run_inputs.specs.declared.faults.ScriptKind.TheVariants as kind
 use Rattle.run_inputs.specs.declared.scripts.Act.{Act}
 use Rattle.run_inputs.specs.Texts.{lines_in}
+use Rattle.run_inputs.specs.declared.faults.ScriptKind.{ScriptKind}
+use Rattle.run_inputs.specs.declared.lines.LineFault.{LineFault}
+use Rattle.run_inputs.specs.declared.lines.LineFault.TheVariants as fault
 use Rattle.run_inputs.specs.Script.{start, after, after_all, sessions_in, turns_in, acts_in, is_numbered, has_key, fault_of, IsSound, AreSound, IsScript}
-
--- the three tests that a line without a fault passes
-pub record Passes (a b c : Bool) : Type 0 where
-  pub first : a ≡ false
-  pub second : b ≡ false
-  pub third : c ≡ false
-
-pub passes : (a b c : Bool) → (if a then Some kind.Number else if b then Some kind.Key else if c then Some kind.Turns else None) ≡ None → Passes a b c
-passes true b c e = absurd cc
-passes false true c e = absurd cc
-passes false false true e = absurd cc
-passes false false false e = record { first = refl; second = refl; third = refl }
-
--- a line without a fault keeps the turns within their limit
-pub few_turns : (progress : Progress) (said : Line) → fault_of progress said ≡ None → progress.turns + turns_in said ≤ 1000000
-few_turns progress said e =
-    let p = passes (not (is_numbered progress.begun said)) (not (has_key said)) (nat_lt 1000000 (progress.turns + turns_in said)) e in
-    let small : nat_lt 1000000 (progress.turns + turns_in said) ≡ false = p.third in
-    grind (arith, nat_tests)
+use Rattle.run_inputs.specs.Script.{HasAct, AsksForMemory, IsFaulty, HasFault, IsFault, ComesFrom}
+use Rattle.run_inputs.specs.Parsing.{IsLineFault, fault_at}
+use Rattle.run_inputs.proofs.LineLemmas.{of_saying, few_turns}
 
 -- one line more without a fault
 sound_more : (progress : Progress) (front : List (List ℕ)) (said : List Line) (line : List ℕ) (last : Line)
@@ -62,6 +50,7 @@ pub record HasRead (text : List ℕ) (acts : List Act) (progress : Progress) (nu
   pub acts_are : acts ≡ flat_map acts_in said
   pub number_is : number ≡ length front
   pub begun : progress.begun ≤ number
+  pub few : progress.turns ≤ 1000000
   pub size : number + length rest ≤ length text
   pub short : length text ≤ 16777216
 
@@ -75,6 +64,7 @@ read_none text short = record {
   acts_are = refl;
   number_is = refl;
   begun = omega arith;
+  few = omega arith;
   size = omega arith;
   short = short;
 }
@@ -96,9 +86,57 @@ read_more text acts progress number rest line behind said h cut less is =
           ∙ (ap (λ (xs : List Act). flat_map acts_in h.said ++ xs) (sym (append-nil (acts_in said))) ∙ sym (flat_map-append acts_in h.said (said ∷ [])));
       number_is = ap (λ (n : ℕ). n + 1) h.number_is ∙ sym (length-append h.front (line ∷ []));
       begun = omega arith;
+      few = few_turns progress said is.none;
       size = omega arith;
       short = h.short;
     }
+
+-- the fault of the next line is the first of the text
+has_fault : (text : List ℕ) (acts : List Act) (progress : Progress) (number : ℕ) (rest line : List ℕ) (behind : List (List ℕ)) (k : ScriptKind)
+    → HasRead text acts progress number rest → lines_in rest ≡ line ∷ behind → IsFaulty progress line k → HasFault text (number + 1) k
+has_fault text acts progress number rest line behind k h cut f = record {
+  short = h.short;
+  front = h.front;
+  line = line;
+  behind = behind;
+  lines_are = h.lines_are ∙ ap (λ (ls : List (List ℕ)). h.front ++ ls) cut;
+  said = h.said;
+  sound = h.sound;
+  faulty = subst (λ (p : Progress). IsFaulty p line k) (sym h.progress_is) f;
+  number_is = ap (λ (n : ℕ). n + 1) h.number_is;
+}
+
+is_fault : (text : List ℕ) (progress : Progress) (number : ℕ) (line : List ℕ) (k : ScriptKind)
+    → IsFaulty progress line k → HasFault text number k → IsFault text number k
+is_fault text progress number line kind.LongText f h = absurd (false≢true (of_saying _ _ _ kind.LongText f.3))
+is_fault text progress number line kind.NoEnd f h = absurd (false≢true (of_saying _ _ _ kind.NoEnd f.3))
+is_fault text progress number line kind.LongLine f h = h
+is_fault text progress number line kind.AfterEnd f h = h
+is_fault text progress number line kind.Form f h = h
+is_fault text progress number line kind.Number f h = h
+is_fault text progress number line kind.Key f h = h
+is_fault text progress number line kind.Turns f h = h
+
+-- for the act of the next line memory is asked
+pub asks : (text : List ℕ) (acts : List Act) (progress : Progress) (number : ℕ) (rest line : List ℕ) (behind : List (List ℕ))
+    → HasRead text acts progress number rest → lines_in rest ≡ line ∷ behind → HasAct progress line → AsksForMemory text
+asks text acts progress number rest line behind h cut a = record {
+  short = h.short;
+  front = h.front;
+  line = line;
+  behind = behind;
+  lines_are = h.lines_are ∙ ap (λ (ls : List (List ℕ)). h.front ++ ls) cut;
+  said = h.said;
+  sound = h.sound;
+  act = subst (λ (p : Progress). HasAct p line) (sym h.progress_is) a;
+}
+
+-- why the next line is not taken is why the text is none
+pub not_taken : (text : List ℕ) (acts : List Act) (progress : Progress) (number : ℕ) (rest line : List ℕ) (behind : List (List ℕ)) (f : LineFault)
+    → HasRead text acts progress number rest → lines_in rest ≡ line ∷ behind → IsLineFault progress line f → ComesFrom text (fault_at (number + 1) f)
+not_taken text acts progress number rest line behind (fault.Bad k) h cut f =
+    is_fault text progress (number + 1) line k f (has_fault text acts progress number rest line behind k h cut f)
+not_taken text acts progress number rest line behind fault.Memory h cut a = asks text acts progress number rest line behind h cut a
 
 empty : (xs : List ℕ) → length xs ≡ 0 → xs ≡ []
 empty [] e = refl
