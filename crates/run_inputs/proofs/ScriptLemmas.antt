@@ -1,9 +1,8 @@
 -- What lines come to, one after another.
-use Rattle.std.proofs.Common.{ℕ, ◌+◌, ◌≡◌, ◌<◌, ◌≤◌, Bool, true, false, List, [], ◌∷◌, ◌++◌, length, Some, None, arith, refl, sym, ap, ◌∙◌}
+use Rattle.std.proofs.Common.{ℕ, ◌+◌, ◌≡◌, ◌<◌, ◌≤◌, List, [], ◌∷◌, ◌++◌, length, arith, refl, sym, ap, ◌∙◌}
 use Rattle.std.proofs.Common.{append_assoc, append-nil, length-append, subst}
-use Rattle.std.specs.Prelude.{nat_lt, if◌then◌else◌, flat_map, not}
+use Rattle.std.specs.Prelude.{flat_map}
 use Rattle.std.proofs.lemmas.Bool.{false≢true}
-use Rattle.std.proofs.lemmas.Bool.Decides.{nat_tests}
 use Rattle.std.proofs.lemmas.Grind.{flat_map-append}
 use Rattle.run_inputs.specs.declared.lines.Line.{Line}
 use Rattle.run_inputs.specs.declared.lines.Line.TheVariants.{Head, Session, Turn, Tick, Sweep, End}
@@ -15,7 +14,7 @@ use Rattle.run_inputs.specs.Texts.{lines_in}
 use Rattle.run_inputs.specs.declared.faults.ScriptKind.{ScriptKind}
 use Rattle.run_inputs.specs.declared.lines.LineFault.{LineFault}
 use Rattle.run_inputs.specs.declared.lines.LineFault.TheVariants as fault
-use Rattle.run_inputs.specs.Script.{start, after, after_all, sessions_in, turns_in, acts_in, is_numbered, has_key, fault_of, IsSound, AreSound, IsScript}
+use Rattle.run_inputs.specs.Script.{start, after, after_all, sessions_in, acts_in, IsSound, AreSound, IsScript}
 use Rattle.run_inputs.specs.Script.{HasAct, AsksForMemory, IsFaulty, HasFault, IsFault, ComesFrom}
 use Rattle.run_inputs.specs.Parsing.{IsLineFault, fault_at}
 use Rattle.run_inputs.proofs.LineLemmas.{of_saying, few_turns}

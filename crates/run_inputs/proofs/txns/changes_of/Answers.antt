@@ -1,4 +1,4 @@
-use Rattle.std.proofs.Common.{ℕ, List, ◌≡◌, ◌+◌, ◌<◌, ◌∷◌, ◌∙◌, length, take, slice_set, arith, refl, sym, ap, subst, length-take-le}
+use Rattle.std.proofs.Common.{ℕ, List, ◌∷◌, ◌∙◌, take, arith, refl, sym, ap, subst, length-take-le}
 use Rattle.std.specs.Option.{option_copied}
 use Rattle.rows_model.specs.declared.changes.Change.{Change}
 use Rattle.rows_model.specs.Changes.{IsTxn}
