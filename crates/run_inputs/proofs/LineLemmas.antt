@@ -1,6 +1,6 @@
 -- What a line says is told by its words.
-use Rattle.std.proofs.Common.{ℕ, ◌+◌, ◌*◌, ◌==◌, ◌≡◌, ◌≤◌, Bool, true, false, not, List, [], ◌∷◌, Option, Some, None, refl, sym, ap, ◌∙◌, get_or, subst, length, arith}
-use Rattle.std.specs.Prelude.{◌≢◌, nat_lt, if◌then◌else◌}
+use Rattle.std.proofs.Common.{ℕ, ◌+◌, ◌*◌, ◌==◌, ◌≡◌, ◌≤◌, Bool, true, false, not, List, [], ◌∷◌, Some, None, refl, sym, ap, ◌∙◌, get_or, arith}
+use Rattle.std.specs.Prelude.{nat_lt, if◌then◌else◌}
 use Rattle.std.proofs.lemmas.Bool.Decides.{nat_tests}
 use Rattle.std.proofs.lemmas.Bool.{false≢true}
 use Rattle.run_inputs.specs.declared.lines.Part.TheVariants.{Members, Shards, Room, Life}
@@ -8,17 +8,11 @@ use Rattle.run_inputs.specs.declared.lines.Task.TheVariants as task
 use Rattle.run_inputs.specs.declared.lines.Verb.{Verb}
 use Rattle.run_inputs.specs.declared.lines.Verb.TheVariants as verb
 use Rattle.run_inputs.specs.declared.lines.Line.{Line}
-use Rattle.run_inputs.specs.declared.lines.Line.TheVariants.{Head, Session, Turn, Tick, Sweep, End}
-use Rattle.run_inputs.specs.declared.scripts.Act.{Act}
 use Rattle.run_inputs.specs.declared.stages.Progress.{Progress}
-use Rattle.run_inputs.specs.declared.faults.ScriptKind.{ScriptKind}
 use Rattle.run_inputs.specs.declared.faults.ScriptKind.TheVariants as kind
 use Rattle.run_inputs.specs.Texts.{words_in}
 use Rattle.run_inputs.specs.Lines.{verb_word, verb_of, AreWords}
-use Rattle.run_inputs.specs.declared.lines.LineFault.{LineFault}
-use Rattle.run_inputs.specs.declared.lines.LineFault.TheVariants as fault
-use Rattle.run_inputs.specs.Script.{is_in_place, is_numbered, has_key, sessions_in, turns_in, acts_in, Says, MayStand, IsPlaced, IsSound, HasAct, IsFaulty, fault_of}
-use Rattle.run_inputs.specs.Parsing.{IsActFault, IsLineFault}
+use Rattle.run_inputs.specs.Script.{is_in_place, is_numbered, has_key, turns_in, Says, fault_of}
 
 -- the first three letters of a word, as one number
 abbrev letters : List ℕ → ℕ
@@ -77,31 +71,6 @@ no_place progress line a h e said k =
     let off : is_in_place progress.stage (verb_of said) ≡ false = ap (λ (v : Verb). is_in_place progress.stage v) (sym same) ∙ e in
     false≢true (sym off ∙ k.in_place)
 
--- the first fault of three tests: of the number, the key and the turns
-abbrev first_fault : Bool → Bool → Bool → Option ScriptKind
-first_fault numbered key many =
-    if not numbered then Some kind.Number else if not key then Some kind.Key else if many then Some kind.Turns else None
-
--- the fault of what a line says is that of its tests
-by_tests : (progress : Progress) (said : Line) (numbered key many : Bool) → is_numbered progress.begun said ≡ numbered → has_key said ≡ key
-    → nat_lt 1000000 (progress.turns + turns_in said) ≡ many → fault_of progress said ≡ first_fault numbered key many
-by_tests progress said numbered key many e f g = λ i. first_fault (e i) (f i) (g i)
-
-pub misnumbered : (progress : Progress) (line : List ℕ) (said : Line) → MayStand progress line → Says progress line said
-    → is_numbered progress.begun said ≡ false → IsFaulty progress line kind.Number
-misnumbered progress line said h w e = (h, said, w, by_tests progress said false _ _ e refl refl)
-
-pub without_key : (progress : Progress) (line : List ℕ) (said : Line) → IsPlaced progress line said → has_key said ≡ false → IsFaulty progress line kind.Key
-without_key progress line said p e = (p.stands, said, p.says, by_tests progress said true false _ p.numbered e refl)
-
-pub overfull : (progress : Progress) (line : List ℕ) (said : Line) → IsPlaced progress line said → has_key said ≡ true
-    → nat_lt 1000000 (progress.turns + turns_in said) ≡ true → IsFaulty progress line kind.Turns
-overfull progress line said p e f = (p.stands, said, p.says, by_tests progress said true true true p.numbered e f)
-
-pub sound_line : (progress : Progress) (line : List ℕ) (said : Line) → IsPlaced progress line said → has_key said ≡ true
-    → nat_lt 1000000 (progress.turns + turns_in said) ≡ false → IsSound progress line said
-sound_line progress line said p e f = record { stands = p.stands; says = p.says; none = by_tests progress said true true false p.numbered e f }
-
 -- the three tests that a line without a fault passes
 pub record Passes (a b c : Bool) : Type 0 where
   pub first : a ≡ false
@@ -124,41 +93,3 @@ few_turns progress said e =
 pub true_from : (b : Bool) → not b ≡ false → b ≡ true
 true_from true e = refl
 true_from false e = sym e
-
--- a session line has an act, and no turns
-act_of_session : (said : Line) → sessions_in said ≡ 1 → (acts_in said ≢ []) × (turns_in said ≡ 0)
-act_of_session (Session number job) e = (λ f. (let lengths = ap (λ (acts : List Act). length acts) f in omega arith), refl)
-act_of_session (Head part number) e = absurd (omega arith)
-act_of_session (Turn number count) e = absurd (omega arith)
-act_of_session (Tick ticks) e = absurd (omega arith)
-act_of_session (Sweep count) e = absurd (omega arith)
-act_of_session End e = absurd (omega arith)
-
--- where no act is made of a line, it is faulty, or memory is asked for
-pub without_act : (progress : Progress) (line : List ℕ) (said : Line) (f : LineFault)
-    → progress.turns ≤ 1000000 → IsPlaced progress line said → IsActFault said f → IsLineFault progress line f
-without_act progress line said (fault.Bad k) few p h = subst (λ (k' : ScriptKind). IsFaulty progress line k') (sym h.0) (without_key progress line said p h.1)
-without_act progress line said fault.Memory few p h =
-    let session = act_of_session said h in
-    let none : turns_in said ≡ 0 = session.1 in
-    record { said = said; placed = p; few = omega arith; act = session.0 }
-
--- a line without a fault may have an act
-pub sound_act : (progress : Progress) (line : List ℕ) (said : Line) → IsSound progress line said → acts_in said ≢ [] → HasAct progress line
-sound_act progress line said h a =
-    let p : Passes (not (is_numbered progress.begun said)) (not (has_key said)) (nat_lt 1000000 (progress.turns + turns_in said)) = passes _ _ _ h.none in
-    record { said = said; placed = record { stands = h.stands; says = h.says; numbered = true_from _ p.first }; few = few_turns progress said h.none; act = a }
-
--- whether a fault is one of what a line says
-abbrev is_of_saying : ScriptKind → Bool
-is_of_saying kind.Number = true
-is_of_saying kind.Key = true
-is_of_saying kind.Turns = true
-is_of_saying other = false
-
-pub of_saying : (a b c : Bool) (k : ScriptKind) → (if a then Some kind.Number else if b then Some kind.Key else if c then Some kind.Turns else None) ≡ Some k
-    → is_of_saying k ≡ true
-of_saying true b c k e = let same : kind.Number ≡ k = cc in ap is_of_saying (sym same)
-of_saying false true c k e = let same : kind.Key ≡ k = cc in ap is_of_saying (sym same)
-of_saying false false true k e = let same : kind.Turns ≡ k = cc in ap is_of_saying (sym same)
-of_saying false false false k e = absurd cc

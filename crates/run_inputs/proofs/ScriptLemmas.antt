@@ -2,22 +2,15 @@
 use Rattle.std.proofs.Common.{ℕ, ◌+◌, ◌≡◌, ◌<◌, ◌≤◌, List, [], ◌∷◌, ◌++◌, length, arith, refl, sym, ap, ◌∙◌}
 use Rattle.std.proofs.Common.{append_assoc, append-nil, length-append, subst}
 use Rattle.std.specs.Prelude.{flat_map}
-use Rattle.std.proofs.lemmas.Bool.{false≢true}
 use Rattle.std.proofs.lemmas.Grind.{flat_map-append}
 use Rattle.run_inputs.specs.declared.lines.Line.{Line}
 use Rattle.run_inputs.specs.declared.lines.Line.TheVariants.{Head, Session, Turn, Tick, Sweep, End}
 use Rattle.run_inputs.specs.declared.stages.Stage.TheVariants as stage
 use Rattle.run_inputs.specs.declared.stages.Progress.{Progress}
-use Rattle.run_inputs.specs.declared.faults.ScriptKind.TheVariants as kind
 use Rattle.run_inputs.specs.declared.scripts.Act.{Act}
 use Rattle.run_inputs.specs.Texts.{lines_in}
-use Rattle.run_inputs.specs.declared.faults.ScriptKind.{ScriptKind}
-use Rattle.run_inputs.specs.declared.lines.LineFault.{LineFault}
-use Rattle.run_inputs.specs.declared.lines.LineFault.TheVariants as fault
 use Rattle.run_inputs.specs.Script.{start, after, after_all, sessions_in, acts_in, IsSound, AreSound, IsScript}
-use Rattle.run_inputs.specs.Script.{HasAct, AsksForMemory, IsFaulty, HasFault, IsFault, ComesFrom}
-use Rattle.run_inputs.specs.Parsing.{IsLineFault, fault_at}
-use Rattle.run_inputs.proofs.LineLemmas.{of_saying, few_turns}
+use Rattle.run_inputs.proofs.LineLemmas.{few_turns}
 
 -- one line more without a fault
 sound_more : (progress : Progress) (front : List (List ℕ)) (said : List Line) (line : List ℕ) (last : Line)
@@ -89,53 +82,6 @@ read_more text acts progress number rest line behind said h cut less is =
       size = omega arith;
       short = h.short;
     }
-
--- the fault of the next line is the first of the text
-has_fault : (text : List ℕ) (acts : List Act) (progress : Progress) (number : ℕ) (rest line : List ℕ) (behind : List (List ℕ)) (k : ScriptKind)
-    → HasRead text acts progress number rest → lines_in rest ≡ line ∷ behind → IsFaulty progress line k → HasFault text (number + 1) k
-has_fault text acts progress number rest line behind k h cut f = record {
-  short = h.short;
-  front = h.front;
-  line = line;
-  behind = behind;
-  lines_are = h.lines_are ∙ ap (λ (ls : List (List ℕ)). h.front ++ ls) cut;
-  said = h.said;
-  sound = h.sound;
-  faulty = subst (λ (p : Progress). IsFaulty p line k) (sym h.progress_is) f;
-  number_is = ap (λ (n : ℕ). n + 1) h.number_is;
-}
-
-is_fault : (text : List ℕ) (progress : Progress) (number : ℕ) (line : List ℕ) (k : ScriptKind)
-    → IsFaulty progress line k → HasFault text number k → IsFault text number k
-is_fault text progress number line kind.LongText f h = absurd (false≢true (of_saying _ _ _ kind.LongText f.3))
-is_fault text progress number line kind.NoEnd f h = absurd (false≢true (of_saying _ _ _ kind.NoEnd f.3))
-is_fault text progress number line kind.LongLine f h = h
-is_fault text progress number line kind.AfterEnd f h = h
-is_fault text progress number line kind.Form f h = h
-is_fault text progress number line kind.Number f h = h
-is_fault text progress number line kind.Key f h = h
-is_fault text progress number line kind.Turns f h = h
-
--- for the act of the next line memory is asked
-pub asks : (text : List ℕ) (acts : List Act) (progress : Progress) (number : ℕ) (rest line : List ℕ) (behind : List (List ℕ))
-    → HasRead text acts progress number rest → lines_in rest ≡ line ∷ behind → HasAct progress line → AsksForMemory text
-asks text acts progress number rest line behind h cut a = record {
-  short = h.short;
-  front = h.front;
-  line = line;
-  behind = behind;
-  lines_are = h.lines_are ∙ ap (λ (ls : List (List ℕ)). h.front ++ ls) cut;
-  said = h.said;
-  sound = h.sound;
-  act = subst (λ (p : Progress). HasAct p line) (sym h.progress_is) a;
-}
-
--- why the next line is not taken is why the text is none
-pub not_taken : (text : List ℕ) (acts : List Act) (progress : Progress) (number : ℕ) (rest line : List ℕ) (behind : List (List ℕ)) (f : LineFault)
-    → HasRead text acts progress number rest → lines_in rest ≡ line ∷ behind → IsLineFault progress line f → ComesFrom text (fault_at (number + 1) f)
-not_taken text acts progress number rest line behind (fault.Bad k) h cut f =
-    is_fault text progress (number + 1) line k f (has_fault text acts progress number rest line behind k h cut f)
-not_taken text acts progress number rest line behind fault.Memory h cut a = asks text acts progress number rest line behind h cut a
 
 empty : (xs : List ℕ) → length xs ≡ 0 → xs ≡ []
 empty [] e = refl
