@@ -1,5 +1,5 @@
 -- A script's acts can be run.
-use Rattle.std.proofs.Common.{ℕ, ◌+◌, ◌≡◌, ◌≤◌, Bool, true, false, List, [], ◌∷◌, ◌++◌, Some, None, arith, refl, sym, ◌∙◌, subst}
+use Rattle.std.proofs.Common.{ℕ, ◌+◌, ◌≡◌, ◌≤◌, true, List, [], ◌∷◌, ◌++◌, Some, None, arith, refl, sym, ◌∙◌, subst}
 use Rattle.std.specs.Prelude.{◌≢◌, nat_lt, flat_map, not, sum_by}
 use Rattle.std.proofs.lemmas.Bool.{false≢true}
 use Rattle.std.proofs.lemmas.Bool.Decides.{nat_tests}
@@ -21,7 +21,7 @@ use Rattle.run_inputs.specs.Lines.{AreArgs, AreWords, verb_of}
 use Rattle.run_inputs.specs.Script.{start, after, after_all, is_in_place, stage_after, shape_after, sessions_in, turns_in, acts_in}
 use Rattle.run_inputs.specs.Script.{is_numbered, has_key, fault_of, AreSound, IsScript}
 use Rattle.run_inputs.specs.Fit.{turns_of, AreFit, IsPlayable}
-use Rattle.run_inputs.proofs.ScriptLemmas.{Passes, passes, few_turns}
+use Rattle.run_inputs.proofs.LineLemmas.{Passes, passes, few_turns, true_from}
 
 -- a shape whose numbers are within their ranges; that of the members is told by the first line
 record IsShaped (at : Stage) (shape : Shape) : Type 0 where
@@ -117,10 +117,6 @@ shaped_start = record {
 tests_of : (progress : Progress) (said : Line) → fault_of progress said ≡ None
     → Passes (not (is_numbered progress.begun said)) (not (has_key said)) (nat_lt 1000000 (progress.turns + turns_in said))
 tests_of progress said e = passes _ _ _ e
-
-true_from : (b : Bool) → not b ≡ false → b ≡ true
-true_from true e = refl
-true_from false e = sym e
 
 -- the acts of a line go before fit ones
 fit_before : (begun : ℕ) (said : Line) (words : List (List ℕ)) (acts : List Act)

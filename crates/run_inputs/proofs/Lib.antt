@@ -1,5 +1,6 @@
 pub mod CutLemmas
 pub mod WordLemmas
+pub mod TxnLemmas
 pub mod LineLemmas
 pub mod ScriptLemmas
 pub mod FitLemmas

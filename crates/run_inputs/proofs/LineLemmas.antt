@@ -1,6 +1,7 @@
 -- What a line says is told by its words.
-use Rattle.std.proofs.Common.{ℕ, ◌+◌, ◌*◌, ◌==◌, ◌≡◌, Bool, true, false, List, [], ◌∷◌, Some, None, refl, sym, ap, ◌∙◌, get_or}
-use Rattle.std.specs.Prelude.{if◌then◌else◌}
+use Rattle.std.proofs.Common.{ℕ, ◌+◌, ◌*◌, ◌==◌, ◌≡◌, ◌≤◌, Bool, true, false, not, List, [], ◌∷◌, Some, None, refl, sym, ap, ◌∙◌, get_or, arith}
+use Rattle.std.specs.Prelude.{nat_lt, if◌then◌else◌}
+use Rattle.std.proofs.lemmas.Bool.Decides.{nat_tests}
 use Rattle.std.proofs.lemmas.Bool.{false≢true}
 use Rattle.run_inputs.specs.declared.lines.Part.TheVariants.{Members, Shards, Room, Life}
 use Rattle.run_inputs.specs.declared.lines.Task.TheVariants as task
@@ -8,11 +9,10 @@ use Rattle.run_inputs.specs.declared.lines.Verb.{Verb}
 use Rattle.run_inputs.specs.declared.lines.Verb.TheVariants as verb
 use Rattle.run_inputs.specs.declared.lines.Line.{Line}
 use Rattle.run_inputs.specs.declared.stages.Progress.{Progress}
-use Rattle.run_inputs.specs.declared.faults.ScriptKind.{ScriptKind}
 use Rattle.run_inputs.specs.declared.faults.ScriptKind.TheVariants as kind
 use Rattle.run_inputs.specs.Texts.{words_in}
 use Rattle.run_inputs.specs.Lines.{verb_word, verb_of, AreWords}
-use Rattle.run_inputs.specs.Script.{is_in_place, Says, MayStand, IsFaulty, fault_of}
+use Rattle.run_inputs.specs.Script.{is_in_place, is_numbered, has_key, turns_in, Says, fault_of}
 
 -- the first three letters of a word, as one number
 abbrev letters : List ℕ → ℕ
@@ -71,28 +71,25 @@ no_place progress line a h e said k =
     let off : is_in_place progress.stage (verb_of said) ≡ false = ap (λ (v : Verb). is_in_place progress.stage v) (sym same) ∙ e in
     false≢true (sym off ∙ k.in_place)
 
--- whether a fault is one of what a line says
-abbrev is_of_saying : ScriptKind → Bool
-is_of_saying kind.Number = true
-is_of_saying kind.Key = true
-is_of_saying kind.Turns = true
-is_of_saying other = false
+-- the three tests that a line without a fault passes
+pub record Passes (a b c : Bool) : Type 0 where
+  pub first : a ≡ false
+  pub second : b ≡ false
+  pub third : c ≡ false
 
-of_saying : (a b c : Bool) (k : ScriptKind) → (if a then Some kind.Number else if b then Some kind.Key else if c then Some kind.Turns else None) ≡ Some k
-    → is_of_saying k ≡ true
-of_saying true b c k e = let same : kind.Number ≡ k = cc in ap is_of_saying (sym same)
-of_saying false true c k e = let same : kind.Key ≡ k = cc in ap is_of_saying (sym same)
-of_saying false false true k e = let same : kind.Turns ≡ k = cc in ap is_of_saying (sym same)
-of_saying false false false k e = absurd cc
+pub passes : (a b c : Bool) → (if a then Some kind.Number else if b then Some kind.Key else if c then Some kind.Turns else None) ≡ None → Passes a b c
+passes true b c e = absurd cc
+passes false true c e = absurd cc
+passes false false true e = absurd cc
+passes false false false e = record { first = refl; second = refl; third = refl }
 
--- the first fault of what a line says is the line's
-pub faulty : (progress : Progress) (line : List ℕ) (said : Line) (k : ScriptKind)
-    → MayStand progress line → Says progress line said → fault_of progress said ≡ Some k → IsFaulty progress line k
-faulty progress line said kind.Number h w e = (h, said, w, e)
-faulty progress line said kind.Key h w e = (h, said, w, e)
-faulty progress line said kind.Turns h w e = (h, said, w, e)
-faulty progress line said kind.LongText h w e = (h, said, w, e)
-faulty progress line said kind.NoEnd h w e = (h, said, w, e)
-faulty progress line said kind.LongLine h w e = absurd (false≢true (of_saying _ _ _ kind.LongLine e))
-faulty progress line said kind.AfterEnd h w e = absurd (false≢true (of_saying _ _ _ kind.AfterEnd e))
-faulty progress line said kind.Form h w e = absurd (false≢true (of_saying _ _ _ kind.Form e))
+-- a line without a fault keeps the turns within their limit
+pub few_turns : (progress : Progress) (said : Line) → fault_of progress said ≡ None → progress.turns + turns_in said ≤ 1000000
+few_turns progress said e =
+    let p = passes (not (is_numbered progress.begun said)) (not (has_key said)) (nat_lt 1000000 (progress.turns + turns_in said)) e in
+    let small : nat_lt 1000000 (progress.turns + turns_in said) ≡ false = p.third in
+    grind (arith, nat_tests)
+
+pub true_from : (b : Bool) → not b ≡ false → b ≡ true
+true_from true e = refl
+true_from false e = sym e

@@ -1,36 +1,16 @@
 -- What lines come to, one after another.
-use Rattle.std.proofs.Common.{ℕ, ◌+◌, ◌≡◌, ◌<◌, ◌≤◌, Bool, true, false, List, [], ◌∷◌, ◌++◌, length, Some, None, arith, refl, sym, ap, ◌∙◌}
+use Rattle.std.proofs.Common.{ℕ, ◌+◌, ◌≡◌, ◌<◌, ◌≤◌, List, [], ◌∷◌, ◌++◌, length, arith, refl, sym, ap, ◌∙◌}
 use Rattle.std.proofs.Common.{append_assoc, append-nil, length-append, subst}
-use Rattle.std.specs.Prelude.{nat_lt, if◌then◌else◌, flat_map, not}
-use Rattle.std.proofs.lemmas.Bool.Decides.{nat_tests}
+use Rattle.std.specs.Prelude.{flat_map}
 use Rattle.std.proofs.lemmas.Grind.{flat_map-append}
 use Rattle.run_inputs.specs.declared.lines.Line.{Line}
 use Rattle.run_inputs.specs.declared.lines.Line.TheVariants.{Head, Session, Turn, Tick, Sweep, End}
 use Rattle.run_inputs.specs.declared.stages.Stage.TheVariants as stage
 use Rattle.run_inputs.specs.declared.stages.Progress.{Progress}
-use Rattle.run_inputs.specs.declared.faults.ScriptKind.TheVariants as kind
 use Rattle.run_inputs.specs.declared.scripts.Act.{Act}
 use Rattle.run_inputs.specs.Texts.{lines_in}
-use Rattle.run_inputs.specs.Script.{start, after, after_all, sessions_in, turns_in, acts_in, is_numbered, has_key, fault_of, IsSound, AreSound, IsScript}
-
--- the three tests that a line without a fault passes
-pub record Passes (a b c : Bool) : Type 0 where
-  pub first : a ≡ false
-  pub second : b ≡ false
-  pub third : c ≡ false
-
-pub passes : (a b c : Bool) → (if a then Some kind.Number else if b then Some kind.Key else if c then Some kind.Turns else None) ≡ None → Passes a b c
-passes true b c e = absurd cc
-passes false true c e = absurd cc
-passes false false true e = absurd cc
-passes false false false e = record { first = refl; second = refl; third = refl }
-
--- a line without a fault keeps the turns within their limit
-pub few_turns : (progress : Progress) (said : Line) → fault_of progress said ≡ None → progress.turns + turns_in said ≤ 1000000
-few_turns progress said e =
-    let p = passes (not (is_numbered progress.begun said)) (not (has_key said)) (nat_lt 1000000 (progress.turns + turns_in said)) e in
-    let small : nat_lt 1000000 (progress.turns + turns_in said) ≡ false = p.third in
-    grind (arith, nat_tests)
+use Rattle.run_inputs.specs.Script.{start, after, after_all, sessions_in, acts_in, IsSound, AreSound, IsScript}
+use Rattle.run_inputs.proofs.LineLemmas.{few_turns}
 
 -- one line more without a fault
 sound_more : (progress : Progress) (front : List (List ℕ)) (said : List Line) (line : List ℕ) (last : Line)
@@ -62,6 +42,7 @@ pub record HasRead (text : List ℕ) (acts : List Act) (progress : Progress) (nu
   pub acts_are : acts ≡ flat_map acts_in said
   pub number_is : number ≡ length front
   pub begun : progress.begun ≤ number
+  pub few : progress.turns ≤ 1000000
   pub size : number + length rest ≤ length text
   pub short : length text ≤ 16777216
 
@@ -75,6 +56,7 @@ read_none text short = record {
   acts_are = refl;
   number_is = refl;
   begun = omega arith;
+  few = omega arith;
   size = omega arith;
   short = short;
 }
@@ -96,6 +78,7 @@ read_more text acts progress number rest line behind said h cut less is =
           ∙ (ap (λ (xs : List Act). flat_map acts_in h.said ++ xs) (sym (append-nil (acts_in said))) ∙ sym (flat_map-append acts_in h.said (said ∷ [])));
       number_is = ap (λ (n : ℕ). n + 1) h.number_is ∙ sym (length-append h.front (line ∷ []));
       begun = omega arith;
+      few = few_turns progress said is.none;
       size = omega arith;
       short = h.short;
     }

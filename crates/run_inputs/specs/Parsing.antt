@@ -1,5 +1,5 @@
 -- What the parts of the parser answer.
-use Rattle.std.specs.Prelude.{ℕ, ◌≡◌, ◌≤◌, ◌<◌, ◌^◌, List, [], Option, Some, None, decimal}
+use Rattle.std.specs.Prelude.{ℕ, ◌≡◌, ◌≤◌, ◌<◌, ◌^◌, false, List, [], Option, Some, None, decimal}
 use Rattle.run_inputs.specs.declared.lines.Task.{Task}
 use Rattle.run_inputs.specs.declared.lines.Verb.{Verb}
 use Rattle.run_inputs.specs.declared.lines.Job.{Job}
@@ -11,7 +11,11 @@ use Rattle.run_inputs.specs.declared.lines.LineFault.{LineFault}
 use Rattle.run_inputs.specs.declared.lines.LineFault.TheVariants.{Bad, Memory}
 use Rattle.run_inputs.specs.Texts.{parts_at}
 use Rattle.run_inputs.specs.Lines.{most, AreJobWords, AreArgs, task_of, verb_of}
-use Rattle.run_inputs.specs.Script.{IsFaulty}
+use Rattle.session_client.specs.declared.plans.Plan.{Plan}
+use Rattle.run_inputs.specs.declared.faults.ScriptKind.TheVariants.{Key}
+use Rattle.run_inputs.specs.declared.faults.ScriptFault.{ScriptFault}
+use Rattle.run_inputs.specs.declared.faults.ScriptFault.TheVariants as script
+use Rattle.run_inputs.specs.Script.{sessions_in, has_key, has_own_key, HasAct, IsFaulty}
 
 -- The parts of what stands behind a cut, if anything does.
 abbrev pub parts_behind : ℕ → Option (List ℕ) → List (List ℕ)
@@ -45,10 +49,25 @@ abbrev pub IsWithin : Line → Type 0
 IsWithin (Head part number) = number ≤ most part
 IsWithin line = Unit {0}
 
--- Why a line isn't sound.
+-- Why a line isn't taken. Memory is asked for its act alone.
 abbrev pub IsLineFault : Progress → List ℕ → LineFault → Type 0
 IsLineFault progress line (Bad kind) = IsFaulty progress line kind
-IsLineFault progress line Memory = Unit {0}
+IsLineFault progress line Memory = HasAct progress line
+
+-- The fault of a text in which this is the fault of the line of this number.
+abbrev pub fault_at : ℕ → LineFault → ScriptFault
+fault_at number (Bad kind) = script.Bad number kind
+fault_at number Memory = script.Memory
+
+-- Why a plan isn't taken.
+abbrev pub IsPlanFault : Plan → LineFault → Type 0
+IsPlanFault plan (Bad kind) = (kind ≡ Key) × (has_own_key plan ≡ false)
+IsPlanFault plan Memory = Unit {0}
+
+-- Why no act is made of a line. Memory is asked for the transaction of a session.
+abbrev pub IsActFault : Line → LineFault → Type 0
+IsActFault line (Bad kind) = (kind ≡ Key) × (has_key line ≡ false)
+IsActFault line Memory = sessions_in line ≡ 1
 
 -- The word is this number in decimal, which is at least and at most so great.
 pub record IsNumberWithin (word : List ℕ) (least most number : ℕ) : Type 0 where

@@ -102,10 +102,25 @@ is_numbered begun (Turn (Some number) count) = nat_le 1 number && nat_le number 
 is_numbered begun (Turn None count) = false
 is_numbered begun line = true
 
+-- The plan of a job.
+abbrev pub plan_of : Job → Plan
+plan_of (Read key floor) = plan.Read key (unwrap_or floor 0)
+plan_of (Write mode txn) = plan.Write mode txn
+plan_of (Look mode key txn) = plan.Look mode key txn
+plan_of (Quit mode txn) = plan.Quit mode txn
+plan_of (Skip key txn) = plan.Skip key txn
+plan_of (Raise txn) = plan.Raise txn
+plan_of (Renew mode txn) = plan.Renew mode txn
+
+-- Whether the key that a plan has beside its transaction, if any, is one that this touches.
+abbrev pub has_own_key : Plan → Bool
+has_own_key (plan.Look mode key txn) = touches txn key
+has_own_key (plan.Skip key txn) = touches txn key
+has_own_key plan = true
+
 -- Whether the key of a line is one that its transaction touches.
 abbrev pub has_key : Line → Bool
-has_key (Session number (Look mode key txn)) = touches txn key
-has_key (Session number (Skip key txn)) = touches txn key
+has_key (Session number job) = has_own_key (plan_of job)
 has_key line = true
 
 -- The first fault of what a line says, after such lines.
@@ -124,6 +139,12 @@ pub record Says (progress : Progress) (line : List ℕ) (said : Line) : Type 0 w
 pub record MayStand (progress : Progress) (line : List ℕ) : Type 0 where
   pub short : length line ≤ 2048
   pub goes_on : progress.stage ≢ stage.End
+
+-- The line says this in its place, and the number of its session, if it has one, is right.
+pub record IsPlaced (progress : Progress) (line : List ℕ) (said : Line) : Type 0 where
+  pub stands : MayStand progress line
+  pub says : Says progress line said
+  pub numbered : is_numbered progress.begun said ≡ true
 
 -- The line says this, and has no fault.
 pub record IsSound (progress : Progress) (line : List ℕ) (said : Line) : Type 0 where
@@ -145,16 +166,6 @@ AreSound progress [] [] = Unit {0}
 AreSound progress (line ∷ lines) (said ∷ more) = IsSound progress line said × AreSound (after progress said) lines more
 AreSound progress lines other = ⊥
 
--- The plan of a job.
-abbrev pub plan_of : Job → Plan
-plan_of (Read key floor) = plan.Read key (unwrap_or floor 0)
-plan_of (Write mode txn) = plan.Write mode txn
-plan_of (Look mode key txn) = plan.Look mode key txn
-plan_of (Quit mode txn) = plan.Quit mode txn
-plan_of (Skip key txn) = plan.Skip key txn
-plan_of (Raise txn) = plan.Raise txn
-plan_of (Renew mode txn) = plan.Renew mode txn
-
 -- The acts of a line.
 abbrev pub acts_in : Line → List Act
 acts_in (Session number job) = Add (plan_of job) ∷ []
@@ -162,6 +173,13 @@ acts_in (Turn (Some number) count) = Run (turn.Session (record { number = number
 acts_in (Tick ticks) = Run (turn.Tick ticks) 1 ∷ []
 acts_in (Sweep count) = Run turn.Sweep (unwrap_or count 1) ∷ []
 acts_in line = []
+
+-- The line has an act, and no fault, or none but that of its key.
+pub record HasAct (progress : Progress) (line : List ℕ) : Type 0 where
+  pub said : Line
+  pub placed : IsPlaced progress line said
+  pub few : progress.turns + turns_in said ≤ 1000000
+  pub act : acts_in said ≢ []
 
 -- The text says these acts, to be run in this shape: it has no fault, and its last line is `end`.
 pub record IsScript (text : List ℕ) (shape : Shape) (acts : List Act) : Type 0 where
@@ -202,10 +220,21 @@ IsFault text number kind.LongText = IsLong text × (number ≡ 0)
 IsFault text number kind.NoEnd = HasNoEnd text number
 IsFault text number other = HasFault text number other
 
--- Why a text is not read as a script.
+-- Memory is asked for at a line of the text: it has an act, and no line before it has a fault.
+pub record AsksForMemory (text : List ℕ) : Type 0 where
+  pub short : length text ≤ 16777216
+  pub front : List (List ℕ)
+  pub line : List ℕ
+  pub behind : List (List ℕ)
+  pub lines_are : lines_in text ≡ front ++ line ∷ behind
+  pub said : List Line
+  pub sound : AreSound start front said
+  pub act : HasAct (after_all start said) line
+
+-- Why a text is not read as a script. Memory runs out only where it is asked for.
 abbrev pub ComesFrom : List ℕ → ScriptFault → Type 0
 ComesFrom text (Bad number fault) = IsFault text number fault
-ComesFrom text Memory = Unit {0}
+ComesFrom text Memory = AsksForMemory text
 
 -- The name of a kind in lower case.
 abbrev pub kind_word : ScriptKind → List ℕ

@@ -1,8 +1,6 @@
 ghost use Rattle.std.specs.Prelude.{◌≡◌};
 ghost use Rattle.run_inputs.specs.Script.{kind_word};
 
-use rows_model::Memory;
-
 /// What is wrong with a line of a text, or with the text as a whole.
 #[derive(Clone, Copy, PartialEq, Eq)]
 pub enum ScriptKind {
@@ -32,7 +30,8 @@ pub enum ScriptFault {
     /// This line, from 1, is the first that has a fault, and this is the first kind of fault that
     /// it has.
     Bad { line: u64, kind: ScriptKind },
-    /// Memory ran out.
+    /// Memory ran out for the act of a line: a session, turns, a tick or sweeps. No line before it
+    /// has a fault, and it has none itself, or none but that of its key.
     Memory,
 }
 

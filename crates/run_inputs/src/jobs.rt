@@ -1,40 +1,35 @@
 // What the words behind a session's number say.
-ghost use Rattle.std.specs.Prelude.{◌≡◌, ℕ, List, [], ◌∷◌, Option, Some, IfSome, IfNone, IfOk};
+ghost use Rattle.std.specs.Prelude.{◌≡◌, ℕ, List, [], ◌∷◌, Option, Some, IfSome, IfNone};
 ghost use Rattle.std.specs.Option.{option_copied};
 ghost use Rattle.lease_table.specs.declared.records.Mode.{Mode};
-ghost use Rattle.rows_model.specs.declared.changes.Change.{Change};
-ghost use Rattle.change_words.specs.Txns.{AreTxnWords};
-ghost use Rattle.change_words.specs.Parsing.{BeginsWith, BeginsWithNone};
 ghost use Rattle.run_inputs.specs.Lines.{AreFloor, AreJobWords, mode_word};
 ghost use Rattle.run_inputs.specs.Parsing.{words_behind, IsJobOf, IsNoJob};
 ghost use Rattle.run_inputs.specs.declared.lines.Task.TheVariants as task;
 
 use crate::cuts::{cut, only_number};
 use crate::lines::{Job, Task};
-use change_words::{MOST_CHANGES, change_of, is_plus, whole_txn};
+use crate::txns::changes_of;
 use lease_table::Mode;
-use rows_model::{Change, Memory, QKey, Txn};
-use std::alloc::Global;
+use rows_model::QKey;
 
 /// The job for the task that the words behind a session's number say.
-pub(crate) fn job_of(alloc: Global, task: Task, args: Option<&[u8]>) -> Result<Option<Job>, Memory>
-    ensures found { IfOk result (λ read. IfSome read
-        (λ job. IsJobOf task (words_behind (option_copied args.entry)) job)) }
-    ensures none { IfOk result (λ read. IfNone read
-        (IsNoJob task (words_behind (option_copied args.entry)))) }
+pub(crate) fn job_of(task: Task, args: Option<&[u8]>) -> Option<Job>
+    ensures found { IfSome result
+        (λ job. IsJobOf task (words_behind (option_copied args.entry)) job) }
+    ensures none { IfNone result (IsNoJob task (words_behind (option_copied args.entry))) }
 {
     let Some(text) = args else {
-        return Ok(None);
+        return None;
     };
     let (word, more) = cut(text, b' ');
     match task {
-        Task::Read => Ok(read_of(word, more)),
-        Task::Write => write_of(alloc, word, more),
-        Task::Look => look_of(alloc, word, more),
-        Task::Quit => quit_of(alloc, word, more),
-        Task::Skip => skip_of(alloc, word, more),
-        Task::Raise => raise_of(alloc, text),
-        Task::Renew => renew_of(alloc, word, more),
+        Task::Read => read_of(word, more),
+        Task::Write => write_of(word, more),
+        Task::Look => look_of(word, more),
+        Task::Quit => quit_of(word, more),
+        Task::Skip => skip_of(word, more),
+        Task::Raise => raise_of(text),
+        Task::Renew => renew_of(word, more),
     }
 }
 
@@ -49,98 +44,69 @@ fn read_of(word: &[u8], more: Option<&[u8]>) -> Option<Job>
     Some(Job::Read { key, floor })
 }
 
-fn write_of(alloc: Global, word: &[u8], more: Option<&[u8]>) -> Result<Option<Job>, Memory>
-    ensures found { IfOk result (λ read. IfSome read
-        (λ job. IsJobOf task.Write (word.now ∷ words_behind (option_copied more.entry)) job)) }
-    ensures none { IfOk result (λ read. IfNone read
-        (IsNoJob task.Write (word.now ∷ words_behind (option_copied more.entry)))) }
+fn write_of(word: &[u8], more: Option<&[u8]>) -> Option<Job>
+    ensures found { IfSome result
+        (λ job. IsJobOf task.Write (word.now ∷ words_behind (option_copied more.entry)) job) }
+    ensures none { IfNone result
+        (IsNoJob task.Write (word.now ∷ words_behind (option_copied more.entry))) }
 {
-    let Some(mode) = mode_of(word) else {
-        return Ok(None);
-    };
-    match txn_of(alloc, more)? {
-        Some(txn) => Ok(Some(Job::Write { mode, txn })),
-        None => Ok(None),
-    }
+    let mode = mode_of(word)?;
+    let txn = changes_of(more)?;
+    Some(Job::Write { mode, txn })
 }
 
-fn look_of(alloc: Global, word: &[u8], more: Option<&[u8]>) -> Result<Option<Job>, Memory>
-    ensures found { IfOk result (λ read. IfSome read
-        (λ job. IsJobOf task.Look (word.now ∷ words_behind (option_copied more.entry)) job)) }
-    ensures none { IfOk result (λ read. IfNone read
-        (IsNoJob task.Look (word.now ∷ words_behind (option_copied more.entry)))) }
+fn look_of(word: &[u8], more: Option<&[u8]>) -> Option<Job>
+    ensures found { IfSome result
+        (λ job. IsJobOf task.Look (word.now ∷ words_behind (option_copied more.entry)) job) }
+    ensures none { IfNone result
+        (IsNoJob task.Look (word.now ∷ words_behind (option_copied more.entry))) }
 {
-    let Some(mode) = mode_of(word) else {
-        return Ok(None);
-    };
-    let Some(more) = more else {
-        return Ok(None);
-    };
-    let (next, rest) = cut(more, b' ');
-    let Some(key) = QKey::parse(next) else {
-        return Ok(None);
-    };
-    match txn_of(alloc, rest)? {
-        Some(txn) => Ok(Some(Job::Look { mode, key, txn })),
-        None => Ok(None),
-    }
+    let mode = mode_of(word)?;
+    let (next, rest) = cut(more?, b' ');
+    let key = QKey::parse(next)?;
+    let txn = changes_of(rest)?;
+    Some(Job::Look { mode, key, txn })
 }
 
-fn quit_of(alloc: Global, word: &[u8], more: Option<&[u8]>) -> Result<Option<Job>, Memory>
-    ensures found { IfOk result (λ read. IfSome read
-        (λ job. IsJobOf task.Quit (word.now ∷ words_behind (option_copied more.entry)) job)) }
-    ensures none { IfOk result (λ read. IfNone read
-        (IsNoJob task.Quit (word.now ∷ words_behind (option_copied more.entry)))) }
+fn quit_of(word: &[u8], more: Option<&[u8]>) -> Option<Job>
+    ensures found { IfSome result
+        (λ job. IsJobOf task.Quit (word.now ∷ words_behind (option_copied more.entry)) job) }
+    ensures none { IfNone result
+        (IsNoJob task.Quit (word.now ∷ words_behind (option_copied more.entry))) }
 {
-    let Some(mode) = mode_of(word) else {
-        return Ok(None);
-    };
-    match txn_of(alloc, more)? {
-        Some(txn) => Ok(Some(Job::Quit { mode, txn })),
-        None => Ok(None),
-    }
+    let mode = mode_of(word)?;
+    let txn = changes_of(more)?;
+    Some(Job::Quit { mode, txn })
 }
 
-fn skip_of(alloc: Global, word: &[u8], more: Option<&[u8]>) -> Result<Option<Job>, Memory>
-    ensures found { IfOk result (λ read. IfSome read
-        (λ job. IsJobOf task.Skip (word.now ∷ words_behind (option_copied more.entry)) job)) }
-    ensures none { IfOk result (λ read. IfNone read
-        (IsNoJob task.Skip (word.now ∷ words_behind (option_copied more.entry)))) }
+fn skip_of(word: &[u8], more: Option<&[u8]>) -> Option<Job>
+    ensures found { IfSome result
+        (λ job. IsJobOf task.Skip (word.now ∷ words_behind (option_copied more.entry)) job) }
+    ensures none { IfNone result
+        (IsNoJob task.Skip (word.now ∷ words_behind (option_copied more.entry))) }
 {
-    let Some(key) = QKey::parse(word) else {
-        return Ok(None);
-    };
-    match txn_of(alloc, more)? {
-        Some(txn) => Ok(Some(Job::Skip { key, txn })),
-        None => Ok(None),
-    }
+    let key = QKey::parse(word)?;
+    let txn = changes_of(more)?;
+    Some(Job::Skip { key, txn })
 }
 
-fn raise_of(alloc: Global, text: &[u8]) -> Result<Option<Job>, Memory>
-    ensures found { IfOk result (λ read. IfSome read
-        (λ job. IsJobOf task.Raise (words_behind (Some text.now)) job)) }
-    ensures none { IfOk result (λ read. IfNone read
-        (IsNoJob task.Raise (words_behind (Some text.now)))) }
+fn raise_of(text: &[u8]) -> Option<Job>
+    ensures found { IfSome result (λ job. IsJobOf task.Raise (words_behind (Some text.now)) job) }
+    ensures none { IfNone result (IsNoJob task.Raise (words_behind (Some text.now))) }
 {
-    match txn_of(alloc, Some(text))? {
-        Some(txn) => Ok(Some(Job::Raise { txn })),
-        None => Ok(None),
-    }
+    let txn = changes_of(Some(text))?;
+    Some(Job::Raise { txn })
 }
 
-fn renew_of(alloc: Global, word: &[u8], more: Option<&[u8]>) -> Result<Option<Job>, Memory>
-    ensures found { IfOk result (λ read. IfSome read
-        (λ job. IsJobOf task.Renew (word.now ∷ words_behind (option_copied more.entry)) job)) }
-    ensures none { IfOk result (λ read. IfNone read
-        (IsNoJob task.Renew (word.now ∷ words_behind (option_copied more.entry)))) }
+fn renew_of(word: &[u8], more: Option<&[u8]>) -> Option<Job>
+    ensures found { IfSome result
+        (λ job. IsJobOf task.Renew (word.now ∷ words_behind (option_copied more.entry)) job) }
+    ensures none { IfNone result
+        (IsNoJob task.Renew (word.now ∷ words_behind (option_copied more.entry))) }
 {
-    let Some(mode) = mode_of(word) else {
-        return Ok(None);
-    };
-    match txn_of(alloc, more)? {
-        Some(txn) => Ok(Some(Job::Renew { mode, txn })),
-        None => Ok(None),
-    }
+    let mode = mode_of(word)?;
+    let txn = changes_of(more)?;
+    Some(Job::Renew { mode, txn })
 }
 
 // The floor of a `read` line, or that there is none; `None` where there are other words.
@@ -172,45 +138,4 @@ fn mode_of(word: &[u8]) -> Option<Mode>
         b"delta" => Some(Mode::Delta),
         _ => None,
     }
-}
-
-// The transaction of which these are the words: 1 to 8 changes, joined by `+`.
-fn txn_of(alloc: Global, args: Option<&[u8]>) -> Result<Option<Txn>, Memory>
-    ensures found { IfOk result (λ read. IfSome read
-        (λ txn. AreTxnWords txn (words_behind (option_copied args.entry)))) }
-    ensures none { IfOk result (λ read. IfNone read
-        ((txn : List Change) → AreTxnWords txn (words_behind (option_copied args.entry)) → ⊥)) }
-{
-    let mut changes = Vec::new(alloc);
-    let mut rest = args;
-    for _ in 0..MOST_CHANGES {
-        let Some((change, behind)) = first_change(rest) else {
-            return Ok(None);
-        };
-        changes.push(change)?;
-        let Some(behind) = behind else {
-            let txn = whole_txn(alloc, changes.as_slice())?;
-            return Ok(Some(txn));
-        };
-        let (word, more) = cut(behind, b' ');
-        if !is_plus(word) {
-            return Ok(None);
-        }
-        rest = more;
-    }
-    Ok(None)
-}
-
-// The change that the first three words are, and what stands behind them if anything does.
-fn first_change(text: Option<&[u8]>) -> Option<(Change, Option<&[u8]>)>
-    ensures found { IfSome result
-        (λ read. BeginsWith read.0 (words_behind (option_copied text.entry))
-        (words_behind (option_copied read.1))) }
-    ensures none { IfNone result (BeginsWithNone (words_behind (option_copied text.entry))) }
-{
-    let (word, rest) = cut(text?, b' ');
-    let (first, rest) = cut(rest?, b' ');
-    let (second, rest) = cut(rest?, b' ');
-    let change = change_of(word, first, second)?;
-    Some((change, rest))
 }

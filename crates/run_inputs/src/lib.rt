@@ -17,3 +17,4 @@ mod lines;
 pub mod loads;
 pub mod scripts;
 mod stages;
+mod txns;

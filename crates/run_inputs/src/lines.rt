@@ -1,18 +1,18 @@
 // What a line of a script says, by its words.
-ghost use Rattle.std.specs.Prelude.{◌≡◌, ◌≤◌, IfSome, IfNone, IfOk};
+ghost use Rattle.std.specs.Prelude.{◌≡◌, ◌≤◌, IfSome, IfNone};
 ghost use Rattle.std.specs.Option.{option_copied};
 ghost use Rattle.run_inputs.specs.declared.lines.Verb.TheVariants as verb;
 ghost use Rattle.run_inputs.specs.Texts.{words_in};
 ghost use Rattle.run_inputs.specs.Lines.{most, verb_word, AreWords};
 ghost use Rattle.run_inputs.specs.Script.{place_of};
-ghost use Rattle.run_inputs.specs.Parsing.{words_behind, IsLineOf, IsNoLine};
+ghost use Rattle.run_inputs.specs.Parsing.{words_behind, fault_at, IsLineOf, IsNoLine};
 
 use crate::cuts::{count_of, cut, only_number, session_number};
-use crate::faults::ScriptKind;
+use crate::faults::{ScriptFault, ScriptKind};
 use crate::jobs::job_of;
+use crate::txns::Changes;
 use lease_table::Mode;
-use rows_model::{Memory, QKey, Txn};
-use std::alloc::Global;
+use rows_model::{Memory, QKey};
 
 /// A line of the head.
 #[derive(Clone, Copy, PartialEq, Eq)]
@@ -52,17 +52,17 @@ pub enum Job {
     /// Read a key, with a floor if there is one.
     Read { key: QKey, floor: Option<u64> },
     /// Write in this mode.
-    Write { mode: Mode, txn: Txn },
+    Write { mode: Mode, txn: Changes },
     /// Write in this mode, and look at this key before the commit.
-    Look { mode: Mode, key: QKey, txn: Txn },
+    Look { mode: Mode, key: QKey, txn: Changes },
     /// Write in this mode up to the commit, and end without it.
-    Quit { mode: Mode, txn: Txn },
+    Quit { mode: Mode, txn: Changes },
     /// Write in mode invalidate, without the quarantine of this key.
-    Skip { key: QKey, txn: Txn },
+    Skip { key: QKey, txn: Changes },
     /// Write in mode invalidate, and raise each quarantine before the commit.
-    Raise { txn: Txn },
+    Raise { txn: Changes },
     /// Write in this mode, and renew each quarantine before the commit.
-    Renew { mode: Mode, txn: Txn },
+    Renew { mode: Mode, txn: Changes },
 }
 
 /// What a line says. The number of a session is told if it is below 2^64; no session has a greater
@@ -101,8 +101,40 @@ pub enum Line {
 pub enum LineFault {
     /// This is its first fault.
     Bad { kind: ScriptKind },
-    /// Memory ran out.
+    /// Memory ran out for its act. It has no fault, or none but that of its key.
     Memory,
+}
+
+impl LineFault {
+    /// The fault of a text in which this is the line's, by the line's number.
+    pub(crate) fn at(self, line: u64) -> ScriptFault
+        ensures { result ≡ fault_at line self }
+    {
+        match self {
+            LineFault::Bad { kind } => ScriptFault::Bad { line, kind },
+            LineFault::Memory => ScriptFault::Memory,
+        }
+    }
+}
+
+impl From<ScriptKind> for LineFault {
+    ghost use Rattle.run_inputs.specs.declared.lines.LineFault.TheVariants.{Bad};
+
+    ghost from_gives = { λ kind fault. fault ≡ Bad kind };
+
+    fn from(kind: ScriptKind) -> LineFault {
+        LineFault::Bad { kind }
+    }
+}
+
+impl From<Memory> for LineFault {
+    ghost use Rattle.run_inputs.specs.declared.lines.LineFault.TheVariants.{Memory};
+
+    ghost from_gives = { λ _ fault. fault ≡ Memory };
+
+    fn from(_memory: Memory) -> LineFault {
+        LineFault::Memory
+    }
 }
 
 impl Part {
@@ -161,32 +193,27 @@ impl Verb {
 }
 
 /// What the line says, or `None` exactly where it has the words of no line.
-pub(crate) fn line_of(alloc: Global, line: &[u8]) -> Result<Option<Line>, Memory>
-    ensures found { IfOk result (λ read. IfSome read (λ said. AreWords said (words_in line.now))) }
-    ensures none { IfOk result (λ read. IfNone read
-        ((said : Line) → AreWords said (words_in line.now) → ⊥)) }
+pub(crate) fn line_of(line: &[u8]) -> Option<Line>
+    ensures found { IfSome result (λ said. AreWords said (words_in line.now)) }
+    ensures none { IfNone result ((said : Line) → AreWords said (words_in line.now) → ⊥) }
 {
     let (word, args) = cut(line, b' ');
-    match Verb::of_word(word) {
-        Some(verb) => with_verb(alloc, verb, args),
-        None => Ok(None),
-    }
+    with_verb(Verb::of_word(word)?, args)
 }
 
 // What the words behind the verb say.
-fn with_verb(alloc: Global, verb: Verb, args: Option<&[u8]>) -> Result<Option<Line>, Memory>
-    ensures found { IfOk result (λ read. IfSome read
-        (λ said. IsLineOf verb (words_behind (option_copied args.entry)) said)) }
-    ensures none { IfOk result (λ read. IfNone read
-        (IsNoLine verb (words_behind (option_copied args.entry)))) }
+fn with_verb(verb: Verb, args: Option<&[u8]>) -> Option<Line>
+    ensures found { IfSome result
+        (λ said. IsLineOf verb (words_behind (option_copied args.entry)) said) }
+    ensures none { IfNone result (IsNoLine verb (words_behind (option_copied args.entry))) }
 {
     match verb {
-        Verb::Head { part } => Ok(head_of(part, args)),
-        Verb::Session { task } => session_of(alloc, task, args),
-        Verb::Turn => Ok(turn_of(args)),
-        Verb::Tick => Ok(tick_of(args)),
-        Verb::Sweep => Ok(sweep_of(args)),
-        Verb::End => Ok(end_of(args)),
+        Verb::Head { part } => head_of(part, args),
+        Verb::Session { task } => session_of(task, args),
+        Verb::Turn => turn_of(args),
+        Verb::Tick => tick_of(args),
+        Verb::Sweep => sweep_of(args),
+        Verb::End => end_of(args),
     }
 }
 
@@ -203,23 +230,16 @@ fn head_of(part: Part, args: Option<&[u8]>) -> Option<Line>
     Some(Line::Head { part, number })
 }
 
-fn session_of(alloc: Global, task: Task, args: Option<&[u8]>) -> Result<Option<Line>, Memory>
-    ensures found { IfOk result (λ read. IfSome read
-        (λ said. IsLineOf (verb.Session task) (words_behind (option_copied args.entry)) said)) }
-    ensures none { IfOk result (λ read. IfNone read
-        (IsNoLine (verb.Session task) (words_behind (option_copied args.entry)))) }
+fn session_of(task: Task, args: Option<&[u8]>) -> Option<Line>
+    ensures found { IfSome result
+        (λ said. IsLineOf (verb.Session task) (words_behind (option_copied args.entry)) said) }
+    ensures none { IfNone result
+        (IsNoLine (verb.Session task) (words_behind (option_copied args.entry))) }
 {
-    let Some(args) = args else {
-        return Ok(None);
-    };
-    let (word, more) = cut(args, b' ');
-    let Some(number) = session_number(word) else {
-        return Ok(None);
-    };
-    match job_of(alloc, task, more)? {
-        Some(job) => Ok(Some(Line::Session { number, job })),
-        None => Ok(None),
-    }
+    let (word, more) = cut(args?, b' ');
+    let number = session_number(word)?;
+    let job = job_of(task, more)?;
+    Some(Line::Session { number, job })
 }
 
 fn turn_of(args: Option<&[u8]>) -> Option<Line>

@@ -1,5 +1,6 @@
-ghost use Rattle.std.specs.Prelude.{◌≡◌, ◌++◌, Err, OnOk, IfOk, IfErr, option_to_list};
-ghost use Rattle.run_inputs.specs.Script.{plan_of, acts_in, IsLong, IsScript, ComesFrom};
+ghost use Rattle.std.specs.Prelude.{◌≡◌, ◌≢◌, ◌+◌, ◌≤◌, ◌<◌, ◌^◌, true, false, [], ◌++◌, Err, OnOk, OnErr, IfOk, IfErr, option_to_list};
+ghost use Rattle.run_inputs.specs.Script.{plan_of, acts_in, has_key, has_own_key, IsLong, IsSound, IsScript, ComesFrom};
+ghost use Rattle.run_inputs.specs.Parsing.{IsActFault, IsLineFault, IsPlanFault};
 ghost use Rattle.run_inputs.specs.declared.faults.ScriptKind.TheVariants.{LongText};
 ghost use Rattle.run_inputs.specs.declared.faults.ScriptFault.TheVariants.{Bad};
 ghost use Rattle.run_inputs.specs.Fit.{IsPlayable};
@@ -8,7 +9,7 @@ use crate::cuts::first_line;
 use crate::faults::{ScriptFault, ScriptKind};
 use crate::lines::{Job, Line, LineFault};
 use crate::stages::Progress;
-use rows_model::{Memory, Sid};
+use rows_model::{Memory, Sid, touches};
 use session_client::{Plan, Shape, Turn};
 use std::alloc::Global;
 use std::marker::Model;
@@ -45,6 +46,8 @@ impl Script {
     /// can be run in a core of the shape: each turn of a session is of one that an act before
     /// began, and the turns, ticks and sweeps are at most 1,000,000.
     ///
+    /// Memory is asked for the acts alone. So `Memory` comes only of a text with a line that has an
+    /// act, where no line before it has a fault, and it has none itself, or none but that of its key.
     /// A text that is too long is told before any memory is asked for.
     pub fn parse(alloc: Global, text: &[u8]) -> Result<Script, ScriptFault>
         ensures script { IfOk result (λ script. IsScript text.now script.shape script.acts) }
@@ -65,17 +68,14 @@ impl Script {
         while !rest.is_empty() {
             let (line, behind) = first_line(rest);
             number += 1;
-            let said = match progress.read(alloc, line) {
-                Ok(said) => said,
-                Err(LineFault::Bad { kind }) => {
-                    return Err(ScriptFault::Bad { line: number, kind });
-                }
-                Err(LineFault::Memory) => return Err(ScriptFault::Memory),
+            let (said, act) = match taken(alloc, &progress, line) {
+                Ok(taken) => taken,
+                Err(fault) => return Err(fault.at(number)),
             };
-            progress = progress.after(&said);
-            let Ok(()) = push_acts(&mut acts, said) else {
+            let Ok(()) = push_act(&mut acts, act) else {
                 return Err(ScriptFault::Memory);
             };
+            progress = progress.after(&said);
             rest = behind;
         }
         if !progress.has_ended() {
@@ -112,57 +112,126 @@ impl Script {
     }
 }
 
-// Puts the acts of a line behind the others.
-fn push_acts(acts: &mut Vec<Act>, said: Line) -> Result<(), Memory>
-    ensures { OnOk result (acts.new.items ≡ acts.old.items ++ acts_in said) }
+// What the next line says and its act, or why it isn't taken. No memory is asked for before the
+// transaction of a session is made, by which the key is judged.
+fn taken(alloc: Global, progress: &Progress, line: &[u8]) -> Result<(Line, Option<Act>), LineFault>
+    requires few { progress.now.begun + 1 < 2 ^ 64 }
+    requires short { progress.now.turns ≤ 1000000 }
+    ensures said { IfOk result (λ taken. IsSound progress.now line.now taken.0) }
+    ensures act { IfOk result (λ taken. option_to_list taken.1 ≡ acts_in taken.0) }
+    ensures fault { IfErr result (λ fault. IsLineFault progress.now line.now fault) }
 {
-    if let Some(act) = act_of(said) {
+    let said = progress.read(line)?;
+    let act = act_of(alloc, &said)?;
+    if progress.is_full_at(&said) {
+        return Err(LineFault::Bad {
+            kind: ScriptKind::Turns,
+        });
+    }
+    Ok((said, act))
+}
+
+// Puts the act of a line, if it has one, behind the others.
+fn push_act(acts: &mut Vec<Act>, act: Option<Act>) -> Result<(), Memory>
+    ensures ok { OnOk result (acts.new.items ≡ acts.old.items ++ option_to_list act) }
+    ensures memory { OnErr result (option_to_list act ≢ []) }
+{
+    if let Some(act) = act {
         acts.push(act)?;
     }
     Ok(())
 }
 
-// The act of a line, if it has one.
-fn act_of(said: Line) -> Option<Act>
-    ensures { option_to_list result ≡ acts_in said }
+// The act of a line, if it has one, or why it isn't taken.
+fn act_of(alloc: Global, said: &Line) -> Result<Option<Act>, LineFault>
+    ensures act { IfOk result (λ act. option_to_list act ≡ acts_in said.now) }
+    ensures key { OnOk result (has_key said.now ≡ true) }
+    ensures fault { IfErr result (λ fault. IsActFault said.now fault) }
 {
     match said {
-        Line::Session { job, .. } => Some(Act::Add { plan: plan_of(job) }),
+        Line::Session { job, .. } => {
+            let plan = sound_plan(alloc, job)?;
+            Ok(Some(Act::Add { plan }))
+        }
         Line::Turn {
             number: Some(number),
             count,
-        } => Some(Act::Run {
+        } => Ok(Some(Act::Run {
             turn: Turn::Session {
-                sid: Sid { number },
+                sid: Sid { number: *number },
             },
             count: count.unwrap_or(1),
-        }),
-        Line::Tick { ticks } => Some(Act::Run {
-            turn: Turn::Tick { by: ticks },
+        })),
+        Line::Tick { ticks } => Ok(Some(Act::Run {
+            turn: Turn::Tick { by: *ticks },
             count: 1,
-        }),
-        Line::Sweep { count } => Some(Act::Run {
+        })),
+        Line::Sweep { count } => Ok(Some(Act::Run {
             turn: Turn::Sweep,
             count: count.unwrap_or(1),
-        }),
-        Line::Head { .. } | Line::Turn { number: None, .. } | Line::End => None,
+        })),
+        Line::Head { .. } | Line::Turn { number: None, .. } | Line::End => Ok(None),
+    }
+}
+
+// The plan of a job, if its key is one that its transaction touches.
+fn sound_plan(alloc: Global, job: &Job) -> Result<Plan, LineFault>
+    ensures plan { IfOk result (λ plan. plan ≡ plan_of job.now) }
+    ensures key { OnOk result (has_own_key (plan_of job.now) ≡ true) }
+    ensures fault { IfErr result (λ fault. IsPlanFault (plan_of job.now) fault) }
+{
+    let plan = plan_of(alloc, job)?;
+    if has_key(&plan) {
+        Ok(plan)
+    } else {
+        Err(LineFault::Bad {
+            kind: ScriptKind::Key,
+        })
     }
 }
 
 // The plan of a job.
-fn plan_of(job: Job) -> Plan
-    ensures { result ≡ plan_of job }
+fn plan_of(alloc: Global, job: &Job) -> Result<Plan, Memory>
+    ensures { IfOk result (λ plan. plan ≡ plan_of job.now) }
 {
     match job {
-        Job::Read { key, floor } => Plan::Read {
-            key,
+        Job::Read { key, floor } => Ok(Plan::Read {
+            key: *key,
             floor: floor.unwrap_or(0),
-        },
-        Job::Write { mode, txn } => Plan::Write { mode, txn },
-        Job::Look { mode, key, txn } => Plan::Look { mode, key, txn },
-        Job::Quit { mode, txn } => Plan::Quit { mode, txn },
-        Job::Skip { key, txn } => Plan::Skip { key, txn },
-        Job::Raise { txn } => Plan::Raise { txn },
-        Job::Renew { mode, txn } => Plan::Renew { mode, txn },
+        }),
+        Job::Write { mode, txn } => Ok(Plan::Write {
+            mode: *mode,
+            txn: txn.to_txn(alloc)?,
+        }),
+        Job::Look { mode, key, txn } => Ok(Plan::Look {
+            mode: *mode,
+            key: *key,
+            txn: txn.to_txn(alloc)?,
+        }),
+        Job::Quit { mode, txn } => Ok(Plan::Quit {
+            mode: *mode,
+            txn: txn.to_txn(alloc)?,
+        }),
+        Job::Skip { key, txn } => Ok(Plan::Skip {
+            key: *key,
+            txn: txn.to_txn(alloc)?,
+        }),
+        Job::Raise { txn } => Ok(Plan::Raise {
+            txn: txn.to_txn(alloc)?,
+        }),
+        Job::Renew { mode, txn } => Ok(Plan::Renew {
+            mode: *mode,
+            txn: txn.to_txn(alloc)?,
+        }),
+    }
+}
+
+// Whether the key of the plan, if it has one beside its transaction, is one that this touches.
+fn has_key(plan: &Plan) -> bool
+    ensures { result ≡ has_own_key plan.now }
+{
+    match plan {
+        Plan::Look { key, txn, .. } | Plan::Skip { key, txn } => touches(txn, key),
+        _ => true,
     }
 }

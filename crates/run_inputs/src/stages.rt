@@ -1,17 +1,15 @@
 // How far a script has come.
-ghost use Rattle.std.specs.Prelude.{◌≡◌, ◌+◌, ◌≤◌, ◌<◌, ◌^◌, IfOk, IfErr, IfSome, IfNone, IsTrue, ◌↔◌};
+ghost use Rattle.std.specs.Prelude.{◌≡◌, ◌+◌, ◌≤◌, ◌<◌, ◌^◌, nat_lt, IfOk, IfErr, IfSome, IfNone, IsTrue, ◌↔◌};
 ghost use Rattle.run_inputs.specs.declared.stages.Stage.TheVariants as stage;
 ghost use Rattle.run_inputs.specs.declared.lines.Line.{Line};
 ghost use Rattle.run_inputs.specs.Texts.{words_in};
 ghost use Rattle.run_inputs.specs.Lines.{most, verb_of, AreWords};
-ghost use Rattle.run_inputs.specs.Script.{is_in_place, sessions_in, turns_in, shape_with, shape_after, stage_after, after, start, is_numbered, has_key, fault_of, Says, IsSound};
-ghost use Rattle.run_inputs.specs.Parsing.{IsWithin, IsLineFault};
+ghost use Rattle.run_inputs.specs.Script.{is_in_place, sessions_in, turns_in, shape_with, shape_after, stage_after, after, start, is_numbered, Says, IsPlaced, IsFaulty};
+ghost use Rattle.run_inputs.specs.Parsing.{IsWithin};
 
 use crate::faults::ScriptKind;
-use crate::lines::{Job, Line, LineFault, Part, line_of};
-use rows_model::{Memory, touches};
+use crate::lines::{Line, Part, line_of};
 use session_client::Shape;
-use std::alloc::Global;
 
 // The longest line, in bytes before its line feed.
 const LONGEST_LINE: usize = 2048;
@@ -109,19 +107,6 @@ impl Line {
             _ => true,
         }
     }
-
-    // Whether the key is one that the transaction touches.
-    fn has_key(&self) -> bool
-        ensures { result ≡ has_key self.now }
-    {
-        match self {
-            Line::Session {
-                job: Job::Look { key, txn, .. } | Job::Skip { key, txn },
-                ..
-            } => touches(txn, key),
-            _ => true,
-        }
-    }
 }
 
 // The shape with this number of the head.
@@ -199,67 +184,45 @@ impl Progress {
         self.stage.is_end()
     }
 
-    // The first fault of what a line says.
-    fn fault_of(&self, line: &Line) -> Option<ScriptKind>
-        requires { self.now.begun + 1 < 2 ^ 64 }
-        ensures { result ≡ fault_of self.now line.now }
+    /// Whether with the line the turns, ticks and sweeps are too many.
+    pub(crate) fn is_full_at(&self, line: &Line) -> bool
+        ensures { result ≡ nat_lt 1000000 (self.now.turns + turns_in line.now) }
     {
-        if !line.is_numbered(self.begun) {
-            return Some(ScriptKind::Number);
-        }
-        if !line.has_key() {
-            return Some(ScriptKind::Key);
-        }
-        if self.turns.saturating_add(line.turns()) > MOST_TURNS {
-            return Some(ScriptKind::Turns);
-        }
-        None
+        self.turns.saturating_add(line.turns()) > MOST_TURNS
     }
 
-    /// What the next line says, or its first fault.
-    pub(crate) fn read(&self, alloc: Global, line: &[u8]) -> Result<Line, LineFault>
+    /// What the next line says in its place, if the number of its session is right, or its first
+    /// fault so far.
+    pub(crate) fn read(&self, line: &[u8]) -> Result<Line, ScriptKind>
         requires { self.now.begun + 1 < 2 ^ 64 }
-        ensures said { IfOk result (λ said. IsSound self.now line.now said) }
-        ensures fault { IfErr result (λ fault. IsLineFault self.now line.now fault) }
+        ensures said { IfOk result (λ said. IsPlaced self.now line.now said) }
+        ensures fault { IfErr result (λ kind. IsFaulty self.now line.now kind) }
     {
         if line.len() > LONGEST_LINE {
-            return Err(LineFault::Bad {
-                kind: ScriptKind::LongLine,
-            });
+            return Err(ScriptKind::LongLine);
         }
         if self.has_ended() {
-            return Err(LineFault::Bad {
-                kind: ScriptKind::AfterEnd,
-            });
+            return Err(ScriptKind::AfterEnd);
         }
-        let said = match self.said_by(alloc, line) {
-            Ok(Some(said)) => said,
-            Ok(None) => {
-                return Err(LineFault::Bad {
-                    kind: ScriptKind::Form,
-                });
-            }
-            Err(Memory) => return Err(LineFault::Memory),
+        let Some(said) = self.said_by(line) else {
+            return Err(ScriptKind::Form);
         };
-        match self.fault_of(&said) {
-            Some(kind) => Err(LineFault::Bad { kind }),
-            None => Ok(said),
+        if !said.is_numbered(self.begun) {
+            return Err(ScriptKind::Number);
         }
+        Ok(said)
     }
 
     // What the line says, if it may stand next.
-    fn said_by(&self, alloc: Global, line: &[u8]) -> Result<Option<Line>, Memory>
-        ensures said { IfOk result (λ read. IfSome read (λ said. Says self.now line.now said)) }
-        ensures none { IfOk result (λ read. IfNone read
-            ((said : Line) → Says self.now line.now said → ⊥)) }
+    fn said_by(&self, line: &[u8]) -> Option<Line>
+        ensures said { IfSome result (λ said. Says self.now line.now said) }
+        ensures none { IfNone result ((said : Line) → Says self.now line.now said → ⊥) }
     {
-        let Some(said) = line_of(alloc, line)? else {
-            return Ok(None);
-        };
+        let said = line_of(line)?;
         if self.stage.has_place_for(&said) {
-            Ok(Some(said))
+            Some(said)
         } else {
-            Ok(None)
+            None
         }
     }
 }

@@ -21,12 +21,14 @@ use std::str;
 /// `specs/Words.antt` are read as they stand. Others are read as `clap` reads a simple command with
 /// one level of subcommands, and what it reads is held to the same ranges.
 ///
-/// `Usage` comes where they say no command, also where a word isn't UTF-8, and `Memory` where
-/// memory ran out.
+/// `Usage` comes where they say no command, also where a word isn't UTF-8, whatever memory there
+/// is. `Memory` comes where memory ran out, and then each word is UTF-8.
 pub fn read_words(alloc: Global, words: &[Vec<u8>]) -> Result<Words, WordsFault>
     ensures read { IfOk result (IsRead (map (λ word. word.items) words.now)) }
     ensures usage { result ≡ Err WordsFault.Usage → (command : Words) →
         AreReadAs (map (λ word. word.items) words.now) command → ⊥ }
+    ensures memory { result ≡ Err WordsFault.Memory →
+        All IsUtf8 (map (λ word. word.items) words.now) }
     ensures accepts { (command : Words) → AreWords (map (λ word. word.items) words.now) command →
         MatchResult result (AreWords (map (λ word. word.items) words.now))
         (λ fault. fault ≡ WordsFault.Memory) }
@@ -58,15 +60,35 @@ fn texts_of<'a>(alloc: Global, words: &'a [Vec<u8>]) -> Result<Vec<&'a str>, Wor
     ensures utf8 { IfOk result (λ _. All IsUtf8 (map (λ word. word.items) words.entry.now)) }
     ensures usage { result ≡ Err WordsFault.Usage →
         All IsUtf8 (map (λ word. word.items) words.entry.now) → ⊥ }
+    ensures memory { result ≡ Err WordsFault.Memory →
+        All IsUtf8 (map (λ word. word.items) words.entry.now) }
 {
-    let mut texts = Vec::with_capacity(alloc, words.len())?;
+    let mut texts = Vec::new(alloc);
     for word in words {
         let Ok(text) = str::from_utf8(word) else {
             return Err(WordsFault::Usage);
         };
-        texts.push(text)?;
+        let Ok(()) = texts.push(text) else {
+            return Err(unlisted(words));
+        };
     }
     Ok(texts)
+}
+
+// Why the words are no list of texts, where there is no memory for one: a word isn't UTF-8, or else
+// memory ran out.
+fn unlisted(words: &[Vec<u8>]) -> WordsFault
+    ensures usage { result ≡ WordsFault.Usage →
+        All IsUtf8 (map (λ word. word.items) words.now) → ⊥ }
+    ensures memory { result ≡ WordsFault.Memory →
+        All IsUtf8 (map (λ word. word.items) words.now) }
+{
+    for word in words {
+        let Ok(_) = str::from_utf8(word) else {
+            return WordsFault::Usage;
+        };
+    }
+    WordsFault::Memory
 }
 
 // What clap's refusal comes to: the text that the words ask for, or a fault.

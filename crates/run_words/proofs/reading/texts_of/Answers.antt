@@ -12,7 +12,7 @@ returns-in_default-clause-usage c = λ e.
 
 pub loop-word-preserved : goal.loop-word-preserved
 loop-word-preserved c = (
-  ap (map (λ text. text.now)) c.in_ok-push.ensures.items
+  ap (map (λ text. text.now)) c.in-Ok-push.ensures.items
       ∙ more_texts (λ text. text.now) (λ word. word.items) [] c.loop-word.texts.items c.args.words.now c.loop-word.word-index c.in-Ok.text c.word-item.result
       c.loop-word-test.true c.word-item.is (c.in-Ok.ensures.cases.0 ∙ c.deref.ensures.value) c.loop-word.invariant.0,
   more_pass IsUtf8 (λ word. word.items) c.args.words.now c.loop-word.word-index c.word-item.result c.loop-word-test.true c.word-item.is

@@ -10,9 +10,9 @@ loop-rest-init c =
 
 pub loop-rest-preserved : goal.loop-rest-preserved
 loop-rest-preserved c =
-    rw (c.in-Ok-push_acts.ensures, c.after-progress.ensures)
+    rw (c.in-Ok-push_act.ensures.ok, c.in-Ok.ensures.act, c.after-progress.ensures)
     (read_more c.args.text.now c.loop-rest.acts.items c.loop-rest.progress
-    c.loop-rest.number c.loop-rest.rest.now c.first_line.result.0.now c.first_line.result.1.now c.in-Ok.said
+    c.loop-rest.number c.loop-rest.rest.now c.first_line.result.0.now c.first_line.result.1.now c.in-Ok.taken.0
     c.loop-rest.invariant c.first_line.ensures.lines c.first_line.ensures.shorter c.in-Ok.ensures.said)
 
 pub returns-clause-playable : goal.returns-clause-playable
