@@ -388,3 +388,169 @@ fn a_desk_tends_what_is_due(rt: HostRuntime) -> Result<(), Fail> {
     check_calls(&rt, ran.worked.calls.as_slice(), &DUE_TELL);
     Ok(())
 }
+
+// A worker quarantines two keys, which lie on two of three shards, and stops. The sweeper of another
+// goes over all shards, ends that session, and drops both keys: so both are leased and stored again,
+// and the commit that comes after that is refused, as is each release.
+
+const DEAD_LISTS: [&str; 2] = [
+    "members 3\nwrite 1 invalidate rename 2 bob + rename 3 al\nend",
+    "members 3
+read 1 profile:1
+read 2 profile:1
+read 3 profile:1
+read 4 profile:1
+read 5 profile:1
+read 6 profile:1
+read 7 profile:1
+read 8 profile:1
+read 9 profile:3
+read 10 profile:2
+end",
+];
+
+/// Three shards whose leases live for 10 ticks.
+const THREE_SHORT: Shape = Shape {
+    members: 3,
+    shards: 3,
+    room: 4,
+    life: 10,
+};
+
+/// Both quarantines are made at 0, and all else is at 10.
+const DEAD_TIMES: [u64; 3] = [0, 0, 10];
+
+const THIRD: QKey = QKey {
+    kind: Kind::Profile,
+    id: 3,
+};
+
+/// The shards of the three keys.
+const HOMES: [(QKey, u32); 3] = [(PROFILE, 1), (RENAMED, 2), (THIRD, 0)];
+
+const DEAD_ENDS: [&[Outcome]; 2] = [
+    &[Outcome::NotCommitted {
+        fault: CommitFault::Ended,
+    }],
+    &[
+        Outcome::Stored,
+        Outcome::Hit,
+        Outcome::Hit,
+        Outcome::Hit,
+        Outcome::Hit,
+        Outcome::Hit,
+        Outcome::Hit,
+        Outcome::Hit,
+        Outcome::Stored,
+        Outcome::Stored,
+    ],
+];
+
+/// The sweeper that ended the session found each quarantine in eight steps, so sessions 1 to 8 of the
+/// other worker end before the two keys are read again.
+#[test]
+fn a_sweep_goes_over_all_shards(rt: HostRuntime) -> Result<(), Fail> {
+    for (key, shard) in HOMES.iter() {
+        assert!(rt; shard_number(key, THREE_SHORT.shards) == *shard);
+    }
+    let gate = Meeting::new(Point::Quarantined, 10);
+    let ran = run_texts(
+        &rt,
+        rt.alloc(),
+        &THREE_SHORT,
+        &DEAD_TIMES,
+        &DEAD_LISTS,
+        &gate,
+    )?;
+    assert!(rt; gate.missed() == 0);
+    check_ends(&rt, ran.worked.transcripts.as_slice(), &DEAD_ENDS);
+    assert!(rt; ran.log.is_empty());
+    assert!(rt; ran.worked.tended == 11);
+    Ok(())
+}
+
+// A reader's floor is above the stamp of the entry, so the entry is dropped and leased, though a reader
+// without a floor hits it. Behind a commit that puts the new value in its place the stamp is the floor.
+
+const FLOOR_LIST: &str = "members 3
+read 1 profile:1
+read 2 profile:1 floor 1
+read 3 profile:1
+write 4 refresh rename 1 al
+read 5 profile:1 floor 1
+end";
+
+const FLOOR_ENDS: &[Outcome] = &[
+    Outcome::Stored,
+    Outcome::Stored,
+    Outcome::Hit,
+    Outcome::Committed { number: 1 },
+    Outcome::Hit,
+];
+
+const FLOOR_TELLS: [Mark; 12] = [
+    LEASED,
+    ANSWERED,
+    STORED,
+    Mark {
+        asked: Request::Get {
+            key: PROFILE,
+            floor: 1,
+        },
+        told: Response::Lease { token: 2 },
+    },
+    ANSWERED,
+    Mark {
+        asked: Request::Set {
+            key: PROFILE,
+            token: 2,
+            stamp: 0,
+        },
+        told: Response::Stored { evicted: None },
+    },
+    HIT,
+    Mark {
+        asked: Request::QaRead { key: PROFILE },
+        told: Response::Granted { token: 3 },
+    },
+    Mark {
+        asked: Request::Commit,
+        told: Response::Committed { number: 1 },
+    },
+    Mark {
+        asked: Request::Sar {
+            key: PROFILE,
+            token: 3,
+            stamp: 1,
+        },
+        told: Response::Rel {
+            told: Rel::Released { evicted: None },
+        },
+    },
+    Mark {
+        asked: Request::Get {
+            key: PROFILE,
+            floor: 1,
+        },
+        told: Response::Hit { stamp: 1 },
+    },
+    NOTHING,
+];
+
+/// The values that are stored, hit and put.
+const FLOOR_VALUES: [(&str, u64); 5] = [
+    ("m1 0 0", 0),
+    ("m1 0 0", 0),
+    ("m1 0 0", 0),
+    ("al 0 0", 1),
+    ("al 0 0", 1),
+];
+
+#[test]
+fn an_entry_below_the_floor_is_dropped_and_leased(rt: HostRuntime) -> Result<(), Fail> {
+    let ran = run_texts(&rt, rt.alloc(), &ONE_SHARD, &[0], &[FLOOR_LIST], &OpenGate)?;
+    check_ends(&rt, ran.worked.transcripts.as_slice(), &[FLOOR_ENDS]);
+    check_calls(&rt, ran.worked.calls.as_slice(), &FLOOR_TELLS);
+    check_values(&rt, ran.worked.calls.as_slice(), &FLOOR_VALUES);
+    Ok(())
+}

@@ -1,4 +1,5 @@
-// A desk that tells its record: it keeps every request whole, and a reply follows from its request.
+// A desk that tells its record and the steps of its sweep: it keeps every request whole, and a reply
+// follows from its request.
 ghost use Rattle.std.specs.Prelude.{◌≡◌, [], Some, None, reverse};
 ghost use Rattle.session_client.specs.Belongs.{Belongs};
 ghost use Rattle.session_client.specs.Desks.{Began, Asked};
@@ -85,6 +86,8 @@ pub struct TellingDesk<'a, R: Abort> {
     calls: Vec<Kept>,
     /// What is left of the calls.
     told: Vec<Told>,
+    /// How many steps of its sweep it took.
+    tended: u64,
 }
 
 impl<'a, R: Abort> TellingDesk<'a, R> {
@@ -97,7 +100,13 @@ impl<'a, R: Abort> TellingDesk<'a, R> {
             begun: 0,
             calls: Vec::new(alloc),
             told: Vec::new(alloc),
+            tended: 0,
         }
+    }
+
+    /// How many steps of its sweep it took.
+    pub fn tended(&self) -> u64 {
+        self.tended
     }
 
     /// What is left of its calls, in their order. They are let go.
@@ -108,6 +117,7 @@ impl<'a, R: Abort> TellingDesk<'a, R> {
             begun: _,
             mut calls,
             told,
+            tended: _,
         } = self;
         while let Some(call) = calls.pop() {
             call.let_go();
@@ -121,6 +131,8 @@ impl<'a, R: Abort> Desk for TellingDesk<'a, R> {
     ghost begun = { λ desk. None };
 
     ghost record_of = { λ desk. Some (reverse desk.calls.items) };
+
+    ghost tends = { λ desk. Some desk.tended };
 
     fn begin(&mut self, writes: bool) -> Result<Sid, Memory> {
         self.begun = self.begun.saturating_add(1);
@@ -145,7 +157,12 @@ impl<'a, R: Abort> Desk for TellingDesk<'a, R> {
         reply
     }
 
-    fn tend(&mut self) {}
+    fn tend(&mut self) {
+        let Some(tended) = self.tended.checked_add(1) else {
+            panic!(self.rt; "too many steps");
+        };
+        self.tended = tended;
+    }
 }
 
 /// The request, to be kept, and its reply.

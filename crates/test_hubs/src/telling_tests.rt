@@ -32,20 +32,26 @@ fn check_record(rt: &impl Abort, calls: &[Told], transcript: &Transcript) {
     assert!(rt; place == calls.len());
 }
 
-/// The desk at this place and its transcript tell the same.
-fn check_desk(rt: &impl Abort, calls: &[Told], transcripts: &[Transcript], place: usize) {
+/// The desk at this place and its transcript tell the same, and it tended once for each row.
+fn check_desk<R: Abort>(
+    rt: &R,
+    desk: TellingDesk<'_, R>,
+    transcripts: &[Transcript],
+    place: usize,
+) {
     let Some(transcript) = transcripts.get(place) else {
         panic!(rt; "a transcript for each desk");
     };
-    check_record(rt, calls, transcript);
+    assert!(rt; desk.tended() == transcript.rows().len() as u64);
+    let calls = desk.into_told();
+    check_record(rt, calls.as_slice(), transcript);
 }
 
 /// Each desk and its transcript tell the same.
 fn check_desks<R: Abort>(rt: &R, desks: Vec<TellingDesk<'_, R>>, transcripts: &[Transcript]) {
     let mut desks = desks;
     while let Some(desk) = desks.pop() {
-        let calls = desk.into_told();
-        check_desk(rt, calls.as_slice(), transcripts, desks.len());
+        check_desk(rt, desk, transcripts, desks.len());
     }
     desks.destroy_empty();
 }
