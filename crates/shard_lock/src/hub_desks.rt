@@ -14,7 +14,7 @@ use std::sync::Wait;
 
 /// A worker's desk over a hub: each call takes the lock of the key's shard or that of the store, calls
 /// the gate while it is held, makes one request there and lets go. It has a sweeper of its own. It tells
-/// neither the sessions that it began nor a record.
+/// neither the sessions that it began nor a record. Contracts see the worker's number.
 #[derive(Drop)]
 pub struct HubDesk<'a, K: Keeper, H: HubName, C: Clock, G: Gate, R: Wait> {
     rt: &'a R,
@@ -26,12 +26,12 @@ pub struct HubDesk<'a, K: Keeper, H: HubName, C: Clock, G: Gate, R: Wait> {
 }
 
 impl<'a, K: Keeper, H: HubName, C: Clock, G: Gate, R: Wait> Model for HubDesk<'a, K, H, C, G, R> {
-    ghost use Rattle.std.specs.Prelude.{◌≡◌};
+    ghost use Rattle.std.specs.Prelude.{◌≡◌, ℕ};
     ghost use Rattle.expiry_sweeper.specs.Follows.{shards_of};
 
-    ghost Value = { Unit {0} };
+    ghost Value = { ℕ };
 
-    ghost view = { λ desk. tt };
+    ghost view = { λ desk. desk.worker };
 
     ghost invariant = { λ desk. shards_of desk.sweeper ≡ desk.hub.now };
 }
@@ -46,6 +46,7 @@ impl<'a, K: Keeper, H: HubName, C: Clock, G: Gate, R: Wait> HubDesk<'a, K, H, C,
         sweeper: Sweeper,
     ) -> HubDesk<'a, K, H, C, G, R>
         requires { shards_of sweeper ≡ hub.now }
+        ensures { result ≡ worker }
     {
         HubDesk {
             rt,

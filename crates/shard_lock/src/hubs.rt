@@ -100,14 +100,16 @@ impl<K: Keeper, H: HubName> Hub<K, H> {
         shard_number(key, self.count)
     }
 
-    /// A desk of this worker over the hub. Each of its calls takes one lock.
+    /// A desk of the worker of this number over the hub. Each of its calls takes one lock.
     pub fn desk<'a, C: Clock, G: Gate, R: Wait>(
         &'a self,
         rt: &'a R,
         worker: u32,
         clock: &'a C,
         gate: &'a G,
-    ) -> HubDesk<'a, K, H, C, G, R> {
+    ) -> HubDesk<'a, K, H, C, G, R>
+        ensures { result ≡ worker }
+    {
         HubDesk::new(rt, self, worker, clock, gate, Sweeper::new(self.count))
     }
 

@@ -1,5 +1,5 @@
 -- What is there before a run over a hub begins.
-use Rattle.std.specs.Prelude.{ℕ, ◌≡◌, ◌≤◌, List, [], length, map, All, vec_capacity}
+use Rattle.std.specs.Prelude.{ℕ, ◌≡◌, ◌<◌, ◌≤◌, List, [], length, map, All, Some, slice_get, vec_capacity}
 use Rattle.key_shard.specs.Past.{Terms}
 use Rattle.key_shard.specs.Shards.{ShardView}
 use Rattle.session_client.specs.declared.plans.Shape.{Shape}
@@ -32,6 +32,10 @@ pub record MakeHub (terms : ℕ → Terms) (name parts : ℕ) (shards : List Sha
   pub legal : AreLegal shards
   pub is_named : (its_name ≡ name) × (its_parts ≡ parts)
   pub one_each : its_parts ≡ length shards
+
+-- Each desk has its place for its number.
+abbrev pub HaveTheirPlaces : List ℕ → Type 0
+HaveTheirPlaces desks = (place : ℕ) → place < length desks → slice_get desks place ≡ Some place
 
 -- There are the plans of the load for each of its workers, and the parts of its hub.
 pub record IsReady (spec : WorkSpec) (terms : ℕ → Terms) (ready : Ready) : Type 0 where

@@ -4,7 +4,7 @@ ghost use Rattle.std.specs.Option.{ForSome};
 ghost use Rattle.sql_keeper.specs.Faults.{FailedSince};
 ghost use Rattle.sql_keeper.specs.Stores.{rows_of};
 ghost use Rattle.run_audit.specs.Findings.{histories_in, AreWhole};
-ghost use Rattle.top_run.specs.Ready.{AreParts};
+ghost use Rattle.top_run.specs.Ready.{AreParts, HaveTheirPlaces};
 ghost use Rattle.top_run.specs.Runs.{histories_at, kept_in};
 ghost use Rattle.top_run.specs.Works.{hub_terms};
 
@@ -51,7 +51,7 @@ pub(crate) fn parts_for(alloc: Global, shape: &Shape, keep: Option<u32>) -> Resu
     })
 }
 
-/// A desk over the hub for each worker.
+/// A desk over the hub for each worker, each with its place for its number.
 pub(crate) fn desks_over<'a, H: HubName, K: Keeper, C: Clock, G: Gate, R: Wait>(
     rt: &'a R,
     alloc: Global,
@@ -60,7 +60,8 @@ pub(crate) fn desks_over<'a, H: HubName, K: Keeper, C: Clock, G: Gate, R: Wait>(
     clock: &'a C,
     gate: &'a G,
 ) -> Result<Vec<HubDesk<'a, K, H, C, G, R>>, Memory>
-    ensures { IfOk result (λ desks. length desks.items ≡ workers) }
+    ensures count { IfOk result (λ desks. length desks.items ≡ workers) }
+    ensures numbered { IfOk result (λ desks. HaveTheirPlaces desks.items) }
 {
     let mut desks = Vec::with_capacity(alloc, workers as usize)?;
     for worker in 0..workers {
