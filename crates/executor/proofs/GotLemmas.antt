@@ -1,5 +1,6 @@
 -- A hit that is told of a get has a stamp of at least its floor.
-use Rattle.std.proofs.Common.{ℕ, ◌≡◌, Bool, true, false, List, Option, Some, None, refl, sym, subst, arith, nat_tests}
+use Rattle.std.proofs.Common.{ℕ, ◌≡◌, Bool, true, false, List, Option, Some, None, refl, sym, subst, arith}
+use Rattle.std.proofs.lemmas.Bool.Decides.{nat_tests}
 use Rattle.std.specs.Prelude.{nat_le, if◌then◌else◌}
 use Rattle.rows_model.specs.declared.keys.QKey.{QKey}
 use Rattle.rows_model.specs.declared.keys.Sid.{Sid}
