@@ -1,5 +1,5 @@
 -- What an event has to bring, so that the rule of each key stands and what is held stays held.
-use Rattle.std.proofs.Common.{ℕ, ℤ, ◌≡◌, ◌≢◌, ◌+◌, true, false, List, [], ◌∷◌, length, Option, Some, None, ◌⊎◌}
+use Rattle.std.proofs.Common.{ℕ, ℤ, ◌≡◌, ◌≢◌, ◌+◌, Bool, true, false, List, [], ◌∷◌, length, Option, Some, None, ◌⊎◌}
 use Rattle.std.specs.List.{AllByRecursion}
 use Rattle.rows_model.specs.declared.keys.QKey.{QKey}
 use Rattle.rows_model.specs.declared.keys.Sid.{Sid}

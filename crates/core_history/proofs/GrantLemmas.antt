@@ -221,8 +221,8 @@ swept-shut : (shape : Shape) (world : World) → Inner shape world → (key : QK
     → quar_of key token (steps_on shape world key) ≡ Some quar → is_open world quar.sid ≡ false
 swept-shut shape world inner key token quar wanted stands =
     sweep_cases (λ request. request ≡ sweep.Drop key token → is_open world quar.sid ≡ false) shape.shards (sweeps_of world.past)
-    (λ place e. cc) (λ due before told e. cc)
-    (λ due was before told e.
+    (λ place e. cc) (λ at due before told e. cc)
+    (λ at due closing before told e.
     let is = subst (IsSweeping shape world.plans world.past) told inner.sweeping in
     let same = drop_same e in
     let Q : QKey → ℕ → Type 0 = λ k t. quar_of k t (steps_on shape world k) ≡ Some quar in
