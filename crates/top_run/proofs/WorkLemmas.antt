@@ -17,10 +17,9 @@ use Rattle.key_shard.specs.Past.{Terms}
 use Rattle.key_shard.specs.Shards.{ShardView, kept_of}
 use Rattle.sql_keeper.specs.Faults.{HaveFailed, FailedSince}
 use Rattle.sql_keeper.specs.Stores.{StoreView, rows_of}
-use Rattle.session_client.specs.Desks.{Call}
 use Rattle.session_client.specs.declared.plans.Plan.{Plan}
 use Rattle.session_client.specs.declared.plans.Shape.{Shape}
-use Rattle.gate_workers.specs.Rows.{RowView, AllWork}
+use Rattle.gate_workers.specs.Rows.{DeskView, RowView, AllWork}
 use Rattle.core_history.specs.Machine.{log_cap}
 use Rattle.shard_lock.specs.Names.{AreAll, AreLegal, IsNamed}
 use Rattle.run_audit.specs.declared.findings.Finding.{Finding}
@@ -114,7 +113,7 @@ last_of terms shape keep shards are all legal place steps is =
 -- ---- what the workers have run
 
 -- workers whose work is told have run their plans
-pub have_run : (plans : List (List Plan)) (before after : List (Option (List Call))) (transcripts : List (List RowView))
+pub have_run : (plans : List (List Plan)) (before after : List DeskView) (transcripts : List (List RowView))
     → AllWork plans before after transcripts → HaveRun plans transcripts
 have_run plans before after transcripts work = record { before = before; after = after; work = work }
 

@@ -13,10 +13,9 @@ use Rattle.sql_keeper.specs.declared.stores.Commit.{Commit}
 use Rattle.sql_keeper.specs.Faults.{HaveFailed}
 use Rattle.sql_keeper.specs.Log.{rows_after}
 use Rattle.sql_keeper.specs.Stores.{StoreView}
-use Rattle.session_client.specs.Desks.{Call}
 use Rattle.session_client.specs.declared.plans.Plan.{Plan}
 use Rattle.session_client.specs.declared.plans.Shape.{Shape}
-use Rattle.gate_workers.specs.Rows.{RowView, AllWork}
+use Rattle.gate_workers.specs.Rows.{DeskView, RowView, AllWork}
 use Rattle.gate_workers.specs.Tallies.{tally_of}
 use Rattle.core_history.specs.Lines.{line, count_in, is_hit, is_stored, is_again}
 use Rattle.core_history.specs.Machine.{terms_of, log_cap}
@@ -124,8 +123,8 @@ pub record IsNameOf (shape : Shape) (keep : Option ℕ) (store : StoreView) (ter
 
 -- Each worker has run its plans on a desk of its own, and these are their transcripts: a row for each plan.
 pub record HaveRun (plans : List (List Plan)) (transcripts : List (List RowView)) : Type 0 where
-  pub before : List (Option (List Call))
-  pub after : List (Option (List Call))
+  pub before : List DeskView
+  pub after : List DeskView
   pub work : AllWork plans before after transcripts
 
 -- How many readers had no lease, by all transcripts. The number stops at its type's end.
