@@ -5,6 +5,7 @@
 #   tools/measure_work.sh              by the proved program
 #   tools/measure_work.sh PROGRAM      by this one
 #   SESSIONS=5000 TRIES=1 tools/measure_work.sh      with fewer sessions and tries
+#   MEMBERS=100 tools/measure_work.sh                where four of five reads hit
 #
 # The program tells no times, so they are seen from outside, by a look each 5 milliseconds at its number of
 # threads and at what it has printed:
@@ -19,7 +20,7 @@
 # tries the one with the shortest load counts.
 top=$(cd "$(dirname "$0")/.." && pwd) || exit 1
 . "$top/tools/measuring.sh"
-members=100000
+members=${MEMBERS:-100000}
 sessions=${SESSIONS:-500000}
 tries=${TRIES:-3}
 program=${1:-$(proved_iq)} || exit 1
