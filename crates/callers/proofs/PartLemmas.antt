@@ -12,7 +12,7 @@ use Rattle.core_history.specs.Determined.{Call, call_of, RunsAreDetermined, Runs
 use Rattle.core_history.specs.Events.{Event, log_of}
 use Rattle.core_history.specs.Freshness.{histories_of}
 use Rattle.core_history.specs.Lines.{line_of, lines_of, end_line, is_fault, fault_turns}
-use Rattle.core_history.specs.Machine.{Move, Begin, Take}
+use Rattle.core_history.specs.Machine.{Move, Begin, Take, turn_event, world_of}
 use Rattle.core_history.specs.Truth.{IsTruePast}
 use Rattle.core_history.proofs.DeterminedLemmas.{turns_count}
 use Rattle.top_run.specs.declared.runs.Status.{Status}
@@ -20,7 +20,7 @@ use Rattle.top_run.specs.declared.runs.Status.TheVariants as status
 use Rattle.top_run.specs.Runs.{Prints, calls_of, AreMoves, AreFirstMoves, past_of, out, FewFaults, faults_in, Held, Tells, Left, IsWhole, IsCutOff}
 use Rattle.top_run.specs.Runs.{IsNotStarted, Ended}
 use Rattle.callers.specs.Runs.{IsBeginning}
-use Rattle.callers.proofs.RunLemmas.{some-at, gained, of-one, two-alike}
+use Rattle.callers.proofs.RunLemmas.{AreOfOne, some-at, gained, of-one, two-alike}
 
 -- more moves make more events behind those before
 past-more : (shape : Shape) (more moves : List Move) → (events : List Event) × (past_of shape (more ++ moves) ≡ events ++ past_of shape moves)
@@ -28,7 +28,8 @@ past-more shape [] moves = ([], refl)
 past-more shape (Begin plan ∷ more) moves = past-more shape more moves
 past-more shape (Take turn said ∷ more) moves =
     let rest = past-more shape more moves in
-    (_ ∷ rest.0, ap (λ (l : List Event). _ ∷ l) rest.1)
+    let event = turn_event shape (world_of shape (more ++ moves)) turn said in
+    (event ∷ rest.0, ap (λ (l : List Event). event ∷ l) rest.1)
 
 -- and so more lines
 lines-more : (events past : List Event) → lines_of (events ++ past) ≡ lines_of past ++ flat_map line_of (reverse events)
@@ -71,6 +72,8 @@ part-begins texts law held held' before after before' after' left left' written 
 
     rows' : (r : Tables) × (after'.rows ≡ Some r)
     rows' = some-at after'.rows some'
+
+    one : AreOfOne h.shape h'.shape h.acts h'.acts h.opening h'.opening
     one = of-one texts held held' before after before' after' left left' h.begun h'.begun rows.0 rows'.0 new new' rows.1 rows'.1 told same
 
     at : past_of h'.shape h'.moves ≡ past_of h.shape h'.moves
