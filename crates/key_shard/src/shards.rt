@@ -1,4 +1,4 @@
-ghost use Rattle.std.specs.Prelude.{◌≡◌, ◌≢◌, ◌↔◌, ◌≤◌, ◌<◌, ◌∷◌, ◌++◌, [], reverse, IfOk, OnOk, OnErr, IfErr, IfSome, IfNone, IsTrue, Some, None, option_map, is_some, min, length, ◌^◌, ◌-◌};
+ghost use Rattle.std.specs.Prelude.{◌≡◌, ◌≢◌, ◌↔◌, ◌≤◌, ◌<◌, ◌∷◌, ◌++◌, [], reverse, IfOk, OnOk, OnErr, IfErr, IfSome, IfNone, IsTrue, Some, None, option_map, is_some, min, length, ◌^◌, ◌-◌, ℕ};
 ghost use Rattle.std.specs.Bool.{IsFalse};
 ghost use Rattle.lease_table.specs.Expiry.{NoneDue, NoneDueBefore, StandsDue};
 ghost use Rattle.key_shard.specs.Dues.{first_due};
@@ -346,6 +346,14 @@ impl Shard {
         ensures { IsTrue result ↔ IsAtHome self.now.terms key.now }
     {
         self.body.is_home(key)
+    }
+
+    /// A time before which no quarantine's deadline comes, so that `expired` finds none until then. It may
+    /// be earlier than the first deadline. It takes no memory.
+    pub fn next_due(&self) -> u64
+        ensures { (now : ℕ) → now < result → NoneDue now (λ key. standing key (past_of self.now)) }
+    {
+        self.body.next_due()
     }
 
     /// The quarantine whose deadline has come that is first by key, and then by token; none exactly where

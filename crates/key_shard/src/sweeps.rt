@@ -1,4 +1,4 @@
-ghost use Rattle.std.specs.Prelude.{◌≡◌, ◌↔◌, IfSome, IfNone, IsTrue};
+ghost use Rattle.std.specs.Prelude.{◌≡◌, ◌↔◌, IfSome, IfNone, IsTrue, ◌<◌, ℕ};
 ghost use Rattle.lease_table.specs.Expiry.{NoneDue, NoneDueBefore, StandsDue};
 ghost use Rattle.key_shard.specs.Answers.{IsAtHome, sweep_step};
 ghost use Rattle.key_shard.specs.Dues.{first_due};
@@ -20,6 +20,14 @@ impl Body {
         ensures { IsTrue result ↔ IsAtHome (terms_of self.now) key.now }
     {
         shard_number(key, self.count) == self.no
+    }
+
+    /// A time before which no quarantine's deadline comes.
+    pub fn next_due(&self) -> u64
+        requires { IsKept self.now }
+        ensures { (now : ℕ) → now < result → NoneDue now (λ key. standing key (steps_of self.now)) }
+    {
+        self.leases.next_due()
     }
 
     /// The first quarantine whose deadline has come, by key and then by token.

@@ -146,6 +146,21 @@ impl Index {
         }
     }
 
+    /// A time before which the time of no term comes. It is 0 where something is found.
+    pub fn next_due(&self) -> u64
+        requires { IsSound self.now }
+        ensures found { (now : ℕ) → now < result → heap_items self.now.found ≡ [] }
+        ensures ahead { (now : ℕ) → now < result → AllAhead now self.now }
+    {
+        if self.found_first().is_some() {
+            return 0;
+        }
+        match self.later.peek() {
+            Some(term) => term.0.deadline,
+            None => u64::MAX,
+        }
+    }
+
     /// Leaves out what is found first. There is room for one term more then.
     pub fn forget_first(&mut self)
         requires sound { IsSound self.old }

@@ -1,4 +1,4 @@
-ghost use Rattle.std.specs.Prelude.{◌≡◌, ◌<◌, ◌≤◌, [], ◌∷◌, ◌++◌, Some, None, not, is_some, filter, find, map, MatchBool, IfOk, IfSome, IfNone, IsTrue, OnSome, OnErr, nat_lt};
+ghost use Rattle.std.specs.Prelude.{◌≡◌, ◌<◌, ◌≤◌, [], ◌∷◌, ◌++◌, Some, None, not, is_some, filter, find, map, MatchBool, IfOk, IfSome, IfNone, IsTrue, OnSome, OnErr, nat_lt, ℕ};
 ghost use Rattle.std.specs.List.{All, AllPairs, list_all};
 ghost use Rattle.case_tables.specs.Compatibility.{verdict, is_given, is_raised, row_of, read, quarantine};
 ghost use Rattle.lease_table.specs.Expiry.{NoneDue, NoneDueBefore, quars_in, StandsDue};
@@ -278,6 +278,14 @@ impl Leases {
         change_quar(&mut self.leases, key, token, Change::ToDeadline(deadline));
         self.index.renew(key, token, quar.deadline, deadline);
         true
+    }
+
+    /// A time before which no quarantine's deadline comes. It may be earlier than the first that does. It
+    /// looks at no quarantine, and takes no memory.
+    pub fn next_due(&self) -> u64
+        ensures { (now : ℕ) → now < result → NoneDue now (quars_in self.now) }
+    {
+        self.index.next_due()
     }
 
     /// The quarantine whose deadline has come that is first by key, and then by token; none exactly where

@@ -1,16 +1,14 @@
--- The rows at the start, member by member.
-use Rattle.std.proofs.Common.{zero, suc, Bool, true, false, eqb, Some, None, Result, Ok, Err, MatchResult, find, rules, tests, ℕ, ◌+◌, ◌-◌}
+-- The rows at the start, member by member, and where a member is found.
+use Rattle.std.proofs.Common.{zero, suc, Bool, true, false, eqb, Some, None, find, rules, tests, ℕ, ◌+◌, ◌-◌}
 use Rattle.std.proofs.Common.{◌<◌, ◌≤◌, ◌≡◌, List, [], ◌∷◌, ◌++◌, length, get_or, map, decimal, arith, sym, refl, ap, ◌∙◌}
-use Rattle.std.specs.List.{range_with_len}
+use Rattle.std.specs.Prelude.{◌==◌}
+use Rattle.std.specs.List.{range_with_len, list_any}
+use Rattle.std.proofs.lemmas.Bool.{eqb-true}
 use Rattle.std.proofs.lemmas.List.FromFn.{length-map-range_with_len, get_or-map-range_with_len, map-range_with_len_more}
-use Rattle.std.specs.Ordering.{nat_cmp, is_lt}
-use Rattle.std.specs.declared.cmp.Ordering.TheVariants.{Less, Equal, Greater}
-use Rattle.std.specs.List.Sorted.{IsBinarySearchResult, IsSearchInRange}
-use Rattle.std.proofs.lemmas.Cmp.{nat_cmp_total, ranked}
-use Rattle.std.proofs.lemmas.List.Sorted.{searchable_from_sorted}
-use Rattle.std.proofs.lemmas.Bool.Decides.{nat_tests}
 use Rattle.rows_model.specs.declared.rows.Member.{Member}
+use Rattle.rows_model.specs.Near.{IsAt}
 use Rattle.rows_model.specs.Rows.{Tables, Fit, member_of, start_member, start_tables}
+use Rattle.rows_model.proofs.FitLemmas.{none_passes}
 use Rattle.rows_model.proofs.NameLemmas.{IsName-numbered}
 
 -- the member at a place of the start
@@ -82,31 +80,13 @@ member_at tables id i d fit l here =
     let other : (get_or tables.members k d).id ≡ id → ⊥ = λ e. omega arith in
     search (rules, tests))
 
--- no place has the id: no member has it
-pub member_absent : (tables : Tables) (id : ℕ) → ((k : ℕ) (d : Member) → k < length tables.members → (get_or tables.members k d).id ≡ id → ⊥)
-    → member_of id tables ≡ None
-member_absent tables id absent =
-    find_none (λ m. eqb m.id id) tables.members (λ k d l. let other = absent k d l in search (rules, tests))
+-- the place of an id tells its member
+pub member_placed : (tables : Tables) (id i : ℕ) (d : Member) → Fit tables → IsAt (λ (member : Member). member.id == id) tables.members i
+    → member_of id tables ≡ Some (get_or tables.members i d)
+member_placed tables id i d fit at = member_at tables id i d fit at.within (eqb-true _ id (at.passes d))
 
--- members that ascend can be searched by halves
-members_sorted : (tables : Tables) → Fit tables → (k : ℕ) (d : Member)
-    → 0 ≤ k → k + 1 < length tables.members → is_lt (nat_cmp (get_or tables.members (k + 1) d).id (get_or tables.members k d).id) ≡ false
-members_sorted tables fit k d low l =
-    let up = fit.members_ascend k (k + 1) d (omega arith) l in
-    grind (arith, nat_tests)
-
--- what the search by halves finds
-pub member_searched : (tables : Tables) (id : ℕ) (r : Result ℕ ℕ) → Fit tables → IsSearchInRange r (length tables.members)
-    → IsBinarySearchResult (λ m. nat_cmp m.id id) tables.members r
-    → MatchResult r (λ i. (d : Member) → member_of id tables ≡ Some (get_or tables.members i d)) (λ _. member_of id tables ≡ None)
-member_searched tables id (Ok i) fit l h =
-    λ d. member_at tables id i d fit l (ranked _ _ Equal (sym (h d)))
-member_searched tables id (Err i) fit l h =
-    let up = searchable_from_sorted nat_cmp_total (λ m. m.id) tables.members id (members_sorted tables fit) in
-    let parts = h up in
-    member_absent tables id (λ k d in_range e.
-    let side : (k < i → ⊥) × (i ≤ k → ⊥) = (
-      λ below. let less = ranked _ id Less (sym (parts.0 k d (omega arith) below)) in omega arith,
-      λ above. let more = ranked _ id Greater (sym (parts.1 k d above in_range)) in omega arith,
-    ) in
-    omega arith)
+-- where no member has the id, there is none
+pub member_missing : (tables : Tables) (id : ℕ) → list_any (λ (member : Member). member.id == id) tables.members ≡ false → member_of id tables ≡ None
+member_missing tables id none =
+    let others = none_passes (λ (member : Member). member.id == id) tables.members none in
+    find_none (λ m. eqb m.id id) tables.members others

@@ -44,7 +44,14 @@ pub fn footprint(alloc: Global, txn: &Txn) -> Result<Vec<QKey>, Memory>
 pub fn touches(txn: &Txn, key: &QKey) -> bool
     ensures { result ≡ touches txn.now key.now }
 {
-    txn.changes().iter().any(|change| Foot::of(change).has(key))
+    any_touches(txn.changes(), key)
+}
+
+/// Whether the key is one that these changes touch, which need be no transaction yet. It takes no memory.
+pub fn any_touches(changes: &[Change], key: &QKey) -> bool
+    ensures { result ≡ touches changes.now key.now }
+{
+    changes.iter().any(|change| Foot::of(change).has(key))
 }
 
 /// A footprint ascends, and has just the keys that are touched.

@@ -60,7 +60,29 @@ pub(crate) fn place_of(near: &[Near], id: u32) -> Option<usize>
     ensures at { IfSome result (λ place. IsAt (λ one. one.id == id) near.now place) }
     ensures none { IfNone result (list_any (λ one. one.id == id) near.now ≡ false) }
 {
+    let guess = guess_of(id);
+    if guess < near.len() && near[guess].id == id {
+        return Some(guess);
+    }
     near.binary_search_by_key(&id, |one| one.id).ok()
+}
+
+// Where the member of this id stands.
+pub(crate) fn member_place(members: &[Member], id: u32) -> Option<usize>
+    requires ascend { AllPairs (λ member later. member.id < later.id) members.now }
+    ensures at { IfSome result (λ place. IsAt (λ member. member.id == id) members.now place) }
+    ensures none { IfNone result (list_any (λ member. member.id == id) members.now ≡ false) }
+{
+    let guess = guess_of(id);
+    if guess < members.len() && members[guess].id == id {
+        return Some(guess);
+    }
+    members.binary_search_by_key(&id, |member| member.id).ok()
+}
+
+// Where a member stands, and its list, if no id below is missing. Most often none is.
+fn guess_of(id: u32) -> usize {
+    (id as usize).saturating_sub(1)
 }
 
 // Makes room for so many more links and blocks in the lists of the members for which these changes put
@@ -182,7 +204,7 @@ fn rename(members: &mut [Member], id: u32, name: Name)
     requires ascend { AllPairs (λ member later. member.id < later.id) members.old }
     ensures { members.new ≡ map (renamed id name) members.old }
 {
-    if let Ok(place) = members.binary_search_by_key(&id, |member| member.id) {
+    if let Some(place) = member_place(members, id) {
         members[place].name = name;
     }
 }

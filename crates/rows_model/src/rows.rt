@@ -9,7 +9,7 @@ ghost use Rattle.rows_model.specs.Near.{is_end};
 use crate::changes::Txn;
 use crate::judging::{adding, blocking, ending, first_refused};
 use crate::names::Name;
-use crate::near::{Near, copied, make_all, make_room, no_links, place_of};
+use crate::near::{Near, copied, make_all, make_room, member_place, no_links, place_of};
 use crate::refusals::{ApplyFault, Memory};
 use std::alloc::Global;
 use std::marker::Model;
@@ -63,22 +63,22 @@ impl Link {
 }
 
 impl Link {
-    // Whether the link joins these two, in whichever order.
-    pub(crate) fn joins(&self, a: u32, b: u32) -> bool
+    /// Whether the link joins these two, in whichever order.
+    pub fn joins(&self, a: u32, b: u32) -> bool
         ensures { result ≡ joins a b self.now }
     {
         self.a == a && self.b == b || self.a == b && self.b == a
     }
 
-    // Whether this is the invitation of `b` by `a`.
-    pub(crate) fn invites_by(&self, a: u32, b: u32) -> bool
+    /// Whether this is the pending invitation of `b` by `a`.
+    pub fn invites_by(&self, a: u32, b: u32) -> bool
         ensures { result ≡ (is_pending self.now.state && (self.now.a == a) && (self.now.b == b)) }
     {
         self.state == LinkState::Pending && self.a == a && self.b == b
     }
 
-    // Whether this is the friendship of the two.
-    pub(crate) fn is_friendship(&self, a: u32, b: u32) -> bool
+    /// Whether this is the friendship of the two.
+    pub fn is_friendship(&self, a: u32, b: u32) -> bool
         ensures { result ≡ (is_friend self.now.state && joins a b self.now) }
     {
         self.state == LinkState::Friend && self.joins(a, b)
@@ -91,8 +91,8 @@ impl Link {
         self.a < later.a || self.a == later.a && self.b < later.b
     }
 
-    // The invitation of `b` by `a`.
-    pub(crate) fn invitation(a: u32, b: u32) -> Link
+    /// The pending invitation of `b` by `a`.
+    pub fn invitation(a: u32, b: u32) -> Link
         ensures { result ≡ invitation a b }
     {
         Link {
@@ -102,8 +102,8 @@ impl Link {
         }
     }
 
-    // The friendship of the two.
-    pub(crate) fn friendship(a: u32, b: u32) -> Link
+    /// The friendship of the two, which names the smaller id first.
+    pub fn friendship(a: u32, b: u32) -> Link
         ensures { result ≡ friendship a b }
     {
         Link {
@@ -221,9 +221,9 @@ impl Rows {
     pub fn member(&self, id: u32) -> Option<&Member>
         ensures { option_copied result ≡ member_of id self.now }
     {
-        match self.members.binary_search_by_key(&id, |member| member.id) {
-            Ok(place) => Some(&self.members[place]),
-            Err(_) => None,
+        match member_place(self.members.as_slice(), id) {
+            Some(place) => Some(&self.members[place]),
+            None => None,
         }
     }
 
