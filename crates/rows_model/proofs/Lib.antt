@@ -14,6 +14,7 @@ pub mod NameLemmas
 pub mod NumberLemmas
 pub mod PlacementLemmas
 pub mod RowsLemmas
+pub mod MemberLemmas
 pub mod SameKey
 pub mod ShiftLemmas
 pub mod UntouchedLemmas

@@ -4,6 +4,7 @@ pub mod Number
 pub mod Query
 pub mod Text
 pub mod Rows
+pub mod Members
 pub mod Placement
 pub mod Shift
 pub mod Changes

@@ -10,7 +10,7 @@ pub use keys::{Kind, QKey, Sid, texts_tell_keys};
 pub use names::Name;
 pub use numbers::number_of;
 pub use placement::shard_number;
-pub use queries::{answers_ascend, ask};
+pub use queries::{answers_ascend, ask, id_list, number, profile_of};
 pub use refreshing::{refresh, refresh_is_answer};
 pub use refusals::{ApplyFault, Memory, TxnFault};
 pub use rows::{Link, LinkState, Member, Rows};

@@ -40,13 +40,8 @@ fn profile(alloc: Global, rows: &Rows, id: u32) -> Result<Value, Memory>
     )
 }
 
-// The name and the two counts, with spaces between.
-pub(crate) fn profile_of(
-    alloc: Global,
-    name: &Name,
-    friends: u64,
-    pending: u64,
-) -> Result<Value, Memory>
+/// The text of a profile: the name and the two counts, with spaces between.
+pub fn profile_of(alloc: Global, name: &Name, friends: u64, pending: u64) -> Result<Value, Memory>
     ensures { IfOk result (λ value. value
         ≡ name.now ++ 32 ∷ decimal friends ++ 32 ∷ decimal pending) }
 {
@@ -96,8 +91,8 @@ fn inviters_among(alloc: Global, links: &[Link], id: u32) -> Result<Vec<u32>, Al
         .collect(alloc)
 }
 
-// The ids in decimal, with commas between.
-pub(crate) fn id_list(alloc: Global, ids: &[u32]) -> Result<Value, Memory>
+/// The text of a list of ids: each in decimal, with commas between.
+pub fn id_list(alloc: Global, ids: &[u32]) -> Result<Value, Memory>
     ensures { IfOk result (λ value. value ≡ id_list ids.now) }
 {
     let mut text = Vec::new(alloc);
@@ -110,8 +105,8 @@ pub(crate) fn id_list(alloc: Global, ids: &[u32]) -> Result<Value, Memory>
     Value::shared(text)
 }
 
-// The number in decimal.
-pub(crate) fn number(alloc: Global, number: u64) -> Result<Value, Memory>
+/// The text of a count: its number in decimal.
+pub fn number(alloc: Global, number: u64) -> Result<Value, Memory>
     ensures { IfOk result (λ value. value ≡ decimal number) }
 {
     let mut text = Vec::new(alloc);

@@ -1,5 +1,8 @@
-ghost use Rattle.std.specs.Prelude.{◌≡◌, ◌≤◌, ◌&&◌, ◌==◌, Ok, Err, length, filter, All, IfSome, IfNone, IfOk, IfErr, OnOk, OnErr};
+ghost use Rattle.std.specs.Prelude.{◌≡◌, ◌≤◌, ◌&&◌, ◌==◌, Ok, Err, length, filter, nat_lt, All, IsTrue, IfSome, IfNone, IfOk, IfErr, OnOk, OnErr};
+ghost use Rattle.std.specs.Bool.{IsFalse};
 ghost use Rattle.std.specs.Option.{option_copied};
+ghost use Rattle.rows_model.specs.Name.{IsName};
+ghost use Rattle.rows_model.specs.Members.{AreMembers, members_only, is_next, ascend_from};
 ghost use Rattle.rows_model.specs.Rows.{Fit, start_tables, member_of, joins, is_pending, is_friend};
 ghost use Rattle.rows_model.specs.Changes.{HasIds, is_before, invitation, friendship, apply_all};
 ghost use Rattle.rows_model.specs.ApplyFaults.{IsRejection, AllApply};
@@ -160,6 +163,24 @@ impl Rows {
         })
     }
 
+    /// The rows of these members, with no links and no blocks. `None` exactly where their ids don't
+    /// ascend, or one isn't from 1 to 100,000.
+    pub fn of_members(alloc: Global, members: Vec<Member>) -> Result<Option<Rows>, Memory>
+        ensures found { IfOk result (λ found. IfSome found (λ rows.
+            rows ≡ members_only members.items)) }
+        ensures none { IfOk result (λ found. IfNone found (AreMembers members.items → ⊥)) }
+    {
+        if !are_members(members.as_slice()) {
+            return Ok(None);
+        }
+        Ok(Some(Rows {
+            near: no_links(alloc, members.as_slice())?,
+            members,
+            count: 0,
+            blocks: 0,
+        }))
+    }
+
     /// The same rows once more.
     pub fn copy(&self) -> Result<Rows, Memory>
         ensures { IfOk result (λ rows. rows ≡ self.now) }
@@ -283,4 +304,28 @@ impl Rows {
         self.blocks += blocking(changes);
         Ok(())
     }
+}
+
+// Whether the ids of the members ascend, and are from 1 to 100,000.
+fn are_members(members: &[Member]) -> bool
+    ensures ascend { result ≡ ascend_from 0 members.now }
+    ensures names { IsTrue result → All (λ member. IsName member.name) members.now }
+{
+    let mut last = 0;
+    for member in members {
+        if !is_next(last, member) {
+            return false;
+        }
+        last = member.id;
+    }
+    true
+}
+
+// Whether the member's id is above this one, and at most 100,000.
+fn is_next(last: u32, member: &Member) -> bool
+    ensures next { result ≡ is_next last member.now }
+    ensures name { IsName member.now.name }
+{
+    let _name = member.name.bytes();
+    last < member.id && member.id <= 100_000
 }
