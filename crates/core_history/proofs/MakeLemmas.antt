@@ -73,19 +73,3 @@ pub makes_call : (origin : Origin) (world : World) (who : Sid) (request : Wanted
 makes_call origin world who request shards store (Ok told) at has made =
     (made.0, made.1, (same_shards shards origin.shape world who request made.0 at has, made.2))
 makes_call origin world who request shards store (Err memory) at has made = (has, made)
-
--- a session that is done changes nothing
-pub makes_nothing : (origin : Origin) (world : World) (who : Sid) (shards : List ShardView) (store : StoreView)
-    → StandsStore store origin world → HasShards shards origin.shape world.past → Makes origin world who wanted.Nothing shards store (Ok reply.Nothing)
-makes_nothing origin world who shards store stands has =
-    let event = event_of origin.shape world who wanted.Nothing Failed in (
-      Failed,
-      refl,
-      (
-        same_shards shards origin.shape world who wanted.Nothing Failed refl has,
-        (
-          store_quiet store origin world.past event stands.0 (record { commits = refl; ends = refl; fault = refl; truth = λ rows. tt }),
-          phases_same store.ledger.sessions world event stands.1 refl refl,
-        ),
-      ),
-    )

@@ -25,7 +25,7 @@ named_once word None None h k = refl
 named_once word None (Some b) h k = absurd (h b k)
 named_once word (Some a) None h k = absurd (k a h)
 named_once word (Some a) (Some b) h k =
-    ap (λ (q : QKey). Some q) (key_text_injective a b (omega (arith, h.id_below)) (omega (arith, k.id_below)) (sym h.written ∙ k.written))
+    ap (λ (q : QKey). Some q) (key_text_injective a b (omega (arith, h.id)) (omega (arith, k.id)) (sym h.text.written ∙ k.text.written))
 
 key_once : (word : List ℕ) (a b : Option QKey) → IsKey word a → IsKey word b → a ≡ b
 key_once word a b h k = named_once word a b h.names k.names

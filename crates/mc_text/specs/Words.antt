@@ -3,7 +3,7 @@ use Rattle.std.specs.Prelude.{ℕ, ℤ, pos, neg_ℤ, ◌^◌, ◌≡◌, ◌<�
 use Rattle.std.specs.List.{list_all, slice_split}
 use Rattle.rows_model.specs.declared.keys.QKey.{QKey}
 use Rattle.rows_model.specs.declared.keys.Sid.{Sid}
-use Rattle.rows_model.specs.Key.{IsKeyText, IsNoKeyText}
+use Rattle.rows_model.specs.Key.{IsKeyText}
 use Rattle.rows_model.specs.Shift.{is_digit, number_from}
 
 -- whether something stands between two spaces
@@ -22,12 +22,17 @@ is_key_byte byte = nat_le 0x21 byte && not (byte == 0x7F)
 abbrev pub is_key : List ℕ → Bool
 is_key word = nat_le 1 (length word) && nat_le (length word) 250 && list_all is_key_byte word
 
--- the word is this key of the cache, or of no key of the cache
-abbrev pub Names : List ℕ → Option QKey → Type 0
-Names word (Some key) = IsKeyText word key
-Names word None = IsNoKeyText word
+-- the word is the text of a key of the cache, and its id is one that a member can have
+pub record IsServed (word : List ℕ) (key : QKey) : Type 0 where
+  pub text : IsKeyText word key
+  pub id : key.id ≤ 100000
 
--- the word may be a key; it is told which key of the cache it is, if it is one
+-- the word is this key that is served, or no such key
+abbrev pub Names : List ℕ → Option QKey → Type 0
+Names word (Some key) = IsServed word key
+Names word None = (key : QKey) → IsServed word key → ⊥
+
+-- the word may be a key; it is told which key that is served it is, if it is one
 pub record IsKey (word : List ℕ) (key : Option QKey) : Type 0 where
   pub form : is_key word ≡ true
   pub names : Names word key

@@ -9,9 +9,14 @@ use rows_model::{QKey, Sid};
 // The most bytes of a key, and the most digits of a number.
 const LONGEST_KEY: usize = 250;
 
+// The greatest id that a member can have. No key beyond it is served, since each key that is missed and
+// never set has a lease for good: so they are bounded.
+const LAST_ID: u32 = 100_000;
+
 const MOST_DIGITS: usize = 20;
 
-/// The key of the cache that the word is, if it is one; `None` where it may not be a key at all.
+/// The key of the cache that the word is, if it is one whose id a member can have; `None` where it may not
+/// be a key at all.
 pub(crate) fn key_of(word: &[u8]) -> Option<Option<QKey>>
     ensures found { IfSome result (λ key. IsKey word.now key) }
     ensures none { IfNone result ((key : Option QKey) → IsKey word.now key → ⊥) }
@@ -19,7 +24,10 @@ pub(crate) fn key_of(word: &[u8]) -> Option<Option<QKey>>
     if !is_key(word) {
         return None;
     }
-    Some(QKey::parse(word))
+    match QKey::parse(word) {
+        Some(key) if key.id <= LAST_ID => Some(Some(key)),
+        _ => Some(None),
+    }
 }
 
 /// The number below 2^64 that the word is: 1 to 20 digits, with zeros in front or without.

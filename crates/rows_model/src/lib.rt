@@ -4,7 +4,8 @@
 pub use changes::{Change, Txn};
 pub use deltas::{delta_is_answer, delta_of};
 pub use footprints::{
-    any_touches, footprint, footprints_are_exact, rows_stay_fit, touches, untouched_keeps_its_answer,
+    any_touches, footprint, footprints_are_exact, rows_stay_fit, touches,
+    untouched_keeps_its_answer,
 };
 pub use keys::{Kind, QKey, Sid, texts_tell_keys};
 pub use names::Name;

@@ -1,5 +1,5 @@
 -- What the parts of the parser answer.
-use Rattle.std.specs.Prelude.{ℕ, ◌≡◌, ◌≤◌, ◌<◌, ◌^◌, false, List, [], Option, Some, None, decimal}
+use Rattle.std.specs.Prelude.{ℕ, ◌≡◌, ◌≤◌, ◌<◌, ◌^◌, true, false, List, [], Option, Some, None, decimal}
 use Rattle.run_inputs.specs.declared.lines.Task.{Task}
 use Rattle.run_inputs.specs.declared.lines.Verb.{Verb}
 use Rattle.run_inputs.specs.declared.lines.Job.{Job}
@@ -59,15 +59,15 @@ abbrev pub fault_at : ℕ → LineFault → ScriptFault
 fault_at number (Bad kind) = script.Bad number kind
 fault_at number Memory = script.Memory
 
--- Why a plan isn't taken.
+-- Why a plan isn't taken. Memory is asked for one whose key is right.
 abbrev pub IsPlanFault : Plan → LineFault → Type 0
 IsPlanFault plan (Bad kind) = (kind ≡ Key) × (has_own_key plan ≡ false)
-IsPlanFault plan Memory = Unit {0}
+IsPlanFault plan Memory = has_own_key plan ≡ true
 
--- Why no act is made of a line. Memory is asked for the transaction of a session.
+-- Why no act is made of a line. Memory is asked for the transaction of a session whose key is right.
 abbrev pub IsActFault : Line → LineFault → Type 0
 IsActFault line (Bad kind) = (kind ≡ Key) × (has_key line ≡ false)
-IsActFault line Memory = sessions_in line ≡ 1
+IsActFault line Memory = (sessions_in line ≡ 1) × (has_key line ≡ true)
 
 -- The word is this number in decimal, which is at least and at most so great.
 pub record IsNumberWithin (word : List ℕ) (least most number : ℕ) : Type 0 where

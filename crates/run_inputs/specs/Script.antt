@@ -174,11 +174,10 @@ acts_in (Tick ticks) = Run (turn.Tick ticks) 1 ∷ []
 acts_in (Sweep count) = Run turn.Sweep (unwrap_or count 1) ∷ []
 acts_in line = []
 
--- The line has an act, and no fault, or none but that of its key.
+-- The line has an act, and no fault.
 pub record HasAct (progress : Progress) (line : List ℕ) : Type 0 where
   pub said : Line
-  pub placed : IsPlaced progress line said
-  pub few : progress.turns + turns_in said ≤ 1000000
+  pub sound : IsSound progress line said
   pub act : acts_in said ≢ []
 
 -- The text says these acts, to be run in this shape: it has no fault, and its last line is `end`.
@@ -220,7 +219,7 @@ IsFault text number kind.LongText = IsLong text × (number ≡ 0)
 IsFault text number kind.NoEnd = HasNoEnd text number
 IsFault text number other = HasFault text number other
 
--- Memory is asked for at a line of the text: it has an act, and no line before it has a fault.
+-- Memory is asked for at a line of the text: it has an act, and neither it nor a line before it has a fault.
 pub record AsksForMemory (text : List ℕ) : Type 0 where
   pub short : length text ≤ 16777216
   pub front : List (List ℕ)

@@ -9,7 +9,7 @@ use crate::cuts::first_line;
 use crate::faults::{ScriptFault, ScriptKind};
 use crate::lines::{Job, Line, LineFault};
 use crate::stages::Progress;
-use rows_model::{Memory, Sid, touches};
+use rows_model::{Memory, Sid};
 use session_client::{Plan, Shape, Turn};
 use std::alloc::Global;
 use std::marker::Model;
@@ -47,7 +47,7 @@ impl Script {
     /// began, and the turns, ticks and sweeps are at most 1,000,000.
     ///
     /// Memory is asked for the acts alone. So `Memory` comes only of a text with a line that has an
-    /// act, where no line before it has a fault, and it has none itself, or none but that of its key.
+    /// act, where neither it nor a line before it has a fault.
     /// A text that is too long is told before any memory is asked for.
     pub fn parse(alloc: Global, text: &[u8]) -> Result<Script, ScriptFault>
         ensures script { IfOk result (λ script. IsScript text.now script.shape script.acts) }
@@ -112,8 +112,8 @@ impl Script {
     }
 }
 
-// What the next line says and its act, or why it isn't taken. No memory is asked for before the
-// transaction of a session is made, by which the key is judged.
+// What the next line says and its act, or why it isn't taken. No memory is asked for a line that has a
+// fault.
 fn taken(alloc: Global, progress: &Progress, line: &[u8]) -> Result<(Line, Option<Act>), LineFault>
     requires few { progress.now.begun + 1 < 2 ^ 64 }
     requires short { progress.now.turns ≤ 1000000 }
@@ -180,14 +180,12 @@ fn sound_plan(alloc: Global, job: &Job) -> Result<Plan, LineFault>
     ensures key { OnOk result (has_own_key (plan_of job.now) ≡ true) }
     ensures fault { IfErr result (λ fault. IsPlanFault (plan_of job.now) fault) }
 {
-    let plan = plan_of(alloc, job)?;
-    if has_key(&plan) {
-        Ok(plan)
-    } else {
-        Err(LineFault::Bad {
+    if !has_key(job) {
+        return Err(LineFault::Bad {
             kind: ScriptKind::Key,
-        })
+        });
     }
+    Ok(plan_of(alloc, job)?)
 }
 
 // The plan of a job.
@@ -226,12 +224,13 @@ fn plan_of(alloc: Global, job: &Job) -> Result<Plan, Memory>
     }
 }
 
-// Whether the key of the plan, if it has one beside its transaction, is one that this touches.
-fn has_key(plan: &Plan) -> bool
-    ensures { result ≡ has_own_key plan.now }
+// Whether the key of the job, if it has one beside its transaction, is one that this touches. It takes no
+// memory.
+fn has_key(job: &Job) -> bool
+    ensures { result ≡ has_own_key (plan_of job.now) }
 {
-    match plan {
-        Plan::Look { key, txn, .. } | Plan::Skip { key, txn } => touches(txn, key),
+    match job {
+        Job::Look { key, txn, .. } | Job::Skip { key, txn } => txn.touch(key),
         _ => true,
     }
 }

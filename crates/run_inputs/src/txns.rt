@@ -2,13 +2,14 @@
 ghost use Rattle.std.specs.Prelude.{◌≡◌, List, IfSome, IfNone, IfOk};
 ghost use Rattle.std.specs.Option.{option_copied};
 ghost use Rattle.rows_model.specs.declared.changes.Change.{Change};
+ghost use Rattle.rows_model.specs.Changes.{touches};
 ghost use Rattle.change_words.specs.Txns.{AreTxnWords};
 ghost use Rattle.change_words.specs.Parsing.{BeginsWith, BeginsWithNone};
 ghost use Rattle.run_inputs.specs.Parsing.{words_behind};
 
 use crate::cuts::cut;
 use change_words::{MOST_CHANGES, change_of, is_plus, whole_txn};
-use rows_model::{Change, Memory, Txn};
+use rows_model::{Change, Memory, QKey, Txn, any_touches};
 use std::alloc::Global;
 use std::marker::Model;
 
@@ -36,6 +37,13 @@ impl Model for Changes {
 }
 
 impl Changes {
+    /// Whether the key is one that they touch. It takes no memory.
+    pub(crate) fn touch(&self, key: &QKey) -> bool
+        ensures { result ≡ touches self.now key.now }
+    {
+        any_touches(&self.list[..self.count], key)
+    }
+
     /// The transaction that they are.
     pub(crate) fn to_txn(&self, alloc: Global) -> Result<Txn, Memory>
         ensures { IfOk result (λ txn. txn ≡ self.now) }

@@ -57,6 +57,24 @@ impl<'a, K: Keeper, H: HubName, C: Clock, G: Gate, R: Wait> HubDesk<'a, K, H, C,
             sweeper,
         }
     }
+
+    /// The time at which a request is made. One that asks for none is made at 0.
+    fn time_of(&self, request: &Wanted) -> u64 {
+        match request {
+            Wanted::Dar { .. }
+            | Wanted::Sar { .. }
+            | Wanted::Apply { .. }
+            | Wanted::Abort { .. }
+            | Wanted::Raise { .. } => 0,
+            _ => self.clock.now(),
+        }
+    }
+
+    /// Whether no quarantine of the shard of this number can be due yet.
+    fn is_quiet(&self, shard: u32) -> bool {
+        let due = self.hub.next_due(shard);
+        due == u64::MAX || self.clock.now() < due
+    }
 }
 
 impl<'a, K: Keeper, H: HubName, C: Clock, G: Gate, R: Wait> Desk for HubDesk<'a, K, H, C, G, R> {
@@ -80,9 +98,12 @@ impl<'a, K: Keeper, H: HubName, C: Clock, G: Gate, R: Wait> Desk for HubDesk<'a,
         match key_of(&request) {
             Some(key) => {
                 let mut kept = self.hub.lock_of(self.rt, &key);
-                self.gate
-                    .at(self.worker, Point::Inside { shard: kept.no() });
-                kept.make(who, request, self.clock.now())
+                let shard = kept.no();
+                self.gate.at(self.worker, Point::Inside { shard });
+                let now = self.time_of(&request);
+                let reply = kept.make(who, request, now);
+                self.hub.note_due(shard, kept.next_due());
+                reply
             }
             None => {
                 let mut kept = self.hub.lock_store(self.rt);
@@ -92,13 +113,17 @@ impl<'a, K: Keeper, H: HubName, C: Clock, G: Gate, R: Wait> Desk for HubDesk<'a,
         }
     }
 
-    /// One step of the worker's own sweeper, under one lock.
+    /// One step of the worker's own sweeper, under one lock. A shard on which no quarantine can be due yet
+    /// is passed without its lock.
     fn tend(&mut self) {
         let told = match self.sweeper.wants() {
+            SweepWanted::Scan { shard } if self.is_quiet(shard) => SweepReply::NoneFound { shard },
             SweepWanted::Scan { shard } => {
                 let mut kept = self.hub.lock_at(self.rt, shard);
                 self.gate.at(self.worker, Point::Inside { shard });
-                kept.scan(self.clock.now())
+                let told = kept.scan(self.clock.now());
+                self.hub.note_due(shard, kept.next_due());
+                told
             }
             SweepWanted::End { sid } => {
                 let mut kept = self.hub.lock_store(self.rt);

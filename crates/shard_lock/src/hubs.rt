@@ -12,17 +12,18 @@ use iq_outside::{Clock, Gate};
 use key_shard::Shard;
 use rows_model::{QKey, shard_number};
 use sql_keeper::{Keeper, Store};
-use std::alloc::Global;
+use std::alloc::{AllocError, Global};
 use std::hint::spin_loop;
 use std::marker::Model;
+use std::sync::atomic::{AtomicU64, Ordering};
 use std::sync::ledger::{Blank, Book, Share, Total};
 use std::sync::{Mutex, MutexGuard, Wait};
 
 /// How often a thread looks again for a lock that another has, before it sleeps.
-const LOOKS: u32 = 64;
+const LOOKS: u32 = 256;
 
 /// How many hints to the processor a thread gives between two such looks.
-const PAUSE: u32 = 16;
+const PAUSE: u32 = 4;
 
 /// A cache that threads share: a lock round each of its shards, and one round its store. Contracts see
 /// how many shards there are.
@@ -33,6 +34,9 @@ const PAUSE: u32 = 16;
 #[derive(Drop)]
 pub struct Hub<K: Keeper, H: HubName> {
     shards: Vec<Mutex<KeptShard<H>>>,
+    /// For each shard a time before which no quarantine on it is due. It is written under the shard's
+    /// lock and read without, so that a sweep passes a shard without a lock where nothing can be due.
+    dues: Vec<AtomicU64>,
     store: Mutex<KeptStore<K, H>>,
     count: u32,
     /// Room for the shards, once they are taken from under their locks.
@@ -75,10 +79,14 @@ impl<K: Keeper, H: HubName> Hub<K, H> {
         let Ok(locks) = Vec::with_capacity(alloc, shards.len()) else {
             return Err((store, shards));
         };
+        let Ok(dues) = dues_of(alloc, &shards) else {
+            return Err((store, shards));
+        };
         let count = shards.len() as u32;
         let (locks, room, tokens) = locked(locks, shards, ledger);
         Ok(Hub {
             shards: locks,
+            dues,
             store: Mutex::new(KeptStore::new(store)),
             count,
             room: Mutex::new(KeptRoom::new(room)),
@@ -123,6 +131,7 @@ impl<K: Keeper, H: HubName> Hub<K, H> {
     {
         let Hub {
             shards,
+            dues: _,
             store,
             count: _,
             room,
@@ -153,12 +162,38 @@ impl<K: Keeper, H: HubName> Hub<K, H> {
         kept
     }
 
+    /// A time before which no quarantine of the shard of this number was due when its lock was last free.
+    pub(crate) fn next_due(&self, place: u32) -> u64 {
+        match self.dues.get(place as usize) {
+            Some(due) => due.load(Ordering::Relaxed),
+            None => 0,
+        }
+    }
+
+    /// Writes down when the next quarantine of the shard of this number may be due. Its lock is held.
+    pub(crate) fn note_due(&self, place: u32, next: u64) {
+        if let Some(due) = self.dues.get(place as usize)
+            && due.load(Ordering::Relaxed) != next
+        {
+            due.store(next, Ordering::Relaxed);
+        }
+    }
+
     /// The lock of the key's shard.
     pub(crate) fn lock_of<R: Wait>(&self, rt: &R, key: &QKey) -> MutexGuard<'_, KeptShard<H>>
         ensures { IsAtHome (mutex_guard_value result).terms key.now }
     {
         self.lock_at(rt, shard_number(key, self.count))
     }
+}
+
+/// For each shard the time before which none of its quarantines is due.
+fn dues_of(alloc: Global, shards: &[Shard]) -> Result<Vec<AtomicU64>, AllocError> {
+    let mut dues = Vec::with_capacity(alloc, shards.len())?;
+    for shard in shards {
+        dues.push(AtomicU64::new(shard.next_due()))?;
+    }
+    Ok(dues)
 }
 
 /// Takes a lock. Where another thread has it, this one looks again for a while before it sleeps: what is

@@ -140,6 +140,8 @@ fn a_writer_is_answered(rt: HostRuntime) -> Result<(), Fail> {
 const ERRORS: &[(&str, &str)] = &[
     ("what", "ERROR"),
     ("iqget npending:0 1 0", "CLIENT_ERROR not a query key"),
+    ("iqget npending:100001 1 0", "CLIENT_ERROR not a query key"),
+    ("iqget npending:100000 1 0", "CLIENT_ERROR not yours"),
     ("iqget npending:2 1 0", "CLIENT_ERROR not yours"),
     ("iqabort 1", "CLIENT_ERROR not yours"),
     (
