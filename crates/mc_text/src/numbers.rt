@@ -24,10 +24,13 @@ pub(crate) fn key_of(word: &[u8]) -> Option<Option<QKey>>
     if !is_key(word) {
         return None;
     }
-    match QKey::parse(word) {
-        Some(key) if key.id <= LAST_ID => Some(Some(key)),
-        _ => Some(None),
+    let Some(key) = QKey::parse(word) else {
+        return Some(None);
+    };
+    if key.id > LAST_ID {
+        return Some(None);
     }
+    Some(Some(key))
 }
 
 /// The number below 2^64 that the word is: 1 to 20 digits, with zeros in front or without.
