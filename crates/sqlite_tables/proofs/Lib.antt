@@ -1,0 +1,16 @@
+pub mod ListLemmas
+pub mod Meanings
+pub mod LeaveLemmas
+pub mod RowidLemmas
+pub mod PairLemmas
+pub mod NameLemmas
+pub mod ReadLemmas
+pub mod InsertLemmas
+pub mod DeleteLemmas
+pub mod UpdateLemmas
+pub mod WholeLemmas
+pub mod TableLemmas
+pub mod WriteLemmas
+pub mod ChangeLemmas
+pub mod OpeningLemmas
+pub mod LoadingLemmas

@@ -1,0 +1,116 @@
+-- What the queries on the links show of the lists.
+use Rattle.std.proofs.Common.{◌≡◌, inl, inr, ℕ, suc, ◌==◌, ◌&&◌, ◌<◌, pos, Bool, true, false, cond, List, [], ◌∷◌, ◌++◌, map, filter, flat_map, get_or, refl, sym, ap, ◌∙◌, subst, arith, Less, is_lt, is_eq, Some, IsPermutation}
+use Rattle.std.specs.List.{AllPairs}
+use Rattle.std.specs.Ordering.{int_cmp}
+use Rattle.std.proofs.lemmas.Bool.{cases_lt}
+use Rattle.std.proofs.lemmas.Bool.Decides.{nat_tests}
+use Rattle.std.proofs.lemmas.Int.{ints}
+use Rattle.std.proofs.lemmas.Cmp.{tied_itself}
+use Rattle.std.proofs.lemmas.List.Kept.{AllPairs-filter}
+use Rattle.std.proofs.lemmas.List.MinMax.{ranks_by}
+use Rattle.std.proofs.lemmas.List.Sorted.{sorted_far, IsPermutation-map, IsPermutation-trans}
+use Rattle.sqlite.specs.declared.types.Value.{Value}
+use Rattle.sqlite.specs.declared.types.Value.TheVariants.{Int}
+use Rattle.sqlite.specs.Collation.TheVariants.{Binary}
+use Rattle.sqlite_value.specs.Order.{Row, column, value_cmp}
+use Rattle.sqlite_value.proofs.OrderLemmas.{value_cmp-Int, value_cmp_total}
+use Rattle.sqlite_trees.specs.Tree.{Trees}
+use Rattle.sqlite_trees.proofs.ListLemmas.{map-map, filter-map, IsPermutation-filter}
+use Rattle.sqlite_sql.specs.declared.ops.BinaryOp.TheVariants.{Compare}
+use Rattle.sqlite_sql.specs.declared.ops.CompareOp.TheVariants.{Eq}
+use Rattle.sqlite_sql.specs.Ops.{binary, is_true, from_truth}
+use Rattle.sqlite_sql.specs.Query.{Query, IsAnswerAs, Output, output, output_cmp, page}
+use Rattle.sqlite_sql.proofs.QueryLemmas.{output_cmp_total}
+use Rattle.sqlite_tables.specs.declared.pairs.Pair.{Pair}
+use Rattle.sqlite_tables.specs.Lists.{pair_values, shown_pair, IsPairBefore}
+use Rattle.sqlite_tables.proofs.ListLemmas.{same_order, ascending_from, ascending_map}
+use Rattle.sqlite_tables.proofs.Meanings.{links_where}
+
+-- what is shown of the rows that pass a test
+pub chosen : {A B C : Type 0} (p : A → Bool) (f : A → B) (g : B → C) (xs : List A) → map g (flat_map (λ x. cond (p x) (f x ∷ []) []) xs) ≡ map (λ x. g (f x)) (filter p xs)
+chosen p f g [] = refl
+chosen p f g (x ∷ xs) =
+    elim (p x) as (λ b. map g (cond b (f x ∷ []) [] ++ flat_map (λ y. cond (p y) (f y ∷ []) []) xs) ≡ map (λ y. g (f y)) (cond b (x ∷ filter p xs) (filter p xs)))
+    [ true ↦ ap (λ l. g (f x) ∷ l) (chosen p f g xs) | false ↦ chosen p f g xs ]
+
+truth_back : (b : Bool) → is_true (from_truth (Some b)) ≡ b
+truth_back true = refl
+truth_back false = refl
+
+tied_is : (n id : ℕ) → is_eq (int_cmp (pos n) (pos id)) ≡ (n == id)
+tied_is n id = grind (arith, ints, nat_tests)
+
+-- whether two numbers are one
+pub same_number : (n id : ℕ) → is_true (binary (Compare Eq Binary) (Int (pos n)) (Int (pos id))) ≡ (n == id)
+unfolding binary
+same_number n id = truth_back (is_eq (value_cmp (Int (pos n)) (Int (pos id)))) ∙ ap is_eq (value_cmp-Int (pos n) (pos id)) ∙ tied_is n id
+
+pub and_true : (b : Bool) → (b && true) ≡ b
+and_true true = refl
+and_true false = refl
+
+pub less_is : (m n : ℕ) → m < n → value_cmp (Int (pos m)) (Int (pos n)) ≡ Less
+less_is m n h = value_cmp-Int (pos m) (pos n) ∙ int_less m n h
+  where
+    int_less : (m n : ℕ) → m < n → int_cmp (pos m) (pos n) ≡ Less
+    int_less m n h = grind (arith, ints, nat_tests)
+
+-- a pair as it is sorted and shown
+abbrev pub told : Row → Output
+told values = (column values 0 ∷ column values 1 ∷ [], column values 0 ∷ column values 1 ∷ column values 2 ∷ [])
+
+module _ (at : ℕ) (id : ℕ) where
+  abbrev q : Query
+  q = links_where (suc at)
+
+  abbrev params : Row
+  params = Int (pos id) ∷ []
+
+  abbrev passes : Row → Bool
+  passes values = is_true (binary (Compare Eq Binary) (column values at) (Int (pos id))) && true
+
+  abbrev below : Output → Output → Bool
+  below x y = is_lt (output_cmp q x y)
+
+  pair_rises : (pair later : Pair) → IsPairBefore pair later → below (told (pair_values pair)) (told (pair_values later)) ≡ true
+  pair_rises pair later h = elim (cases_lt pair.a later.a) [
+    | inl lower ↦ rw (less_is pair.a later.a lower) refl
+    | inr tied ↦
+        let same : pair.a ≡ later.a = omega (arith, h.0) in
+        rw (same, tied_itself value_cmp_total (Int (pos later.a)), less_is pair.b later.b (h.1 same)) refl
+  ]
+
+  module _ (column_is : (r : Row) → column r (suc at) ≡ column (shown_pair r) at) where
+    kept_is : (rows : List Row) → map (output q) (flat_map (λ r. cond (is_true (binary (Compare Eq Binary) (column r (suc at)) (Int (pos id))) && true) ((params ∷ r ∷ []) ∷ []) []) rows)
+        ≡ map told (filter passes (map shown_pair rows))
+    kept_is rows =
+        chosen (λ r. is_true (binary (Compare Eq Binary) (column r (suc at)) (Int (pos id))) && true) (λ r. params ∷ r ∷ []) (output q) rows
+        ∙ (λ i. map (λ r. told (shown_pair r)) (filter (λ r. is_true (binary (Compare Eq Binary) (column_is r i) (Int (pos id))) && true) rows))
+        ∙ sym (map-map told shown_pair _)
+        ∙ ap (map told) (sym (filter-map passes shown_pair rows))
+
+    module _ (side : Pair → ℕ) (side_is : (pair : Pair) → column (pair_values pair) at ≡ Int (pos (side pair))) (pairs : List Pair) (rise : AllPairs IsPairBefore pairs) where
+      abbrev wanted : List Pair
+      wanted = filter (λ pair. side pair == id) pairs
+
+      passes_is : (pair : Pair) → passes (pair_values pair) ≡ (side pair == id)
+      passes_is pair = and_true _ ∙ ap (λ v. is_true (binary (Compare Eq Binary) v (Int (pos id)))) (side_is pair) ∙ same_number (side pair) id
+
+      all_are : map told (filter passes (map pair_values pairs)) ≡ map (λ pair. told (pair_values pair)) wanted
+      all_are =
+          ap (map told) (filter-map passes pair_values pairs) ∙ map-map told pair_values _
+          ∙ (λ i. map (λ (pair : Pair). told (pair_values pair)) (filter (λ pair. passes_is pair i) pairs))
+
+      pub answered : (lost : Value) (db : Trees) (rows : List Row) → IsPermutation (map pair_values pairs) (map shown_pair (db 1))
+          → IsAnswerAs lost q db params rows → rows ≡ map pair_values wanted
+      answered lost db rows same a =
+          let kept : a.kept ≡ map told (filter passes (map shown_pair (db 1))) = a.distinct ∙ ap (map (output q)) a.grouped ∙ kept_is (db 1) in
+          let mixed : IsPermutation (map (λ pair. told (pair_values pair)) wanted) a.kept =
+          subst (λ l. IsPermutation l a.kept) all_are (subst (IsPermutation _) (sym kept) (IsPermutation-map told _ _ (IsPermutation-filter passes _ _ same))) in
+          let up = ascending_from (λ (x z : Pair). below (told (pair_values x)) (told (pair_values z)) ≡ true) wanted
+          (λ i j d low high. pair_rises (get_or wanted i d) (get_or wanted j d) (AllPairs-filter IsPairBefore (λ (pair : Pair). side pair == id) pairs rise i j d low high)) in
+          let level = ascending_from (λ (y w : Output). below w y ≡ false) a.ordered
+          (λ i j d low high. sorted_far below (ranks_by (output_cmp_total q) (λ (o : Output). o)) a.ordered a.sorted i j d (omega (arith, low)) high) in
+          let ordered = same_order below (λ x. ap is_lt (tied_itself (output_cmp_total q) x)) (map (λ pair. told (pair_values pair)) wanted) a.ordered
+          (ascending_map (λ x z. below x z ≡ true) (λ (pair : Pair). told (pair_values pair)) wanted up) level (IsPermutation-trans _ _ _ mixed a.same) in
+          a.shown ∙ ap (λ os. page q params (map (λ (o : Output). o.1) os)) ordered ∙ map-map (λ (o : Output). o.1) (λ (pair : Pair). told (pair_values pair)) wanted

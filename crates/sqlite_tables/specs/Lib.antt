@@ -1,0 +1,5 @@
+pub mod Schema
+pub mod Lists
+pub mod Calls
+pub mod Laws
+pub mod Changes
