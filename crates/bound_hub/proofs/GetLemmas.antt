@@ -1,0 +1,214 @@
+-- A get's step: its short, that it is borne out, and that the facts stay.
+use Rattle.std.proofs.Common.{ℕ, ◌≡◌, ◌≤◌, ◌==◌, Bool, true, false, cond, List, [], ◌∷◌, ◌++◌, length, Option, None, Some, Ok, Err, is_some, option_map, nat_le, refl, sym, ap, subst, inl, inr, ⊎_elim, eqb-true, arith}
+use Rattle.std.proofs.lemmas.Bool.{false≢true}
+use Rattle.rows_model.specs.declared.keys.QKey.{QKey}
+use Rattle.rows_model.specs.declared.keys.Sid.{Sid}
+use Rattle.rows_model.specs.Key.{same_key}
+use Rattle.rows_model.specs.Rows.{Tables}
+use Rattle.rows_model.specs.Placement.{shard_of}
+use Rattle.case_tables.specs.declared.grids.Verdict.{Verdict}
+use Rattle.case_tables.specs.declared.grids.Verdict.TheVariants as verdicts
+use Rattle.lease_table.specs.declared.records.Quar.{Quar}
+use Rattle.key_shard.specs.declared.steps.Step.{Step}
+use Rattle.key_shard.specs.declared.steps.Step.TheVariants as step
+use Rattle.key_shard.specs.declared.replies.Got.{Got}
+use Rattle.key_shard.specs.declared.replies.ShardFault.{ShardFault}
+use Rattle.key_shard.specs.declared.replies.ShardFault.TheVariants as faults
+use Rattle.key_shard.specs.declared.replies.Got.TheVariants as got
+use Rattle.key_shard.specs.Past.{Terms, entry, standing, own_of, next_token}
+use Rattle.key_shard.specs.Answers.{get_step, get_by, found_step, miss_by, miss_step}
+use Rattle.key_shard.specs.Replies.{ShowsGot}
+use Rattle.key_shard.specs.Shards.{ShardView, past_of, refusal, Refuses, spent_at}
+use Rattle.log_word.specs.declared.events.StoreEvent.{StoreEvent}
+use Rattle.log_word.specs.declared.seen.Seen.{Seen}
+use Rattle.log_word.specs.Events.{commit_count}
+use Rattle.log_word.specs.Steps.{IsBorneOut}
+use Rattle.key_freshness.specs.Marks.{Mark, Leased, key_of, marks_of}
+use Rattle.key_freshness.specs.Held.{IsHeld, IsTied, IsEntryHeld, IsEntryRight}
+use Rattle.key_freshness.proofs.MarkLemmas.{by_test}
+use Rattle.bound_hub.specs.Shorts.{short_of}
+use Rattle.bound_hub.specs.Knowns.{commits_of, known_of}
+use Rattle.bound_hub.specs.Facts.{answer_after, stamp_of, HoldsFacts}
+use Rattle.bound_hub.specs.Gets.{got_short}
+use Rattle.bound_hub.proofs.EventLemmas.{commits_counted}
+
+-- what marks nothing, whatever key it is on
+quiet : (P : List Mark → Type 0) (b : Bool) (marks : List Mark) → P marks → P (cond b [] [] ++ marks)
+quiet P true marks p = p
+quiet P false marks p = p
+
+-- what leaves no entry of its key, and marks this on it
+missed : (P : List Mark → Option (List ℕ × ℕ) → Type 0) (more : List Mark) (b : Bool) (marks : List Mark) (found : Option (List ℕ × ℕ))
+    → P (more ++ marks) None → P marks found → P (cond b more [] ++ marks) (cond b None found)
+missed P more true marks found here else = here
+missed P more false marks found here else = else
+
+tied_none : (marks : List Mark) (start : Option ℕ) (quars : List Quar) (found : Option (List ℕ × ℕ)) → IsTied marks start quars found → IsTied marks start quars None
+tied_none marks start quars found tied = record { granted = tied.granted; stamped = tt }
+
+tied_leased : (token : ℕ) (marks : List Mark) (start : Option ℕ) (quars : List Quar) (found : Option (List ℕ × ℕ)) → IsTied marks start quars found → IsTied (Leased token ∷ marks) start quars None
+tied_leased token marks start quars found tied = record {
+  granted = λ who its h. ⊎_elim (λ e. absurd cc) (λ old. ⊎_elim (λ stands. inl stands) (λ ended. inr (inr ended)) (tied.granted who its old)) h;
+  stamped = tt;
+}
+
+-- the facts of each key stay when a get was made
+pub facts_with_got : (opening : Tables) (before more : List Step) (seen : Seen) (key : QKey) (s : Step) (answer : Got) → ShowsGot s answer
+    → HoldsFacts opening before more seen key → HoldsFacts opening before (s ∷ more) seen key
+facts_with_got opening before more seen key (step.Hit on sid floor value stamp) answer shows facts =
+    let found = entry key (more ++ before) in
+    record {
+      tied = quiet (λ ms. IsTied ms (stamp_of (entry key before)) (standing key (more ++ before)) found) (same_key key on) (marks_of key more) facts.tied;
+      held = quiet (λ ms. IsEntryHeld key ms (known_of seen.events) found) (same_key key on) (marks_of key more) facts.held;
+      right = facts.right;
+    }
+facts_with_got opening before more seen key (step.Own on sid) answer shows facts =
+    let found = entry key (more ++ before) in
+    record {
+      tied = quiet (λ ms. IsTied ms (stamp_of (entry key before)) (standing key (more ++ before)) found) (same_key key on) (marks_of key more) facts.tied;
+      held = quiet (λ ms. IsEntryHeld key ms (known_of seen.events) found) (same_key key on) (marks_of key more) facts.held;
+      right = facts.right;
+    }
+facts_with_got opening before more seen key (step.Again on sid floor now stands) answer shows facts =
+    let found = entry key (more ++ before) in
+    let start = stamp_of (entry key before) in
+    let quars = standing key (more ++ before) in
+    record {
+      tied = missed (λ ms o. IsTied ms start quars o) [] (same_key key on) (marks_of key more) found (tied_none (marks_of key more) start quars found facts.tied) facts.tied;
+      held = missed (λ ms o. IsEntryHeld key ms (known_of seen.events) o) [] (same_key key on) (marks_of key more) found tt facts.held;
+      right = λ told. missed (λ ms o. IsEntryRight (answer_after opening key) (commits_of seen.events) o) [] (same_key key on) (marks_of key more) found tt (facts.right told);
+    }
+facts_with_got opening before more seen key (step.Lease on sid floor now token deadline) answer shows facts =
+    let found = entry key (more ++ before) in
+    let start = stamp_of (entry key before) in
+    let quars = standing key (more ++ before) in
+    record {
+      tied = missed (λ ms o. IsTied ms start quars o) (Leased token ∷ []) (same_key key on) (marks_of key more) found (tied_leased token (marks_of key more) start quars found facts.tied) facts.tied;
+      held = missed (λ ms o. IsEntryHeld key ms (known_of seen.events) o) (Leased token ∷ []) (same_key key on) (marks_of key more) found tt facts.held;
+      right = λ told. missed (λ ms o. IsEntryRight (answer_after opening key) (commits_of seen.events) o) [] (same_key key on) (marks_of key more) found tt (facts.right told);
+    }
+facts_with_got opening before more seen key other answer shows facts = absurd shows
+
+-- what was held is held with the marks of a get too
+pub held_with_got : (before more : List Step) (seen : Seen) (key : QKey) (s : Step) (answer : Got) → ShowsGot s answer → (stamp : ℕ)
+    → IsHeld key (marks_of key more) (known_of seen.events) stamp → IsHeld key (marks_of key (s ∷ more)) (known_of seen.events) stamp
+held_with_got before more seen key (step.Hit on sid floor value n) answer shows stamp held =
+    quiet (λ ms. IsHeld key ms (known_of seen.events) stamp) (same_key key on) (marks_of key more) held
+held_with_got before more seen key (step.Own on sid) answer shows stamp held =
+    quiet (λ ms. IsHeld key ms (known_of seen.events) stamp) (same_key key on) (marks_of key more) held
+held_with_got before more seen key (step.Again on sid floor now stands) answer shows stamp held =
+    quiet (λ ms. IsHeld key ms (known_of seen.events) stamp) (same_key key on) (marks_of key more) held
+held_with_got before more seen key (step.Lease on sid floor now token deadline) answer shows stamp held =
+    by_test (λ b. IsHeld key (cond b (Leased token ∷ []) [] ++ marks_of key more) (known_of seen.events) stamp) (same_key key on)
+    (λ is. record {
+      within = held.within;
+      pending = λ place commit its at from touched. ⊎_elim (λ e. absurd cc) (λ h. held.pending place commit its at from touched h);
+    })
+    (λ is. held)
+held_with_got before more seen key other answer shows stamp held = absurd shows
+
+module _ (terms : Terms) (past : List Step) (key : QKey) (who : Sid) (floor now : ℕ) (answer : Got) (has : Bool) where
+  -- what a get's step is in short, its answer tells
+  abbrev Tells : Step → Type 0
+  Tells s = ShowsGot s answer → (got_short key who answer has ≡ short_of s has) × (key_of s ≡ key)
+
+  told : (known : Got) → answer ≡ known → got_short key who answer has ≡ got_short key who known has
+  told known e = ap (λ a. got_short key who a has) e
+
+  miss_tells : (v : Verdict) → Tells (miss_by terms past key who floor now v)
+  miss_tells verdicts.Give e = (told _ e, refl)
+  miss_tells verdicts.Wait e = (told _ e, refl)
+  miss_tells verdicts.Own e = (told _ e, refl)
+  miss_tells verdicts.Void e = (told _ e, refl)
+  miss_tells verdicts.Join e = (told _ e, refl)
+  miss_tells verdicts.Same e = (told _ e, refl)
+  miss_tells verdicts.Refuse e = (told _ e, refl)
+  miss_tells verdicts.Raise e = (told _ e, refl)
+  miss_tells verdicts.Gone e = (told _ e, refl)
+
+  found_tells : (found : Option (List ℕ × ℕ)) → Tells (found_step terms past key who floor now found)
+  found_tells None = miss_tells _
+  found_tells (Some found) =
+      by_test (λ b. Tells (cond b (step.Hit key who floor found.0 found.1) (miss_step terms past key who floor now))) (nat_le floor found.1)
+      (λ is e. (told _ e, refl))
+      (λ is. miss_tells _)
+
+  own_tells : (own : Option Quar) → Tells (get_by terms past key who floor now own)
+  own_tells (Some own) e = (told _ e, refl)
+  own_tells None e = found_tells (entry key past) e
+
+  pub get_tells : Tells (get_step terms past key who floor now)
+  get_tells = own_tells (own_of key who past)
+
+-- the stamp of what was answered, 0 where it has none
+abbrev pub stamp_got : Got → ℕ
+stamp_got (got.Hit value stamp) = stamp
+stamp_got other = 0
+
+-- a hit is the key's entry
+abbrev pub IsTheEntry : Option (List ℕ × ℕ) → Got → Type 0
+IsTheEntry found (got.Hit value stamp) = found ≡ Some (value, stamp)
+IsTheEntry found other = Unit {0}
+
+module _ (terms : Terms) (past : List Step) (key : QKey) (who : Sid) (floor now : ℕ) (answer : Got) where
+  abbrev Finds : Option (List ℕ × ℕ) → Step → Type 0
+  Finds found s = ShowsGot s answer → IsTheEntry found answer
+
+  finds : (found : Option (List ℕ × ℕ)) (known : Got) → answer ≡ known → IsTheEntry found known → IsTheEntry found answer
+  finds found known e h = subst (IsTheEntry found) (sym e) h
+
+  miss_finds : (found : Option (List ℕ × ℕ)) (v : Verdict) → Finds found (miss_by terms past key who floor now v)
+  miss_finds found verdicts.Give e = finds found _ e tt
+  miss_finds found verdicts.Wait e = finds found _ e tt
+  miss_finds found verdicts.Own e = finds found _ e tt
+  miss_finds found verdicts.Void e = finds found _ e tt
+  miss_finds found verdicts.Join e = finds found _ e tt
+  miss_finds found verdicts.Same e = finds found _ e tt
+  miss_finds found verdicts.Refuse e = finds found _ e tt
+  miss_finds found verdicts.Raise e = finds found _ e tt
+  miss_finds found verdicts.Gone e = finds found _ e tt
+
+  found_finds : (found : Option (List ℕ × ℕ)) → Finds found (found_step terms past key who floor now found)
+  found_finds None = miss_finds None _
+  found_finds (Some found) =
+      by_test (λ b. Finds (Some found) (cond b (step.Hit key who floor found.0 found.1) (miss_step terms past key who floor now))) (nat_le floor found.1)
+      (λ is e. finds (Some found) _ e refl)
+      (λ is. miss_finds (Some found) _)
+
+  own_finds : (own : Option Quar) → Finds (entry key past) (get_by terms past key who floor now own)
+  own_finds (Some own) e = finds (entry key past) _ e tt
+  own_finds None e = found_finds (entry key past) e
+
+  pub get_finds : Finds (entry key past) (get_step terms past key who floor now)
+  get_finds = own_finds (own_of key who past)
+
+-- the step of a get is borne out, where the entry is held
+pub got_borne_out : (events : List StoreEvent) (key : QKey) (marks : List Mark) (who : Sid) (answer : Got) (has : Bool) (found : Option (List ℕ × ℕ)) → IsTheEntry found answer
+    → IsEntryHeld key marks (known_of events) found → IsBorneOut events (got_short key who answer has)
+got_borne_out events key marks who (got.Hit value stamp) has found is held = record {
+  begun = λ e. absurd (false≢true e);
+  over = λ e. absurd (false≢true e);
+  stamped =
+      let within : stamp ≤ length (commits_of events) = (subst (IsEntryHeld key marks (known_of events)) is held).within in
+      let e : length (commits_of events) ≡ commit_count events = commits_counted events in
+      omega (arith, within, e);
+}
+got_borne_out events key marks who (got.Lease token) has found is held = record { begun = λ e. absurd (false≢true e); over = λ e. absurd (false≢true e); stamped = omega arith }
+got_borne_out events key marks who (got.Again stands) has found is held = record { begun = λ e. absurd (false≢true e); over = λ e. absurd (false≢true e); stamped = omega arith }
+got_borne_out events key marks who got.Own has found is held = record { begun = λ e. absurd (false≢true e); over = λ e. absurd (false≢true e); stamped = omega arith }
+
+ok_no_err : {X : Type 0} (x : X) (fault : ShardFault) → Ok x ≡ Err fault → ⊥
+ok_no_err x fault e = absurd cc
+
+-- what isn't refused is at home
+pub not_refused_at_home : {X : Type 0} (shard : ShardView) (key : QKey) (s : Step) (x : X) → Refuses (refusal shard key s) (Ok x) → shard_of key shard.terms.count ≡ shard.terms.no
+not_refused_at_home {X} shard key s x h =
+    by_test (λ b. Refuses (cond b (spent_at (next_token shard.terms (past_of shard)) s) (Some (faults.Stranger (shard_of key shard.terms.count)))) (Ok x) → shard_of key shard.terms.count ≡ shard.terms.no)
+    (shard_of key shard.terms.count == shard.terms.no)
+    (λ is r. eqb-true _ _ is)
+    (λ is r. absurd (ok_no_err x _ r))
+    h
+
+pub is_some_mapped : {X Y : Type 0} (f : X → Y) (o : Option X) → is_some o ≡ is_some (option_map f o)
+is_some_mapped f None = refl
+is_some_mapped f (Some x) = refl

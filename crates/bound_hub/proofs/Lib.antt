@@ -1,0 +1,10 @@
+pub mod ShortLemmas
+pub mod EventLemmas
+pub mod RuledLemmas
+pub mod FactLemmas
+pub mod PassLemmas
+pub mod SessionLemmas
+pub mod StoreTies
+pub mod GetLemmas
+pub mod GotTies
+pub mod FreshLemmas

@@ -1,0 +1,16 @@
+//! The cache for many threads whose locks know what happened: each holds a pass of one word beside its
+//! shard, or beside the store.
+#![tactic(auto)]
+
+pub use bound_shards::BoundShard;
+pub use bound_stores::BoundStore;
+pub use hubs::BoundHub;
+pub use names::BoundName;
+pub use shorts::short_of;
+
+pub mod bound_shards;
+pub mod bound_stores;
+pub mod hubs;
+pub mod laws;
+pub mod names;
+pub mod shorts;

@@ -1,0 +1,11 @@
+pub mod StartLemmas
+pub mod StepListLemmas
+pub mod SoundLemmas
+pub mod ViewLemmas
+pub mod OwnLemmas
+pub mod EventMoves
+pub mod StepMoves
+pub mod SeatMoves
+pub mod JoinMoves
+pub mod CallLemmas
+pub mod LawLemmas

@@ -1,0 +1,12 @@
+use Rattle.std.proofs.Common.{◌≡◌, ◌<◌, sym, ap, ◌∙◌, arith}
+use Rattle.log_word.specs.Passes.{WordView}
+use Rattle.log_word.proofs.CallLemmas.{splits_shard}
+use Rattle.log_word.proofs.words.LogWord.shard.Goals as goal
+
+pub split_seat-requires : goal.split_seat-requires
+split_seat-requires c =
+    let word = c.self.inside.table.shared in
+    let seat = c.args.seat.now in
+    let here : seat.table_id ≡ word.table_id = c.requires.word.id ∙ sym (ap (λ (v : WordView). v.id) c.self.view_is) in
+    let some : 0 < word.table_id.words = let one = c.self.invariant in omega (arith, one) in
+    (here, some, splits_shard word.key word.table_id.slots seat.id seat.me.0 seat.me.1 c.requires.store)

@@ -1,0 +1,5 @@
+//! Tests of the word and its passes.
+#![tactic(auto)]
+
+#[cfg(test)]
+mod word_tests;
