@@ -28,8 +28,9 @@ module _ {S : Type 0} (g : Ghosts S) (old new : Held S) where
     pub was_open : HasCleanDisk (state g new) → IsTrue (state g new).is_open → IsTrue (state g old).is_open
     pub committed : OnLists (λ _. IsTrue (state g new).is_open → (state g new).committed ≡ (state g old).committed)
 
-  -- The connection is open, and what the transaction held is what is seen, and the last commit.
+  -- The connection was open and is, and what the transaction held is what is seen, and the last commit.
   pub record AreKept : Type 0 where
+    pub was_open : IsTrue (state g old).is_open
     pub is_open : IsTrue (state g new).is_open
     pub now : (state g new).now ≡ (state g old).now
     pub committed : (state g new).committed ≡ (state g old).now

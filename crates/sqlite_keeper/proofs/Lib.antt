@@ -1,0 +1,6 @@
+pub mod AnswerLemmas
+pub mod LeavesLemmas
+pub mod BondLemmas
+pub mod BaseLemmas
+pub mod MakeLemmas
+pub mod OpeningLemmas

@@ -1,0 +1,6 @@
+pub mod Keepers
+pub mod Texts
+pub mod Bonds
+pub mod Bases
+pub mod Makes
+pub mod Openings

@@ -1,0 +1,225 @@
+// The start: the database is opened, its tables are made where there are none, and its rows are read.
+ghost use Rattle.std.specs.Prelude.{◌≡◌, ◌≤◌, ◌<◌, None, AllPairs, IfOk, OnOk};
+ghost use Rattle.std.specs.Option.{ForSome};
+ghost use Rattle.rows_model.specs.Rows.{start_tables};
+ghost use Rattle.sqlite_trees.specs.View.{doubt};
+ghost use Rattle.sqlite.specs.State.{HasCleanDisk};
+ghost use Rattle.sqlite.specs.Held.{state};
+ghost use Rattle.sqlite_tables.specs.Schema.{empty_schema};
+ghost use Rattle.sqlite_tables.specs.Lists.{AreLists, no_lists};
+ghost use Rattle.sqlite_keeper.specs.Openings.{members_alone};
+
+use crate::base::{Base, tally_of};
+use crate::loading::found_rows;
+use crate::schemas::{has_tables, is_blank};
+use memory_disk::MemoryDisk;
+use rows_model::{Member, Rows};
+use sql_keeper::KeepFault;
+use sqlite::{Alter, Connection, File, FileStore, Files, Options, Transaction, Unknown};
+use sqlite_tables::{drop_changes, fault_of, keep_changes, make_tables, put_member};
+use std::alloc::Global;
+use std::rt::HostRuntime;
+use std::str;
+
+const LINK_INDEX: &str = "CREATE INDEX IF NOT EXISTS link_by_b ON link(b, a)";
+
+// A database in memory with so many members.
+pub(crate) fn open_fresh(
+    alloc: Global,
+    members: u32,
+) -> Result<(Base<FileStore<MemoryDisk>>, Rows), KeepFault>
+    requires some { 1 ≤ members }
+    requires few { members ≤ 100000 }
+    ensures told { IfOk result (λ made. ForSome made.0 (λ told. told ≡ made.1)) }
+    ensures opening { IfOk result (λ made. made.1 ≡ start_tables members) }
+{
+    let conn = in_memory(alloc)?;
+    let rows = Rows::start(alloc, members)?;
+    let base = fresh_base(conn, &rows, members)?;
+    Ok((base, rows))
+}
+
+// The base of a connection whose database has nothing yet, and is given these rows of the start.
+fn fresh_base<S: Alter + Drop>(
+    conn: Connection<S>,
+    rows: &Rows,
+    members: u32,
+) -> Result<Base<S>, KeepFault>
+    requires { rows.now ≡ start_tables members }
+    ensures { IfOk result (λ base. ForSome base (λ told. told ≡ rows.now)) }
+{
+    let mut conn = conn;
+    if !is_blank(conn.schema()) {
+        return Err(KeepFault::Failed);
+    }
+    make_rows(&mut conn, rows.members())?;
+    let tally = tally_of(rows);
+    Ok(Base::new(conn, tally, true))
+}
+
+// The database in a file, with the rows that it has, or with so many members where it has none.
+pub(crate) fn open_file(
+    rt: &HostRuntime,
+    alloc: Global,
+    path: &[u8],
+    members: u32,
+) -> Result<(Base<FileStore<File>>, Rows), KeepFault>
+    requires some { 1 ≤ members }
+    requires few { members ≤ 100000 }
+    ensures { IfOk result (λ made. made.0 ≡ None) }
+{
+    let mut conn = at_path(rt, path)?;
+    let rows = settle(alloc, &mut conn, members)?;
+    let tally = tally_of(&rows);
+    Ok((Base::new(conn, tally, false), rows))
+}
+
+fn in_memory(alloc: Global) -> Result<Connection<FileStore<MemoryDisk>>, KeepFault> {
+    let files = Files {
+        log: MemoryDisk::new(alloc),
+        db: MemoryDisk::new(alloc),
+    };
+    match Connection::open_files(alloc, files, Options::new(1)) {
+        Ok(conn) => Ok(conn),
+        Err((error, _)) => Err(fault_of(error)),
+    }
+}
+
+fn at_path(rt: &HostRuntime, path: &[u8]) -> Result<Connection<FileStore<File>>, KeepFault> {
+    let Ok(path) = str::from_utf8(path) else {
+        return Err(KeepFault::Failed);
+    };
+    match Connection::open_from(rt, path, false, Unknown) {
+        Ok(conn) => Ok(conn),
+        Err((error, _)) => Err(fault_of(error)),
+    }
+}
+
+// The rows of the database. Where it has none they are made. Nothing is written before what is there
+// was found fit.
+fn settle<S: Alter>(
+    alloc: Global,
+    conn: &mut Connection<S>,
+    members: u32,
+) -> Result<Rows, KeepFault>
+    requires some { 1 ≤ members }
+    requires few { members ≤ 100000 }
+{
+    if is_blank(conn.schema()) {
+        let rows = Rows::start(alloc, members)?;
+        make_rows(conn, rows.members())?;
+        return Ok(rows);
+    }
+    if !has_tables(conn.schema()) {
+        return Err(KeepFault::Failed);
+    }
+    match found_rows(alloc, conn)? {
+        Some(rows) => {
+            make_index(conn)?;
+            Ok(rows)
+        }
+        None => {
+            let rows = Rows::start(alloc, members)?;
+            fill_tables(conn, rows.members())?;
+            Ok(rows)
+        }
+    }
+}
+
+// Makes the tables and the index, and these members, all in one transaction.
+fn make_rows<S: Alter>(conn: &mut Connection<S>, members: &[Member]) -> Result<(), KeepFault>
+    requires { AllPairs (λ member later. member.id < later.id) members.now }
+    ensures made { HasCleanDisk (state S.Store conn.new)
+        → (state S.Store conn.old).now.schema ≡ empty_schema
+        → OnOk result (AreLists (state S.Store conn.new).now (members_alone members.now)) }
+{
+    if !conn.is_autocommit() {
+        return Err(KeepFault::Failed);
+    }
+    let mut tx = conn.transaction();
+    match tables_and_members(&mut tx, members) {
+        Ok(()) => keep_changes(tx),
+        Err(fault) => {
+            drop_changes(tx);
+            Err(fault)
+        }
+    }
+}
+
+// Makes the tables, the index and these members.
+fn tables_and_members<S: Alter>(
+    tx: &mut Transaction<'_, S>,
+    members: &[Member],
+) -> Result<(), KeepFault>
+    requires { AllPairs (λ member later. member.id < later.id) members.now }
+    ensures same_reference { tx.new.conn.ghost_name ≡ tx.old.conn.ghost_name }
+    ensures made { HasCleanDisk (state S.Store tx.new.conn.now)
+        → (state S.Store tx.old.conn.now).now.schema ≡ empty_schema
+        → OnOk result (AreLists (state S.Store tx.new.conn.now).now (members_alone members.now)) }
+    ensures clean { doubt (state S.Store tx.old.conn.now).is_clean
+        ≤ doubt (state S.Store tx.new.conn.now).is_clean }
+{
+    make_tables(tx)?;
+    put_members(tx, members)
+}
+
+// Puts these members, where there are none.
+fn put_members<S: Alter>(tx: &mut Transaction<'_, S>, members: &[Member]) -> Result<(), KeepFault>
+    requires { AllPairs (λ member later. member.id < later.id) members.now }
+    ensures same_reference { tx.new.conn.ghost_name ≡ tx.old.conn.ghost_name }
+    ensures put { HasCleanDisk (state S.Store tx.new.conn.now)
+        → AreLists (state S.Store tx.old.conn.now).now no_lists
+        → OnOk result (AreLists (state S.Store tx.new.conn.now).now (members_alone members.now)) }
+    ensures clean { doubt (state S.Store tx.old.conn.now).is_clean
+        ≤ doubt (state S.Store tx.new.conn.now).is_clean }
+{
+    for member in members {
+        put_member(tx, member)?;
+    }
+    Ok(())
+}
+
+// Makes the index where it is missing, and these members, all in one transaction.
+fn fill_tables<S: Alter>(conn: &mut Connection<S>, members: &[Member]) -> Result<(), KeepFault>
+    requires { AllPairs (λ member later. member.id < later.id) members.now }
+{
+    if !conn.is_autocommit() {
+        return Err(KeepFault::Failed);
+    }
+    let mut tx = conn.transaction();
+    match index_and_members(&mut tx, members) {
+        Ok(()) => keep_changes(tx),
+        Err(fault) => {
+            drop_changes(tx);
+            Err(fault)
+        }
+    }
+}
+
+// Makes the index where it is missing.
+fn make_index<S: Alter>(conn: &mut Connection<S>) -> Result<(), KeepFault> {
+    match conn.execute(LINK_INDEX, &[]) {
+        Ok(_) => Ok(()),
+        Err(error) => Err(fault_of(error)),
+    }
+}
+
+fn index_and_members<S: Alter>(
+    tx: &mut Transaction<'_, S>,
+    members: &[Member],
+) -> Result<(), KeepFault>
+    requires { AllPairs (λ member later. member.id < later.id) members.now }
+    ensures same_reference { tx.new.conn.ghost_name ≡ tx.old.conn.ghost_name }
+{
+    run(tx, LINK_INDEX)?;
+    put_members(tx, members)
+}
+
+fn run<S: Alter>(tx: &mut Transaction<'_, S>, sql: &str) -> Result<(), KeepFault>
+    ensures same_reference { tx.new.conn.ghost_name ≡ tx.old.conn.ghost_name }
+{
+    match tx.execute(sql, &[]) {
+        Ok(_) => Ok(()),
+        Err(error) => Err(fault_of(error)),
+    }
+}
