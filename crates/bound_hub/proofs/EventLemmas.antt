@@ -1,5 +1,6 @@
 -- The commits and ended sessions among the store's events.
-use Rattle.std.proofs.Common.{ℕ, ◌+◌, ◌≡◌, ◌==◌, ◌||◌, Bool, true, false, List, [], ◌∷◌, ◌++◌, length, Some, slice_get, refl, sym, ap, subst, ◌∙◌, inl, inr, ⊎_elim, append-nil, append_assoc, length-append, eqb-true, eq-eqb, arith}
+use Rattle.std.proofs.Common.{ℕ, ◌+◌, ◌≡◌, ◌==◌, ◌||◌, Bool, true, false, List, [], ◌∷◌, ◌++◌, length, Some}
+use Rattle.std.proofs.Common.{slice_get, refl, sym, ap, subst, ◌∙◌, inl, inr, ⊎_elim, append-nil, append_assoc, length-append, eqb-true, eq-eqb, arith}
 use Rattle.std.specs.List.{AllByRecursion}
 use Rattle.std.proofs.lemmas.Bool.{false≢true, or_cases}
 use Rattle.sql_keeper.specs.declared.stores.Commit.{Commit}
@@ -63,7 +64,13 @@ over_is_known (event.Commit sid txn ∷ events) who e =
     ⊎_elim
     (λ here. inl (record { place = length (commits_of events); commit = it; at = stands_last (commits_of events) it; own = eqb-true sid.number who here }))
     (λ there. ⊎_elim
-    (λ (logged : IsLogged (commits_of events) who). inl (record { place = logged.place; commit = logged.commit; at = stands-front (commits_of events) (it ∷ []) logged.place logged.commit logged.at; own = logged.own }))
+    (λ (logged : IsLogged (commits_of events) who). inl (record {
+      place = logged.place;
+      commit = logged.commit;
+      at = stands-front (commits_of events)
+          (it ∷ []) logged.place logged.commit logged.at;
+      own = logged.own;
+    }))
     (λ ended. inr ended)
     (over_is_known events who there))
     (or_cases (sid.number == who) (is_over who events) e)

@@ -1,5 +1,6 @@
 -- A get's step: its short, that it is borne out, and that the facts stay.
-use Rattle.std.proofs.Common.{ℕ, ◌≡◌, ◌≤◌, ◌==◌, Bool, true, false, cond, List, [], ◌∷◌, ◌++◌, length, Option, None, Some, Ok, Err, is_some, option_map, nat_le, refl, sym, ap, subst, inl, inr, ⊎_elim, eqb-true, arith}
+use Rattle.std.proofs.Common.{ℕ, ◌≡◌, ◌≤◌, ◌==◌, Bool, true, false, cond, List, [], ◌∷◌, ◌++◌, length, Option, None}
+use Rattle.std.proofs.Common.{Some, Ok, Err, is_some, option_map, nat_le, refl, sym, ap, subst, inl, inr, ⊎_elim, eqb-true, arith}
 use Rattle.std.proofs.lemmas.Bool.{false≢true}
 use Rattle.rows_model.specs.declared.keys.QKey.{QKey}
 use Rattle.rows_model.specs.declared.keys.Sid.{Sid}
@@ -203,7 +204,8 @@ ok_no_err x fault e = absurd cc
 -- what isn't refused is at home
 pub not_refused_at_home : {X : Type 0} (shard : ShardView) (key : QKey) (s : Step) (x : X) → Refuses (refusal shard key s) (Ok x) → shard_of key shard.terms.count ≡ shard.terms.no
 not_refused_at_home {X} shard key s x h =
-    by_test (λ b. Refuses (cond b (spent_at (next_token shard.terms (past_of shard)) s) (Some (faults.Stranger (shard_of key shard.terms.count)))) (Ok x) → shard_of key shard.terms.count ≡ shard.terms.no)
+    by_test (λ b. Refuses (cond b (spent_at (next_token shard.terms (past_of shard)) s) (Some (faults.Stranger (shard_of key shard.terms.count)))) (Ok x)
+    → shard_of key shard.terms.count ≡ shard.terms.no)
     (shard_of key shard.terms.count == shard.terms.no)
     (λ is r. eqb-true _ _ is)
     (λ is r. absurd (ok_no_err x _ r))

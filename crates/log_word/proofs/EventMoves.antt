@@ -82,7 +82,13 @@ module _ (shards : ℕ) (views : List View) (id : ℕ) (mine : View) (old : Trut
   fits_after new goes_on steps seen begins sound whole =
       each_set views id (view_that_saw seen mine) (Fits shards (record { seen = new; made = old.made }))
       (others_fit (record { seen = new; made = old.made }) goes_on steps (omega arith))
-      (record { beginning = begins; sound = sound; begun = tt; whole = subst (OwnsItsPart (record { seen = new; made = old.made }) (view_that_saw seen mine)) (sym store) (whole.0, whole.1, whole.2, (owned shards old mine (fits id mine at_id) Store store).3) })
+      (record {
+        beginning = begins;
+        sound = sound;
+        begun = tt;
+        whole = subst (OwnsItsPart (record { seen = new; made = old.made }) (view_that_saw seen mine))
+            (sym store) (whole.0, whole.1, whole.2, (owned shards old mine (fits id mine at_id) Store store).3);
+      })
 
 -- the store's seat gets an event, and the word is counted up
 pub kept_with_event : (shards : ℕ) (words : List ℕ) (views : List View) (id : ℕ) (mine : View) (event : StoreEvent) → Kept shards words views → get_elem? views id ≡ some mine
@@ -98,7 +104,13 @@ kept_with_event shards words views id mine event kept at_id store follows grante
       word = counted words (length old.seen.events) kept.word;
       unmade = kept.unmade;
       fits = fits_after shards views id mine old kept.fits kept.once at_id store new (event_goes_on event old.seen) (λ shard. refl) (with_event event mine.seen)
-          (record { events = start_is (event ∷ mine.seen.events) (event ∷ old.seen.events) (ap (λ l. event ∷ l) o.0); failures = f.beginning.failures; stopped = f.beginning.stopped; steps = f.beginning.steps })
+          (record {
+            events = start_is (event ∷ mine.seen.events) (event ∷ old.seen.events) (ap
+                (λ l. event ∷ l) o.0);
+            failures = f.beginning.failures;
+            stopped = f.beginning.stopped;
+            steps = f.beginning.steps;
+          })
           (sound_with_event shards mine.seen event f.sound follows granted)
           (ap (λ l. event ∷ l) o.0, o.1, o.2);
       once = once_set views id mine (view_with_event event mine) at_id refl kept.once;

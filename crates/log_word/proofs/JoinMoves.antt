@@ -38,7 +38,8 @@ kept_joined shards words views id mine from other kept at_id apart at_from = rec
     f = kept.fits id mine at_id
 
     g : Fits shards kept.truth other
-    g = kept.fits from other (⊎_elim (λ (t : (from ≡ id) × (both ≡ other)). absurd (apart t.0)) (λ (t : (from ≢ id) × (get_elem? views from ≡ some other)). t.1) (at_set views id from both other at_from))
+    g = kept.fits from other (⊎_elim (λ (t : (from ≡ id) × (both ≡ other)). absurd (apart t.0)) (λ (t : (from ≢ id) × (get_elem? views from ≡ some other)). t.1)
+        (at_set views id from both other at_from))
 
     no_more : (p : Part) → OwnsItsPart kept.truth mine p → HasNoMore p mine.seen other.seen
     no_more Caller o = tt

@@ -39,7 +39,8 @@ module _ (lists : Lists) where
   block_has : (pair : Pair) (l : BlockRow) → Has lists.pairs pair → block_in pair.a pair.b pair.state ≡ l ∷ [] → Has t.blocks l
   block_has pair l h is = told_has (λ p. block_in p.a p.b p.state) lists.pairs pair l h (subst (λ ls. Has ls l) (sym is) (inl refl))
 
-  module _ (x y a b : ℕ) (links : AllByRecursion (λ (l : Link). joins a b l ≡ ((l.a == x) && (l.b == y))) t.links) (blocks : AllByRecursion (λ (l : BlockRow). ((l.blocker == x) && (l.blocked == y)) ≡ false) t.blocks) where
+  module _ (x y a b : ℕ) (links : AllByRecursion (λ (l : Link). joins a b l ≡ ((l.a == x) && (l.b == y))) t.links) (blocks : AllByRecursion (λ (l : BlockRow).
+      ((l.blocker == x) && (l.blocked == y)) ≡ false) t.blocks) where
     LinkGoes : Pair → PairState → Type 0
     LinkGoes pair s = (link_in pair.a pair.b s ≡ []) ⊎ ((l : Link) × (link_in pair.a pair.b s ≡ l ∷ []) × (not (joins a b l) ≡ not (is_pair x y pair)))
 
@@ -76,7 +77,8 @@ module _ (lists : Lists) where
         ∙ filter_all t.blocks)
 
   -- a pair with these ids is a link or a block of theirs
-  pair_found : (x y : ℕ) → has_pair x y lists ≡ true → ((l : Link) × Has t.links l × (((l.a == x) && (l.b == y)) ≡ true)) ⊎ ((l : BlockRow) × Has t.blocks l × (((l.blocker == x) && (l.blocked == y)) ≡ true))
+  pair_found : (x y : ℕ) → has_pair x y lists ≡ true → ((l : Link) × Has t.links l × (((l.a == x) && (l.b == y)) ≡ true)) ⊎ ((l : BlockRow) × Has t.blocks l ×
+      (((l.blocker == x) && (l.blocked == y)) ≡ true))
   pair_found x y some =
       let found = some_has (is_pair x y) lists.pairs some in go found.0 found.1 found.2 found.0.state refl
     where

@@ -1,5 +1,6 @@
 -- What the delete of a pair makes of the lists.
-use Rattle.std.proofs.Common.{◌≡◌, inl, inr, ℕ, ◌==◌, ◌&&◌, ◌||◌, not, ℤ, pos, Bool, true, List, [], ◌∷◌, map, filter, None, Ok, Ordering, Less, Equal, Greater, is_eq, IsTrue, refl, sym, ap, subst, ◌∙◌, true≢false, IsPermutation}
+use Rattle.std.proofs.Common.{◌≡◌, inl, inr, ℕ, ◌==◌, ◌&&◌, ◌||◌, not, ℤ, pos, Bool, true, List, [], ◌∷◌, map}
+use Rattle.std.proofs.Common.{filter, None, Ok, Ordering, Less, Equal, Greater, is_eq, IsTrue, refl, sym, ap, subst, ◌∙◌, true≢false, IsPermutation}
 use Rattle.std.specs.List.{AllByRecursion, list_any, list_all}
 use Rattle.std.proofs.lemmas.Bool.{cases_Bool, false_from_ne_true}
 use Rattle.std.proofs.lemmas.List.Kept.{AllPairs-filter}
@@ -144,6 +145,7 @@ module _ (a b : ℕ) where
         members = subst (λ (l : List Row). IsPermutation (map member_values lists.members) (map shown_member l)) (sym h.members) are.members;
         members_ascend = are.members_ascend;
         rowids = subst HaveRowids (sym rest) (rowids_filter (λ r. keeps (shown_pair r)) rows are.rowids);
-        pairs = subst (λ l. IsPermutation l (map shown_pair (new.trees 1))) kept (subst (IsPermutation (filter keeps (map pair_values lists.pairs))) (sym shown) (IsPermutation-filter keeps _ _ are.pairs));
+        pairs = subst (λ l. IsPermutation l (map shown_pair (new.trees 1))) kept (subst (IsPermutation (filter keeps (map pair_values lists.pairs))) (sym shown)
+            (IsPermutation-filter keeps _ _ are.pairs));
         pairs_ascend = AllPairs-filter IsPairBefore (λ pair. not (is_pair a b pair)) lists.pairs are.pairs_ascend;
       }

@@ -1,5 +1,6 @@
 -- What the insert of a pair makes of the lists.
-use Rattle.std.proofs.Common.{◌≡◌, ◌⊎◌, inl, inr, ℕ, ℤ, pos, Bool, true, false, cond, List, [], ◌∷◌, map, insert, count_by, get_or, None, Result, Ok, Err, refl, sym, ap, subst, ◌∙◌, arith, true≢false, IsPermutation, not, ◌&&◌}
+use Rattle.std.proofs.Common.{◌≡◌, ◌⊎◌, inl, inr, ℕ, ℤ, pos, Bool, true, false, cond, List, [], ◌∷◌, map, insert}
+use Rattle.std.proofs.Common.{count_by, get_or, None, Result, Ok, Err, refl, sym, ap, subst, ◌∙◌, arith, true≢false, IsPermutation, not, ◌&&◌}
 use Rattle.std.specs.List.{All, list_any}
 use Rattle.std.proofs.lemmas.Bool.{or_parts}
 use Rattle.std.proofs.lemmas.Bool.Decides.{nat_tests}
@@ -98,7 +99,8 @@ inserts old new a b st count has h =
     let counted = went written.2 in
     let trees : done.0.trees ≡ written.0 = ap (λ (it : Written). it.trees) (same_value counted.2) ∙ same_value counted.1 in
     let step = one_step store_schema _ db written.0 (edit_of db link_table [] Chosen 0 given.0) refl written.1 in
-    let edit : edited db (edit_of db link_table [] Chosen 0 given.0) ≡ edited db (edit_of db link_table [] Chosen 0 ((Null ∷ Int a ∷ Int b ∷ Int st ∷ []) ∷ [])) = ap (λ all. edited db (edit_of db link_table [] Chosen 0 all)) given.1.1 in
+    let edit : edited db (edit_of db link_table [] Chosen 0 given.0) ≡ edited db (edit_of db link_table [] Chosen 0
+    ((Null ∷ Int a ∷ Int b ∷ Int st ∷ []) ∷ [])) = ap (λ all. edited db (edit_of db link_table [] Chosen 0 all)) given.1.1 in
     let all : new.now.trees ≡ written.0 = ap (λ (d : Database). d.trees) now ∙ trees in
     let fresh : is_free db (edit_of db link_table [] Chosen 0 given.0) ≡ true = step.fresh in
     record {

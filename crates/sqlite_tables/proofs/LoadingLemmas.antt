@@ -1,5 +1,6 @@
 -- What the queries of all rows show, and what follows for the lists of a database that is found.
-use Rattle.std.proofs.Common.{◌≡◌, inl, inr, ℕ, ◌≤◌, ℤ, ◌<ℤ◌, Bool, true, false, cond, List, [], ◌∷◌, map, filter, flat_map, length, None, unwrap_or, nat_le, ◌^◌, Result, Ok, Err, OnOk, is_eq, IsTrue, refl, sym, ap, subst, ◌∙◌, arith, IsPermutation, IfOk, codes}
+use Rattle.std.proofs.Common.{◌≡◌, inl, inr, ℕ, ◌≤◌, ℤ, ◌<ℤ◌, Bool, true, false, cond, List, [], ◌∷◌, map, filter, flat_map, length}
+use Rattle.std.proofs.Common.{None, unwrap_or, nat_le, ◌^◌, Result, Ok, Err, OnOk, is_eq, IsTrue, refl, sym, ap, subst, ◌∙◌, arith, IsPermutation, IfOk, codes}
 use Rattle.std.specs.List.{AllPairs, All, AllByRecursion}
 use Rattle.std.specs.Ordering.{int_cmp}
 use Rattle.std.proofs.lemmas.Bool.{cases_Bool}
@@ -51,8 +52,10 @@ module _ (old new : State) (rows : List Row) (sql : List ℕ) (tree : ℕ) (show
     (are : IsQuery unindexed_schema sql (all_of tree shown order) names × IsQuery store_schema sql (all_of tree shown order) names) where
   -- a text of all rows, under either schema
   pub all_rows : HasTables old.now.schema → Shown sql [] old new rows → IsPermutation (map (λ r. eval_all shown ([] ∷ r ∷ [])) (old.now.trees tree)) rows
-  all_rows (inl has) h = let read = reads_as sql [] old new unindexed_schema has _ are.0.0 are.0.1 are.0.2 rows h in subst (λ l. IsPermutation (map (λ r. eval_all shown ([] ∷ r ∷ [])) l) rows) (bare old.now.trees tree) (all_shown tree shown order Null _ rows (read.answer Null))
-  all_rows (inr has) h = let read = reads_as sql [] old new store_schema has _ are.1.0 are.1.1 are.1.2 rows h in subst (λ l. IsPermutation (map (λ r. eval_all shown ([] ∷ r ∷ [])) l) rows) (bare old.now.trees tree) (all_shown tree shown order Null _ rows (read.answer Null))
+  all_rows (inl has) h = let read = reads_as sql [] old new unindexed_schema has _ are.0.0 are.0.1 are.0.2 rows h in subst (λ l. IsPermutation (map
+      (λ r. eval_all shown ([] ∷ r ∷ [])) l) rows) (bare old.now.trees tree) (all_shown tree shown order Null _ rows (read.answer Null))
+  all_rows (inr has) h = let read = reads_as sql [] old new store_schema has _ are.1.0 are.1.1 are.1.2 rows h in subst (λ l. IsPermutation (map
+      (λ r. eval_all shown ([] ∷ r ∷ [])) l) rows) (bare old.now.trees tree) (all_shown tree shown order Null _ rows (read.answer Null))
 
   pub all_same : HasTables old.now.schema → Shown sql [] old new rows → IsUnchanged old new
   all_same (inl has) h = shown_as sql [] old new unindexed_schema rows has are.0.1 h
@@ -117,10 +120,12 @@ module _ (old new : State) (rows : List Row) (has : HasTables old.now.schema) wh
   members_same = all_same old new rows members_text 0 (col 1 0 ∷ col 1 2 ∷ []) ((col 1 0, ascending Binary) ∷ []) (codes "id" ∷ codes "name" ∷ []) members_are has
 
   pub pairs_shown : Shown pairs_text [] old new rows → IsPermutation (map shown_pair (old.now.trees 1)) rows
-  pairs_shown = all_rows old new rows pairs_text 1 (col 1 1 ∷ col 1 2 ∷ col 1 3 ∷ []) ((col 1 1, ascending Binary) ∷ (col 1 2, ascending Binary) ∷ []) (codes "a" ∷ codes "b" ∷ codes "st" ∷ []) pairs_are has
+  pairs_shown = all_rows old new rows pairs_text 1 (col 1 1 ∷ col 1 2 ∷ col 1 3 ∷ []) ((col 1 1, ascending Binary) ∷ (col 1 2, ascending Binary) ∷ [])
+      (codes "a" ∷ codes "b" ∷ codes "st" ∷ []) pairs_are has
 
   pub pairs_same : Shown pairs_text [] old new rows → IsUnchanged old new
-  pairs_same = all_same old new rows pairs_text 1 (col 1 1 ∷ col 1 2 ∷ col 1 3 ∷ []) ((col 1 1, ascending Binary) ∷ (col 1 2, ascending Binary) ∷ []) (codes "a" ∷ codes "b" ∷ codes "st" ∷ []) pairs_are has
+  pairs_same = all_same old new rows pairs_text 1 (col 1 1 ∷ col 1 2 ∷ col 1 3 ∷ []) ((col 1 1, ascending Binary) ∷ (col 1 2, ascending Binary) ∷ [])
+      (codes "a" ∷ codes "b" ∷ codes "st" ∷ []) pairs_are has
 
   pub rowids_shown : Shown rowids_text [] old new rows → IsPermutation (map (λ r. rowid r ∷ []) (old.now.trees 1)) rows
   rowids_shown = all_rows old new rows rowids_text 1 (col 1 0 ∷ []) ((col 1 0, ascending Binary) ∷ []) (codes "rowid" ∷ []) rowids_are has

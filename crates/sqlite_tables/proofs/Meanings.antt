@@ -159,7 +159,8 @@ unfolding understood everything
 put_plain = (refl, refl)
 
 -- the texts of the tables and of the index, where they are to be made
-pub member_is : (command_of (understood empty_schema member_text) ≡ CreateTable) × (statement_of member_text (understood empty_schema member_text) ≡ member_text) × (table_defined_by member_text ≡ Ok member_table)
+pub member_is : (command_of (understood empty_schema member_text) ≡ CreateTable) × (statement_of member_text (understood empty_schema member_text)
+    ≡ member_text) × (table_defined_by member_text ≡ Ok member_table)
 unfolding understood everything
 member_is = (refl, refl, refl)
 
@@ -167,7 +168,8 @@ pub member_plain : IsPlain (understood empty_schema member_text)
 unfolding understood everything
 member_plain = (refl, refl)
 
-pub link_is : (command_of (understood member_schema link_text) ≡ CreateTable) × (statement_of link_text (understood member_schema link_text) ≡ link_text) × (table_defined_by link_text ≡ Ok (record link_table { tree = 0 }))
+pub link_is : (command_of (understood member_schema link_text) ≡ CreateTable) × (statement_of link_text (understood member_schema link_text) ≡ link_text) ×
+    (table_defined_by link_text ≡ Ok (record link_table { tree = 0 }))
 unfolding understood everything
 link_is = (refl, refl, refl)
 
@@ -175,7 +177,8 @@ pub link_plain : IsPlain (understood member_schema link_text)
 unfolding understood everything
 link_plain = (refl, refl)
 
-pub index_is : (command_of (understood unindexed_schema index_text) ≡ CreateIndex 1) × (statement_of index_text (understood unindexed_schema index_text) ≡ index_text) × (index_defined_by link_table index_text ≡ Ok (record link_by_b { tree = 0 }))
+pub index_is : (command_of (understood unindexed_schema index_text) ≡ CreateIndex 1) × (statement_of index_text (understood unindexed_schema index_text)
+    ≡ index_text) × (index_defined_by link_table index_text ≡ Ok (record link_by_b { tree = 0 }))
 unfolding understood everything
 index_is = (refl, refl, refl)
 
@@ -228,7 +231,8 @@ unfolding understood everything
 rowids_are = ((refl, (refl, refl), refl), (refl, (refl, refl), refl))
 
 -- the index is made where it is missing
-pub add_is : (command_of (understood unindexed_schema add_text) ≡ CreateIndex 1) × (statement_of add_text (understood unindexed_schema add_text) ≡ add_text) × (index_defined_by link_table add_text ≡ Ok (record link_by_b { tree = 0 }))
+pub add_is : (command_of (understood unindexed_schema add_text) ≡ CreateIndex 1) × (statement_of add_text (understood unindexed_schema add_text) ≡ add_text) ×
+    (index_defined_by link_table add_text ≡ Ok (record link_by_b { tree = 0 }))
 unfolding understood everything
 add_is = (refl, refl, refl)
 

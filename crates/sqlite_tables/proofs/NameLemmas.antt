@@ -1,5 +1,6 @@
 -- What the query on the members shows of the lists.
-use Rattle.std.proofs.Common.{◌≡◌, inl, inr, ℕ, ◌==◌, ◌&&◌, ◌<◌, pos, true, false, cond, List, [], ◌∷◌, map, filter, flat_map, find, length, Option, Some, None, refl, ap, ◌∙◌, subst, arith, IsPermutation, Bool, sym}
+use Rattle.std.proofs.Common.{◌≡◌, inl, inr, ℕ, ◌==◌, ◌&&◌, ◌<◌, pos, true, false, cond, List, [], ◌∷◌, map}
+use Rattle.std.proofs.Common.{filter, flat_map, find, length, Option, Some, None, refl, ap, ◌∙◌, subst, arith, IsPermutation, Bool, sym}
 use Rattle.std.specs.List.{AllPairs, All}
 use Rattle.std.specs.Option.{option_to_list}
 use Rattle.std.proofs.lemmas.Bool.{cases_Bool}
@@ -29,7 +30,8 @@ none_has : (id : ℕ) (members : List Member) → All (λ (m : Member). (m.id ==
 none_has id [] all = refl
 none_has id (m ∷ members) all = rw (All-head (λ (x : Member). (x.id == id) ≡ false) m members all) (none_has id members (All-tail (λ (x : Member). (x.id == id) ≡ false) m members all))
 
-pub one_has : (id : ℕ) (members : List Member) → AllPairs (λ member later. member.id < later.id) members → filter (λ (m : Member). m.id == id) members ≡ option_to_list (find (λ (m : Member). m.id == id) members)
+pub one_has : (id : ℕ) (members : List Member) → AllPairs (λ member later. member.id < later.id) members → filter (λ (m : Member). m.id == id) members
+    ≡ option_to_list (find (λ (m : Member). m.id == id) members)
 one_has id [] up = refl
 one_has id (m ∷ members) up = elim (cases_Bool (m.id == id)) [
   | inl here ↦
@@ -70,7 +72,8 @@ module _ (id : ℕ) (rest : Row) (shown : List Term) (give : Row → Row) where
         ∙ (λ i. map (λ (m : Member). told (member_values m)) (filter (λ (m : Member). (and_true _ ∙ same_number m.id id) i) members))
         ∙ ap (map (λ (m : Member). told (member_values m))) (one_has id members up)
 
-    ordered_is : (found : Option Member) (ordered : List Output) → IsPermutation (map (λ m. told (member_values m)) (option_to_list found)) ordered → ordered ≡ map (λ m. told (member_values m)) (option_to_list found)
+    ordered_is : (found : Option Member) (ordered : List Output) → IsPermutation (map (λ m. told (member_values m)) (option_to_list found)) ordered → ordered
+        ≡ map (λ m. told (member_values m)) (option_to_list found)
     ordered_is (Some m) ordered same = one_permutation (told (member_values m)) ordered same
     ordered_is None ordered same = none ordered (length_permutation [] ordered same)
       where

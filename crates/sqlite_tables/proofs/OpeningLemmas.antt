@@ -25,7 +25,8 @@ use Rattle.sqlite.proofs.Callers.{statement_of, runs_as, one_step}
 use Rattle.sqlite_schema.specs.declared.schema.Index.{Index}
 use Rattle.sqlite_tables.specs.Schema.{store_schema, unindexed_schema, member_schema, empty_schema, member_table, link_table, link_by_b}
 use Rattle.sqlite_tables.specs.Lists.{Lists, AreLists, HoldLists, HasTables, HaveRowids, IsBare, member_values, pair_values, shown_member, shown_pair, with_member, no_lists}
-use Rattle.sqlite_tables.proofs.Meanings.{member_text, link_text, index_text, put_text, member_is, member_plain, link_is, link_plain, link_created, index_is, index_plain, put_is, put_plain, add_text, add_is, add_plain, added_is}
+use Rattle.sqlite_tables.proofs.Meanings.{member_text, link_text, index_text, put_text, member_is, member_plain, link_is, link_plain}
+use Rattle.sqlite_tables.proofs.Meanings.{link_created, index_is, index_plain, put_is, put_plain, add_text, add_is, add_plain, added_is}
 use Rattle.sqlite_tables.proofs.InsertLemmas.{went, same_value, cast_int, cast_null, is_free, not_taken}
 use Rattle.sqlite_tables.proofs.RowidLemmas.{put_mixes}
 
@@ -143,7 +144,8 @@ member_put old new m lists count are last h =
       tables = ap (λ (d : Database). d.schema) now;
       members = subst (λ (l : List Row). IsPermutation (map member_values (lists.members ++ m ∷ [])) (map shown_member l)) (sym (ap (λ (t : Trees). t 0) all ∙ step.rows ∙ edit ∙ member_put_is db m))
           (IsPermutation-trans _ (map member_values (m ∷ lists.members)) _ (IsPermutation-map member_values _ _ (IsPermutation-to_front lists.members m))
-          (IsPermutation-trans _ (map shown_member (row_of m ∷ db 0)) _ (IsPermutation-cons (member_values m) _ _ are.members) (IsPermutation-map shown_member _ _ (put_mixes (row_of m) (db 0) free))));
+          (IsPermutation-trans _ (map shown_member (row_of m ∷ db 0)) _ (IsPermutation-cons (member_values m) _ _ are.members)
+          (IsPermutation-map shown_member _ _ (put_mixes (row_of m) (db 0) free))));
       members_ascend = all_pairs_push (λ (x y : Member). x.id < y.id) lists.members m are.members_ascend last;
       rowids = subst HaveRowids (sym links) are.rowids;
       pairs = subst (λ (l : List Row). IsPermutation (map pair_values lists.pairs) (map shown_pair l)) (sym links) are.pairs;

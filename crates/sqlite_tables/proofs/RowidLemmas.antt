@@ -1,5 +1,6 @@
 -- Rows whose rowids are apart: what keeps them so, and that one rowid tells one row.
-use Rattle.std.proofs.Common.{◌≡◌, inl, inr, ◌≤◌, ℤ, Bool, true, false, List, [], ◌∷◌, filter, length, Ordering, Less, Equal, Greater, is_eq, IsTrue, refl, sym, ap, subst, ◌∙◌, arith, true≢false, IsPermutation}
+use Rattle.std.proofs.Common.{◌≡◌, inl, inr, ◌≤◌, ℤ, Bool, true, false, List, [], ◌∷◌, filter, length}
+use Rattle.std.proofs.Common.{Ordering, Less, Equal, Greater, is_eq, IsTrue, refl, sym, ap, subst, ◌∙◌, arith, true≢false, IsPermutation}
 use Rattle.std.specs.List.{list_any}
 use Rattle.std.specs.Ordering.{match_ordering, int_cmp}
 use Rattle.std.proofs.lemmas.Bool.{cases_Bool, or_parts}
@@ -26,7 +27,8 @@ put_mixes new [] free = IsPermutation-refl (new ∷ [])
 put_mixes new (r ∷ rows) free = go (value_cmp (rowid r) (rowid new)) (or_parts _ _ free).0 (put_mixes new rows (or_parts _ _ free).1)
   where
     go : (o : Ordering) → is_eq o ≡ false → IsPermutation (new ∷ rows) (put_row new rows) → IsPermutation (new ∷ r ∷ rows) (match_ordering o (r ∷ put_row new rows) (new ∷ rows) (new ∷ r ∷ rows))
-    go Less other later = IsPermutation-trans (new ∷ r ∷ rows) (r ∷ new ∷ rows) (r ∷ put_row new rows) (IsPermutation-middle (new ∷ []) r rows) (IsPermutation-cons r (new ∷ rows) (put_row new rows) later)
+    go Less other later = IsPermutation-trans (new ∷ r ∷ rows) (r ∷ new ∷ rows) (r ∷ put_row new rows) (IsPermutation-middle (new ∷ []) r rows)
+        (IsPermutation-cons r (new ∷ rows) (put_row new rows) later)
     go Equal other later = absurd (true≢false other)
     go Greater other later = IsPermutation-refl (new ∷ r ∷ rows)
 
@@ -61,7 +63,8 @@ rowids_put new rows have keyed free = record {
       length_permutation _ _ (IsPermutation-filter (has_rowid id) (new ∷ rows) (put_row new rows) (put_mixes new rows free)) in
       let few : length (filter (has_rowid id) (new ∷ rows)) ≤ 1 = elim (cases_Bool (has_rowid id new)) [
         | inl has ↦
-            let none : filter (has_rowid id) rows ≡ [] = none_kept (has_rowid id) rows (ap (λ n. list_any (has_rowid n) rows) (sym (number_is new id keyed has)) ∙ sym (taken_is rows new keyed) ∙ free) in
+            let none : filter (has_rowid id) rows ≡ [] = none_kept (has_rowid id) rows (ap (λ n. list_any (has_rowid n) rows) (sym (number_is new id keyed has))
+            ∙ sym (taken_is rows new keyed) ∙ free) in
             rw (has, none) (omega arith)
         | inr other ↦ rw other (have.apart id)
       ] in

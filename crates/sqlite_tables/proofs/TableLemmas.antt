@@ -1,5 +1,6 @@
 -- What becomes of the store's rows where a pair is put or taken out.
-use Rattle.std.proofs.Common.{◌≡◌, ◌⊎◌, inl, inr, ℕ, suc, ◌+◌, Bool, true, false, cond, List, [], ◌∷◌, ◌++◌, filter, flat_map, take, drop, insert, count_by, get_or, refl, sym, ap, ap₂, ◌∙◌, arith, append_assoc, take-append-drop}
+use Rattle.std.proofs.Common.{◌≡◌, ◌⊎◌, inl, inr, ℕ, suc, ◌+◌, Bool, true, false, cond, List, [], ◌∷◌, ◌++◌}
+use Rattle.std.proofs.Common.{filter, flat_map, take, drop, insert, count_by, get_or, refl, sym, ap, ap₂, ◌∙◌, arith, append_assoc, take-append-drop}
 use Rattle.std.specs.List.{AllPairs, All}
 use Rattle.std.proofs.lemmas.Bool.{cases_Bool}
 use Rattle.std.proofs.lemmas.Bool.Decides.{nat_tests}
@@ -96,11 +97,12 @@ links_alike new told a b pair = elim pair.state as (λ s. (link_in pair.a pair.b
 ]
 
 blocks_alike : (new : Pair) (told : BlockRow) → told.blocker ≡ new.a → told.blocked ≡ new.b → TellsAlike (is_pair_before new) (is_block_before told) (λ pair. block_in pair.a pair.b pair.state)
-blocks_alike new told a b pair = elim pair.state as (λ s. (block_in pair.a pair.b s ≡ []) ⊎ ((y : BlockRow) × (block_in pair.a pair.b s ≡ y ∷ []) × (is_block_before told y ≡ is_pair_before new pair))) [
-  | Pending ↦ inl refl
-  | Friend ↦ inl refl
-  | Block ↦ inr (record { blocker = pair.a; blocked = pair.b }, refl, rw (a, b) refl)
-]
+blocks_alike new told a b pair = elim pair.state as (λ s. (block_in pair.a pair.b s ≡ []) ⊎ ((y : BlockRow) × (block_in pair.a pair.b s ≡ y ∷ []) ×
+    (is_block_before told y ≡ is_pair_before new pair))) [
+      | Pending ↦ inl refl
+      | Friend ↦ inl refl
+      | Block ↦ inr (record { blocker = pair.a; blocked = pair.b }, refl, rw (a, b) refl)
+    ]
 
 stop : (new x y : Pair) → IsPairBefore x y → is_pair_before new x ≡ false → is_pair_before new y ≡ false
 stop new x y before past = grind (arith, nat_tests)
@@ -109,7 +111,8 @@ stops_of : (new : Pair) (pairs : List Pair) → AllPairs IsPairBefore pairs → 
 stops_of new pairs up = λ i j d low high. stop new (get_or pairs i d) (get_or pairs j d) (up i j d low high)
 
 -- a link that is put stands in its place among the links, and the blocks stay
-pub link_put : (new : Pair) (told : Link) (lists : Lists) → link_in new.a new.b new.state ≡ told ∷ [] → told.a ≡ new.a → told.b ≡ new.b → block_in new.a new.b new.state ≡ [] → AllPairs IsPairBefore lists.pairs
+pub link_put : (new : Pair) (told : Link) (lists : Lists) → link_in new.a new.b new.state ≡ told ∷ [] → told.a ≡ new.a → told.b ≡ new.b
+    → block_in new.a new.b new.state ≡ [] → AllPairs IsPairBefore lists.pairs
     → tables_of (with_pair new lists) ≡ record { members = lists.members; links = with_link told (tables_of lists).links; blocks = (tables_of lists).blocks }
 link_put new told lists is a b no_block up =
     ap₂ (λ ls bs. record { members = lists.members; links = ls; blocks = bs })
@@ -118,7 +121,12 @@ link_put new told lists is a b no_block up =
 
 -- a block that is put stands in its place among the blocks, and the links stay
 pub block_put : (a b : ℕ) (lists : Lists) → AllPairs IsPairBefore lists.pairs
-    → tables_of (with_pair (record { a = a; b = b; state = Block }) lists) ≡ record { members = lists.members; links = (tables_of lists).links; blocks = with_block (record { blocker = a; blocked = b }) (tables_of lists).blocks }
+    → tables_of (with_pair (record { a = a; b = b; state = Block }) lists) ≡ record {
+      members = lists.members;
+      links =
+          (tables_of lists).links;
+      blocks = with_block (record { blocker = a; blocked = b }) (tables_of lists).blocks;
+    }
 block_put a b lists up =
     let new : Pair = record { a = a; b = b; state = Block } in
     let told : BlockRow = record { blocker = a; blocked = b } in

@@ -1,5 +1,6 @@
 -- What the update of a name makes of the lists.
-use Rattle.std.proofs.Common.{◌≡◌, inl, inr, ℕ, suc, ◌==◌, ◌<◌, pos, true, false, cond, List, [], ◌∷◌, map, find, length, get_or, Option, None, Some, Ok, is_eq, refl, sym, ap, subst, ◌∙◌, arith, IsPermutation, filter, not, ◌++◌, ap₂, ◌&&◌, Bool}
+use Rattle.std.proofs.Common.{◌≡◌, inl, inr, ℕ, suc, ◌==◌, ◌<◌, pos, true, false, cond, List, [], ◌∷◌, map, find, length, get_or}
+use Rattle.std.proofs.Common.{Option, None, Some, Ok, is_eq, refl, sym, ap, subst, ◌∙◌, arith, IsPermutation, filter, not, ◌++◌, ap₂, ◌&&◌, Bool}
 use Rattle.std.specs.List.{AllPairs, All}
 use Rattle.std.specs.Option.{option_to_list}
 use Rattle.std.proofs.lemmas.Bool.{cases_Bool}
@@ -116,7 +117,8 @@ found_has id members one found = let same = found_id id members one found in gri
 abbrev row_of : ℕ → List ℕ → Row
 row_of id name = Int (pos id) ∷ Null ∷ Text name ∷ []
 
-module _ (db : Trees) (id : ℕ) (name : List ℕ) (members : List Member) (same : IsPermutation (map member_values members) (map shown_member (db 0))) (up : AllPairs (λ member later. member.id < later.id) members) where
+module _ (db : Trees) (id : ℕ) (name : List ℕ) (members : List Member) (same : IsPermutation (map member_values members) (map shown_member (db 0)))
+    (up : AllPairs (λ member later. member.id < later.id) members) where
   abbrev has : Member → Bool
   has m = m.id == id
 
@@ -134,7 +136,8 @@ module _ (db : Trees) (id : ℕ) (name : List ℕ) (members : List Member) (same
       let mixed = IsPermutation-map give members (filter has members ++ filter (λ x. not (has x)) members) (IsPermutation-filter_both has (λ x. not (has x)) (λ x. refl) members) in
       let here : has m ≡ true = found_has id members m found in
       let first : give m ≡ member_values (record { id = id; name = name }) = rw (here, found_id id members m found) refl in
-      let rest : map give (filter (λ x. not (has x)) members) ≡ map member_values (filter (λ x. not (has x)) members) = sym (map-map member_values (renamed id name) _) ∙ ap (map member_values) others_are in
+      let rest : map give (filter (λ x. not (has x)) members) ≡ map member_values (filter (λ x. not (has x)) members) = sym (map-map member_values
+      (renamed id name) _) ∙ ap (map member_values) others_are in
       let shown : map give (filter has members ++ filter (λ x. not (has x)) members) ≡ member_values (record { id = id; name = name }) ∷ map member_values (filter (λ x. not (has x)) members) =
       ap (λ l. map give (l ++ filter (λ x. not (has x)) members)) one ∙ ap₂ ◌∷◌ first rest in
       subst (λ l. IsPermutation l (member_values (record { id = id; name = name }) ∷ map member_values (filter (λ x. not (has x)) members))) (sym (map-map member_values (renamed id name) members))
@@ -147,7 +150,8 @@ module _ (db : Trees) (id : ℕ) (name : List ℕ) (members : List Member) (same
       let shown : map shown_member (without_rowid (pos id) (db 0)) ≡ filter keeps (map shown_member (db 0)) = sym (filter-map keeps shown_member (db 0)) in
       let kept : filter keeps (map member_values members) ≡ map member_values (filter (λ m. not (has m)) members) =
       filter-map keeps member_values members ∙ (λ i. map member_values (filter (λ m. not (has_id id m i)) members)) in
-      subst (λ l. IsPermutation l (map shown_member (without_rowid (pos id) (db 0)))) kept (subst (IsPermutation (filter keeps (map member_values members))) (sym shown) (IsPermutation-filter keeps _ _ same))
+      subst (λ l. IsPermutation l (map shown_member (without_rowid (pos id) (db 0)))) kept (subst (IsPermutation (filter keeps (map member_values members)))
+      (sym shown) (IsPermutation-filter keeps _ _ same))
 
   -- the rows after the edit, by what was found
   after : (found : Option Member) → find has members ≡ found → is_free db (edit_for db name (option_to_list found)) ≡ true
@@ -162,15 +166,23 @@ module _ (db : Trees) (id : ℕ) (name : List ℕ) (members : List Member) (same
       let untaken : is_taken rest row ≡ false = not_taken _ (sym fresh ∙ free) in
       subst (λ l. IsPermutation (map member_values (map (renamed id name) members)) (map shown_member l)) (sym edit)
       (IsPermutation-trans _ _ _ (values_are m some)
-      (IsPermutation-trans _ (map shown_member (row ∷ rest)) _ (IsPermutation-cons (member_values (record { id = id; name = name })) _ _ rest_shows) (IsPermutation-map shown_member _ _ (put_mixes row rest untaken))))
+      (IsPermutation-trans _ (map shown_member (row ∷ rest)) _ (IsPermutation-cons (member_values (record { id = id; name = name })) _ _ rest_shows)
+      (IsPermutation-map shown_member _ _ (put_mixes row rest untaken))))
 
 same_ids : (id : ℕ) (name : List ℕ) (m : Member) → (renamed id name m).id ≡ m.id
 same_ids id name m = elim (m.id == id) as (λ b. (cond b (record { id = m.id; name = name }) m).id ≡ m.id) [ true ↦ refl | false ↦ refl ]
 
-still_ascend : (id : ℕ) (name : List ℕ) (members : List Member) → AllPairs (λ member later. member.id < later.id) members → AllPairs (λ member later. member.id < later.id) (map (renamed id name) members)
+still_ascend : (id : ℕ) (name : List ℕ) (members : List Member) → AllPairs (λ member later. member.id < later.id) members → AllPairs
+    (λ member later. member.id < later.id) (map (renamed id name) members)
 still_ascend id name members up = λ i j d low high.
     let within : j < length members = rw length-map at high in
-    rw (get_or-map (renamed id name) members i d d (omega (arith, low, within)), get_or-map (renamed id name) members j d d within, same_ids id name (get_or members i d), same_ids id name (get_or members j d))
+    rw (
+      get_or-map (renamed id name) members i d d (omega (arith, low, within)),
+      get_or-map (renamed id name) members j d d within,
+      same_ids id name
+          (get_or members i d),
+      same_ids id name (get_or members j d),
+    )
     (up i j d low within)
 
 -- the member has the name

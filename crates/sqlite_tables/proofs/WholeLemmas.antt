@@ -10,7 +10,8 @@ use Rattle.sqlite_trees.proofs.ListLemmas.{map-map}
 use Rattle.sqlite_tables.specs.declared.pairs.Pair.{Pair}
 use Rattle.sqlite_tables.specs.declared.pairs.PairState.{PairState}
 use Rattle.sqlite_tables.specs.declared.pairs.PairState.TheVariants.{Pending, Friend, Block}
-use Rattle.sqlite_tables.specs.Lists.{Lists, AreLists, member_values, pair_values, shown_member, shown_pair, state_number, state_of, member_of, pair_of, IsPairBefore, is_pair_before, is_member_before, lists_of}
+use Rattle.sqlite_tables.specs.Lists.{Lists, AreLists, member_values, pair_values, shown_member, shown_pair, state_number}
+use Rattle.sqlite_tables.specs.Lists.{state_of, member_of, pair_of, IsPairBefore, is_pair_before, is_member_before, lists_of}
 use Rattle.sqlite_tables.proofs.ListLemmas.{same_order, ascending_from}
 
 module _ {X : Type 0} (before : X → X → Bool) (stops : (new x y : X) → before x y ≡ false → before new x ≡ false → before new y ≡ false)

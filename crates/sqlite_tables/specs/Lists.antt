@@ -1,5 +1,6 @@
 -- The rows of the two tables as two lists: the members by id, and the pairs of ids by both.
-use Rattle.std.specs.Prelude.{ℕ, pos, Bool, ◌==◌, ◌&&◌, ◌||◌, ◌≡◌, ◌<◌, ◌≤◌, not, nat_lt, if◌then◌else◌, List, [], ◌∷◌, ◌++◌, map, filter, find, fold, count_by, AllPairs, IsPermutation, Option, Some, None, option_map, ℤ, length, IsTrue, ◌⊎◌, ◌<ℤ◌}
+use Rattle.std.specs.Prelude.{ℕ, pos, Bool, ◌==◌, ◌&&◌, ◌||◌, ◌≡◌, ◌<◌, ◌≤◌, not, nat_lt, if◌then◌else◌, List, [], ◌∷◌, ◌++◌}
+use Rattle.std.specs.Prelude.{map, filter, find, fold, count_by, AllPairs, IsPermutation, Option, Some, None, option_map, ℤ, length, IsTrue, ◌⊎◌, ◌<ℤ◌}
 use Rattle.std.specs.List.{list_any, flat_map, insert, AllByRecursion}
 use Rattle.rows_model.specs.declared.rows.Link.{Link}
 use Rattle.rows_model.specs.declared.rows.LinkState.TheVariants as link

@@ -12,7 +12,8 @@ pub returns-in-Ok-clause-found : goal.returns-in-Ok-clause-found
 returns-in-Ok-clause-found g c honest has =
     let old = state g.S.Store c.args.tx.now.conn.now in
     let new = state g.S.Store c.ask_all.new.tx.conn.now in
-    shows_as pair_values (λ v. v.items) _ c.in-Ok.rows.items c.as_slice.result.now c.ascending_pairs.result (pairs_shown old new c.in-Ok.rows.items has (c.in-Ok.ensures.shown honest)) c.as_slice.ensures.value c.ascending_pairs.ensures.told
+    shows_as pair_values (λ v. v.items) _ c.in-Ok.rows.items c.as_slice.result.now c.ascending_pairs.result (pairs_shown old new c.in-Ok.rows.items has
+    (c.in-Ok.ensures.shown honest)) c.as_slice.ensures.value c.ascending_pairs.ensures.told
 
 pub returns-in-Ok-clause-same : goal.returns-in-Ok-clause-same
 returns-in-Ok-clause-same g c honest has =

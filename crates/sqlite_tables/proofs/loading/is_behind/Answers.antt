@@ -20,7 +20,8 @@ returns-then-last-pair c low up k d within =
     let item = c.in-Some.ensures.item in
     let below : c.in-Some.last.now.a < c.args.pair.now.a = ltb-true _ _ low in
     let before : IsPairBefore c.in-Some.last.now c.args.pair.now = (omega (arith, below), λ e. absurd (omega (arith, below, e))) in
-    all_to_last IsPairBefore (λ (x : Pair). IsPairBefore x c.args.pair.now) c.args.pairs.now c.in-Some.last.now up item.3.0 item.3.1 before (λ x h. then_before x c.in-Some.last.now c.args.pair.now h before) k d within
+    all_to_last IsPairBefore (λ (x : Pair). IsPairBefore x c.args.pair.now) c.args.pairs.now c.in-Some.last.now up item.3.0 item.3.1 before
+    (λ x h. then_before x c.in-Some.last.now c.args.pair.now h before) k d within
 
 pub returns-then-last-pair-2 : goal.returns-then-last-pair-2
 returns-then-last-pair-2 c low up k d within =
@@ -28,4 +29,5 @@ returns-then-last-pair-2 c low up k d within =
     let same : c.in-Some.last.now.a ≡ c.args.pair.now.a = c.if-last-pair-2.true in
     let below : c.in-Some.last.now.b < c.args.pair.now.b = ltb-true _ _ low in
     let before : IsPairBefore c.in-Some.last.now c.args.pair.now = (omega (arith, same), λ e. below) in
-    all_to_last IsPairBefore (λ (x : Pair). IsPairBefore x c.args.pair.now) c.args.pairs.now c.in-Some.last.now up item.3.0 item.3.1 before (λ x h. then_before x c.in-Some.last.now c.args.pair.now h before) k d within
+    all_to_last IsPairBefore (λ (x : Pair). IsPairBefore x c.args.pair.now) c.args.pairs.now c.in-Some.last.now up item.3.0 item.3.1 before
+    (λ x h. then_before x c.in-Some.last.now c.args.pair.now h before) k d within

@@ -14,4 +14,5 @@ returns-in-Ok-clause-made g c honest before =
 
 pub returns-in-Err-clause-kept : goal.returns-in-Err-clause-kept
 returns-in-Err-clause-kept g c honest =
-    ran_keeps g.S.Store c.args.tx.now.conn.now c.run_plain.new.tx.conn.now link_text [] c.run_plain.ensures.clean c.run_plain.result (λ out. (c.run_plain.ensures.ended out).1) (c.run_plain.ensures.runs honest)
+    ran_keeps g.S.Store c.args.tx.now.conn.now c.run_plain.new.tx.conn.now link_text [] c.run_plain.ensures.clean c.run_plain.result (λ out.
+    (c.run_plain.ensures.ended out).1) (c.run_plain.ensures.runs honest)

@@ -16,7 +16,8 @@ returns-in-Ok-clause-found g c honest lists are =
 pub returns-in-Ok-clause-same : goal.returns-in-Ok-clause-same
 returns-in-Ok-clause-same g c honest lists are =
     on_ok c.pairs_in.result
-    (shown_same to_text (Int (pos c.args.id) ∷ []) (state g.S.Store c.args.tx.now.conn.now) (state g.S.Store c.ask.new.tx.conn.now) c.in-Ok.rows.items are.tables to_plain.0 (c.in-Ok.ensures.shown honest)).0.now_is
+    (shown_same to_text (Int (pos c.args.id) ∷ []) (state g.S.Store c.args.tx.now.conn.now)
+    (state g.S.Store c.ask.new.tx.conn.now) c.in-Ok.rows.items are.tables to_plain.0 (c.in-Ok.ensures.shown honest)).0.now_is
 
 pub returns-in-Ok-clause-leaves : goal.returns-in-Ok-clause-leaves
 returns-in-Ok-clause-leaves g c =

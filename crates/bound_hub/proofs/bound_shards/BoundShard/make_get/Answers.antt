@@ -22,7 +22,8 @@ tell-note-requires-clause-borne_out g c =
     let step = get_step shard.terms (past_of shard) key c.args.who c.args.floor c.args.now in
     let home = not_refused_at_home shard key step answer told.refusal in
     let bound = c.self.invariant.2 in
-    subst (IsBorneOut pass.seen.events) (sym c.got_short-short.ensures) (got_is_borne_out g.H.BoundName.word g.H.HubName.opening g.H.BoundName.before shard pass bound key c.args.who c.args.floor c.args.now answer home told.shows c.is_some-has.result)
+    subst (IsBorneOut pass.seen.events) (sym c.got_short-short.ensures)
+    (got_is_borne_out g.H.BoundName.word g.H.HubName.opening g.H.BoundName.before shard pass bound key c.args.who c.args.floor c.args.now answer home told.shows c.is_some-has.result)
 
 pub invariant_of-self-2 : goal.invariant_of-self-2
 invariant_of-self-2 g c =
@@ -34,11 +35,13 @@ invariant_of-self-2 g c =
     let step = get_step shard.terms (past_of shard) key c.args.who c.args.floor c.args.now in
     let home = not_refused_at_home shard key step answer told.refusal in
     let bound = c.self.invariant.2 in
-    let has : c.is_some-has.result ≡ is_some (entry key (past_of c.get.new.self)) = c.is_some-has.ensures ∙ is_some_mapped _ c.peek.result ∙ ap (λ (o : Option (List ℕ × ℕ)). is_some o) c.peek.ensures in
+    let has : c.is_some-has.result ≡ is_some (entry key (past_of c.get.new.self)) = c.is_some-has.ensures ∙ is_some_mapped _ c.peek.result ∙ ap (λ (o : Option
+    (List ℕ × ℕ)). is_some o) c.peek.ensures in
     let seen = c.tell-note.ensures.seen ∙ ap (λ (x : Short). with_step pass.shard x pass.seen) c.got_short-short.ensures in (
       subst (λ (v : ShardView). IsNamed g.H.HubName.terms v) (sym told.step) c.self.invariant.0,
       subst (λ (v : ShardView). IsTokenOf v.terms.no c.self.inside.token.parts c.self.inside.token.amount) (sym told.step) c.self.invariant.1,
-      bound_with_got g.H.BoundName.word g.H.HubName.opening g.H.BoundName.before shard pass bound key c.args.who c.args.floor c.args.now answer home told.shows c.get.new.self c.tell-note.new.self c.is_some-has.result told.step has c.tell-note.ensures.word c.tell-note.ensures.shard seen,
+      bound_with_got g.H.BoundName.word g.H.HubName.opening g.H.BoundName.before shard pass bound key c.args.who c.args.floor c.args.now answer home
+          told.shows c.get.new.self c.tell-note.new.self c.is_some-has.result told.step has c.tell-note.ensures.word c.tell-note.ensures.shard seen,
     )
 
 pub returns-clause-held : goal.returns-clause-held
@@ -51,7 +54,9 @@ returns-clause-held g c =
     let step = get_step shard.terms (past_of shard) key c.args.who c.args.floor c.args.now in
     let home = not_refused_at_home shard key step answer told.refusal in
     let bound = c.self.invariant.2 in
-    let has : c.is_some-has.result ≡ is_some (entry key (past_of c.get.new.self)) = c.is_some-has.ensures ∙ is_some_mapped _ c.peek.result ∙ ap (λ (o : Option (List ℕ × ℕ)). is_some o) c.peek.ensures in
+    let has : c.is_some-has.result ≡ is_some (entry key (past_of c.get.new.self)) = c.is_some-has.ensures ∙ is_some_mapped _ c.peek.result ∙ ap (λ (o : Option
+    (List ℕ × ℕ)). is_some o) c.peek.ensures in
     let seen = c.tell-note.ensures.seen ∙ ap (λ (x : Short). with_step pass.shard x pass.seen) c.got_short-short.ensures in
     subst (λ (v : BoundShardView). IsGotHeld g.H.HubName.opening (g.H.BoundName.before v.shard.terms.no) v.shard.terms.no c.tell-note.new.self.seen key answer) c.self.view_is
-    (got_is_held g.H.BoundName.word g.H.HubName.opening g.H.BoundName.before shard pass bound key c.args.who c.args.floor c.args.now answer home told.shows c.get.new.self c.tell-note.new.self c.is_some-has.result told.step has c.tell-note.ensures.word c.tell-note.ensures.shard seen)
+    (got_is_held g.H.BoundName.word g.H.HubName.opening g.H.BoundName.before shard pass bound key c.args.who c.args.floor c.args.now answer home
+    told.shows c.get.new.self c.tell-note.new.self c.is_some-has.result told.step has c.tell-note.ensures.word c.tell-note.ensures.shard seen)

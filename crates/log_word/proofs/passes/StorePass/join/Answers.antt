@@ -10,8 +10,11 @@ invariant_of-self c =
     let other = c.note.inside.seat in
     let same : other.me.0.shards ≡ mine.me.0.shards =
     ap (λ (v : PassView). v.word.shards) c.note.view_is ∙ ap (λ (w : WordView). w.shards) (c.requires.note ∙ sym c.requires.word)
-    ∙ sym (ap (λ (v : PassView). v.word.shards) c.self.view_is) in
-    (ap (λ (u : View). u.part) c.gather.ensures.seat.view_is ∙ c.self.invariant.0, gathered_seat mine other c.gather.new.seat c.gather.ensures.seat c.gather.ensures.begun same c.self.invariant.1 c.note.invariant.1)
+    ∙ sym (ap (λ (v : PassView). v.word.shards) c.self.view_is) in (
+      ap (λ (u : View). u.part) c.gather.ensures.seat.view_is
+          ∙ c.self.invariant.0,
+      gathered_seat mine other c.gather.new.seat c.gather.ensures.seat c.gather.ensures.begun same c.self.invariant.1 c.note.invariant.1,
+    )
 
 pub returns-clause-together : goal.returns-clause-together
 returns-clause-together c =
