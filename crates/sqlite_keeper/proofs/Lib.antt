@@ -4,3 +4,5 @@ pub mod BondLemmas
 pub mod BaseLemmas
 pub mod MakeLemmas
 pub mod OpeningLemmas
+pub mod SchemaLemmas
+pub mod LoadLemmas

@@ -10,7 +10,7 @@ use Rattle.sqlite_tables.proofs.WholeLemmas.{lists_are_one}
 use Rattle.sqlite_keeper.specs.declared.bonds.Tally.{Tally}
 use Rattle.sqlite_keeper.specs.Bonds.{IsTallied}
 use Rattle.sqlite_keeper.specs.Bases.{rows_in, IsCounted}
-use Rattle.sqlite_keeper.specs.Openings.{members_alone}
+use Rattle.sqlite_keeper.specs.Openings.{members_alone, HoldsRows}
 
 -- the rows of the start are their members alone
 start_alone : (n : ℕ) → tables_of (members_alone (start_tables n).members) ≡ start_tables n
@@ -54,3 +54,25 @@ members_more members k m l here =
 -- all of them
 pub members_all : (members : List Member) (k : ℕ) → k ≡ length members → members_alone (take k members) ≡ members_alone members
 members_all members k e = ap members_alone (ap (λ (n : ℕ). take n members) e ∙ take-length members)
+
+-- a database that holds lists holds their rows
+pub holds_rows : (db : Database) (lists : Lists) (rows : Tables) → AreLists db lists → rows ≡ tables_of lists → HoldsRows rows db
+holds_rows db lists rows are is =
+    let same = lists_are_one db lists are in
+    record {
+      lists = subst (λ (l : Lists). AreLists db l) (sym same) are;
+      rows_are = ap tables_of same ∙ sym is;
+    }
+
+-- and so does one that holds the members of the start
+pub holds_start : (db : Database) (rows : Tables) (n : ℕ) → rows ≡ start_tables n → AreLists db (members_alone rows.members) → HoldsRows rows db
+holds_start db rows n e are =
+    holds_rows db (members_alone rows.members) rows are (sym (subst (λ (t : Tables). tables_of (members_alone t.members) ≡ t) (sym e) (start_alone n)))
+
+-- rows that a database holds are counted in it
+pub holds_counted : (db : Database) (rows : Tables) (tally : Tally) → HoldsRows rows db → Fit rows → IsTallied tally rows → IsCounted tally db
+holds_counted db rows tally holds fit tallied = record {
+  lists = holds.lists;
+  fit = subst Fit (sym holds.rows_are) fit;
+  tallied = subst (λ (t : Tables). IsTallied tally t) (sym holds.rows_are) tallied;
+}

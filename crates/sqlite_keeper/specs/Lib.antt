@@ -4,3 +4,4 @@ pub mod Bonds
 pub mod Bases
 pub mod Makes
 pub mod Openings
+pub mod Schemas

@@ -47,7 +47,8 @@ impl<S: Alter> Model for Base<S> {
 
 // How many links and blocks these rows have.
 pub(crate) fn tally_of(rows: &Rows) -> Tally
-    ensures { IsTallied result rows.now }
+    ensures tallied { IsTallied result rows.now }
+    ensures fit { Fit rows.now }
 {
     Tally {
         links: rows.link_count(),

@@ -7,6 +7,7 @@ mod answers;
 mod base;
 mod bonds;
 mod changes;
+mod checks;
 mod faults;
 pub mod keeper;
 mod loading;

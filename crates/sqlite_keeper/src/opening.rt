@@ -1,27 +1,27 @@
 // The start: the database is opened, its tables are made where there are none, and its rows are read.
-ghost use Rattle.std.specs.Prelude.{◌≡◌, ◌≤◌, ◌<◌, None, AllPairs, IfOk, OnOk};
+ghost use Rattle.std.specs.Prelude.{◌≡◌, ◌≤◌, ◌<◌, AllPairs, IfOk, OnOk};
 ghost use Rattle.std.specs.Option.{ForSome};
 ghost use Rattle.rows_model.specs.Rows.{start_tables};
 ghost use Rattle.sqlite_trees.specs.View.{doubt};
 ghost use Rattle.sqlite.specs.State.{HasCleanDisk};
 ghost use Rattle.sqlite.specs.Held.{state};
 ghost use Rattle.sqlite_tables.specs.Schema.{empty_schema};
-ghost use Rattle.sqlite_tables.specs.Lists.{AreLists, no_lists};
-ghost use Rattle.sqlite_keeper.specs.Openings.{members_alone};
+ghost use Rattle.sqlite_tables.specs.Lists.{AreLists, HoldLists, HasTables, no_lists};
+ghost use Rattle.sqlite_keeper.specs.Openings.{members_alone, HoldsRows};
 
 use crate::base::{Base, tally_of};
-use crate::loading::found_rows;
+use crate::loading::rows_of;
 use crate::schemas::{has_tables, is_blank};
 use memory_disk::MemoryDisk;
 use rows_model::{Member, Rows};
 use sql_keeper::KeepFault;
 use sqlite::{Alter, Connection, File, FileStore, Files, Options, Transaction, Unknown};
-use sqlite_tables::{drop_changes, fault_of, keep_changes, make_tables, put_member};
+use sqlite_tables::{
+    Found, add_index, drop_changes, fault_of, found_lists, keep_changes, make_tables, put_member,
+};
 use std::alloc::Global;
 use std::rt::HostRuntime;
 use std::str;
-
-const LINK_INDEX: &str = "CREATE INDEX IF NOT EXISTS link_by_b ON link(b, a)";
 
 // A database in memory with so many members.
 pub(crate) fn open_fresh(
@@ -66,12 +66,25 @@ pub(crate) fn open_file(
 ) -> Result<(Base<FileStore<File>>, Rows), KeepFault>
     requires some { 1 ≤ members }
     requires few { members ≤ 100000 }
-    ensures { IfOk result (λ made. made.0 ≡ None) }
+    ensures { IfOk result (λ made. ForSome made.0 (λ told. told ≡ made.1)) }
 {
-    let mut conn = at_path(rt, path)?;
+    found_base(alloc, at_path(rt, path)?, members)
+}
+
+// The base of a connection, and the rows that its database has or is given.
+fn found_base<S: Alter + Drop>(
+    alloc: Global,
+    conn: Connection<S>,
+    members: u32,
+) -> Result<(Base<S>, Rows), KeepFault>
+    requires some { 1 ≤ members }
+    requires few { members ≤ 100000 }
+    ensures { IfOk result (λ made. ForSome made.0 (λ told. told ≡ made.1)) }
+{
+    let mut conn = conn;
     let rows = settle(alloc, &mut conn, members)?;
     let tally = tally_of(&rows);
-    Ok((Base::new(conn, tally, false), rows))
+    Ok((Base::new(conn, tally, true), rows))
 }
 
 fn in_memory(alloc: Global) -> Result<Connection<FileStore<MemoryDisk>>, KeepFault> {
@@ -104,26 +117,101 @@ fn settle<S: Alter>(
 ) -> Result<Rows, KeepFault>
     requires some { 1 ≤ members }
     requires few { members ≤ 100000 }
+    ensures held { HasCleanDisk (state S.Store conn.new)
+        → IfOk result (λ rows. HoldsRows rows (state S.Store conn.new).now) }
 {
     if is_blank(conn.schema()) {
-        let rows = Rows::start(alloc, members)?;
-        make_rows(conn, rows.members())?;
-        return Ok(rows);
+        return begin(alloc, conn, members);
     }
     if !has_tables(conn.schema()) {
         return Err(KeepFault::Failed);
     }
-    match found_rows(alloc, conn)? {
-        Some(rows) => {
-            make_index(conn)?;
+    load(alloc, conn, members)
+}
+
+// The rows of the start, made in a database that has nothing.
+fn begin<S: Alter>(alloc: Global, conn: &mut Connection<S>, members: u32) -> Result<Rows, KeepFault>
+    requires some { 1 ≤ members }
+    requires few { members ≤ 100000 }
+    ensures held { HasCleanDisk (state S.Store conn.new)
+        → (state S.Store conn.old).now.schema ≡ empty_schema
+        → IfOk result (λ rows. HoldsRows rows (state S.Store conn.new).now) }
+{
+    let rows = Rows::start(alloc, members)?;
+    make_rows(conn, rows.members())?;
+    Ok(rows)
+}
+
+// The rows of a database that has the tables, read in one transaction. Where it has none those of the
+// start are made.
+fn load<S: Alter>(alloc: Global, conn: &mut Connection<S>, members: u32) -> Result<Rows, KeepFault>
+    requires some { 1 ≤ members }
+    requires few { members ≤ 100000 }
+    ensures held { HasCleanDisk (state S.Store conn.new)
+        → HasTables (state S.Store conn.old).now.schema
+        → IfOk result (λ rows. HoldsRows rows (state S.Store conn.new).now) }
+{
+    if !conn.is_autocommit() {
+        return Err(KeepFault::Failed);
+    }
+    let mut tx = conn.transaction();
+    match loaded(alloc, &mut tx, members) {
+        Ok(rows) => {
+            keep_changes(tx)?;
             Ok(rows)
         }
-        None => {
-            let rows = Rows::start(alloc, members)?;
-            fill_tables(conn, rows.members())?;
-            Ok(rows)
+        Err(fault) => {
+            drop_changes(tx);
+            Err(fault)
         }
     }
+}
+
+// The rows that the lists of the database tell, or those of the start, put where it has none.
+fn loaded<S: Alter>(
+    alloc: Global,
+    tx: &mut Transaction<'_, S>,
+    members: u32,
+) -> Result<Rows, KeepFault>
+    requires some { 1 ≤ members }
+    requires few { members ≤ 100000 }
+    ensures same_reference { tx.new.conn.ghost_name ≡ tx.old.conn.ghost_name }
+    ensures held { HasCleanDisk (state S.Store tx.new.conn.now)
+        → HasTables (state S.Store tx.old.conn.now).now.schema
+        → IfOk result (λ rows. HoldsRows rows (state S.Store tx.new.conn.now).now) }
+    ensures clean { doubt (state S.Store tx.old.conn.now).is_clean
+        ≤ doubt (state S.Store tx.new.conn.now).is_clean }
+{
+    let found = found_lists(alloc, tx)?;
+    if found.members.is_empty() && found.pairs.is_empty() {
+        return fill(alloc, tx, members);
+    }
+    let Found { members, pairs } = found;
+    let rows = rows_of(alloc, members, pairs.as_slice())?;
+    add_index(tx)?;
+    Ok(rows)
+}
+
+// The rows of the start, put where the tables have none.
+fn fill<S: Alter>(
+    alloc: Global,
+    tx: &mut Transaction<'_, S>,
+    members: u32,
+) -> Result<Rows, KeepFault>
+    requires some { 1 ≤ members }
+    requires few { members ≤ 100000 }
+    ensures same_reference { tx.new.conn.ghost_name ≡ tx.old.conn.ghost_name }
+    ensures held { HasCleanDisk (state S.Store tx.new.conn.now)
+        → HasTables (state S.Store tx.old.conn.now).now.schema
+        → HoldLists (state S.Store tx.old.conn.now).now.trees no_lists
+        → IfOk result (λ rows. HoldsRows rows (state S.Store tx.new.conn.now).now) }
+    ensures clean { doubt (state S.Store tx.old.conn.now).is_clean
+        ≤ doubt (state S.Store tx.new.conn.now).is_clean }
+{
+    let rows = Rows::start(alloc, members)?;
+    add_index(tx)?;
+    put_members(tx, rows.members())?;
+    Ok(rows)
 }
 
 // Makes the tables and the index, and these members, all in one transaction.
@@ -177,49 +265,4 @@ fn put_members<S: Alter>(tx: &mut Transaction<'_, S>, members: &[Member]) -> Res
         put_member(tx, member)?;
     }
     Ok(())
-}
-
-// Makes the index where it is missing, and these members, all in one transaction.
-fn fill_tables<S: Alter>(conn: &mut Connection<S>, members: &[Member]) -> Result<(), KeepFault>
-    requires { AllPairs (λ member later. member.id < later.id) members.now }
-{
-    if !conn.is_autocommit() {
-        return Err(KeepFault::Failed);
-    }
-    let mut tx = conn.transaction();
-    match index_and_members(&mut tx, members) {
-        Ok(()) => keep_changes(tx),
-        Err(fault) => {
-            drop_changes(tx);
-            Err(fault)
-        }
-    }
-}
-
-// Makes the index where it is missing.
-fn make_index<S: Alter>(conn: &mut Connection<S>) -> Result<(), KeepFault> {
-    match conn.execute(LINK_INDEX, &[]) {
-        Ok(_) => Ok(()),
-        Err(error) => Err(fault_of(error)),
-    }
-}
-
-fn index_and_members<S: Alter>(
-    tx: &mut Transaction<'_, S>,
-    members: &[Member],
-) -> Result<(), KeepFault>
-    requires { AllPairs (λ member later. member.id < later.id) members.now }
-    ensures same_reference { tx.new.conn.ghost_name ≡ tx.old.conn.ghost_name }
-{
-    run(tx, LINK_INDEX)?;
-    put_members(tx, members)
-}
-
-fn run<S: Alter>(tx: &mut Transaction<'_, S>, sql: &str) -> Result<(), KeepFault>
-    ensures same_reference { tx.new.conn.ghost_name ≡ tx.old.conn.ghost_name }
-{
-    match tx.execute(sql, &[]) {
-        Ok(_) => Ok(()),
-        Err(error) => Err(fault_of(error)),
-    }
 }

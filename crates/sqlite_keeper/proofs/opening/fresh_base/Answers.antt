@@ -19,7 +19,7 @@ new-requires g c = λ _ up clean.
     let are = c.in_ok-make_rows.ensures.made (no_doubt (state g.S.Store c.make_rows.new.conn).is_clean clean) blank in
     let here = subst (λ (ms : List Member). AreLists (state g.S.Store c.make_rows.new.conn).now (members_alone ms)) c.members.ensures.items are in
     start_counted (state g.S.Store c.make_rows.new.conn).now c.args.rows.now c.args.members c.tally_of-tally.result c.requires c.members.ensures.fit
-    c.tally_of-tally.ensures here
+    c.tally_of-tally.ensures.tallied here
 
 pub returns : goal.returns
 returns g c =

@@ -1,0 +1,17 @@
+use Rattle.sqlite_trees.proofs.Doubt.{no_doubt}
+use Rattle.sqlite.specs.Held.{state}
+use Rattle.sqlite_keeper.proofs.BaseLemmas.{told_some}
+use Rattle.sqlite_keeper.proofs.OpeningLemmas.{holds_counted}
+use Rattle.sqlite_keeper.proofs.opening.found_base.Goals as goal
+
+pub new-requires : goal.new-requires
+new-requires g c = λ _ up clean.
+    let new = state g.S.Store c.settle.new.conn in
+    let holds = c.in_ok-rows.ensures.held (no_doubt new.is_clean clean) in
+    holds_counted new.now c.in_ok-rows.rows c.tally_of-tally.result holds c.tally_of-tally.ensures.fit c.tally_of-tally.ensures.tallied
+
+pub returns : goal.returns
+returns g c =
+    let new = state g.S.Store c.settle.new.conn in
+    rw c.new.ensures (told_some new.is_open new.is_clean new.now c.in_ok-rows.rows
+    (λ up clean. (c.in_ok-rows.ensures.held (no_doubt new.is_clean clean)).rows_are))
