@@ -23,8 +23,9 @@ use std::rt::HostRuntime;
 /// number of members is not used. A file that isn't such a database, or whose rows aren't fit for a
 /// store, is refused as `Failed`, and is left as it is.
 ///
-/// In memory the keeper tells its rows once it was started, as long as the database is open: a want of
-/// memory under it may shut it, and each later call fails. Of a file it tells no rows.
+/// The keeper tells its rows once it was started, as long as the database is open and its disk has told
+/// no lie: nothing else has written the files, and a read gives what was written. A disk in memory never
+/// lies. A want of memory under the database may shut it, and each later call fails.
 ///
 /// Want of memory that the database tells of is `Memory`. Every other refusal of it is counted, and is
 /// `Failed`.
