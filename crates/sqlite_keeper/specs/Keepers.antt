@@ -12,11 +12,11 @@ held_at Fresh members = Some (start_tables members)
 held_at (File path) members = None
 
 -- the rows that a database tells, wherever it lies
-abbrev pub told_of : Lies → Option Tables
+abbrev pub told_of : {F : Type 0} → Lies F → Option Tables
 told_of (InMemory told) = told
 told_of (InFile told) = told
 
 -- the rows that a keeper tells: none before it was started
-abbrev pub rows_of : Option Lies → Option Tables
+abbrev pub rows_of : {F : Type 0} → Option (Lies F) → Option Tables
 rows_of (Some lies) = told_of lies
 rows_of None = None

@@ -8,15 +8,20 @@ ghost use Rattle.sqlite_keeper.specs.Keepers.{held_at, told_of, rows_of};
 
 use crate::base::Base;
 use crate::faults::{count, keep_failed, staged_failed};
-use crate::opening::{open_file, open_fresh};
+use crate::openers::{AnyFile, Opens};
+use crate::opening::{found_base, open_fresh};
 use memory_disk::MemoryDisk;
 use rows_model::{QKey, Rows, Txn, Value};
 use sql_keeper::{AfterFault, KeepFault, Keeper, Place};
-use sqlite::{File, FileStore};
+use sqlite::{Alter, File, FileStore};
 use std::alloc::Global;
 use std::rt::HostRuntime;
 
 /// A keeper of the rows of a store in an SQL database: a fresh one in memory, or that of a file.
+///
+/// The file lies in a store `F`, which the opener `O` opens. A program calls `new`, whose keeper takes
+/// any file. What this keeper tells is proved over each `F`, so also over one that names what the file
+/// holds before it is opened.
 ///
 /// A file is opened for this keeper alone. Where it is missing or empty the tables are made, with the
 /// opening members. Where its tables have members they are kept, with their links and blocks, and the
@@ -30,31 +35,40 @@ use std::rt::HostRuntime;
 /// Want of memory that the database tells of is `Memory`. Every other refusal of it is counted, and is
 /// `Failed`.
 #[derive(Drop)]
-pub struct SqliteKeeper {
+pub struct SqliteKeeper<F: Alter, O: Opens<F>> {
     rt: HostRuntime,
-    lies: Option<Lies>,
+    opener: O,
+    lies: Option<Lies<F>>,
     faults: u64,
 }
 
 // Where the database of a keeper lies.
 #[derive(Drop)]
-enum Lies {
+enum Lies<F: Alter> {
     InMemory(Base<FileStore<MemoryDisk>>),
-    InFile(Base<FileStore<File>>),
+    InFile(Base<F>),
 }
 
-impl SqliteKeeper {
+impl SqliteKeeper<FileStore<File>, AnyFile> {
     /// A keeper that wasn't started. No call has failed.
-    pub fn new(rt: &HostRuntime) -> SqliteKeeper {
+    pub fn new(rt: &HostRuntime) -> SqliteKeeper<FileStore<File>, AnyFile> {
+        SqliteKeeper::over(rt, AnyFile)
+    }
+}
+
+impl<F: Alter + Drop, O: Opens<F>> SqliteKeeper<F, O> {
+    /// The same, over the files that the opener opens.
+    pub fn over(rt: &HostRuntime, opener: O) -> SqliteKeeper<F, O> {
         SqliteKeeper {
             rt: *rt,
+            opener,
             lies: None,
             faults: 0,
         }
     }
 
     // Opens the database of the place.
-    fn open(&self, alloc: Global, place: &Place, members: u32) -> Result<(Lies, Rows), KeepFault>
+    fn open(&self, alloc: Global, place: &Place, members: u32) -> Result<(Lies<F>, Rows), KeepFault>
         requires some { 1 ≤ members }
         requires few { members ≤ 100000 }
         ensures told { IfOk result (λ made. ForSome (told_of made.0) (λ told. told ≡ made.1)) }
@@ -67,14 +81,15 @@ impl SqliteKeeper {
                 Ok((Lies::InMemory(base), rows))
             }
             Place::File { path } => {
-                let (base, rows) = open_file(&self.rt, alloc, path.bytes(), members)?;
+                let conn = self.opener.open(&self.rt, path.bytes())?;
+                let (base, rows) = found_base(alloc, conn, members)?;
                 Ok((Lies::InFile(base), rows))
             }
         }
     }
 }
 
-impl Lies {
+impl<F: Alter> Lies<F> {
     fn ask(&mut self, alloc: Global, key: &QKey) -> Result<Value, KeepFault>
         ensures tells { (told : Tables) → told_of self.new ≡ Some told
             → (told_of self.old ≡ Some told) × IfOk result (λ value. value ≡ answer key.now told) }
@@ -107,7 +122,7 @@ impl Lies {
     }
 }
 
-impl Keeper for SqliteKeeper {
+impl<F: Alter + Drop, O: Opens<F>> Keeper for SqliteKeeper<F, O> {
     ghost rows = { λ keeper. rows_of keeper.lies };
 
     ghost holds = { λ _ place members. held_at place members };

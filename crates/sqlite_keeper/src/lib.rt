@@ -2,6 +2,7 @@
 #![tactic(auto)]
 
 pub use keeper::SqliteKeeper;
+pub use openers::{AnyFile, Opens, at_path};
 
 mod answers;
 mod base;
@@ -11,6 +12,7 @@ mod checks;
 mod faults;
 pub mod keeper;
 mod loading;
+pub mod openers;
 mod opening;
 mod schemas;
 mod texts;

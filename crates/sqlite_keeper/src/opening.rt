@@ -15,13 +15,11 @@ use crate::schemas::{has_tables, is_blank};
 use memory_disk::MemoryDisk;
 use rows_model::{Member, Rows};
 use sql_keeper::KeepFault;
-use sqlite::{Alter, Connection, File, FileStore, Files, Options, Transaction, Unknown};
+use sqlite::{Alter, Connection, FileStore, Files, Options, Transaction};
 use sqlite_tables::{
     Found, add_index, drop_changes, fault_of, found_lists, keep_changes, make_tables, put_member,
 };
 use std::alloc::Global;
-use std::rt::HostRuntime;
-use std::str;
 
 // A database in memory with so many members.
 pub(crate) fn open_fresh(
@@ -57,22 +55,8 @@ fn fresh_base<S: Alter + Drop>(
     Ok(Base::new(conn, tally, true))
 }
 
-// The database in a file, with the rows that it has, or with so many members where it has none.
-pub(crate) fn open_file(
-    rt: &HostRuntime,
-    alloc: Global,
-    path: &[u8],
-    members: u32,
-) -> Result<(Base<FileStore<File>>, Rows), KeepFault>
-    requires some { 1 ≤ members }
-    requires few { members ≤ 100000 }
-    ensures { IfOk result (λ made. ForSome made.0 (λ told. told ≡ made.1)) }
-{
-    found_base(alloc, at_path(rt, path)?, members)
-}
-
 // The base of a connection, and the rows that its database has or is given.
-fn found_base<S: Alter + Drop>(
+pub(crate) fn found_base<S: Alter + Drop>(
     alloc: Global,
     conn: Connection<S>,
     members: u32,
@@ -93,16 +77,6 @@ fn in_memory(alloc: Global) -> Result<Connection<FileStore<MemoryDisk>>, KeepFau
         db: MemoryDisk::new(alloc),
     };
     match Connection::open_files(alloc, files, Options::new(1)) {
-        Ok(conn) => Ok(conn),
-        Err((error, _)) => Err(fault_of(error)),
-    }
-}
-
-fn at_path(rt: &HostRuntime, path: &[u8]) -> Result<Connection<FileStore<File>>, KeepFault> {
-    let Ok(path) = str::from_utf8(path) else {
-        return Err(KeepFault::Failed);
-    };
-    match Connection::open_from(rt, path, false, Unknown) {
         Ok(conn) => Ok(conn),
         Err((error, _)) => Err(fault_of(error)),
     }
