@@ -1,6 +1,6 @@
 -- Rows that are made of lists, a pair after the other.
-use Rattle.std.proofs.Common.{◌≡◌, ℕ, suc, ◌+◌, ◌<◌, ◌≤◌, Bool, true, false, not, List, [], ◌∷◌, ◌++◌, length, get_or, take, drop, filter, All, AllPairs, Result, Ok, Err, refl, sym, ap, subst, ◌∙◌, add-one, arith}
-use Rattle.std.specs.Prelude.{◌==◌, ◌&&◌, ◌||◌, cond, if◌then◌else◌, count_by, nat_lt}
+use Rattle.std.proofs.Common.{◌≡◌, ℕ, ◌+◌, ◌<◌, ◌≤◌, Bool, true, false, not, List, [], ◌∷◌, ◌++◌, length, get_or, take, drop, All, AllPairs, Result, Ok, Err, refl, sym, ap, subst, ◌∙◌, add-one, arith}
+use Rattle.std.specs.Prelude.{◌||◌, cond, count_by}
 use Rattle.std.specs.List.{list_any, insert}
 use Rattle.std.proofs.Math.Seq.{take-suc, take-length, drop-length}
 use Rattle.std.proofs.lemmas.Bool.{eq-eqb, lt-ltb, false≢true}
@@ -13,7 +13,7 @@ use Rattle.rows_model.specs.declared.rows.Link.{Link}
 use Rattle.rows_model.specs.declared.rows.LinkState.TheVariants as link
 use Rattle.rows_model.specs.declared.rows.Member.{Member}
 use Rattle.rows_model.specs.Rows.{Tables, Fit, joins}
-use Rattle.rows_model.specs.Changes.{applies, changed, apply_from, apply_all, with_link, without_link, invitation, friendship, is_linked, is_before}
+use Rattle.rows_model.specs.Changes.{applies, changed, apply_from, apply_all, with_link, without_link, invitation, friendship, is_before}
 use Rattle.rows_model.proofs.ApplyLemmas.{apply_all_is}
 use Rattle.rows_model.proofs.FitLemmas.{invite_parts, count_cons}
 use Rattle.rows_model.proofs.UntouchedLemmas.{filter_insert}

@@ -11,7 +11,8 @@ pub trait Opens<F: Alter> {
     fn open(&self, rt: &HostRuntime, path: &[u8]) -> Result<Connection<F>, KeepFault>;
 }
 
-/// Opens the file at a path, and names nothing of what it holds before.
+/// Opens the file at a path, and names nothing of what it holds before. So of a file that isn't empty
+/// what a keeper over this store tells says nothing: it is proved over a store that names it.
 #[derive(Clone, Copy)]
 pub struct AnyFile;
 

@@ -1,4 +1,4 @@
-use Rattle.std.proofs.Common.{◌≡◌, List, subst, arith}
+use Rattle.std.proofs.Common.{List, subst, arith}
 use Rattle.rows_model.specs.declared.rows.Member.{Member}
 use Rattle.sqlite.specs.State.{HasCleanDisk}
 use Rattle.sqlite.specs.Held.{state}
