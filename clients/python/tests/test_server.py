@@ -498,12 +498,12 @@ class ModesOfAWriter(WithServer):
 
     def test_no_such_member(self) -> None:
         pool = self.pool(1)
-        answer = pool.read("profile:4294967295")
+        answer = pool.read("profile:100000")
         self.assertEqual((answer.text, Profile.parse(answer.data)), ("-", None))
-        self.assertEqual(pool.read("friends:4294967295").data, b"")
+        self.assertEqual(pool.read("friends:100000").data, b"")
         for mode in Mode:
             with self.assertRaises(RejectedError):
-                pool.write("rename 4294967295 bob", mode)
+                pool.write("rename 100000 bob", mode)
 
     def test_a_store_that_is_asked(self) -> None:
         (a,) = self.members(1)
