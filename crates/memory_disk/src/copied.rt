@@ -1,7 +1,8 @@
 // A file that is read into memory once, and whose reads are answered from there.
-ghost use Rattle.std.specs.Prelude.{◌≡◌, ◌+◌, ◌≤◌, length, [], true, false, refl, is_ok, IsTrue, IfOk, OnOk, OnErr};
-ghost use Rattle.sqlite_disk.specs.Disk.{Holds, Torn, Mixed, Cut, CountsFault};
-ghost use Rattle.sqlite_disk.specs.Refusal.{finds_no_room};
+ghost use Rattle.std.specs.Prelude.{◌≡◌, ◌+◌, ◌^◌, ◌<◌, length, true, refl, is_ok, IsTrue, IfOk, OnOk};
+ghost use Rattle.sqlite_disk.specs.Disk.{Holds, Torn, Mixed, Cut, Only, CountsFault};
+ghost use Rattle.sqlite_disk.specs.Tally.{CountsRefusal};
+ghost use Rattle.memory_disk.specs.Copies.{tally_in};
 
 use crate::MemoryDisk;
 use sqlite_disk::{Disk, Tally};
@@ -48,10 +49,7 @@ impl<D: Disk> Disk for CopiedDisk<D> {
 
     ghost is_clean = { λ _. true };
 
-    ghost tally_of = { λ disk. record {
-        caught = disk.copy.caught;
-        refused = (D.Disk.tally_of disk.file).refused;
-    } };
+    ghost tally_of = { λ disk. tally_in D.Disk disk };
 
     ghost key_of = { λ _. 0 };
 
@@ -94,17 +92,53 @@ impl<D: Disk> Disk for CopiedDisk<D> {
         self.copy.read_checked(key, want, at, buf)
     }
 
-    fn write_at(&mut self, at: usize, bytes: &[u8]) -> io::Result<()> {
+    /// The file has the bytes too.
+    fn write_at(&mut self, at: usize, bytes: &[u8]) -> io::Result<()>
+        requires { IsTrue (D.Disk.is_usable self.old.file) }
+        ensures reaches { OnOk result (0 < length bytes.now
+            → Holds (D.Disk.seen self.new.file) at bytes.now) }
+        ensures written { OnOk result (0 < length bytes.now
+            → Holds self.new.copy.bytes.items at bytes.now) }
+        ensures faults { CountsFault result (D.Disk.faults self.old.file + self.old.copy.faults)
+            (D.Disk.faults self.new.file + self.new.copy.faults) }
+        ensures others { Torn at (length bytes.now)
+            self.old.copy.bytes.items self.new.copy.bytes.items }
+        ensures tally { CountsRefusal result (tally_in D.Disk self.old) (tally_in D.Disk self.new) }
+        ensures usable { IsTrue (D.Disk.is_usable self.new.file) }
+        ensures mixing { D.Disk.is_mixing self.new.file ≡ D.Disk.is_mixing self.old.file }
+        ensures mixed { at + length bytes.now < 2 ^ 64
+            → Mixed at bytes.now self.old.copy.bytes.items self.new.copy.bytes.items }
+    {
         self.file.write_at(at, bytes)?;
         self.copy.write_at(at, bytes)
     }
 
-    fn set_len(&mut self, len: usize) -> io::Result<()> {
+    /// The file has this length too.
+    fn set_len(&mut self, len: usize) -> io::Result<()>
+        requires { IsTrue (D.Disk.is_usable self.old.file) }
+        ensures reaches { OnOk result (length (D.Disk.seen self.new.file) ≡ len) }
+        ensures len { OnOk result (length self.new.copy.bytes.items ≡ len) }
+        ensures faults { CountsFault result (D.Disk.faults self.old.file + self.old.copy.faults)
+            (D.Disk.faults self.new.file + self.new.copy.faults) }
+        ensures others { Cut len self.old.copy.bytes.items self.new.copy.bytes.items }
+        ensures tally { CountsRefusal result (tally_in D.Disk self.old) (tally_in D.Disk self.new) }
+        ensures usable { IsTrue (D.Disk.is_usable self.new.file) }
+    {
         self.file.set_len(len)?;
         self.copy.set_len(len)
     }
 
-    fn sync(&mut self) -> io::Result<()> {
+    /// A crash leaves no more of the file than it shows.
+    fn sync(&mut self) -> io::Result<()>
+        requires { IsTrue (D.Disk.is_usable self.old.file) }
+        ensures reaches { OnOk result
+            (Only (D.Disk.seen self.old.file) (D.Disk.may_leave self.new.file)) }
+        ensures faults { CountsFault result (D.Disk.faults self.old.file + self.old.copy.faults)
+            (D.Disk.faults self.new.file + self.new.copy.faults) }
+        ensures seen { self.new.copy.bytes.items ≡ self.old.copy.bytes.items }
+        ensures tally { CountsRefusal result (tally_in D.Disk self.old) (tally_in D.Disk self.new) }
+        ensures usable { D.Disk.is_usable self.new.file ≡ is_ok result }
+    {
         self.file.sync()
     }
 }
