@@ -4,7 +4,7 @@ ghost use Rattle.sqlite_disk.specs.Disk.{Holds, Torn, Mixed, Cut, Only, CountsFa
 ghost use Rattle.sqlite_disk.specs.Tally.{CountsRefusal};
 ghost use Rattle.memory_disk.specs.Copies.{tally_in};
 
-use crate::MemoryDisk;
+use crate::{MemoryDisk, counted, overwrite};
 use sqlite_disk::{Disk, Tally};
 use std::alloc::Global;
 use std::io;
@@ -110,7 +110,10 @@ impl<D: Disk> Disk for CopiedDisk<D> {
             → Mixed at bytes.now self.old.copy.bytes.items self.new.copy.bytes.items }
     {
         self.file.write_at(at, bytes)?;
-        self.copy.write_at(at, bytes)
+        counted(
+            overwrite(&mut self.copy.bytes, at, bytes),
+            &mut self.copy.faults,
+        )
     }
 
     /// The file has this length too.

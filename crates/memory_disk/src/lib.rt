@@ -58,10 +58,8 @@ impl Disk for MemoryDisk {
 
     ghost seen_may_stay = { λ disk. refl };
 
-    ghost is_mixing = { λ _. true };
-
     fn mixes(&self) -> bool {
-        true
+        false
     }
 
     fn key(&self) -> u64 {
