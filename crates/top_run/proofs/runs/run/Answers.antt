@@ -1,6 +1,8 @@
 use Rattle.std.proofs.Common.{Bool, refl, sym, subst}
 use Rattle.run_words.specs.declared.words.Words.TheVariants as words
 use Rattle.run_words.specs.declared.words.WordsFault.TheVariants as fault
+use Rattle.top_run.specs.declared.runs.Status.{Status}
+use Rattle.top_run.specs.Commands.{IsTextPart}
 use Rattle.top_run.specs.Runs.{told_by, RoseWhere}
 use Rattle.top_run.proofs.PrintLemmas.{print_none}
 use Rattle.top_run.proofs.CommandLemmas.{command_ok, command_err, load_not_failed, load_no_door, load_no_replay, no_command, server_not_failed, server_no_replay}
@@ -64,6 +66,11 @@ returns-in-Ok-Told-clause-ended g c =
           (c.tell.ensures.told (told_by g.S.Source c.args.source.now)),
       record { no_ends = c.tell.ensures.no_ends; door = refl },
     ))
+
+pub returns-in-Ok-Told-clause-usage : goal.returns-in-Ok-Told-clause-usage
+returns-in-Ok-Told-clause-usage g c = λ is.
+    let told = c.tell.ensures.told (told_by g.S.Source c.args.source.now) in
+    absurd (subst (λ (e : Status). IsTextPart e c.as_slice.result.now told.printed) is told.is_part)
 
 pub returns-in-Err-Usage-clause-usage : goal.returns-in-Err-Usage-clause-usage
 returns-in-Err-Usage-clause-usage g c = λ is.
