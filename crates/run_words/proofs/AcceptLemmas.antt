@@ -15,7 +15,7 @@ use Rattle.run_words.specs.declared.words.Words.TheVariants.{Replay, Work, Serve
 use Rattle.run_words.specs.declared.words.WordsFault.{WordsFault}
 use Rattle.run_words.specs.declared.words.WordsFault.TheVariants.{Usage, Memory}
 use Rattle.run_words.specs.Program.{program}
-use Rattle.run_words.specs.Words.{AreCommand, AreWords, CanBeNamed, IsPlainText, place_words, with_place}
+use Rattle.run_words.specs.Words.{AreCommand, AreWords, CanBeNamed, place_words, with_place}
 use Rattle.run_words.specs.Reading.{AreSaid, AskForText, IsRead, IsSaid}
 use Rattle.run_words.proofs.TakenLemmas.{ArePlain, AreTakenAs, HasPlainPath, IsPlainWord, replay_taken, work_taken, serve_taken}
 

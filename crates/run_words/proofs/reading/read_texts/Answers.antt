@@ -1,9 +1,8 @@
 use Rattle.std.proofs.Common.{ℕ, List, map, subst}
-use Rattle.std.specs.Prelude.{IfSome, IfNone}
+use Rattle.std.specs.Prelude.{IfSome}
 use Rattle.clap.specs.Words.{app_of, kind_of, subcommand_rows_of}
-use Rattle.run_words.specs.declared.words.Words.{Words}
 use Rattle.run_words.specs.Reading.{AreGiven}
-use Rattle.run_words.proofs.ReadLemmas.{AreTakenBy, Refuses, none_said, refused, refuses, said, taken, text_said}
+use Rattle.run_words.proofs.ReadLemmas.{AreTakenBy, Refuses, refused, refuses, said, taken, text_said}
 use Rattle.run_words.proofs.reading.read_texts.Goals as goal
 
 pub returns-in-Some-clause-said : goal.returns-in-Some-clause-said
