@@ -2,7 +2,7 @@
 use Rattle.std.proofs.Common.{◌≡◌, ℕ, ◌-◌, ◌^◌, ◌<◌, ◌⊎◌, ◌||◌, Bool, true, false, inl, inr, List, [], ◌∷◌, ◌++◌, length, map, reverse}
 use Rattle.std.proofs.Common.{Option, Some, None, IsSome, slice_get, refl, sym, ap, subst, ◌∙◌, append_assoc, append-nil, arith}
 use Rattle.std.specs.Prelude.{All, IfSome, Result, Ok, Err, min, nat_lt}
-use Rattle.std.specs.Option.{option_map}
+use Rattle.std.specs.Option.{ForSome, option_map}
 use Rattle.std.specs.List.{list_any}
 use Rattle.std.proofs.lemmas.Bool.{and_from, eq-eqb}
 use Rattle.std.proofs.lemmas.List.{reverse-append, map-append}
@@ -22,6 +22,7 @@ use Rattle.sql_keeper.specs.Fresh.{Fresh, Covered, IsFreshPast, releases}
 use Rattle.sql_keeper.specs.Log.{rows_after}
 use Rattle.session_client.specs.declared.plans.Shape.{Shape}
 use Rattle.run_inputs.specs.declared.scripts.Act.{Act}
+use Rattle.sql_keeper.specs.declared.keepers.Place.{Place}
 use Rattle.sql_keeper.specs.declared.keepers.Place.TheVariants as place
 use Rattle.run_inputs.specs.Script.{IsScript, TextsTellScripts}
 use Rattle.core_history.specs.Determined.{Call, call_of, RunsAreDetermined}
@@ -31,7 +32,7 @@ use Rattle.core_history.specs.Lines.{fault_turns}
 use Rattle.run_audit.specs.declared.findings.Finding.{Finding}
 use Rattle.run_audit.specs.declared.findings.Finding.TheVariants as finding
 use Rattle.run_inputs.specs.declared.loads.WorkSpec.{WorkSpec}
-use Rattle.top_run.specs.Commands.{IsUnread, IsTextPart, EndedAs}
+use Rattle.top_run.specs.Commands.{IsTextPart, EndedAs}
 use Rattle.top_run.specs.Serves.{Course, ServeEnded}
 use Rattle.run_words.specs.declared.words.ServeSpec.{ServeSpec}
 use Rattle.run_words.specs.declared.words.Words.{Words}
@@ -47,7 +48,7 @@ use Rattle.top_run.specs.Runs.{Prints, calls_of, AreMoves, AreFirstMoves, past_o
 use Rattle.top_run.specs.Runs.{IsCutOff, IsNotStarted, Ended}
 use Rattle.top_run.proofs.KeepLemmas.{unreversed}
 use Rattle.callers.specs.Shards.{MeetsItsFloor, HitsMeetTheirFloors}
-use Rattle.callers.specs.Runs.{IsFreshRun, IsCleanLoad, IsDoneServer, HitsHoldCommits, AreAlike}
+use Rattle.callers.specs.Runs.{IsFreshRun, IsRunAt, IsCleanLoad, IsDoneServer, HitsHoldCommits, AreAlike}
 
 -- a run that began, and did the first part of its script or all of it
 pub record Began (held : Held) (before after : Tells) (left : Left) : Type 0 where
@@ -120,6 +121,35 @@ fresh-run s held before after left written h new started = by left.opening refl 
     by (Some opening) is (inr b) =
         fresh-began held before after left opening b new (started (subst (λ (o : Option Tables). IsSome o) (sym is) refl)) is
 
+-- so it is at any place, with what that held
+pub run-at : (s : Status) (held : Held) (before after : Tells) (left : Left) (written : ℕ)
+    → Ended s held before after left written
+    → IfSome left.opening (λ opening. ForSome after.rows (IsRunAt held.place held.rows before.left after.left opening left.log left.histories))
+run-at s held before after left written h = by left.opening refl (began-or-not s held before after left written h)
+  where
+    same-inside : (a b : Tables) → Some a ≡ Some b → a ≡ b
+    same-inside a b e = cc
+
+    by : (o : Option Tables) → left.opening ≡ o → (IsNotStarted before after left written ⊎ Began held before after left)
+        → IfSome o (λ opening. ForSome after.rows (IsRunAt held.place held.rows before.left after.left opening left.log left.histories))
+    by None is k = tt
+    by (Some opening) is (inl k) = absurd (none-some opening (sym k.no_opening ∙ is))
+      where
+        none-some : (opening : Tables) → None ≡ Some opening → ⊥
+        none-some opening e = absurd cc
+    by (Some opening) is (inr b) = λ rows told.
+        let same : b.opening ≡ opening = same-inside b.opening opening (sym b.opening_is ∙ is) in
+        subst (λ (first : Tables). IsRunAt held.place held.rows before.left after.left first left.log left.histories rows) same (record {
+          shape = b.shape;
+          acts = b.acts;
+          read = b.read;
+          opened = b.opened.opened rows told;
+          opened_fresh = λ new. b.opened.opened rows told (start_tables b.shape.members) (b.opened.fresh new);
+          fresh = b.keeps.fresh rows told;
+          covered = b.keeps.covered;
+          rows_are = b.keeps.rows_are rows told;
+        })
+
 -- each history of a run that is kept is legal, so that its hits meet their floors
 pub above-floors : HitsMeetTheirFloors → (s : Status) (held : Held) (before after : Tells) (left : Left) (written : ℕ) → Ended s held before after left written
     → All (λ history. All MeetsItsFloor history) left.histories
@@ -145,17 +175,19 @@ covered-run s held before after left written h = by (began-or-not s held before 
     by (inr b) = b.keeps.covered
 
 -- words that are refused change nothing
-pub same_of_usage : (read : Result Words WordsFault) (ended : Status) (course : Course) → EndedAs read ended course → ended ≡ status.Usage
-    → course.after ≡ course.before
-same_of_usage (Ok words.Replay) ended course h is =
-    (subst (λ (e : Status). Ended e course.held course.before course.after course.left course.written) is h.0).0
-same_of_usage (Ok (words.Work spec)) ended course h is =
+pub same_of_usage : (read : Result Words WordsFault) (ended : Status) (courses : Place → Course) → EndedAs read ended courses
+    → ended ≡ status.Usage → (at : Place) × ((courses at).after ≡ (courses at).before)
+same_of_usage (Ok (words.Replay at)) ended courses h is =
+    let course = courses at in
+    (at, (subst (λ (e : Status). Ended e course.held course.before course.after course.left course.written) is h.0).0)
+same_of_usage (Ok (words.Work at spec)) ended courses h is =
+    let course = courses at in
     absurd (subst (λ (e : Status). WorkEnded e spec course.held course.before course.after course.left course.written) is h.1)
-same_of_usage (Ok (words.Serve spec)) ended course h is = absurd (subst (λ (e : Status). ServeEnded e spec course) is h.1)
-same_of_usage (Ok (words.Told text)) ended course h is =
-    absurd (subst (λ (e : Status). IsTextPart e text.items h.1.printed) is h.1.is_part)
-same_of_usage (Err fault.Usage) ended course h is = h.1.same
-same_of_usage (Err fault.Memory) ended course h is = h.1.same
+same_of_usage (Ok (words.Serve at spec)) ended courses h is = absurd (subst (λ (e : Status). ServeEnded e spec (courses at)) is h.1)
+same_of_usage (Ok (words.Told text)) ended courses h is =
+    absurd (subst (λ (e : Status). IsTextPart e text.items (h place.Fresh).1.printed) is (h place.Fresh).1.is_part)
+same_of_usage (Err fault.Usage) ended courses h is = (place.Fresh, (h.1 place.Fresh).same)
+same_of_usage (Err fault.Memory) ended courses h is = (place.Fresh, (h.1 place.Fresh).same)
 
 -- a server that ended Done
 pub server_done : (ended : Status) (spec : ServeSpec) (course : Course) → ServeEnded ended spec course → ended ≡ status.Done
@@ -323,16 +355,16 @@ clean_found false None (finding.Stale shard place) h = absurd cc
 clean_found false None (finding.Uncovered commit key) h = absurd cc
 
 clean_summed : (spec : WorkSpec) (held : Held) (before after : Tells) (left : Left) (written : ℕ)
-    → held.place ≡ place.Fresh → IsSummed spec held before after left written status.Done
-    → IsCleanLoad spec before after left written
-clean_summed spec held before after left written new h =
+    → IsSummed spec held before after left written status.Done
+    → IsCleanLoad held.place spec before after left written
+clean_summed spec held before after left written h =
     let clean = clean_found (nat_lt 0 h.failed) (first_spent left.histories) h.found h.ends in
     let told : IsTold spec h.opening left.log left.histories before.taken after.taken written finding.Clean =
     subst (IsTold spec h.opening left.log left.histories before.taken after.taken written) clean h.told in
     record {
       opening = h.opening;
       opening_is = h.kept.opening_is;
-      opened = λ rows is. h.kept.opened.opened rows is (start_tables spec.members) (h.kept.opened.fresh new);
+      opened = λ new rows is. h.kept.opened.opened rows is (start_tables spec.members) (h.kept.opened.fresh new);
       fresh = told.is_summary.is_finding.1;
       covered = told.is_summary.is_finding.0;
       told = told;
@@ -340,7 +372,6 @@ clean_summed spec held before after left written new h =
 
 -- a load that ended Done had a clean audit
 pub load_done : (s : Status) (spec : WorkSpec) (held : Held) (before after : Tells) (left : Left) (written : ℕ)
-    → held.place ≡ place.Fresh → IsUnread before after × WorkEnded s spec held before after left written
-    → s ≡ status.Done → IsCleanLoad spec before after left written
-load_done s spec held before after left written new h done =
-    clean_summed spec held before after left written new (subst (λ (t : Status). WorkEnded t spec held before after left written) done h.1)
+    → WorkEnded s spec held before after left written → s ≡ status.Done → IsCleanLoad held.place spec before after left written
+load_done s spec held before after left written h done =
+    clean_summed spec held before after left written (subst (λ (t : Status). WorkEnded t spec held before after left written) done h)

@@ -10,6 +10,8 @@ use Rattle.key_shard.specs.declared.steps.Ended.{Ended}
 use Rattle.key_shard.specs.declared.steps.Step.{Step}
 use Rattle.key_shard.specs.declared.steps.Step.TheVariants.{Hit, Released}
 use Rattle.key_shard.specs.Answers.{Legal}
+use Rattle.sql_keeper.specs.declared.keepers.Place.{Place}
+use Rattle.sql_keeper.specs.declared.keepers.Place.TheVariants as places
 use Rattle.sql_keeper.specs.declared.stores.Commit.{Commit}
 use Rattle.sql_keeper.specs.Fresh.{Fresh, Covered}
 use Rattle.sql_keeper.specs.Log.{rows_after, state}
@@ -38,13 +40,27 @@ pub record IsFreshRun (left_old left_new : Option (List ℕ)) (opening : Tables)
   pub covered : Covered log histories
   pub rows_are : rows ≡ Some (rows_after opening log)
 
--- A load of these words ended with a clean audit over these opening rows: its
--- summary was written, no hit is stale, and each commit is covered. Where the keeper
--- tells its rows, the opening rows are as many members as the load says, and no links.
-pub record IsCleanLoad (spec : WorkSpec) (before after : Tells) (left : Left) (written : ℕ) : Type 0 where
+-- A run at a place that held these rows, which began with those and whose keeper tells these at its end: it began with
+-- what the place held, where that is told, and a fresh place held as many members as its script says, and no links. No
+-- hit is stale, each commit is covered, and the rows at the end are those after the log.
+pub record IsRunAt (place : Place) (held : ℕ → Option Tables) (left_old left_new : Option (List ℕ)) (opening : Tables)
+    (log : List Commit) (histories : List (List Step)) (rows : Tables) : Type 0 where
+  pub shape : Shape
+  pub acts : List Act
+  pub read : IsRead left_old left_new shape acts
+  pub opened : ForSome (held shape.members) (λ there. opening ≡ there)
+  pub opened_fresh : place ≡ places.Fresh → opening ≡ start_tables shape.members
+  pub fresh : Fresh opening log histories
+  pub covered : Covered log histories
+  pub rows_are : rows ≡ rows_after opening log
+
+-- A load of these words ended with a clean audit over these opening rows: its summary was written, no hit is stale, and
+-- each commit is covered. Where the keeper tells its rows, and the words name no file, the opening rows are as many
+-- members as the load says, and no links.
+pub record IsCleanLoad (place : Place) (spec : WorkSpec) (before after : Tells) (left : Left) (written : ℕ) : Type 0 where
   pub opening : Tables
   pub opening_is : left.opening ≡ Some opening
-  pub opened : ForSome after.rows (λ _. opening ≡ start_tables spec.members)
+  pub opened : place ≡ places.Fresh → ForSome after.rows (λ _. opening ≡ start_tables spec.members)
   pub fresh : Fresh opening left.log left.histories
   pub covered : Covered left.log left.histories
   pub told : IsTold spec opening left.log left.histories before.taken after.taken written finding.Clean

@@ -3,11 +3,13 @@ ghost use Rattle.std.specs.Prelude.{◌≡◌, ◌≢◌, ◌<◌, ◌-◌, ◌^
 ghost use Rattle.sql_keeper.specs.Fresh.{Covered};
 ghost use Rattle.top_run.specs.Runs.{told_by, moment, seen, histories_at, left_at};
 ghost use Rattle.callers.specs.Shards.{MeetsItsFloor};
-ghost use Rattle.callers.specs.Runs.{IsFreshRun, IsCleanLoad, IsDoneServer, HitsHoldCommits, IsUnharmed, AreAlike, IsBeginning};
-ghost use Rattle.run_inputs.specs.Words.{AreWork};
+ghost use Rattle.std.specs.Option.{ForSome};
+ghost use Rattle.sql_keeper.specs.declared.keepers.Place.{Place};
+ghost use Rattle.callers.specs.Runs.{IsFreshRun, IsRunAt, IsCleanLoad, IsDoneServer, HitsHoldCommits, IsUnharmed, AreAlike, IsBeginning};
 ghost use Rattle.run_inputs.specs.declared.loads.WorkSpec.{WorkSpec};
-ghost use Rattle.run_words.specs.Words.{AreServe};
+ghost use Rattle.run_words.specs.Words.{AreWords};
 ghost use Rattle.run_words.specs.declared.words.ServeSpec.{ServeSpec};
+ghost use Rattle.run_words.specs.declared.words.Words.{Words};
 ghost use Rattle.callers.specs.Writes.{HitsAfterWrites};
 ghost use Rattle.callers.specs.Drops.{IsSweptRun};
 
@@ -35,6 +37,24 @@ pub fn run_fresh<S: Source, W: Sink>(
         result.log.items (histories_at result)) }
 {
     replay(alloc, &Place::Fresh, source, sink, keeper)
+}
+
+/// No hit is stale over any keeper that tells its rows at the end, wherever these lie: so over one in an
+/// SQL database, in memory or in a file. Where the run began, it began with the rows that the place held,
+/// if these are told. A fresh place held as many members as the script says, and no links. The rows at
+/// the end are those after the log.
+pub fn run_at<S: Source, W: Sink, K: Keeper>(
+    alloc: Global,
+    place: &Place,
+    source: &mut S,
+    sink: &mut W,
+    keeper: K,
+) -> RunEnd<K>
+    ensures { IfSome result.opening (λ opening. ForSome (K.rows result.keeper)
+        (IsRunAt place.now (K.holds keeper place.now) (S.left source.old) (S.left source.new)
+        opening result.log.items (histories_at result))) }
+{
+    replay(alloc, place, source, sink, keeper)
 }
 
 /// Once a writer has released a key, each hit on it holds the writer's commit, if that touches the key.
@@ -136,8 +156,8 @@ pub fn run_refused<
 }
 
 /// A load that ends Done left nothing stale, whatever its threads did and whatever the keeper is: its
-/// audit was clean, and the summary was written whole. Where the keeper tells its rows, the load began with
-/// as many members as its words say, and no links.
+/// audit was clean, and the summary was written whole. Where the keeper tells its rows, and the words name no
+/// file, the load began with as many members as they say, and no links.
 pub fn run_load<
     S: Source,
     W: Sink,
@@ -157,11 +177,12 @@ pub fn run_load<
     clock: &C,
     gate: &G,
 ) -> RunEnd<K>
-    ensures { (spec : WorkSpec) → AreWork (map (λ word. word.items) words.now) spec →
+    ensures { (place : Place) (spec : WorkSpec) →
+        AreWords (map (λ word. word.items) words.now) (Words.Work place spec) →
         result.status ≡ Status.Done →
         let before = seen (told_by S.Source source.old) W.Sink K.Keeper sink.old keeper in
         let after = seen (told_by S.Source source.new) W.Sink K.Keeper sink.new result.keeper in
-        IsCleanLoad spec before after (left_at result) result.written }
+        IsCleanLoad place spec before after (left_at result) result.written }
 {
     run(rt, alloc, words, source, sink, keeper, door, clock, gate)
 }
@@ -186,7 +207,8 @@ pub fn run_server<
     clock: &C,
     gate: &G,
 ) -> RunEnd<K>
-    ensures { (spec : ServeSpec) → AreServe (map (λ word. word.items) words.now) spec →
+    ensures { (place : Place) (spec : ServeSpec) →
+        AreWords (map (λ word. word.items) words.now) (Words.Serve place spec) →
         result.status ≡ Status.Done → IsDoneServer spec (W.taken sink.old) (W.taken sink.new)
         door.new.ended result.ends.items (histories_at result) result.written }
 {

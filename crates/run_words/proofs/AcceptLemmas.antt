@@ -1,21 +1,23 @@
 -- The words of a command are read as they stand.
-use Rattle.std.proofs.Common.{inl, inr, ℕ, zero, suc, ◌≡◌, ◌<◌, ◌≤◌, ◌^◌, ◌∙◌, List, [], ◌∷◌, length, get_or, Result, Ok, Err, refl, sym, subst, arith, ne_eqb}
+use Rattle.std.proofs.Common.{inl, inr, ℕ, zero, suc, ◌≡◌, ◌<◌, ◌≤◌, ◌^◌, ◌∙◌, List, [], ◌∷◌, ◌++◌, length, get_or, Result, Ok, Err, refl, sym, ap, subst, arith, ne_eqb}
 use Rattle.std.specs.Prelude.{All, IfOk, MatchResult, Some, ◌≢◌, codes, decimal, slice_get}
 use Rattle.std.specs.Str.{IsUtf8, is_utf8}
 use Rattle.std.proofs.lemmas.Fmt.{IsAscii-decimal, decimal_digit, decimal_nonempty, first_decimal}
 use Rattle.std.proofs.lemmas.List.Elements.{All-cons, All-nil}
 use Rattle.std.proofs.lemmas.Str.{IsUtf8-from_ascii, IsUtf8-from_is_utf8}
-use Rattle.clap.specs.Words.{IsAmong, Text, fault_of, subcommand_of}
+use Rattle.clap.specs.Words.{IsAmong, Text, fault_of}
 use Rattle.clap.proofs.OnLiterals.{clap_on_literals}
 use Rattle.clap.specs.declared.error.kind.ErrorKind.TheVariants.{DisplayHelp, DisplayVersion}
+use Rattle.sql_keeper.specs.declared.keepers.Place.{Place}
+use Rattle.sql_keeper.specs.declared.keepers.Place.TheVariants.{Fresh, File}
 use Rattle.run_words.specs.declared.words.Words.{Words}
 use Rattle.run_words.specs.declared.words.Words.TheVariants.{Replay, Work, Serve, Told}
 use Rattle.run_words.specs.declared.words.WordsFault.{WordsFault}
 use Rattle.run_words.specs.declared.words.WordsFault.TheVariants.{Usage, Memory}
 use Rattle.run_words.specs.Program.{program}
-use Rattle.run_words.specs.Words.{AreWords}
-use Rattle.run_words.specs.Reading.{line_of, AreSaid, AreTakenAs, AskForText, IsRead, IsSaid}
-use Rattle.run_words.proofs.TakenLemmas.{ArePlain, IsPlainWord, replay_taken, work_taken, serve_taken}
+use Rattle.run_words.specs.Words.{AreCommand, AreWords, CanBeNamed, place_words, with_place}
+use Rattle.run_words.specs.Reading.{AreSaid, AskForText, IsRead, IsSaid}
+use Rattle.run_words.proofs.TakenLemmas.{ArePlain, AreTakenAs, HasPlainPath, IsPlainWord, replay_taken, work_taken, serve_taken}
 
 -- ---- words are UTF-8, and begin with no hyphen
 
@@ -31,6 +33,10 @@ serve_utf8 : IsUtf8 (codes "serve")
 unfolding clap_on_literals is_utf8
 serve_utf8 = IsUtf8-from_is_utf8 (codes "serve") refl
 
+option_utf8 : IsUtf8 (codes "--db")
+unfolding clap_on_literals is_utf8
+option_utf8 = IsUtf8-from_is_utf8 (codes "--db") refl
+
 decimal_utf8 : (n : ℕ) → n < 2 ^ 64 → IsUtf8 (decimal n)
 decimal_utf8 n small = IsUtf8-from_ascii (decimal n) (IsAscii-decimal n small)
 
@@ -44,33 +50,55 @@ plain_decimal (suc n) small =
     let first : 48 < get_or (decimal (suc n)) 0 0 = first_decimal (suc n) (omega arith) small in
     plain_from (decimal (suc n)) (decimal_nonempty (suc n) small) (λ e. omega (arith, e))
 
-plain_address : (text : Text) → 1 ≤ length text → slice_get text 0 ≢ Some 45 → IsPlainWord text
-plain_address [] some other = absurd (omega arith)
-plain_address (x ∷ rest) some other = ne_eqb x 45 (λ e. other (rw e refl))
+plain_text : (text : Text) → 1 ≤ length text → slice_get text 0 ≢ Some 45 → IsPlainWord text
+plain_text [] some other = absurd (omega arith)
+plain_text (x ∷ rest) some other = ne_eqb x 45 (λ e. other (rw e refl))
+
+plain_path : (place : Place) → CanBeNamed place → HasPlainPath place
+plain_path Fresh named = tt
+plain_path (File path) named = plain_text path named.some named.no_hyphen
 
 plain_five : (a b c d e : Text) → IsPlainWord a → IsPlainWord b → IsPlainWord c → IsPlainWord d → IsPlainWord e → ArePlain (a ∷ b ∷ c ∷ d ∷ e ∷ [])
 plain_five a b c d e p q r s t = (p, (q, (r, (s, (t, tt)))))
 
--- ---- six words
+-- ---- the words of a command
 
-all_six : (a b c d e f : Text) → IsUtf8 a → IsUtf8 b → IsUtf8 c → IsUtf8 d → IsUtf8 e → IsUtf8 f → All IsUtf8 (a ∷ b ∷ c ∷ d ∷ e ∷ f ∷ [])
-all_six a b c d e f p q r s t u =
-    All-cons IsUtf8 a (b ∷ c ∷ d ∷ e ∷ f ∷ []) p
-    (All-cons IsUtf8 b (c ∷ d ∷ e ∷ f ∷ []) q
-    (All-cons IsUtf8 c (d ∷ e ∷ f ∷ []) r (All-cons IsUtf8 d (e ∷ f ∷ []) s (All-cons IsUtf8 e (f ∷ []) t (All-cons IsUtf8 f [] u (All-nil IsUtf8))))))
+all_five : (a b c d e : Text) → IsUtf8 a → IsUtf8 b → IsUtf8 c → IsUtf8 d → IsUtf8 e → All IsUtf8 (a ∷ b ∷ c ∷ d ∷ e ∷ [])
+all_five a b c d e p q r s t =
+    All-cons IsUtf8 a (b ∷ c ∷ d ∷ e ∷ []) p
+    (All-cons IsUtf8 b (c ∷ d ∷ e ∷ []) q
+    (All-cons IsUtf8 c (d ∷ e ∷ []) r (All-cons IsUtf8 d (e ∷ []) s (All-cons IsUtf8 e [] t (All-nil IsUtf8)))))
 
--- UTF-8, and taken as they stand
-abbrev Stand : List Text → Type 0
-Stand words = All IsUtf8 words × AreTakenAs words words
+-- a first word, those of a place, and others
+all_placed : (place : Place) (first : Text) (others : List Text) → CanBeNamed place → IsUtf8 first → All IsUtf8 others
+    → All IsUtf8 (first ∷ (place_words place ++ others))
+all_placed Fresh first others named p q = All-cons IsUtf8 first others p q
+all_placed (File path) first others named p q =
+    All-cons IsUtf8 first (codes "--db" ∷ path ∷ others) p
+    (All-cons IsUtf8 (codes "--db") (path ∷ others) option_utf8 (All-cons IsUtf8 path others named.utf8 q))
 
-stands : (words : List Text) → All IsUtf8 words → (fault_of program words ≡ []) × (line_of (subcommand_of program words) ≡ words) → Stand words
-stands words utf8 t = (utf8, record { taken = t.0; line_is = t.1 })
+-- UTF-8, and taken as these words at this place
+record Stand (words others : List Text) (place : Place) : Type 0 where
+  pub utf8 : All IsUtf8 words
+  pub taken : AreTakenAs words others place
 
-pub stand : (words : List Text) (command : Words) → AreWords words command → Stand words
-stand words Replay h =
-    subst Stand (sym h) (stands (codes "replay" ∷ []) (All-cons IsUtf8 (codes "replay") [] replay_utf8 (All-nil IsUtf8)) replay_taken)
-stand words (Work spec) h =
-    let fits = h.fits in
+-- so do words that are a first word, those of a place, and others
+stands : (words others : List Text) (place : Place) (first : Text) (values : List Text) → words ≡ with_place place others → others ≡ first ∷ values
+    → CanBeNamed place → IsUtf8 first → All IsUtf8 values → AreTakenAs (first ∷ (place_words place ++ values)) (first ∷ values) place
+    → Stand words others place
+stands words others place first values written is named p q t =
+    let same : words ≡ first ∷ (place_words place ++ values) = written ∙ ap (with_place place) is in
+    subst (λ (ws : List Text). Stand ws others place) (sym same)
+    (subst (λ (os : List Text). Stand (first ∷ (place_words place ++ values)) os place) (sym is)
+    (record { utf8 = all_placed place first values named p q; taken = t }))
+
+stand : (words : List Text) (command : Words) → (h : AreWords words command) → Stand words h.others h.place
+stand words (Replay at) h =
+    stands words h.others h.place (codes "replay") [] h.written h.are_command.1 h.named replay_utf8 (All-nil IsUtf8)
+    (replay_taken h.place (plain_path h.place h.named))
+stand words (Work at spec) h =
+    let are = h.are_command.1 in
+    let fits = are.fits in
     let few_members : spec.members ≤ 100000 = fits.few_members in
     let few_sessions : spec.sessions ≤ 500000 = fits.few_sessions in
     let few_workers : spec.workers ≤ 64 = fits.few_workers in
@@ -80,16 +108,18 @@ stand words (Work spec) h =
     let sessions = small spec.sessions (omega arith) in
     let workers = small spec.workers (omega arith) in
     let shards = small spec.shards (omega arith) in
-    let seed = h.seed_below in
+    let seed = are.seed_below in
     let plain =
     plain_five _ _ _ _ _ (plain_decimal spec.members members) (plain_decimal spec.sessions sessions) (plain_decimal spec.workers workers)
     (plain_decimal spec.shards shards) (plain_decimal spec.seed seed) in
-    let t = work_taken (decimal spec.members) (decimal spec.sessions) (decimal spec.workers) (decimal spec.shards) (decimal spec.seed) plain in
-    subst Stand (sym h.written) (stands _ (all_six (codes "work") _ _ _ _ _ work_utf8
-    (decimal_utf8 spec.members members) (decimal_utf8 spec.sessions sessions) (decimal_utf8 spec.workers workers)
-    (decimal_utf8 spec.shards shards) (decimal_utf8 spec.seed seed)) t)
-stand words (Serve spec) h =
-    let fits = h.fits in
+    let utf8 =
+    all_five _ _ _ _ _ (decimal_utf8 spec.members members) (decimal_utf8 spec.sessions sessions) (decimal_utf8 spec.workers workers)
+    (decimal_utf8 spec.shards shards) (decimal_utf8 spec.seed seed) in
+    stands words h.others h.place (codes "work") _ h.written are.written h.named work_utf8 utf8
+    (work_taken h.place (plain_path h.place h.named) _ _ _ _ _ plain)
+stand words (Serve at spec) h =
+    let are = h.are_command.1 in
+    let fits = are.fits in
     let few_conns : spec.conns ≤ 1000000 = fits.few_conns in
     let few_workers : spec.workers ≤ 64 = fits.few_workers in
     let few_shards : spec.shards ≤ 64 = fits.few_shards in
@@ -101,20 +131,44 @@ stand words (Serve spec) h =
     let members = small spec.members (omega arith) in
     let address = fits.address in
     let plain =
-    plain_five _ _ _ _ _ (plain_address spec.addr.items address.some address.no_hyphen) (plain_decimal spec.conns conns) (plain_decimal spec.workers workers)
+    plain_five _ _ _ _ _ (plain_text spec.addr.items address.some address.no_hyphen) (plain_decimal spec.conns conns) (plain_decimal spec.workers workers)
     (plain_decimal spec.shards shards) (plain_decimal spec.members members) in
-    let t = serve_taken spec.addr.items (decimal spec.conns) (decimal spec.workers) (decimal spec.shards) (decimal spec.members) plain in
-    subst Stand (sym h.written) (stands _ (all_six (codes "serve") _ _ _ _ _ serve_utf8
-    address.utf8 (decimal_utf8 spec.conns conns) (decimal_utf8 spec.workers workers) (decimal_utf8 spec.shards shards) (decimal_utf8 spec.members members)) t)
-stand words (Told text) h = absurd h
+    let utf8 =
+    all_five _ _ _ _ _ address.utf8 (decimal_utf8 spec.conns conns) (decimal_utf8 spec.workers workers)
+    (decimal_utf8 spec.shards shards) (decimal_utf8 spec.members members) in
+    stands words h.others h.place (codes "serve") _ h.written are.written h.named serve_utf8 utf8
+    (serve_taken h.place (plain_path h.place h.named) _ _ _ _ _ plain)
+stand words (Told text) h = absurd h.are_command
 
 -- ---- what is read of them
 
--- a command that is said of words that are taken as they stand has these words
-own_words : (words : List Text) → AreTakenAs words words → (command : Words) → AreSaid words command → AreWords words command
-own_words words t command said =
-    let same : said.0 ≡ words = sym said.1.line_is ∙ t.line_is in
-    subst (λ (line : List Text). AreWords line command) same said.2
+-- what is said of words that are a command's is one that they are
+own_words : (words : List Text) (command : Words) (h : AreWords words command) (said : Words) → AreSaid words said → AreWords words said
+own_words words command h said is =
+    let t = (stand words command h).taken in
+    record {
+      place = h.place;
+      named = h.named;
+      others = h.others;
+      are_command =
+          subst (λ (place : Place). AreCommand h.others place said) t.place_is
+          (subst (λ (line : List Text). AreCommand line _ said) t.line_is is.given.are_command);
+      written = h.written;
+    }
+
+-- and the command itself is said of them
+own_said : (words : List Text) (command : Words) → AreWords words command → AreSaid words command
+own_said words command h =
+    let t = (stand words command h).taken in
+    record {
+      taken = t.taken;
+      given = record {
+        named = subst CanBeNamed (sym t.place_is) h.named;
+        are_command =
+            subst (λ (place : Place). AreCommand _ place command) (sym t.place_is)
+            (subst (λ (line : List Text). AreCommand line h.place command) (sym t.line_is) h.are_command);
+      };
+    }
 
 -- and no text is
 no_text : (words : List Text) → fault_of program words ≡ [] → AskForText words → ⊥
@@ -124,17 +178,17 @@ no_text words none (inr version) = subst (IsAmong DisplayVersion) none version
 pub accepted : (words : List Text) (r : Result Words WordsFault) → IfOk r (IsSaid words)
     → (r ≡ Err Usage → (command : Words) → AreSaid words command → ⊥) → (command : Words) → AreWords words command
     → MatchResult r (AreWords words) (λ (fault : WordsFault). fault ≡ Memory)
-accepted words (Ok Replay) said usage command h = own_words words (stand words command h).1 Replay said
-accepted words (Ok (Work spec)) said usage command h = own_words words (stand words command h).1 (Work spec) said
-accepted words (Ok (Serve spec)) said usage command h = own_words words (stand words command h).1 (Serve spec) said
-accepted words (Ok (Told text)) said usage command h = absurd (no_text words (stand words command h).1.taken said)
+accepted words (Ok (Replay at)) said usage command h = own_words words command h (Replay at) said
+accepted words (Ok (Work at spec)) said usage command h = own_words words command h (Work at spec) said
+accepted words (Ok (Serve at spec)) said usage command h = own_words words command h (Serve at spec) said
+accepted words (Ok (Told text)) said usage command h = absurd (no_text words (stand words command h).taken.taken said)
 accepted words (Err Memory) said usage command h = refl
-accepted words (Err Usage) said usage command h = absurd (usage refl command (words, (stand words command h).1, h))
+accepted words (Err Usage) said usage command h = absurd (usage refl command (own_said words command h))
 
 -- words that were not read as texts aren't a command's, unless memory ran out
 pub unread : (words : List Text) (fault : WordsFault) → (fault ≡ Usage → All IsUtf8 words → ⊥) → (command : Words) → AreWords words command → fault ≡ Memory
 unread words Memory none command h = refl
-unread words Usage none command h = absurd (none refl (stand words command h).0)
+unread words Usage none command h = absurd (none refl (stand words command h).utf8)
 
 -- what is said of words that are UTF-8 is read
 pub read : (words : List Text) (r : Result Words WordsFault) → All IsUtf8 words → IfOk r (IsSaid words) → IfOk r (IsRead words)

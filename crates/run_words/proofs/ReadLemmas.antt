@@ -1,6 +1,6 @@
 -- What is read of the words.
 use Rattle.std.proofs.Common.{◌≡◌, ◌∙◌, List, [], ◌∷◌, map, Option, Some, None, Result, Ok, Err, inl, inr, refl, sym, ap, subst}
-use Rattle.std.specs.Prelude.{◌⊎◌, true, IfOk, codes, option_map, unwrap_or}
+use Rattle.std.specs.Prelude.{◌⊎◌, true, IfOk, IfSome, IfNone, codes, option_map, unwrap_or}
 use Rattle.std.specs.Borrow.{Bor}
 use Rattle.clap.specs.Words.{App, HasMatchesOf, IsAmong, Row, Text, fault_of, is_simple, is_simple_and_free, matched_of, raw_values, rows_of, subcommand_name_of, subcommand_of, subcommand_rows_of}
 use Rattle.clap.specs.declared.error.kind.ErrorKind.{ErrorKind}
@@ -8,14 +8,16 @@ use Rattle.clap.specs.declared.error.kind.ErrorKind.TheVariants.{OutOfMemory}
 use Rattle.clap.specs.declared.parser.matches.ArgMatches.{ArgMatches}
 use Rattle.clap.specs.declared.parser.matches.ArgMatches.TheViews.{out-ArgMatches}
 use Rattle.clap.specs.declared.parser.matches.Found.{Found}
-use Rattle.clap.proofs.WalkLemmas.{raw_values-rows}
+use Rattle.clap.specs.Words.{first_value}
+use Rattle.clap.proofs.WalkLemmas.{first_value-rows, raw_values-rows}
+use Rattle.sql_keeper.specs.declared.keepers.Place.{Place}
 use Rattle.run_words.specs.declared.words.Words.{Words}
 use Rattle.run_words.specs.declared.words.Words.TheVariants.{Replay, Work, Serve, Told}
 use Rattle.run_words.specs.declared.words.WordsFault.{WordsFault}
 use Rattle.run_words.specs.declared.words.WordsFault.TheVariants as fault
 use Rattle.run_words.specs.Program.{program}
-use Rattle.run_words.specs.Words.{AreWords}
-use Rattle.run_words.specs.Reading.{line_of, AreTakenAs, AreSaid, AskForText, IsSaid, IsText, IsRefused}
+use Rattle.run_words.specs.Words.{AreCommand, CanBeNamed}
+use Rattle.run_words.specs.Reading.{line_of, place_in, place_of, AreGiven, AreSaid, AskForText, IsSaid, IsText, IsRefused}
 use Rattle.run_words.proofs.TakenLemmas.{program_simple, program_free}
 
 -- ---- the line of a subcommand
@@ -47,22 +49,78 @@ line_named m name found values none empty name_is rows_are got =
     ∙ ap (λ (o : Option (List Text)). name ∷ unwrap_or o []) (sym (raw_values-rows found (codes "values")) ∙ sym got)
     ∙ ap (λ (texts : List Text). name ∷ texts) (sym (values_or_none values none empty))
 
+-- and at the place that `--db` names
+pub place_named : (m : ArgMatches) (name : Text) (found : Found) (path : Option (Bor Text))
+    → Some name ≡ subcommand_name_of m → Some (rows_of found) ≡ option_map (λ (p : Text × List Row). p.1) (subcommand_rows_of m)
+    → option_map (λ (text : Bor Text). text.now) path ≡ first_value found (codes "db")
+    → place_of (subcommand_rows_of m) ≡ place_in (option_map (λ (text : Bor Text). text.now) path)
+place_named m name found path name_is rows_are got =
+    ap place_of (named _ _ (out-ArgMatches m).subcommand name (rows_of found) name_is rows_are)
+    ∙ ap place_in (sym (first_value-rows found (codes "db")) ∙ sym got)
+
+-- ---- what a subcommand and its matches are
+
+-- a place that is named, or none
+pub place_is : (o : Option Place) (path place : Place) → o ≡ Some place → IfSome o (λ (p : Place). (p ≡ path) × CanBeNamed p) → (place ≡ path) × CanBeNamed place
+place_is o path place is h = subst (λ (o : Option Place). IfSome o (λ (p : Place). (p ≡ path) × CanBeNamed p)) is h
+
+pub no_place : (o : Option Place) (path : Place) → ((place : Place) → o ≡ Some place → ⊥) → IfNone o (CanBeNamed path → ⊥) → CanBeNamed path → ⊥
+no_place (Some place) path none h = λ _. none place refl
+no_place None path none h = h
+
+pub given_found : {E : Type 0} (given : Option (Text × List Row)) (line : List Text) (place : Place) (r : Result (Option Words) E)
+    → line_of given ≡ line → place_of given ≡ place → CanBeNamed place
+    → IfOk r (λ (found : Option Words). IfSome found (AreCommand line place)) → IfOk r (λ (found : Option Words). IfSome found (AreGiven given))
+given_found given line place (Ok (Some command)) line_is at named h = record {
+  named = subst CanBeNamed (sym at) named;
+  are_command =
+      subst (λ (p : Place). AreCommand (line_of given) p command) (sym at)
+      (subst (λ (l : List Text). AreCommand l place command) (sym line_is) h);
+}
+given_found given line place (Ok None) line_is at named h = tt
+given_found given line place (Err e) line_is at named h = tt
+
+pub given_none : {E : Type 0} (given : Option (Text × List Row)) (line : List Text) (place : Place) (r : Result (Option Words) E)
+    → line_of given ≡ line → place_of given ≡ place
+    → IfOk r (λ (found : Option Words). IfNone found ((command : Words) → AreCommand line place command → ⊥))
+    → IfOk r (λ (found : Option Words). IfNone found ((command : Words) → AreGiven given command → ⊥))
+given_none given line place (Ok (Some command)) line_is at h = tt
+given_none given line place (Ok None) line_is at h = λ command k.
+    h command (subst (λ (p : Place). AreCommand line p command) at
+    (subst (λ (l : List Text). AreCommand l (place_of given) command) line_is k.are_command))
+given_none given line place (Err e) line_is at h = tt
+
 -- ---- words that `clap` takes
 
+-- it takes them, and finds in them what these matches tell
+pub record AreTakenBy (words : List Text) (m : ArgMatches) : Type 0 where
+  pub taken : fault_of program words ≡ []
+  pub given_is : subcommand_of program words ≡ subcommand_rows_of m
+
 pub taken : (app : App) (words : List Text) (m : ArgMatches) → app ≡ program → HasMatchesOf app words m
-    → (is_simple_and_free app ≡ true → fault_of app words ≡ [])
-    → AreTakenAs words (line_of (subcommand_rows_of m))
+    → (is_simple_and_free app ≡ true → fault_of app words ≡ []) → AreTakenBy words m
 taken app words m is matches free = record {
   taken = sym (ap (λ (a : App). fault_of a words) is) ∙ free (ap is_simple_and_free is ∙ program_free);
-  line_is = ap line_of (sym (ap (λ (a : App). subcommand_of a words) is) ∙ sym (matches (ap is_simple is ∙ program_simple)).1);
+  given_is = sym (ap (λ (a : App). subcommand_of a words) is) ∙ sym (matches (ap is_simple is ∙ program_simple)).1;
 }
 
--- a command of the line is said
-pub said : (words line : List Text) → AreTakenAs words line → (command : Words) → AreWords line command → IsSaid words command
-said words line t Replay h = (line, t, h)
-said words line t (Work spec) h = (line, t, h)
-said words line t (Serve spec) h = (line, t, h)
-said words line t (Told text) h = absurd h
+-- what they are given is said
+said_given : (words : List Text) (m : ArgMatches) → AreTakenBy words m → (command : Words) → AreGiven (subcommand_rows_of m) command → AreSaid words command
+said_given words m t command h = record {
+  taken = t.taken;
+  given = subst (λ (given : Option (Text × List Row)). AreGiven given command) (sym t.given_is) h;
+}
+
+pub said : (words : List Text) (m : ArgMatches) → AreTakenBy words m → (command : Words) → AreGiven (subcommand_rows_of m) command → IsSaid words command
+said words m t (Replay at) h = said_given words m t (Replay at) h
+said words m t (Work at spec) h = said_given words m t (Work at spec) h
+said words m t (Serve at spec) h = said_given words m t (Serve at spec) h
+said words m t (Told text) h = absurd h.are_command
+
+-- and where they are given no command, none is said
+pub none_said : (words : List Text) (m : ArgMatches) → AreTakenBy words m → ((command : Words) → AreGiven (subcommand_rows_of m) command → ⊥)
+    → (command : Words) → AreSaid words command → ⊥
+none_said words m t none command h = none command (subst (λ (given : Option (Text × List Row)). AreGiven given command) t.given_is h.given)
 
 -- ---- words that it doesn't take
 
@@ -82,9 +140,9 @@ asks words kind (inr among) (inr version) = inr (subst (λ (k : ErrorKind). IsAm
 
 pub text_said : (words : List Text) (kind : ErrorKind) (r : Result Words WordsFault) → Refuses words kind → IsRefused kind r → IfOk r (IsSaid words)
 text_said words kind (Ok (Told text)) f h = asks words kind f h
-text_said words kind (Ok Replay) f h = absurd h
-text_said words kind (Ok (Work spec)) f h = absurd h
-text_said words kind (Ok (Serve spec)) f h = absurd h
+text_said words kind (Ok (Replay at)) f h = absurd h
+text_said words kind (Ok (Work at spec)) f h = absurd h
+text_said words kind (Ok (Serve at spec)) f h = absurd h
 text_said words kind (Err e) f h = tt
 
 not_taken : (words : List Text) (kind : ErrorKind) → Refuses words kind → (kind ≡ OutOfMemory → ⊥) → fault_of program words ≡ [] → ⊥
@@ -95,4 +153,4 @@ pub refused : (words : List Text) (kind : ErrorKind) (r : Result Words WordsFaul
     → (command : Words) → AreSaid words command → ⊥
 refused words kind (Ok command) f h e = absurd cc
 refused words kind (Err fault.Memory) f h e = absurd cc
-refused words kind (Err fault.Usage) f h e = λ command k. not_taken words kind f h.1 k.1.taken
+refused words kind (Err fault.Usage) f h e = λ command k. not_taken words kind f h.1 k.taken

@@ -11,9 +11,17 @@ values_rule = record (new_rule (codes "values")) {
   required = true;
 }
 
--- A command with five values.
+-- The option `--db` with one value.
+abbrev pub db_rule : Rule
+db_rule = record (new_rule (codes "db")) { long = Some (codes "db"); value_names = 1 }
+
+-- A command that may name a file.
+abbrev pub with_db : List ℕ → App
+with_db name = with_rule (new_app name) db_rule
+
+-- A command that may name a file, with five values.
 abbrev pub with_values : List ℕ → Shape
-with_values name = (with_rule (new_app name) values_rule).top
+with_values name = (with_rule (with_db name) values_rule).top
 
 -- The program without a command. The words begin behind its name, and it wants one of its commands.
 abbrev pub alone : App
@@ -22,4 +30,4 @@ alone = on_top (λ s. record s { no_binary_name = true; has_version = true; subc
 -- The program with its three commands.
 abbrev pub program : App
 program =
-    with_subcommand (with_subcommand (with_subcommand alone (new_app (codes "replay")).top) (with_values (codes "work"))) (with_values (codes "serve"))
+    with_subcommand (with_subcommand (with_subcommand alone (with_db (codes "replay")).top) (with_values (codes "work"))) (with_values (codes "serve"))

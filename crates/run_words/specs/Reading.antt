@@ -1,29 +1,42 @@
 -- How `clap` reads the words.
 use Rattle.std.specs.Prelude.{◌≡◌, ◌⊎◌, List, [], ◌∷◌, All, Option, Some, None, Result, Ok, Err, unwrap_or, codes}
 use Rattle.std.specs.Str.{IsUtf8}
-use Rattle.clap.specs.Words.{IsAmong, Row, Text, all_of, fault_of, subcommand_of}
+use Rattle.clap.specs.Words.{IsAmong, Row, Text, all_of, fault_of, first_of, subcommand_of}
 use Rattle.clap.specs.declared.error.kind.ErrorKind.{ErrorKind}
 use Rattle.clap.specs.declared.error.kind.ErrorKind.TheVariants.{DisplayHelp, DisplayVersion, OutOfMemory}
+use Rattle.sql_keeper.specs.declared.keepers.Place.{Place}
+use Rattle.sql_keeper.specs.declared.keepers.Place.TheVariants.{Fresh, File}
 use Rattle.run_words.specs.declared.words.Words.{Words}
 use Rattle.run_words.specs.declared.words.Words.TheVariants.{Told}
 use Rattle.run_words.specs.declared.words.WordsFault.{WordsFault}
 use Rattle.run_words.specs.declared.words.WordsFault.TheVariants as fault
 use Rattle.run_words.specs.Program.{program}
-use Rattle.run_words.specs.Words.{AreWords}
+use Rattle.run_words.specs.Words.{AreCommand, CanBeNamed}
 
 -- The name of a subcommand and the values behind it.
 abbrev pub line_of : Option (Text × List Row) → List Text
 line_of None = []
 line_of (Some found) = found.0 ∷ unwrap_or (all_of (codes "values") found.1) []
 
--- `clap` takes the words, and reads them as this line: a subcommand's name and the values behind it.
-pub record AreTakenAs (words line : List Text) : Type 0 where
-  pub taken : fault_of program words ≡ []
-  pub line_is : line_of (subcommand_of program words) ≡ line
+-- The place that a path names: a fresh one where there is none.
+abbrev pub place_in : Option Text → Place
+place_in None = Fresh
+place_in (Some path) = File path
 
--- The line as which `clap` takes the words is the command's, word for word.
-abbrev pub AreSaid : List Text → Words → Type 0
-AreSaid words command = (line : List Text) × AreTakenAs words line × AreWords line command
+-- The place that a subcommand is given, by the option `--db`.
+abbrev pub place_of : Option (Text × List Row) → Place
+place_of None = Fresh
+place_of (Some found) = place_in (first_of (codes "db") found.1)
+
+-- The subcommand, with its values and the place that it is given, is the command.
+pub record AreGiven (given : Option (Text × List Row)) (command : Words) : Type 0 where
+  pub named : CanBeNamed (place_of given)
+  pub are_command : AreCommand (line_of given) (place_of given) command
+
+-- `clap` takes the words, and what it reads of them is the command.
+pub record AreSaid (words : List Text) (command : Words) : Type 0 where
+  pub taken : fault_of program words ≡ []
+  pub given : AreGiven (subcommand_of program words) command
 
 -- The words are UTF-8, and read as this command.
 abbrev pub AreReadAs : List Text → Words → Type 0

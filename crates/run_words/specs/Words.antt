@@ -1,21 +1,23 @@
 -- The words of the commands, as a table has them.
-use Rattle.std.specs.Prelude.{ℕ, ◌≡◌, ◌≢◌, ◌≤◌, List, [], ◌∷◌, length, map, Some, slice_get, codes, decimal}
+use Rattle.std.specs.Prelude.{ℕ, ◌≡◌, ◌≢◌, ◌≤◌, List, [], ◌∷◌, ◌++◌, length, map, Some, slice_get, codes, decimal}
 use Rattle.std.specs.Str.{IsUtf8}
 use Rattle.run_inputs.specs.Parsing.{IsNumberWithin}
 use Rattle.run_inputs.specs.Words.{AreWork}
+use Rattle.sql_keeper.specs.declared.keepers.Place.{Place}
+use Rattle.sql_keeper.specs.declared.keepers.Place.TheVariants.{Fresh, File}
 use Rattle.run_words.specs.declared.words.ServeSpec.{ServeSpec}
 use Rattle.run_words.specs.declared.words.Words.{Words}
 use Rattle.run_words.specs.declared.words.Words.TheVariants.{Replay, Work, Serve, Told}
 
--- Connections may come in there: UTF-8 text that isn't empty and doesn't begin with a hyphen.
-pub record IsAddress (text : List ℕ) : Type 0 where
+-- An address or a path may be written so: UTF-8 text that isn't empty and doesn't begin with a hyphen.
+pub record IsPlainText (text : List ℕ) : Type 0 where
   pub utf8 : IsUtf8 text
   pub some : 1 ≤ length text
   pub no_hyphen : slice_get text 0 ≢ Some 45
 
 -- What `serve` serves is within its ranges.
 pub record IsServe (spec : ServeSpec) : Type 0 where
-  pub address : IsAddress spec.addr.items
+  pub address : IsPlainText spec.addr.items
   pub some_conns : 1 ≤ spec.conns
   pub few_conns : spec.conns ≤ 1000000
   pub some_workers : 1 ≤ spec.workers
@@ -41,9 +43,32 @@ pub record AreServeNumbers (conns workers shards members : List ℕ) (spec : Ser
   pub shards_are : IsNumberWithin shards 1 64 spec.shards
   pub members_are : IsNumberWithin members 1 100000 spec.members
 
+-- The words that name a place: none for a fresh one, and for a file `--db` and its path.
+abbrev pub place_words : Place → List (List ℕ)
+place_words Fresh = []
+place_words (File path) = codes "--db" ∷ path ∷ []
+
+-- Words can name the place.
+abbrev pub CanBeNamed : Place → Type 0
+CanBeNamed Fresh = Unit {0}
+CanBeNamed (File path) = IsPlainText path
+
+-- The words of a command, with those that name its place right behind the first.
+abbrev pub with_place : Place → List (List ℕ) → List (List ℕ)
+with_place place [] = []
+with_place place (first ∷ others) = first ∷ (place_words place ++ others)
+
+-- The words, without those that name this place, are the command's there.
+abbrev pub AreCommand : List (List ℕ) → Place → Words → Type 0
+AreCommand words place (Replay at) = (at ≡ place) × (words ≡ codes "replay" ∷ [])
+AreCommand words place (Work at spec) = (at ≡ place) × AreWork words spec
+AreCommand words place (Serve at spec) = (at ≡ place) × AreServe words spec
+AreCommand words place (Told text) = ⊥
+
 -- The words are, word for word, those of the command.
-abbrev pub AreWords : List (List ℕ) → Words → Type 0
-AreWords words Replay = words ≡ codes "replay" ∷ []
-AreWords words (Work spec) = AreWork words spec
-AreWords words (Serve spec) = AreServe words spec
-AreWords words (Told text) = ⊥
+pub record AreWords (words : List (List ℕ)) (command : Words) : Type 0 where
+  pub place : Place
+  pub named : CanBeNamed place
+  pub others : List (List ℕ)
+  pub are_command : AreCommand others place command
+  pub written : words ≡ with_place place others

@@ -1,7 +1,7 @@
 // The program's command line, as `clap` is told of it.
 ghost use Rattle.std.specs.Prelude.{◌≡◌, IfOk, false};
 ghost use Rattle.clap.specs.Words.{app_of, rule_of};
-ghost use Rattle.run_words.specs.Program.{program, values_rule};
+ghost use Rattle.run_words.specs.Program.{program, db_rule, values_rule};
 
 use clap::{Arg, Command};
 use std::alloc::{AllocError, Global};
@@ -15,12 +15,16 @@ static SERVE_VALUES: [&str; 5] = ["addr", "conns", "workers", "shards", "members
 pub(crate) fn program<'a>(alloc: Global) -> Result<Command<'a>, AllocError>
     ensures { IfOk result (λ command. app_of command ≡ program) }
 {
-    let replay = Command::new(alloc, "replay").about("Runs the script on standard input");
+    let replay = Command::new(alloc, "replay")
+        .about("Runs the script on standard input")
+        .arg(db_path(alloc))?;
     let work = Command::new(alloc, "work")
         .about("Draws a load from a seed and runs it on workers")
+        .arg(db_path(alloc))?
         .arg(five_values(alloc, &WORK_VALUES))?;
     let serve = Command::new(alloc, "serve")
         .about("Serves connections on workers")
+        .arg(db_path(alloc))?
         .arg(five_values(alloc, &SERVE_VALUES))?;
     Command::new(alloc, "iq")
         .about("A cache that never shows an answer older than a session may see")
@@ -30,6 +34,17 @@ pub(crate) fn program<'a>(alloc: Global) -> Result<Command<'a>, AllocError>
         .subcommand(replay)?
         .subcommand(work)?
         .subcommand(serve)
+}
+
+// The path of the file in which the rows lie.
+fn db_path<'a>(alloc: Global) -> Arg<'a>
+    ensures rule { rule_of result ≡ db_rule }
+    ensures local { result.global ≡ false }
+{
+    Arg::new(alloc, "db")
+        .long("db")
+        .value_name("path")
+        .help("Keeps the rows in this SQLite file")
 }
 
 // Five values, which help calls by these names.

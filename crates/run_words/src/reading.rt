@@ -1,19 +1,22 @@
 // How the words are read.
-ghost use Rattle.std.specs.Prelude.{◌≡◌, ◌≢◌, ◌↔◌, ◌≤◌, ◌∷◌, length, map, All, Some, Err, IfOk, IfSome, IfNone, IsTrue, MatchResult, slice_get, codes};
+ghost use Rattle.std.specs.Prelude.{◌≡◌, ◌≢◌, ◌↔◌, ◌≤◌, ◌∷◌, length, map, All, Some, Err, IfOk, IfSome, IfNone, IsTrue, MatchResult, slice_get, codes, option_map};
 ghost use Rattle.std.specs.Str.{IsUtf8};
 ghost use Rattle.clap.specs.Words.{kind_of, subcommand_rows_of};
+ghost use Rattle.sql_keeper.specs.declared.keepers.Place.{Place};
 ghost use Rattle.run_inputs.specs.declared.loads.WorkSpec.{WorkSpec};
 ghost use Rattle.run_inputs.specs.Words.{AreWork};
 ghost use Rattle.run_words.specs.declared.words.ServeSpec.{ServeSpec};
 ghost use Rattle.run_words.specs.declared.words.Words.{Words};
-ghost use Rattle.run_words.specs.Words.{AreServe, AreServeNumbers, AreWords};
-ghost use Rattle.run_words.specs.Reading.{line_of, AreReadAs, AreSaid, IsRead, IsRefused, IsSaid};
+ghost use Rattle.run_words.specs.Words.{AreCommand, AreServe, AreServeNumbers, AreWords, CanBeNamed};
+ghost use Rattle.run_words.specs.Reading.{place_in, AreGiven, AreReadAs, AreSaid, IsRead, IsRefused, IsSaid};
 
 use crate::program::program;
 use crate::words::{ServeSpec, Words, WordsFault};
 use clap::error::ErrorKind;
 use clap::{ArgMatches, Error};
+use rows_model::Value;
 use run_inputs::{WorkSpec, number_within, work_words};
+use sql_keeper::Place;
 use std::alloc::{AllocError, Global};
 use std::str;
 
@@ -104,35 +107,62 @@ fn told_by(alloc: Global, error: &Error) -> Result<Words, WordsFault>
     }
 }
 
-// The command that the subcommand and its values are.
+// The command that the subcommand is, with its values and the place that it names.
 fn command_of(alloc: Global, matches: &ArgMatches<'_>) -> Result<Option<Words>, AllocError>
     ensures found { IfOk result (λ found. IfSome found
-        (AreWords (line_of (subcommand_rows_of matches.now)))) }
+        (AreGiven (subcommand_rows_of matches.now))) }
     ensures none { IfOk result (λ found. IfNone found ((command : Words) →
-        AreWords (line_of (subcommand_rows_of matches.now)) command → ⊥)) }
+        AreGiven (subcommand_rows_of matches.now) command → ⊥)) }
 {
     let Some((name, inner)) = matches.subcommand() else {
         return Ok(None);
     };
+    let Some(place) = place_named(alloc, inner.get_str("db"))? else {
+        return Ok(None);
+    };
     let values = inner.get_raw("values").unwrap_or(&[]);
-    command_named(alloc, name, values)
+    command_named(alloc, name, values, place)
 }
 
-// The command of this name, with these values behind it.
-fn command_named(alloc: Global, name: &str, values: &[&str]) -> Result<Option<Words>, AllocError>
+// The place that this path names, a fresh one without it, or none where it names none.
+fn place_named(alloc: Global, path: Option<&str>) -> Result<Option<Place>, AllocError>
+    ensures found { IfOk result (λ found. IfSome found (λ place.
+        (place ≡ place_in (option_map (λ text. text.now) path.entry)) × CanBeNamed place)) }
+    ensures none { IfOk result (λ found. IfNone found
+        (CanBeNamed (place_in (option_map (λ text. text.now) path.entry)) → ⊥)) }
+{
+    let Some(path) = path else {
+        return Ok(Some(Place::Fresh));
+    };
+    if !is_plain_text(path.as_bytes()) {
+        return Ok(None);
+    }
+    let path = Vec::from_slice(alloc, path.as_bytes())?;
+    Ok(Some(Place::File {
+        path: Value::from(path),
+    }))
+}
+
+// The command of this name at this place, with these values behind it.
+fn command_named(
+    alloc: Global,
+    name: &str,
+    values: &[&str],
+    place: Place,
+) -> Result<Option<Words>, AllocError>
     ensures found { IfOk result (λ found. IfSome found
-        (AreWords (name.now ∷ map (λ value. value.now) values.now))) }
+        (AreCommand (name.now ∷ map (λ value. value.now) values.now) place)) }
     ensures none { IfOk result (λ found. IfNone found ((command : Words) →
-        AreWords (name.now ∷ map (λ value. value.now) values.now) command → ⊥)) }
+        AreCommand (name.now ∷ map (λ value. value.now) values.now) place command → ⊥)) }
 {
     match name {
-        "replay" if values.is_empty() => Ok(Some(Words::Replay)),
+        "replay" if values.is_empty() => Ok(Some(Words::Replay { place })),
         "work" => match work_of(alloc, values)? {
-            Some(spec) => Ok(Some(Words::Work { spec })),
+            Some(spec) => Ok(Some(Words::Work { place, spec })),
             None => Ok(None),
         },
         "serve" => match serve_of(alloc, values)? {
-            Some(spec) => Ok(Some(Words::Serve { spec })),
+            Some(spec) => Ok(Some(Words::Serve { place, spec })),
             None => Ok(None),
         },
         _ => Ok(None),
@@ -164,15 +194,15 @@ fn serve_of(alloc: Global, values: &[&str]) -> Result<Option<ServeSpec>, AllocEr
     let [addr, conns, workers, shards, members] = values else {
         return Ok(None);
     };
-    if !is_address(addr.as_bytes()) {
+    if !is_plain_text(addr.as_bytes()) {
         return Ok(None);
     }
     let addr = Vec::from_slice(alloc, addr.as_bytes())?;
     Ok(spec_of(addr, conns, workers, shards, members))
 }
 
-// Whether connections may come in there: the text isn't empty and doesn't begin with a hyphen.
-fn is_address(text: &[u8]) -> bool
+// Whether an address or a path may be written so: the text isn't empty and doesn't begin with a hyphen.
+fn is_plain_text(text: &[u8]) -> bool
     ensures { IsTrue result ↔ ((1 ≤ length text.now) × (slice_get text.now 0 ≢ Some 45)) }
 {
     match text {

@@ -1,6 +1,7 @@
 ghost use Rattle.std.specs.Prelude.{◌≡◌};
 
 use run_inputs::WorkSpec;
+use sql_keeper::Place;
 use std::alloc::{AllocError, AllocFailed};
 
 /// Where and how connections are served.
@@ -18,15 +19,16 @@ pub struct ServeSpec {
     pub members: u32,
 }
 
-/// What the words ask for.
+/// What the words ask for, and where the rows lie for it: in the file that `--db` names, or at a fresh
+/// place without it. The path is UTF-8 text that isn't empty and doesn't begin with `-`.
 #[derive(Drop)]
 pub enum Words {
     /// To run the script on standard input.
-    Replay,
+    Replay { place: Place },
     /// To draw a load and run it.
-    Work { spec: WorkSpec },
+    Work { place: Place, spec: WorkSpec },
     /// To serve connections.
-    Serve { spec: ServeSpec },
+    Serve { place: Place, spec: ServeSpec },
     /// To show this text, the help or the version.
     Told { text: Vec<u8> },
 }

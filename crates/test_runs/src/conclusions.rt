@@ -42,6 +42,7 @@ fn runs_are_fresh_hold_commits_and_meet_floors(rt: HostRuntime) -> Result<(), Fa
     assert!(rt; commits_one_fresh(rt.alloc(), &mut outside));
     // The text is at its end now.
     assert!(rt; never_begins(rt.alloc(), &mut outside));
+    assert!(rt; never_begins_at_a_place(rt.alloc(), &mut outside));
     assert!(rt; has_no_history(rt.alloc(), &mut outside));
     assert!(rt; has_no_log(rt.alloc(), &mut outside));
     Ok(())
@@ -56,6 +57,12 @@ fn commits_one_fresh(alloc: Global, outside: &mut Outside) -> bool {
 fn never_begins(alloc: Global, outside: &mut Outside) -> bool {
     let keeper = keeper(alloc);
     let end = runs::run_holding_commits(alloc, &mut outside.source, &mut outside.sink, keeper);
+    end.opening.is_none()
+}
+
+fn never_begins_at_a_place(alloc: Global, outside: &mut Outside) -> bool {
+    let (source, sink) = (&mut outside.source, &mut outside.sink);
+    let end = runs::run_at(alloc, &Place::Fresh, source, sink, keeper(alloc));
     end.opening.is_none()
 }
 

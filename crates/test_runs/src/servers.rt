@@ -8,7 +8,7 @@ use std::net::{Ipv4Addr, Net, TcpListener, TcpStream};
 use std::sync::Wait;
 use std::test::Fail;
 use std::thread::Threads;
-use std::{io, thread};
+use std::{io, thread, time};
 use top_run::{Status, run};
 
 /// A reader that stores what the store answers, and hits it.
@@ -41,7 +41,7 @@ fn is_told(rt: &impl Net<Stream = TcpStream>, port: u16, back: &mut [u8]) -> io:
 
 /// A port on which nobody listens.
 fn free_port(
-    rt: &(impl Net<Listener = TcpListener, Stream = TcpStream> + Sync),
+    rt: &(impl Net<Listener = TcpListener, Stream = TcpStream> + time::Clock + Sync),
 ) -> Result<u16, Fail> {
     let mut probe = TcpDoor::new(rt);
     probe.bind(b"127.0.0.1:0")?;
@@ -52,11 +52,9 @@ fn free_port(
 }
 
 /// Serves one connection at this port. Whether it ended as the client said, and nothing failed.
-fn serves_one<R: Threads + Wait + Net<Listener = TcpListener, Stream = TcpStream> + Sync>(
-    rt: &R,
-    alloc: Global,
-    port: u16,
-) -> Result<bool, Fail> {
+fn serves_one<
+    R: Threads + Wait + Net<Listener = TcpListener, Stream = TcpStream> + time::Clock + Sync,
+>(rt: &R, alloc: Global, port: u16) -> Result<bool, Fail> {
     let words = format!(in alloc; "serve 127.0.0.1:{port} 1 1 1 3")?;
     let words = words_of(alloc, words.as_str())?;
     let mut door = TcpDoor::new(rt);

@@ -1,4 +1,5 @@
 use run_words::{Words, WordsFault, read_words};
+use sql_keeper::Place;
 use std::alloc::{AllocError, Global};
 use std::process::Abort;
 use std::test::Fail;
@@ -12,17 +13,34 @@ pub fn words_of(alloc: Global, line: &str) -> Result<Vec<Vec<u8>>, AllocError> {
     Ok(words)
 }
 
-// What is read of words, as one line: the command and its numbers, the first line of a text, or the
-// fault.
+// The words that name a place, behind a space.
+fn place_told(alloc: Global, place: &Place) -> Result<String, AllocError> {
+    match place {
+        Place::Fresh => Ok(String::new(alloc)),
+        Place::File { path } => format!(in alloc;
+            " --db {}",
+            String::from_utf8_lossy(alloc, path.bytes())?
+        ),
+    }
+}
+
+// What is read of words, as one line: the command with its place and its numbers, the first line of a
+// text, or the fault.
 fn told(alloc: Global, words: &[Vec<u8>]) -> Result<String, AllocError> {
     match read_words(alloc, words) {
-        Ok(Words::Replay) => format!(in alloc; "replay"),
-        Ok(Words::Work { spec }) => format!(in alloc;
-            "work {} {} {} {} {}",
-            spec.members, spec.sessions, spec.workers, spec.shards, spec.seed
+        Ok(Words::Replay { place }) => format!(in alloc; "replay{}", place_told(alloc, &place)?),
+        Ok(Words::Work { place, spec }) => format!(in alloc;
+            "work{} {} {} {} {} {}",
+            place_told(alloc, &place)?,
+            spec.members,
+            spec.sessions,
+            spec.workers,
+            spec.shards,
+            spec.seed
         ),
-        Ok(Words::Serve { spec }) => format!(in alloc;
-            "serve {} {} {} {} {}",
+        Ok(Words::Serve { place, spec }) => format!(in alloc;
+            "serve{} {} {} {} {} {}",
+            place_told(alloc, &place)?,
             String::from_utf8_lossy(alloc, spec.addr.as_slice())?,
             spec.conns,
             spec.workers,
@@ -51,7 +69,7 @@ fn reads(rt: &impl Abort, alloc: Global, line: &str, want: &str) {
 }
 
 /// Lines that are read as they stand.
-const COMMANDS: [&str; 8] = [
+const COMMANDS: [&str; 13] = [
     "replay",
     "work 1 0 1 1 0",
     "work 100000 500000 64 64 18446744073709551615",
@@ -60,6 +78,11 @@ const COMMANDS: [&str; 8] = [
     "serve localhost:11211 1000000 64 64 100000",
     "serve é 7 6 5 4",
     "serve help 1 2 3 4",
+    "replay --db a.db",
+    "replay --db data/é.db",
+    "work --db a.db 3 10 2 1 7",
+    "serve --db /a.db a:1 1 2 3 4",
+    "serve --db serve serve 1 2 3 4",
 ];
 
 #[test]
@@ -70,7 +93,7 @@ fn commands_are_read_as_they_stand(rt: HostRuntime) {
 }
 
 /// Lines that are no command's.
-const NONE: [&str; 40] = [
+const NONE: [&str; 52] = [
     "",
     "play",
     "Replay",
@@ -111,6 +134,18 @@ const NONE: [&str; 40] = [
     "-- replay",
     "work --version",
     "help me",
+    "--db a.db",
+    "--db a.db replay",
+    "replay --db",
+    "replay --db ",
+    "replay --db=",
+    "replay --db -a",
+    "replay --db --",
+    "replay --db a.db x",
+    "replay --db a.db --db a.db",
+    "work --db 3 10 2 1 7",
+    "work 3 10 --db a.db 2 1 7",
+    "serve a:1 1 2 3 4 --db",
 ];
 
 #[test]
@@ -123,6 +158,9 @@ fn other_lines_are_no_commands(rt: HostRuntime) {
 /// Words of which one isn't UTF-8.
 const BYTES: [&[u8]; 6] = [b"serve", b"\xff", b"1", b"1", b"1", b"1"];
 
+/// Words that name such a file.
+const FILE: [&[u8]; 3] = [b"replay", b"--db", b"\xff"];
+
 #[test]
 fn other_words_are_no_commands(rt: HostRuntime) -> Result<(), Fail> {
     let mut words = Vec::new(rt.alloc());
@@ -131,26 +169,36 @@ fn other_words_are_no_commands(rt: HostRuntime) -> Result<(), Fail> {
         words.push(Vec::from_slice(rt.alloc(), word)?)?;
     }
     assert!(rt; told(rt.alloc(), &words)?.as_str() == "usage");
+    words.clear();
+    for word in FILE.iter() {
+        words.push(Vec::from_slice(rt.alloc(), word)?)?;
+    }
+    assert!(rt; told(rt.alloc(), &words)?.as_str() == "usage");
     Ok(())
 }
 
-/// Lines with two hyphens, and what is read of them.
-const HYPHENS: [(&str, &str); 4] = [
+/// Lines with two hyphens, or with a place that stands elsewhere, and what is read of them.
+const HYPHENS: [(&str, &str); 9] = [
     ("replay --", "replay"),
     ("work -- 3 10 2 1 7", "work 3 10 2 1 7"),
     ("work 3 10 -- 2 1 7", "work 3 10 2 1 7"),
     ("serve a:1 1 2 3 4 --", "serve a:1 1 2 3 4"),
+    ("replay --db=a.db", "replay --db a.db"),
+    ("replay --db a.db --", "replay --db a.db"),
+    ("work --db a=b -- 3 10 2 1 7", "work --db a=b 3 10 2 1 7"),
+    ("work 3 10 2 1 7 --db a.db", "work --db a.db 3 10 2 1 7"),
+    ("serve a:1 1 2 3 4 --db=a.db", "serve --db a.db a:1 1 2 3 4"),
 ];
 
 #[test]
-fn two_hyphens_are_passed_over(rt: HostRuntime) {
+fn two_hyphens_are_passed_over_and_a_place_stands_anywhere(rt: HostRuntime) {
     for (line, want) in HYPHENS.iter() {
         reads(&rt, rt.alloc(), line, want);
     }
 }
 
 /// Lines that ask for a text, and what stands in it.
-const TEXTS: [(&str, &str); 5] = [
+const TEXTS: [(&str, &str); 6] = [
     ("--help", "Usage: iq <COMMAND>"),
     ("-h", "Usage: iq <COMMAND>"),
     ("help", "Usage: iq <COMMAND>"),
@@ -158,6 +206,7 @@ const TEXTS: [(&str, &str); 5] = [
         "work --help",
         "<members> <sessions> <workers> <shards> <seed>",
     ),
+    ("replay --help", "--db <path>"),
     ("help serve", "<addr> <conns> <workers> <shards> <members>"),
 ];
 

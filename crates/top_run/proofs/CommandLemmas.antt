@@ -1,11 +1,13 @@
 -- The ends of a command, by its words.
-use Rattle.std.proofs.Common.{ℕ, ◌≡◌, ◌<◌, ◌-◌, ◌^◌, inl, inr, List, [], length, arith, ap, refl, sym, ◌∙◌, subst}
-use Rattle.std.specs.Prelude.{false, Result, Ok, Err, IfOk, MatchResult}
+use Rattle.std.proofs.Common.{ℕ, ◌≡◌, ◌<◌, ◌≤◌, ◌-◌, ◌^◌, inl, inr, List, [], ◌∷◌, length, get_or, arith, ap, refl, sym, ◌∙◌, subst}
+use Rattle.std.specs.Prelude.{false, Result, Ok, Err, IfOk, MatchResult, codes}
 use Rattle.std.proofs.lemmas.Fmt.{decimal_injective}
 use Rattle.iq_outside.specs.Outside.{Rose, Takes, TakesAtMost}
 use Rattle.iq_outside.proofs.OutsideLemmas.{Takes-none}
 use Rattle.run_inputs.specs.declared.loads.WorkSpec.{WorkSpec}
 use Rattle.run_inputs.specs.Words.{AreWork}
+use Rattle.sql_keeper.specs.declared.keepers.Place.{Place}
+use Rattle.sql_keeper.specs.declared.keepers.Place.TheVariants.{Fresh, File}
 use Rattle.top_run.specs.declared.runs.Status.{Status}
 use Rattle.top_run.specs.declared.runs.Status.TheVariants as status
 use Rattle.run_words.specs.declared.words.ServeSpec.{ServeSpec}
@@ -13,10 +15,10 @@ use Rattle.run_words.specs.declared.words.Words.{Words}
 use Rattle.run_words.specs.declared.words.Words.TheVariants as words
 use Rattle.run_words.specs.declared.words.WordsFault.{WordsFault}
 use Rattle.run_words.specs.declared.words.WordsFault.TheVariants as fault
-use Rattle.top_run.specs.Commands.{AreNoCommand, IsUnread, IsReading, EndedAs, CommandEnded}
-use Rattle.top_run.specs.Runs.{AreReplay, Held, Tells, Left, IsUnasked, Ended, most_taken, is_door_fault}
+use Rattle.top_run.specs.Commands.{AreNoCommand, IsUnread, IsReading, IsRefused, EndedAs, CommandEnded}
+use Rattle.top_run.specs.Runs.{Held, Tells, Left, IsUnasked, Ended, most_taken, is_door_fault}
 use Rattle.top_run.specs.Serves.{Course, ServeEnded}
-use Rattle.run_words.specs.Words.{AreServe, AreWords}
+use Rattle.run_words.specs.Words.{AreServe, AreWords, with_place}
 use Rattle.run_words.specs.Reading.{AreReadAs, IsRead}
 use Rattle.top_run.specs.Works.{WorkEnded}
 use Rattle.top_run.proofs.ServeLemmas.{same_server}
@@ -27,23 +29,63 @@ use Rattle.top_run.proofs.ServeLemmas.{same_server}
 abbrev pub Accepts : List (List ℕ) → Result Words WordsFault → Type 0
 Accepts spoken read = (command : Words) → AreWords spoken command → MatchResult read (AreWords spoken) (λ why. why ≡ fault.Memory)
 
+-- the name of a command, which comes first
+abbrev first_word : Words → List ℕ
+first_word (words.Replay at) = codes "replay"
+first_word (words.Work at spec) = codes "work"
+first_word (words.Serve at spec) = codes "serve"
+first_word (words.Told text) = []
+
+stays_first : (place : Place) (others : List (List ℕ)) → get_or (with_place place others) 0 [] ≡ get_or others 0 []
+stays_first place [] = refl
+stays_first place (first ∷ others) = refl
+
+begins_with : (spoken others : List (List ℕ)) (place : Place) (first : List ℕ) (values : List (List ℕ))
+    → spoken ≡ with_place place others → others ≡ first ∷ values → get_or spoken 0 [] ≡ first
+begins_with spoken others place first values written is =
+    ap (λ (ws : List (List ℕ)). get_or ws 0 []) written ∙ stays_first place others ∙ ap (λ (ws : List (List ℕ)). get_or ws 0 []) is
+
+is_first : (spoken : List (List ℕ)) (command : Words) → AreWords spoken command → get_or spoken 0 [] ≡ first_word command
+is_first spoken (words.Replay at) h = begins_with spoken h.others h.place _ _ h.written h.are_command.1
+is_first spoken (words.Work at spec) h = begins_with spoken h.others h.place _ _ h.written h.are_command.1.written
+is_first spoken (words.Serve at spec) h = begins_with spoken h.others h.place _ _ h.written h.are_command.1.written
+is_first spoken (words.Told text) h = absurd h.are_command
+
 -- words of one command are of no other
-replay_or_work : (spoken : List (List ℕ)) → AreReplay spoken → (spec : WorkSpec) → AreWork spoken spec → ⊥
-replay_or_work spoken one spec six =
-    let lengths : length spoken ≡ 1 = ap length one in
-    let others : length spoken ≡ 6 = ap length six.written in
-    absurd (omega (arith, lengths, others))
+replay_or_work : (spoken : List (List ℕ)) (at place : Place) (spec : WorkSpec) → AreWords spoken (words.Replay at) → AreWords spoken (words.Work place spec) → ⊥
+replay_or_work spoken at place spec h k =
+    let same : codes "replay" ≡ codes "work" = sym (is_first spoken (words.Replay at) h) ∙ is_first spoken (words.Work place spec) k in
+    absurd cc
 
-replay_or_serve : (spoken : List (List ℕ)) → AreReplay spoken → (spec : ServeSpec) → AreServe spoken spec → ⊥
-replay_or_serve spoken one spec six =
-    let lengths : length spoken ≡ 1 = ap length one in
-    let others : length spoken ≡ 6 = ap length six.written in
-    absurd (omega (arith, lengths, others))
+replay_or_serve : (spoken : List (List ℕ)) (at place : Place) (spec : ServeSpec) → AreWords spoken (words.Replay at) → AreWords spoken (words.Serve place spec) → ⊥
+replay_or_serve spoken at place spec h k =
+    let same : codes "replay" ≡ codes "serve" = sym (is_first spoken (words.Replay at) h) ∙ is_first spoken (words.Serve place spec) k in
+    absurd cc
 
-work_or_serve : (spoken : List (List ℕ)) (spec : WorkSpec) → AreWork spoken spec → (other : ServeSpec) → AreServe spoken other → ⊥
-work_or_serve spoken spec work other serve =
-    let same = sym work.written ∙ serve.written in
-    cc
+work_or_serve : (spoken : List (List ℕ)) (at place : Place) (spec : WorkSpec) (other : ServeSpec)
+    → AreWords spoken (words.Work at spec) → AreWords spoken (words.Serve place other) → ⊥
+work_or_serve spoken at place spec other h k =
+    let same : codes "work" ≡ codes "serve" = sym (is_first spoken (words.Work at spec) h) ∙ is_first spoken (words.Serve place other) k in
+    absurd cc
+
+-- words that are as many without those of their places are the same, at the same place
+same_at : (place other : Place) (some others : List (List ℕ)) → 1 ≤ length some → length some ≡ length others
+    → with_place place some ≡ with_place other others → (place ≡ other) × (some ≡ others)
+same_at place other [] others one many same = absurd (omega (arith, one))
+same_at place other (x ∷ xs) [] one many same = absurd (omega (arith, many))
+same_at Fresh Fresh (x ∷ xs) (y ∷ ys) one many same = (refl, same)
+same_at (File path) (File other) (x ∷ xs) (y ∷ ys) one many same = (cc, cc)
+same_at Fresh (File other) (x ∷ xs) (y ∷ ys) one many same =
+    let lengths : length (x ∷ xs) ≡ length (y ∷ codes "--db" ∷ other ∷ ys) = ap length same in
+    absurd (omega (arith, many, lengths))
+same_at (File path) Fresh (x ∷ xs) (y ∷ ys) one many same =
+    let lengths : length (x ∷ codes "--db" ∷ path ∷ xs) ≡ length (y ∷ ys) = ap length same in
+    absurd (omega (arith, many, lengths))
+
+-- so it is of two commands whose words are the same
+alike : (spoken : List (List ℕ)) (found command : Words) (h : AreWords spoken found) (k : AreWords spoken command)
+    → 1 ≤ length h.others → length h.others ≡ length k.others → (h.place ≡ k.place) × (h.others ≡ k.others)
+alike spoken found command h k one many = same_at h.place k.place h.others k.others one many (sym h.written ∙ k.written)
 
 -- they are those of one load at most
 same_load : (spoken : List (List ℕ)) (spec other : WorkSpec) → AreWork spoken spec → AreWork spoken other → spec ≡ other
@@ -99,68 +141,78 @@ took_none course same = (
 
 -- ---- how a command ends, by what its words were read as
 
-replayed_of : (spoken : List (List ℕ)) (read : Result Words WordsFault) (ended : Status) (course : Course) → Accepts spoken read
-    → EndedAs read ended course → AreReplay spoken → Ended ended course.held course.before course.after course.left course.written
-replayed_of spoken (Ok words.Replay) ended course accepts h are = h.0
-replayed_of spoken (Ok (words.Work spec)) ended course accepts h are = absurd (replay_or_work spoken are spec (accepts words.Replay are))
-replayed_of spoken (Ok (words.Serve spec)) ended course accepts h are = absurd (replay_or_serve spoken are spec (accepts words.Replay are))
-replayed_of spoken (Ok (words.Told text)) ended course accepts h are = absurd (accepts words.Replay are)
-replayed_of spoken (Err fault.Usage) ended course accepts h are =
-    let none : fault.Usage ≡ fault.Memory = accepts words.Replay are in absurd cc
-replayed_of spoken (Err fault.Memory) ended course accepts h are =
-    let same = h.1.same in
-    subst (λ (e : Status). Ended e course.held course.before course.after course.left course.written) (sym h.0)
-    (inl (took_none course same, unasked_of course same, h.1.nothing))
-
-worked_of : (spoken : List (List ℕ)) (read : Result Words WordsFault) (ended : Status) (course : Course) → Accepts spoken read
-    → EndedAs read ended course → (spec : WorkSpec) → AreWork spoken spec
-    → IsUnread course.before course.after × WorkEnded ended spec course.held course.before course.after course.left course.written
-worked_of spoken (Ok words.Replay) ended course accepts h spec are =
-    absurd (replay_or_work spoken (accepts (words.Work spec) are) spec are)
-worked_of spoken (Ok (words.Work found)) ended course accepts h spec are = (
-  h.0,
-  subst (λ (s : WorkSpec). WorkEnded ended s course.held course.before course.after course.left course.written)
-      (same_load spoken found spec (accepts (words.Work spec) are) are) h.1,
-)
-worked_of spoken (Ok (words.Serve found)) ended course accepts h spec are =
-    absurd (work_or_serve spoken spec are found (accepts (words.Work spec) are))
-worked_of spoken (Ok (words.Told text)) ended course accepts h spec are = absurd (accepts (words.Work spec) are)
-worked_of spoken (Err fault.Usage) ended course accepts h spec are =
-    let none : fault.Usage ≡ fault.Memory = accepts (words.Work spec) are in absurd cc
-worked_of spoken (Err fault.Memory) ended course accepts h spec are =
-    let same = h.1.same in (
-      unread_of course same,
-      subst (λ (e : Status). WorkEnded e spec course.held course.before course.after course.left course.written) (sym h.0)
-          (inl (unasked_of course same, h.1.nothing)),
+-- as what they were read as, which they are too
+ended_alike : (spoken : List (List ℕ)) (found command : Words) → AreWords spoken found → AreWords spoken command
+    → (ended : Status) (courses : Place → Course) → EndedAs (Ok found) ended courses → EndedAs (Ok command) ended courses
+ended_alike spoken (words.Replay at) (words.Replay place) h k ended courses e =
+    let one : length h.others ≡ 1 = ap length h.are_command.1 in
+    let other : length k.others ≡ 1 = ap length k.are_command.1 in
+    let same = alike spoken (words.Replay at) (words.Replay place) h k (omega (arith, one)) (one ∙ sym other) in
+    subst (λ (p : Place). EndedAs (Ok (words.Replay p)) ended courses) (h.are_command.0 ∙ same.0 ∙ sym k.are_command.0) e
+ended_alike spoken (words.Work at spec) (words.Work place other) h k ended courses e =
+    let six : length h.others ≡ 6 = ap length h.are_command.1.written in
+    let six' : length k.others ≡ 6 = ap length k.are_command.1.written in
+    let same = alike spoken (words.Work at spec) (words.Work place other) h k (omega (arith, six)) (six ∙ sym six') in
+    let load : spec ≡ other = same_load k.others spec other (subst (λ (ws : List (List ℕ)). AreWork ws spec) same.1 h.are_command.1) k.are_command.1 in
+    subst (λ (s : WorkSpec). EndedAs (Ok (words.Work place s)) ended courses) load
+    (subst (λ (p : Place). EndedAs (Ok (words.Work p spec)) ended courses) (h.are_command.0 ∙ same.0 ∙ sym k.are_command.0) e)
+ended_alike spoken (words.Serve at spec) (words.Serve place other) h k ended courses e =
+    let six : length h.others ≡ 6 = ap length h.are_command.1.written in
+    let six' : length k.others ≡ 6 = ap length k.are_command.1.written in
+    let same = alike spoken (words.Serve at spec) (words.Serve place other) h k (omega (arith, six)) (six ∙ sym six') in
+    let too : AreServe k.others spec = subst (λ (ws : List (List ℕ)). AreServe ws spec) same.1 h.are_command.1 in
+    let are = k.are_command.1 in
+    let there = subst (λ (p : Place). EndedAs (Ok (words.Serve p spec)) ended courses) (h.are_command.0 ∙ same.0 ∙ sym k.are_command.0) e in (
+      there.0,
+      same_server spec other ended (courses place) (same_conns k.others spec other too are)
+          (same_members k.others spec other too are) (same_shards k.others spec other too are) there.1,
     )
+ended_alike spoken (words.Replay at) (words.Work place spec) h k ended courses e = absurd (replay_or_work spoken at place spec h k)
+ended_alike spoken (words.Replay at) (words.Serve place spec) h k ended courses e = absurd (replay_or_serve spoken at place spec h k)
+ended_alike spoken (words.Work at spec) (words.Replay place) h k ended courses e = absurd (replay_or_work spoken place at spec k h)
+ended_alike spoken (words.Work at spec) (words.Serve place other) h k ended courses e = absurd (work_or_serve spoken at place spec other h k)
+ended_alike spoken (words.Serve at spec) (words.Replay place) h k ended courses e = absurd (replay_or_serve spoken place at spec k h)
+ended_alike spoken (words.Serve at spec) (words.Work place other) h k ended courses e = absurd (work_or_serve spoken place at other spec k h)
+ended_alike spoken (words.Told text) command h k ended courses e = absurd h.are_command
+ended_alike spoken found (words.Told text) h k ended courses e = absurd k.are_command
 
-served_of : (spoken : List (List ℕ)) (read : Result Words WordsFault) (ended : Status) (course : Course) → Accepts spoken read
-    → EndedAs read ended course → (spec : ServeSpec) → AreServe spoken spec → IsUnread course.before course.after × ServeEnded ended spec course
-served_of spoken (Ok words.Replay) ended course accepts h spec are =
-    absurd (replay_or_serve spoken (accepts (words.Serve spec) are) spec are)
-served_of spoken (Ok (words.Work found)) ended course accepts h spec are =
-    absurd (work_or_serve spoken found (accepts (words.Serve spec) are) spec are)
-served_of spoken (Ok (words.Serve found)) ended course accepts h spec are =
-    let too : AreServe spoken found = accepts (words.Serve spec) are in (
-      h.0,
-      same_server found spec ended course (same_conns spoken found spec too are)
-          (same_members spoken found spec too are) (same_shards spoken found spec too are) h.1,
+-- or where memory ran out for reading them
+ended_unread : (spoken : List (List ℕ)) (command : Words) → AreWords spoken command
+    → (ended : Status) (courses : Place → Course) → EndedAs (Err fault.Memory) ended courses → EndedAs (Ok command) ended courses
+ended_unread spoken (words.Replay at) k ended courses e =
+    let course = courses at in
+    let refused : IsRefused course = e.1 at in (
+      subst (λ (s : Status). Ended s course.held course.before course.after course.left course.written) (sym e.0)
+          (inl (took_none course refused.same, unasked_of course refused.same, refused.nothing)),
+      refused.unserved,
     )
-served_of spoken (Ok (words.Told text)) ended course accepts h spec are = absurd (accepts (words.Serve spec) are)
-served_of spoken (Err fault.Usage) ended course accepts h spec are =
-    let none : fault.Usage ≡ fault.Memory = accepts (words.Serve spec) are in absurd cc
-served_of spoken (Err fault.Memory) ended course accepts h spec are =
-    let same = h.1.same in (
-      unread_of course same,
-      subst (λ (e : Status). ServeEnded e spec course) (sym h.0) (inl (unasked_of course same, h.1.nothing, h.1.unserved)),
+ended_unread spoken (words.Work at spec) k ended courses e =
+    let course = courses at in
+    let refused : IsRefused course = e.1 at in (
+      unread_of course refused.same,
+      subst (λ (s : Status). WorkEnded s spec course.held course.before course.after course.left course.written) (sym e.0)
+          (inl (unasked_of course refused.same, refused.nothing)),
+      refused.unserved,
     )
+ended_unread spoken (words.Serve at spec) k ended courses e =
+    let course = courses at in
+    let refused : IsRefused course = e.1 at in (
+      unread_of course refused.same,
+      subst (λ (s : Status). ServeEnded s spec course) (sym e.0) (inl (unasked_of course refused.same, refused.nothing, refused.unserved)),
+    )
+ended_unread spoken (words.Told text) k ended courses e = absurd k.are_command
 
-command_ended : (spoken : List (List ℕ)) (read : Result Words WordsFault) (ended : Status) (course : Course)
-    → Accepts spoken read → IsReading spoken read → EndedAs read ended course → CommandEnded spoken ended course
-command_ended spoken read ended course accepts reading h = record {
-  replayed = replayed_of spoken read ended course accepts h;
-  worked = worked_of spoken read ended course accepts h;
-  served = served_of spoken read ended course accepts h;
+worded_of : (spoken : List (List ℕ)) (read : Result Words WordsFault) (ended : Status) (courses : Place → Course) → Accepts spoken read
+    → EndedAs read ended courses → (command : Words) → AreWords spoken command → EndedAs (Ok command) ended courses
+worded_of spoken (Ok found) ended courses accepts h command are = ended_alike spoken found command (accepts command are) are ended courses h
+worded_of spoken (Err fault.Usage) ended courses accepts h command are =
+    let none : fault.Usage ≡ fault.Memory = accepts command are in absurd cc
+worded_of spoken (Err fault.Memory) ended courses accepts h command are = ended_unread spoken command are ended courses h
+
+command_ended : (spoken : List (List ℕ)) (read : Result Words WordsFault) (ended : Status) (courses : Place → Course)
+    → Accepts spoken read → IsReading spoken read → EndedAs read ended courses → CommandEnded spoken ended courses
+command_ended spoken read ended courses accepts reading h = record {
+  worded = worded_of spoken read ended courses accepts h;
   read = read;
   is_reading = reading;
   ended_as = h;
@@ -176,38 +228,38 @@ reading_of spoken (Err fault.Usage) accepts is usage = record {
 }
 reading_of spoken (Err fault.Memory) accepts is usage = tt
 
-pub command_ok : (spoken : List (List ℕ)) (read : Result Words WordsFault) (ended : Status) (course : Course)
+pub command_ok : (spoken : List (List ℕ)) (read : Result Words WordsFault) (ended : Status) (courses : Place → Course)
     → Accepts spoken read → IfOk read (IsRead spoken) → (read ≡ Err fault.Usage → (command : Words) → AreReadAs spoken command → ⊥)
-    → (found command : Words) → read ≡ Ok found → found ≡ command → EndedAs (Ok command) ended course → CommandEnded spoken ended course
-command_ok spoken read ended course accepts is usage found command first then h =
+    → (found command : Words) → read ≡ Ok found → found ≡ command → EndedAs (Ok command) ended courses → CommandEnded spoken ended courses
+command_ok spoken read ended courses accepts is usage found command first then h =
     let as_read : read ≡ Ok command = cc in
-    command_ended spoken read ended course accepts (reading_of spoken read accepts is usage)
-    (subst (λ (r : Result Words WordsFault). EndedAs r ended course) (sym as_read) h)
+    command_ended spoken read ended courses accepts (reading_of spoken read accepts is usage)
+    (subst (λ (r : Result Words WordsFault). EndedAs r ended courses) (sym as_read) h)
 
-pub command_err : (spoken : List (List ℕ)) (read : Result Words WordsFault) (ended : Status) (course : Course)
+pub command_err : (spoken : List (List ℕ)) (read : Result Words WordsFault) (ended : Status) (courses : Place → Course)
     → Accepts spoken read → IfOk read (IsRead spoken) → (read ≡ Err fault.Usage → (command : Words) → AreReadAs spoken command → ⊥)
-    → (found why : WordsFault) → read ≡ Err found → found ≡ why → EndedAs (Err why) ended course → CommandEnded spoken ended course
-command_err spoken read ended course accepts is usage found why first then h =
+    → (found why : WordsFault) → read ≡ Err found → found ≡ why → EndedAs (Err why) ended courses → CommandEnded spoken ended courses
+command_err spoken read ended courses accepts is usage found why first then h =
     let as_read : read ≡ Err why = cc in
-    command_ended spoken read ended course accepts (reading_of spoken read accepts is usage)
-    (subst (λ (r : Result Words WordsFault). EndedAs r ended course) (sym as_read) h)
+    command_ended spoken read ended courses accepts (reading_of spoken read accepts is usage)
+    (subst (λ (r : Result Words WordsFault). EndedAs r ended courses) (sym as_read) h)
 
 -- words that are read as a load's, or a server's, are not those of a replay
-pub load_no_replay : (spoken : List (List ℕ)) (read : Result Words WordsFault) (found : Words) (spec : WorkSpec)
-    → Accepts spoken read → read ≡ Ok found → found ≡ words.Work spec → AreReplay spoken → ⊥
-load_no_replay spoken read found spec accepts first then are =
-    let as_read : read ≡ Ok (words.Work spec) = cc in
-    let work : AreWork spoken spec = subst (λ (r : Result Words WordsFault). MatchResult r (AreWords spoken) (λ why. why ≡ fault.Memory))
-    as_read (accepts words.Replay are) in
-    replay_or_work spoken are spec work
+pub load_no_replay : (spoken : List (List ℕ)) (read : Result Words WordsFault) (found : Words) (at : Place) (spec : WorkSpec)
+    → Accepts spoken read → read ≡ Ok found → found ≡ words.Work at spec → (place : Place) → AreWords spoken (words.Replay place) → ⊥
+load_no_replay spoken read found at spec accepts first then place are =
+    let as_read : read ≡ Ok (words.Work at spec) = cc in
+    let work : AreWords spoken (words.Work at spec) = subst (λ (r : Result Words WordsFault). MatchResult r (AreWords spoken) (λ why. why ≡ fault.Memory))
+    as_read (accepts (words.Replay place) are) in
+    replay_or_work spoken place at spec are work
 
-pub server_no_replay : (spoken : List (List ℕ)) (read : Result Words WordsFault) (found : Words) (spec : ServeSpec)
-    → Accepts spoken read → read ≡ Ok found → found ≡ words.Serve spec → AreReplay spoken → ⊥
-server_no_replay spoken read found spec accepts first then are =
-    let as_read : read ≡ Ok (words.Serve spec) = cc in
-    let serve : AreServe spoken spec = subst (λ (r : Result Words WordsFault). MatchResult r (AreWords spoken) (λ why. why ≡ fault.Memory))
-    as_read (accepts words.Replay are) in
-    replay_or_serve spoken are spec serve
+pub server_no_replay : (spoken : List (List ℕ)) (read : Result Words WordsFault) (found : Words) (at : Place) (spec : ServeSpec)
+    → Accepts spoken read → read ≡ Ok found → found ≡ words.Serve at spec → (place : Place) → AreWords spoken (words.Replay place) → ⊥
+server_no_replay spoken read found at spec accepts first then place are =
+    let as_read : read ≡ Ok (words.Serve at spec) = cc in
+    let serve : AreWords spoken (words.Serve at spec) = subst (λ (r : Result Words WordsFault). MatchResult r (AreWords spoken) (λ why. why ≡ fault.Memory))
+    as_read (accepts (words.Replay place) are) in
+    replay_or_serve spoken place at spec are serve
 
 -- words that are refused are no command
 pub no_command : (spoken : List (List ℕ)) (read : Result Words WordsFault) → Accepts spoken read

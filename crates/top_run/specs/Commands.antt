@@ -1,17 +1,15 @@
 -- What is so at the end of a command, by its words.
 use Rattle.std.specs.Prelude.{ℕ, ◌≡◌, ◌++◌, List, [], None, Result, Ok, Err}
-use Rattle.run_inputs.specs.declared.loads.WorkSpec.{WorkSpec}
-use Rattle.run_inputs.specs.Words.{AreWork}
+use Rattle.sql_keeper.specs.declared.keepers.Place.{Place}
 use Rattle.top_run.specs.declared.runs.Status.{Status}
 use Rattle.top_run.specs.declared.runs.Status.TheVariants as status
-use Rattle.run_words.specs.declared.words.ServeSpec.{ServeSpec}
 use Rattle.run_words.specs.declared.words.Words.{Words}
 use Rattle.run_words.specs.declared.words.Words.TheVariants as words
 use Rattle.run_words.specs.declared.words.WordsFault.{WordsFault}
 use Rattle.run_words.specs.declared.words.WordsFault.TheVariants as fault
-use Rattle.top_run.specs.Runs.{AreReplay, Tells, Left, Prints, IsUnasked, IsNotStarted, Ended}
+use Rattle.top_run.specs.Runs.{Tells, Left, Prints, IsUnasked, IsNotStarted, Ended}
 use Rattle.top_run.specs.Serves.{Course, IsUnserved, ServeEnded}
-use Rattle.run_words.specs.Words.{AreServe, AreWords}
+use Rattle.run_words.specs.Words.{AreWords}
 use Rattle.run_words.specs.Reading.{AreReadAs, IsRead}
 use Rattle.top_run.specs.Works.{WorkEnded}
 
@@ -43,21 +41,26 @@ pub record IsRefused (course : Course) : Type 0 where
   pub unserved : IsUnserved course
 
 -- What is so at an end, by what the words were read as: a script is replayed from the source; a load and a server
--- read nothing; a text that was asked for is written; and words that can't be read do nothing.
-abbrev pub EndedAs : Result Words WordsFault → Status → Course → Type 0
-EndedAs (Ok words.Replay) ended course =
+-- read nothing; a text that was asked for is written; and words that can't be read do nothing. The course of the run
+-- is told by its place: that which a command names, or any where none is named.
+abbrev pub EndedAs : Result Words WordsFault → Status → (Place → Course) → Type 0
+EndedAs (Ok (words.Replay place)) ended courses =
+    let course = courses place in
     Ended ended course.held course.before course.after course.left course.written × IsUnserved course
-EndedAs (Ok (words.Work spec)) ended course =
+EndedAs (Ok (words.Work place spec)) ended courses =
+    let course = courses place in
     IsUnread course.before course.after
     × WorkEnded ended spec course.held course.before course.after course.left course.written
     × IsUnserved course
-EndedAs (Ok (words.Serve spec)) ended course = IsUnread course.before course.after × ServeEnded ended spec course
-EndedAs (Ok (words.Told text)) ended course =
-    IsUnread course.before course.after
-    × IsTextTold text.items ended course.before course.after course.left course.written
-    × IsUnserved course
-EndedAs (Err fault.Usage) ended course = (ended ≡ status.Usage) × IsRefused course
-EndedAs (Err fault.Memory) ended course = (ended ≡ status.Memory) × IsRefused course
+EndedAs (Ok (words.Serve place spec)) ended courses =
+    let course = courses place in IsUnread course.before course.after × ServeEnded ended spec course
+EndedAs (Ok (words.Told text)) ended courses =
+    (place : Place)
+    → IsUnread (courses place).before (courses place).after
+    × IsTextTold text.items ended (courses place).before (courses place).after (courses place).left (courses place).written
+    × IsUnserved (courses place)
+EndedAs (Err fault.Usage) ended courses = (ended ≡ status.Usage) × ((place : Place) → IsRefused (courses place))
+EndedAs (Err fault.Memory) ended courses = (ended ≡ status.Memory) × ((place : Place) → IsRefused (courses place))
 
 -- The words are no command: neither word for word, nor as they are read.
 pub record AreNoCommand (words : List (List ℕ)) : Type 0 where
@@ -70,15 +73,11 @@ IsReading words (Ok command) = IsRead words command
 IsReading words (Err fault.Usage) = AreNoCommand words
 IsReading words (Err fault.Memory) = Unit {0}
 
--- What is so at an end of a command, by its words. The word `replay` alone replays a script, as
--- the call of that name does. The words of a load run it, and those of a server serve; both read nothing.
--- Words that aren't those of a command, word for word, end as what they are read as.
-pub record CommandEnded (words : List (List ℕ)) (ended : Status) (course : Course) : Type 0 where
-  pub replayed : AreReplay words → Ended ended course.held course.before course.after course.left course.written
-  pub worked : (spec : WorkSpec) → AreWork words spec
-      → IsUnread course.before course.after
-      × WorkEnded ended spec course.held course.before course.after course.left course.written
-  pub served : (spec : ServeSpec) → AreServe words spec → IsUnread course.before course.after × ServeEnded ended spec course
+-- What is so at an end of a command, by its words, where the course of the run is told by its place. Words that are
+-- those of a command, word for word, end as this command, at the place that they name. Others end as what they are
+-- read as.
+pub record CommandEnded (words : List (List ℕ)) (ended : Status) (courses : Place → Course) : Type 0 where
+  pub worded : (command : Words) → AreWords words command → EndedAs (Ok command) ended courses
   pub read : Result Words WordsFault
   pub is_reading : IsReading words read
-  pub ended_as : EndedAs read ended course
+  pub ended_as : EndedAs read ended courses

@@ -1,6 +1,6 @@
 -- What a run reads, prints and keeps.
 use Rattle.std.specs.Prelude.{ℕ, ◌≡◌, ◌≢◌, ◌+◌, ◌-◌, ◌^◌, ◌≤◌, ◌⊎◌, Bool, true, false, min, List, [], ◌∷◌, ◌++◌, length, map, reverse}
-use Rattle.std.specs.Prelude.{replicate, flat_map, count_by, Option, Some, None, slice_get, codes}
+use Rattle.std.specs.Prelude.{replicate, flat_map, count_by, Option, Some, None, slice_get}
 use Rattle.std.specs.List.{AllByRecursion}
 use Rattle.std.specs.Option.{ForSome}
 use Rattle.iq_outside.specs.declared.sinks.Sink.{Ghosts as Sinks}
@@ -31,10 +31,6 @@ use Rattle.core_history.specs.Truth.{IsTruePast}
 use Rattle.top_run.specs.declared.runs.RunEnd.{RunEnd}
 use Rattle.top_run.specs.declared.runs.Status.{Status}
 use Rattle.top_run.specs.declared.runs.Status.TheVariants as status
-
--- The words are the one word `replay`.
-abbrev pub AreReplay : List (List ℕ) → Type 0
-AreReplay words = words ≡ codes "replay" ∷ []
 
 -- What an act says.
 abbrev pub calls_in : Act → List Call

@@ -3,8 +3,11 @@ ghost use Rattle.std.specs.Bool.{IsFalse};
 ghost use Rattle.rows_model.specs.Rows.{Tables};
 ghost use Rattle.run_inputs.specs.Fit.{IsPlayable};
 ghost use Rattle.core_history.specs.Cores.{shards_in, origin_of};
+ghost use Rattle.sql_keeper.specs.declared.keepers.Place.{Place};
+ghost use Rattle.run_words.specs.declared.words.Words.{Words};
+ghost use Rattle.run_words.specs.Words.{AreWords};
 ghost use Rattle.top_run.specs.declared.runs.Status.{Status};
-ghost use Rattle.top_run.specs.Runs.{AreReplay, Ended, Held, Input, told_by, moment, seen, held_at, left_at, IsRead, IsOpened, RoseWhere, CountsWhere, is_read_fault, is_write_fault, is_door_fault};
+ghost use Rattle.top_run.specs.Runs.{Ended, Held, Input, told_by, moment, seen, held_at, left_at, IsRead, IsOpened, RoseWhere, CountsWhere, is_read_fault, is_write_fault, is_door_fault};
 ghost use Rattle.top_run.specs.Commands.{AreNoCommand, CommandEnded};
 ghost use Rattle.top_run.specs.Serves.{course_of};
 ghost use Rattle.door_workers.specs.Attending.{told};
@@ -121,9 +124,10 @@ pub fn replay<S: Source, W: Sink, K: Keeper>(
     }
 }
 
-/// Runs a command over a store with this keeper, at a fresh place.
+/// Runs a command over a store with this keeper. Behind the command's name `--db <path>` names the file
+/// in which the rows lie, which are those that it has; without it they are made afresh.
 ///
-/// The one word `replay` replays the script that the source gives, as the call `replay` does. The words
+/// The word `replay` replays the script that the source gives, as the call `replay` does. The words
 /// `work <members> <sessions> <workers> <shards> <seed>` run a load that is drawn from the seed: each
 /// worker runs its sessions in a thread of its own over one cache; then the kept log and histories are
 /// audited, and a summary of three lines goes to the sink. All numbers in it but the bypasses and the
@@ -163,19 +167,19 @@ pub fn run<
 ) -> RunEnd<K>
     ensures usage { result.status ≡ Status.Usage →
         AreNoCommand (map (λ word. word.items) words.now) }
-    ensures ended { let held = held_at Place.Fresh (K.holds keeper Place.Fresh) in
-        let before = seen (told_by S.Source source.old) W.Sink K.Keeper sink.old keeper in
+    ensures ended { let before = seen (told_by S.Source source.old) W.Sink K.Keeper sink.old keeper in
         let after = seen (told_by S.Source source.new) W.Sink K.Keeper sink.new result.keeper in
         let tells = told D.lines D.faults D.ended D.closed in
-        CommandEnded (map (λ word. word.items) words.now) result.status
-        (course_of held before after (tells door.old) (tells door.new) result) }
+        CommandEnded (map (λ word. word.items) words.now) result.status (λ place. course_of
+        (held_at place (K.holds keeper place)) before after (tells door.old) (tells door.new) result) }
     ensures started { IsSome result.opening → K.is_started result.keeper }
     ensures unstarted { result.opening ≡ None → K.is_started result.keeper → K.is_started keeper }
     ensures reads { RoseWhere S.faults (is_read_fault result.status) source.old source.new }
     ensures writes { RoseWhere W.faults (is_write_fault result.status) sink.old sink.new }
     ensures doors { RoseWhere D.faults (is_door_fault result.status) door.old door.new }
-    ensures done { AreReplay (map (λ word. word.items) words.now) → result.status ≡ Status.Done →
-        K.faults result.keeper ≡ K.faults keeper }
+    ensures done { (place : Place) →
+        AreWords (map (λ word. word.items) words.now) (Words.Replay place) →
+        result.status ≡ Status.Done → K.faults result.keeper ≡ K.faults keeper }
     ensures faultless { K.faults result.keeper ≡ K.faults keeper → K.faults keeper < 2 ^ 64 - 1 →
         result.status ≢ Status.KeepFault }
     ensures source_never_falls { S.faults source.old ≤ S.faults source.new }
@@ -184,9 +188,13 @@ pub fn run<
     ensures keeper_never_falls { K.faults keeper ≤ K.faults result.keeper }
 {
     match read_words(alloc, words) {
-        Ok(Words::Replay) => replay(alloc, &Place::Fresh, source, sink, keeper),
-        Ok(Words::Work { spec }) => work(rt, alloc, &spec, sink, keeper, clock, gate),
-        Ok(Words::Serve { spec }) => serve(rt, alloc, &spec, sink, keeper, door, clock, gate),
+        Ok(Words::Replay { place }) => replay(alloc, &place, source, sink, keeper),
+        Ok(Words::Work { place, spec }) => {
+            work(rt, alloc, &place, &spec, sink, keeper, clock, gate)
+        }
+        Ok(Words::Serve { place, spec }) => {
+            serve(rt, alloc, &place, &spec, sink, keeper, door, clock, gate)
+        }
         Ok(Words::Told { text }) => tell(alloc, text.as_slice(), sink, keeper),
         Err(WordsFault::Usage) => not_started(alloc, Status::Usage, keeper),
         Err(WordsFault::Memory) => not_started(alloc, Status::Memory, keeper),

@@ -39,7 +39,7 @@ const ROOM: u32 = 4096;
 /// At how many steps in memory a server's shard gives them up.
 const KEEP: u32 = 256;
 
-/// Serves the lines that the door gives, over a store with this keeper at a fresh place. What needs memory
+/// Serves the lines that the door gives, over a store with this keeper at this place. What needs memory
 /// before the store is there before the keeper starts; the hub, its desks and room for the ends of all
 /// lines are there before the door is bound, and the first line is written once it is. The shards roll: at
 /// the end the steps are handed out that each has in memory, the last of its history.
@@ -53,6 +53,7 @@ pub(crate) fn serve<
 >(
     rt: &R,
     alloc: Global,
+    place: &Place,
     spec: &ServeSpec,
     sink: &mut W,
     keeper: K,
@@ -62,7 +63,7 @@ pub(crate) fn serve<
 ) -> RunEnd<K>
     requires { IsServe spec.now }
     ensures ended { (unread : Input) →
-        let held = held_at Place.Fresh (K.holds keeper Place.Fresh) in
+        let held = held_at place.now (K.holds keeper place.now) in
         let before = seen unread W.Sink K.Keeper sink.old keeper in
         let after = seen unread W.Sink K.Keeper sink.new result.keeper in
         let tells = told D.lines D.faults D.ended D.closed in
@@ -79,7 +80,7 @@ pub(crate) fn serve<
     let Ok(ready) = ready_for(alloc, spec) else {
         return not_started(alloc, Status::Memory, keeper);
     };
-    match Store::new(alloc, keeper, &Place::Fresh, spec.members, CAP) {
+    match Store::new(alloc, keeper, place, spec.members, CAP) {
         Ok(store) => serve_on::<Brand, _, _, _, _, _, _>(
             rt, alloc, spec, sink, store, ready, door, clock, gate,
         ),

@@ -43,12 +43,13 @@ use std::thread::Threads;
 /// How many entries a shard of a load has room for.
 const ROOM: u32 = 1024;
 
-/// Runs the load over a store with this keeper, at a fresh place, and writes its summary. Its shards are
+/// Runs the load over a store with this keeper, at this place, and writes its summary. Its shards are
 /// whole, so that all is counted and audited. What needs memory before the store is there before the
 /// keeper starts.
 pub(crate) fn work<W: Sink, K: Keeper + Send, C: Clock, G: Gate, R: Threads + Wait + Sync>(
     rt: &R,
     alloc: Global,
+    place: &Place,
     spec: &WorkSpec,
     sink: &mut W,
     keeper: K,
@@ -59,7 +60,7 @@ pub(crate) fn work<W: Sink, K: Keeper + Send, C: Clock, G: Gate, R: Threads + Wa
     ensures ended { (unread : Input) →
         let before = seen unread W.Sink K.Keeper sink.old keeper in
         let after = seen unread W.Sink K.Keeper sink.new result.keeper in
-        WorkEnded result.status spec.now (held_at Place.Fresh (K.holds keeper Place.Fresh))
+        WorkEnded result.status spec.now (held_at place.now (K.holds keeper place.now))
         before after (left_at result) result.written }
     ensures started { IsSome result.opening → K.is_started result.keeper }
     ensures unstarted { result.opening ≡ None → K.is_started result.keeper → K.is_started keeper }
@@ -72,7 +73,7 @@ pub(crate) fn work<W: Sink, K: Keeper + Send, C: Clock, G: Gate, R: Threads + Wa
     let Ok(ready) = ready_for(alloc, spec) else {
         return not_started(alloc, Status::Memory, keeper);
     };
-    match Store::new(alloc, keeper, &Place::Fresh, spec.members, CAP) {
+    match Store::new(alloc, keeper, place, spec.members, CAP) {
         Ok(store) => work_on::<Brand, _, _, _, _, _>(
             rt, alloc, spec, sink, store, ready, clock, gate,
         ),

@@ -1,7 +1,7 @@
-use Rattle.std.proofs.Common.{refl}
 use Rattle.callers.proofs.RunLemmas.{load_done}
+use Rattle.run_words.specs.declared.words.Words.TheVariants as words
 use Rattle.callers.proofs.runs.run_load.Goals as goal
 
 pub returns : goal.returns
-returns g c = λ spec words done.
-    load_done c.run.result.status spec _ _ _ _ c.run.result.written refl (c.run.ensures.ended.worked spec words) done
+returns g c = λ place spec are done.
+    load_done c.run.result.status spec _ _ _ _ c.run.result.written (c.run.ensures.ended.worded (words.Work place spec) are).1 done

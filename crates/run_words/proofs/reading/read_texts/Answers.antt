@@ -1,18 +1,17 @@
 use Rattle.std.proofs.Common.{ℕ, List, map, subst}
 use Rattle.std.specs.Prelude.{IfSome}
 use Rattle.clap.specs.Words.{app_of, kind_of, subcommand_rows_of}
-use Rattle.run_words.specs.Words.{AreWords}
-use Rattle.run_words.specs.Reading.{line_of, AreTakenAs}
-use Rattle.run_words.proofs.ReadLemmas.{Refuses, refused, refuses, said, taken, text_said}
+use Rattle.run_words.specs.Reading.{AreGiven}
+use Rattle.run_words.proofs.ReadLemmas.{AreTakenBy, Refuses, refused, refuses, said, taken, text_said}
 use Rattle.run_words.proofs.reading.read_texts.Goals as goal
 
 pub returns-in-Some-clause-said : goal.returns-in-Some-clause-said
 returns-in-Some-clause-said c =
     let words : List (List ℕ) = map (λ text. text.now) c.args.texts.now in
-    let t : AreTakenAs words (line_of (subcommand_rows_of c.in-Ok.matches)) =
-    taken (app_of c.in_ok-program.program) words c.in-Ok.matches c.in_ok-program.ensures c.in-Ok.ensures.matches c.in-Ok.ensures.kinds in
-    said words (line_of (subcommand_rows_of c.in-Ok.matches)) t c.in-Some.command
-    (subst (λ found. IfSome found (AreWords (line_of (subcommand_rows_of c.in-Ok.matches)))) c.in-Some.is c.in_ok-command-in-Ok.ensures.found)
+    let m = c.in-Ok.matches in
+    let t : AreTakenBy words m = taken (app_of c.in_ok-program.program) words m c.in_ok-program.ensures c.in-Ok.ensures.matches c.in-Ok.ensures.kinds in
+    said words m t c.in-Some.command
+    (subst (λ found. IfSome found (AreGiven (subcommand_rows_of m))) c.in-Some.is c.in_ok-command-in-Ok.ensures.found)
 
 pub returns-clause-said : goal.returns-clause-said
 returns-clause-said c =

@@ -1,6 +1,8 @@
 use Rattle.std.proofs.Common.{Bool, refl, sym, subst}
 use Rattle.run_words.specs.declared.words.Words.TheVariants as words
 use Rattle.run_words.specs.declared.words.WordsFault.TheVariants as fault
+use Rattle.top_run.specs.declared.runs.Status.{Status}
+use Rattle.top_run.specs.Commands.{IsTextPart}
 use Rattle.top_run.specs.Runs.{told_by, RoseWhere}
 use Rattle.top_run.proofs.PrintLemmas.{print_none}
 use Rattle.top_run.proofs.CommandLemmas.{command_ok, command_err, load_not_failed, load_no_door, load_no_replay, no_command, server_not_failed, server_no_replay}
@@ -9,13 +11,13 @@ use Rattle.top_run.proofs.runs.run.Goals as goal
 pub returns-in-Ok-Replay-clause-ended : goal.returns-in-Ok-Replay-clause-ended
 returns-in-Ok-Replay-clause-ended g c =
     command_ok _ c.read_words.result _ _ c.read_words.ensures.accepts c.read_words.ensures.read c.read_words.ensures.usage
-    c.in-Ok-Replay.field-0 words.Replay c.in-Ok-Replay.is c.in-Ok-Replay.field-0-is
+    c.in-Ok-Replay.field-0 (words.Replay c.in-Ok-Replay.place) c.in-Ok-Replay.is c.in-Ok-Replay.field-0-is
     (c.replay.ensures.ended, record { no_ends = c.replay.ensures.no_ends; door = refl })
 
 pub returns-in-Ok-Work-clause-ended : goal.returns-in-Ok-Work-clause-ended
 returns-in-Ok-Work-clause-ended g c =
     command_ok _ c.read_words.result _ _ c.read_words.ensures.accepts c.read_words.ensures.read c.read_words.ensures.usage
-    c.in-Ok-Work.field-0 (words.Work c.in-Ok-Work.spec) c.in-Ok-Work.is c.in-Ok-Work.field-0-is (
+    c.in-Ok-Work.field-0 (words.Work c.in-Ok-Work.place c.in-Ok-Work.spec) c.in-Ok-Work.is c.in-Ok-Work.field-0-is (
       record { left = refl; count = refl },
       c.work.ensures.ended (told_by g.S.Source c.args.source.now),
       record { no_ends = c.work.ensures.no_ends; door = refl },
@@ -33,14 +35,14 @@ returns-in-Ok-Work-clause-faultless g c =
     (c.work.ensures.ended (told_by g.S.Source c.args.source.now))
 
 pub returns-in-Ok-Work-clause-done : goal.returns-in-Ok-Work-clause-done
-returns-in-Ok-Work-clause-done g c = λ are done.
-    absurd (load_no_replay _ c.read_words.result c.in-Ok-Work.field-0 c.in-Ok-Work.spec c.read_words.ensures.accepts
-    c.in-Ok-Work.is c.in-Ok-Work.field-0-is are)
+returns-in-Ok-Work-clause-done g c = λ place are done.
+    absurd (load_no_replay _ c.read_words.result c.in-Ok-Work.field-0 c.in-Ok-Work.place c.in-Ok-Work.spec c.read_words.ensures.accepts
+    c.in-Ok-Work.is c.in-Ok-Work.field-0-is place are)
 
 pub returns-in-Ok-Serve-clause-ended : goal.returns-in-Ok-Serve-clause-ended
 returns-in-Ok-Serve-clause-ended g c =
     command_ok _ c.read_words.result _ _ c.read_words.ensures.accepts c.read_words.ensures.read c.read_words.ensures.usage
-    c.in-Ok-Serve.field-0 (words.Serve c.in-Ok-Serve.spec) c.in-Ok-Serve.is c.in-Ok-Serve.field-0-is (
+    c.in-Ok-Serve.field-0 (words.Serve c.in-Ok-Serve.place c.in-Ok-Serve.spec) c.in-Ok-Serve.is c.in-Ok-Serve.field-0-is (
       record { left = refl; count = refl },
       c.serve.ensures.ended (told_by g.S.Source c.args.source.now),
     )
@@ -51,19 +53,24 @@ returns-in-Ok-Serve-clause-faultless g c =
     (c.serve.ensures.ended (told_by g.S.Source c.args.source.now))
 
 pub returns-in-Ok-Serve-clause-done : goal.returns-in-Ok-Serve-clause-done
-returns-in-Ok-Serve-clause-done g c = λ are done.
-    absurd (server_no_replay _ c.read_words.result c.in-Ok-Serve.field-0 c.in-Ok-Serve.spec c.read_words.ensures.accepts
-    c.in-Ok-Serve.is c.in-Ok-Serve.field-0-is are)
+returns-in-Ok-Serve-clause-done g c = λ place are done.
+    absurd (server_no_replay _ c.read_words.result c.in-Ok-Serve.field-0 c.in-Ok-Serve.place c.in-Ok-Serve.spec c.read_words.ensures.accepts
+    c.in-Ok-Serve.is c.in-Ok-Serve.field-0-is place are)
 
 pub returns-in-Ok-Told-clause-ended : goal.returns-in-Ok-Told-clause-ended
 returns-in-Ok-Told-clause-ended g c =
     command_ok _ c.read_words.result _ _ c.read_words.ensures.accepts c.read_words.ensures.read c.read_words.ensures.usage
-    c.in-Ok-Told.field-0 (words.Told c.in-Ok-Told.text) c.in-Ok-Told.is c.in-Ok-Told.field-0-is (
+    c.in-Ok-Told.field-0 (words.Told c.in-Ok-Told.text) c.in-Ok-Told.is c.in-Ok-Told.field-0-is (λ place. (
       record { left = refl; count = refl },
       rw c.as_slice.ensures.value at
           (c.tell.ensures.told (told_by g.S.Source c.args.source.now)),
       record { no_ends = c.tell.ensures.no_ends; door = refl },
-    )
+    ))
+
+pub returns-in-Ok-Told-clause-usage : goal.returns-in-Ok-Told-clause-usage
+returns-in-Ok-Told-clause-usage g c = λ is.
+    let told = c.tell.ensures.told (told_by g.S.Source c.args.source.now) in
+    absurd (subst (λ (e : Status). IsTextPart e c.as_slice.result.now told.printed) is told.is_part)
 
 pub returns-in-Err-Usage-clause-usage : goal.returns-in-Err-Usage-clause-usage
 returns-in-Err-Usage-clause-usage g c = λ is.
@@ -84,7 +91,7 @@ returns-in-Err-Usage-clause-ended g c =
     (command_err _ c.read_words.result _ _ c.read_words.ensures.accepts c.read_words.ensures.read c.read_words.ensures.usage
     c.in-Err-Usage.field-0 fault.Usage c.in-Err-Usage.is c.in-Err-Usage.field-0-is (
       refl,
-      record {
+      λ place. record {
         same = refl;
         nothing = record { prints = print_none (g.W.Sink.taken c.args.sink.now); no_opening = refl; no_log = refl; no_histories = refl };
         unserved = record { no_ends = refl; door = refl };
@@ -105,7 +112,7 @@ returns-in-Err-Memory-clause-ended g c =
     (command_err _ c.read_words.result _ _ c.read_words.ensures.accepts c.read_words.ensures.read c.read_words.ensures.usage
     c.in-Err-Memory.field-0 fault.Memory c.in-Err-Memory.is c.in-Err-Memory.field-0-is (
       refl,
-      record {
+      λ place. record {
         same = refl;
         nothing = record { prints = print_none (g.W.Sink.taken c.args.sink.now); no_opening = refl; no_log = refl; no_histories = refl };
         unserved = record { no_ends = refl; door = refl };
