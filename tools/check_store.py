@@ -63,13 +63,16 @@ class Folder:
 
 
 def two_runs(folder):
-    path = folder.path()
+    two_runs_at(folder.program, folder.path())
+
+
+def two_runs_at(program, path):
     first = "members 3\nwrite 1 invalidate rename 2 ann\nturn 1 3\nend\n"
     told = "1 qareg profile:2 GRANTED 1\n1 commit COMMITTED 1\n1 dar profile:2 RELEASED\n"
-    expect(replay(folder.program, path, first), told + "end commits 1 hits 0 stores 0 agains 0\n")
+    expect(replay(program, path, first), told + "end commits 1 hits 0 stores 0 agains 0\n")
     then = "members 3\nread 1 profile:2\nturn 1 3\nend\n"
     told = "1 get profile:2 LEASE 1\n1 ask profile:2 0 ann 0 0\n1 set profile:2 STORED\n"
-    expect(replay(folder.program, path, then), told + "end commits 0 hits 0 stores 1 agains 0\n")
+    expect(replay(program, path, then), told + "end commits 0 hits 0 stores 1 agains 0\n")
 
 
 def members_of_the_file(folder):
@@ -284,6 +287,42 @@ def backed_up(folder):
         expect_answers(folder.program, folder.path(name), CHANGED_ANSWERS)
 
 
+def odd_names(folder):
+    """Names that look like something else."""
+    path = folder.path()
+    names = ["007", "1e5", "NULL", "';--", '"?1"', "x'00'", "a''b", "%_"]
+    changes = " + ".join(f"rename {member} {name}" for member, name in enumerate(names, 1))
+    replay(folder.program, path, f"members 8\nwrite 1 invalidate {changes}\nturn 1 17\nend\n")
+    expect_answers(folder.program, path, {f"profile:{member}": f"{name} 0 0" for member, name in enumerate(names, 1)})
+    expect(rows(path)[0], list(enumerate(names, 1)))
+
+
+def odd_paths(folder):
+    for name in ("a b.db", "Zoé ☂.db", "?x=1&mode=ro#", "%41.db", "n" * 240):
+        two_runs_at(folder.program, folder.path(name))
+    expect(run(folder.program, ["replay", "--db", folder.path("n" * 300)], NOTHING), REFUSED)
+
+
+def nothing_made(folder):
+    """No file comes of a script or of words that are faulty."""
+    path = folder.path()
+    expect(run(folder.program, ["replay", "--db", path], "members 0\nend\n"), ("", "script line 1 form\n", 2))
+    expect(run(folder.program, ["work", "--db", path, 0, 0, 1, 1, 1]), ("", "usage\n", 1))
+    expect(os.listdir(folder.place), [])
+
+
+def answers_ahead(folder):
+    """What the store would answer after a transaction, and a transaction that is given up, leave the files as they are."""
+    path = folder.path()
+    with Server(folder.program, path).ready() as server, Client(server) as client:
+        before = contents(path)
+        client.send(["begin write", "qareg blocked:2 1", "stage pending:2 1 invite 1 2", "stage profile:2 1 rename 2 ann", "iqabort 1"])
+        told = ["SESSION 1", "GRANTED 1", "VALUE pending:2 0 1", "1", "END", "VALUE profile:2 0 7", "ann 0 0", "END", "RELEASED 1"]
+        expect([client.reply() for _ in told], told)
+        expect(contents(path), before)
+    folder.takes(path, {"profile:2": "m2 0 0", "pending:2": "."})
+
+
 def loads(folder):
     """A load of one worker over a new file leaves the rows that are drawn and made here again."""
     members, links, commits, rejected = rows_after(20, 2000, 7)
@@ -314,6 +353,15 @@ def full_disk(folder):
             raise Wrong(f"{answered} commits were answered in files of 1,000,000 bytes")
     with Server(folder.program, path, kill_store.MEMBERS).ready() as server, Client(server) as client:
         kill_store.count_of(kill_store.found_names(client), answered)
+
+
+def full_disk_at_start(folder):
+    """A start that finds no room is refused, and the next one makes the file."""
+    for most in (1, 5000, 50000, 200000):
+        path = folder.path(f"{most}.db")
+        out, err, status = run(folder.program, ["replay", "--db", path], "members 20000\nend\n", most)
+        expect((out, err, status), REFUSED)
+        expect_answers(folder.program, path, {"profile:3": "m3 0 0", "profile:4": "-"})
 
 
 def killed(folder, count):
@@ -381,9 +429,14 @@ RUNS = [
     ("sqlite and the program write in turn", written_in_turn),
     ("a file that was moved with its log", moved),
     ("copies of a file", backed_up),
+    ("names that look like something else", odd_names),
+    ("paths that look like something else", odd_paths),
+    ("nothing is made of faulty words", nothing_made),
+    ("answers ahead leave the files as they are", answers_ahead),
     ("a load over a file and in memory", loads),
     ("loads on threads over a file", loads_on_threads),
     ("a disk that is full", full_disk),
+    ("a disk that is full at the start", full_disk_at_start),
 ]
 
 

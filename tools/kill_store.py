@@ -21,21 +21,22 @@ import time
 
 from store_files import Client, Server, Wrong, copy, expect, query, replay, rows
 
-MEMBERS = 50
+# So many that the names tell of each commit since the kill before.
+MEMBERS = 2000
 MADE_MEMBERS = 20000
 TIMES = 200
 
 
 def pair_of(number):
     """The two members to whom the transaction of this number gives a name."""
-    first = number * 7 % MEMBERS + 1
-    return first, first % MEMBERS + 1
+    first = 2 * number % MEMBERS + 1
+    return first, first + 1
 
 
 def names_after(count):
     """The members' names after so many transactions."""
     names = {member: f"m{member}" for member in range(1, MEMBERS + 1)}
-    for number in range(max(1, count - 2 * MEMBERS), count + 1):
+    for number in range(max(1, count - MEMBERS), count + 1):
         for member in pair_of(number):
             names[member] = f"c{number}"
     return [names[member] for member in range(1, MEMBERS + 1)]
@@ -66,7 +67,8 @@ def found_names(client):
     """The members' names, as the server tells them."""
     client.send(["begin read"])
     expect(client.reply(), "SESSION 1")
-    return [client.value(f"profile:{member}").split(" ")[0] for member in range(1, MEMBERS + 1)]
+    values = client.values([f"profile:{member}" for member in range(1, MEMBERS + 1)])
+    return [value.split(" ")[0] for value in values]
 
 
 def count_of(names, answered):
@@ -74,7 +76,9 @@ def count_of(names, answered):
     for count in (answered, answered + 1):
         if names == names_after(count):
             return count
-    raise Wrong(f"{answered} commits were answered, and the names are {names}")
+    wanted = names_after(answered)
+    other = [(it + 1, names[it], wanted[it]) for it in range(MEMBERS) if names[it] != wanted[it]]
+    raise Wrong(f"{answered} commits were answered; member, name and name wanted: {other}")
 
 
 def life(program, path, done, delay):

@@ -70,14 +70,16 @@ def copy(path, folder):
     return os.path.join(folder, "store.db")
 
 
-def run(program, words, script=""):
-    """Runs the program. What it printed, its lines on standard error, and its status."""
+def run(program, words, script="", most=None):
+    """Runs the program, with files of no more than so many bytes. What it printed, its standard error, and its status."""
     ran = subprocess.run(
         [program, *map(str, words)],
         input=script.encode(),
         capture_output=True,
         timeout=PATIENCE,
         check=False,
+        restore_signals=False,
+        preexec_fn=_limit(most),
     )
     return ran.stdout.decode(), ran.stderr.decode(), ran.returncode
 
@@ -167,14 +169,18 @@ class Client:
             return ""
         return line[:-2].decode() if line.endswith(b"\r\n") else ""
 
-    def value(self, key):
-        """What the store answers to a key of one line, by the session 1 that was begun."""
-        self.send([f"ask {key} 1"])
-        if not self.reply().startswith(f"VALUE {key} "):
-            raise Wrong(f"no answer to {key}")
-        value = self.reply()
-        expect(self.reply(), "END")
-        return value
+    def values(self, keys):
+        """What the store answers to keys, each in one line, by the session 1 that was begun."""
+        values = []
+        for first in range(0, len(keys), 100):
+            group = keys[first : first + 100]
+            self.send([f"ask {key} 1" for key in group])
+            for key in group:
+                if not self.reply().startswith(f"VALUE {key} "):
+                    raise Wrong(f"no answer to {key}")
+                values.append(self.reply())
+                expect(self.reply(), "END")
+        return values
 
     def close(self):
         self.lines.close()
