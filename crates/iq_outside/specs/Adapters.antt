@@ -1,4 +1,6 @@
-use Rattle.std.specs.Prelude.{ℕ}
+use Rattle.std.specs.Prelude.{ℕ, ℤ, pos, Bool, false, Option, None, Some, List, [], ◌∷◌}
+use Rattle.std.specs.List.{list_any}
+use Rattle.std.specs.Ordering.{int_eq}
 
 -- a source over a reader: the reader, and how often it failed
 pub record ReaderView (R : Type 0) : Type 0 where
@@ -19,3 +21,14 @@ pub record TcpLineView : Type 0 where
 pub record TcpDoorView : Type 0 where
   pub faults : ℕ
   pub given : ℕ
+
+-- the system's numbers of the errors of an accept that pass: the call was interrupted, memory is wanting,
+-- the system or the process has no descriptor left, a connection broke its protocol or was aborted, and
+-- there is no room for buffers
+abbrev pub passing : List ℤ
+passing = pos 4 ∷ pos 12 ∷ pos 23 ∷ pos 24 ∷ pos 71 ∷ pos 103 ∷ pos 105 ∷ []
+
+-- whether an error with this number passes
+abbrev pub is_passing : Option ℤ → Bool
+is_passing None = false
+is_passing (Some code) = list_any (λ other. int_eq other code) passing

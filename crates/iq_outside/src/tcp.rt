@@ -1,4 +1,6 @@
 ghost use Rattle.std.specs.Prelude.{◌≡◌, ◌<◌, ◌≤◌, None, is_none, false, length, refl, IfOk, OnOk, OnErr, IfSome};
+ghost use Rattle.std.specs.IoError.{raw_os_error};
+ghost use Rattle.iq_outside.specs.Adapters.{is_passing};
 ghost use Rattle.iq_outside.specs.Outside.{Rose, count_up, lines_with};
 
 use crate::adapters::{bytes_given, bytes_taken};
@@ -7,17 +9,39 @@ use crate::failures::Failed;
 use crate::lines::Line;
 use crate::sinks::Sink;
 use crate::sources::Source;
-use std::io::{Read, Write};
+use std::io::{self, Read, Write};
 use std::marker::Model;
 use std::net::{Net, Shutdown, TcpListener, TcpStream};
-use std::str;
+use std::time::{self, Duration};
+use std::{str, thread};
+
+/// How long a read waits for the peer, in seconds.
+const READ_SECONDS: u64 = 300;
+
+/// How long a write waits for the peer, in seconds.
+const WRITE_SECONDS: u64 = 30;
+
+/// How long the first pause is after an error that passes, in milliseconds.
+const FIRST_PAUSE: u64 = 1;
+
+/// How long a pause is at most, in milliseconds.
+const LONGEST_PAUSE: u64 = 100;
+
+/// How often an error that passes is waited out at most: for about a day.
+const MOST_PAUSES: u32 = 864_000;
+
+// The system's numbers of the errors of an accept that pass: EINTR, ENOMEM, ENFILE, EMFILE, EPROTO,
+// ECONNABORTED and ENOBUFS.
+const PASSING: [i32; 7] = [4, 12, 23, 24, 71, 103, 105];
 
 /// A line over a TCP stream. Each error of the stream counts as a fault, an interrupted read or
 /// write too, and so does a write that takes no byte. It tells nothing of the bytes. Contracts see
-/// the two counts. A read or a write may wait for the peer.
+/// the two counts. A read waits for the peer for up to 300 seconds, and a write for up to 30: then
+/// it fails.
 #[derive(Drop)]
 pub struct TcpLine {
-    stream: TcpStream,
+    /// None once the line is finished: then each read and each write fails.
+    stream: Option<TcpStream>,
     read_faults: u64,
     write_faults: u64,
 }
@@ -31,13 +55,16 @@ impl Model for TcpLine {
 }
 
 impl TcpLine {
-    // A line over this stream, which sends small pieces at once where the system can.
+    // A line over this stream, which sends small pieces at once and gives up a silent peer, where the
+    // system can.
     fn new(stream: TcpStream) -> TcpLine
         ensures { result ≡ record { read_faults = 0; write_faults = 0 } }
     {
         let _ = stream.set_nodelay(true);
+        let _ = stream.set_read_timeout(Some(Duration::from_secs(READ_SECONDS)));
+        let _ = stream.set_write_timeout(Some(Duration::from_secs(WRITE_SECONDS)));
         TcpLine {
-            stream,
+            stream: Some(stream),
             read_faults: 0,
             write_faults: 0,
         }
@@ -65,7 +92,8 @@ impl Source for TcpLine {
 
     ghost write_side = { λ line. record { taken = None; faults = line.write_faults } };
 
-    /// Gives what the stream gives. `Failed` comes where the stream answers an error.
+    /// Gives what the stream gives. `Failed` comes where the stream answers an error, where nothing
+    /// came in time, and where the line is finished.
     fn read(&mut self, room: &mut [u8]) -> Result<usize, Failed>
         requires { 0 < length room.old }
         ensures within { IfOk result (λ n. n ≤ length room.new) }
@@ -76,7 +104,10 @@ impl Source for TcpLine {
 
         ensures err { OnErr result (self.new.read_faults ≡ count_up self.old.read_faults) }
     {
-        let answer = bytes_given(self.stream.read(room));
+        let answer = match &mut self.stream {
+            Some(stream) => bytes_given(stream.read(room)),
+            None => Err(Failed),
+        };
         if answer.is_err() {
             self.read_faults = self.read_faults.saturating_add(1);
         }
@@ -92,7 +123,7 @@ impl Sink for TcpLine {
     ghost read_side = { λ line. record { left = None; given = None; faults = line.read_faults } };
 
     /// The stream takes what it takes. `Failed` comes where the stream answers an error or takes no
-    /// byte.
+    /// byte, where it took none in time, and where the line is finished.
     fn write(&mut self, piece: &[u8]) -> Result<usize, Failed>
         requires { 0 < length piece.now }
         ensures progress { IfOk result (λ n. 1 ≤ n) }
@@ -104,7 +135,10 @@ impl Sink for TcpLine {
 
         ensures err { OnErr result (self.new.write_faults ≡ count_up self.old.write_faults) }
     {
-        let answer = bytes_taken(self.stream.write(piece));
+        let answer = match &mut self.stream {
+            Some(stream) => bytes_taken(stream.write(piece)),
+            None => Err(Failed),
+        };
         if answer.is_err() {
             self.write_faults = self.write_faults.saturating_add(1);
         }
@@ -119,27 +153,31 @@ impl Line for TcpLine {
 
     ghost tells_given = { λ _ told. told };
 
-    /// Shuts the stream down both ways, where it isn't yet.
+    /// Shuts the stream down both ways and closes it, where it isn't yet. Its descriptor is free then,
+    /// before the line is handed back.
     fn finish(&mut self)
         ensures { self.new ≡ self.old }
     {
-        let _ = self.stream.shutdown(Shutdown::Both);
+        if let Some(stream) = self.stream.take() {
+            let _ = stream.shutdown(Shutdown::Both);
+        }
     }
 }
 
-/// A door over TCP. Each error of the system counts as a fault, as does an address that isn't
-/// UTF-8, and an `accept` before the door is bound. It never tells that no more connections come, and
-/// it tells nothing of the lines that were handed back. Contracts see the count of faults and how many
-/// lines it gave.
+/// A door over TCP. Each error of the system that doesn't pass counts as a fault, as does an address
+/// that isn't UTF-8, and an `accept` before the door is bound. It never tells that no more connections
+/// come, and it tells nothing of the lines that were handed back. Contracts see the count of faults and
+/// how many lines it gave.
 #[derive(Drop)]
-pub struct TcpDoor<'a, R: Net<Listener = TcpListener, Stream = TcpStream> + Sync> {
+pub struct TcpDoor<'a, R: Net<Listener = TcpListener, Stream = TcpStream> + time::Clock + Sync> {
     rt: &'a R,
     listener: Option<TcpListener>,
     faults: u64,
     given: u64,
 }
 
-impl<'a, R: Net<Listener = TcpListener, Stream = TcpStream> + Sync> Model for TcpDoor<'a, R> {
+impl<'a, R: Net<Listener = TcpListener, Stream = TcpStream> + time::Clock + Sync> Model
+    for TcpDoor<'a, R> {
     ghost use Rattle.iq_outside.specs.Adapters.{TcpDoorView};
 
     ghost Value = { TcpDoorView };
@@ -147,7 +185,7 @@ impl<'a, R: Net<Listener = TcpListener, Stream = TcpStream> + Sync> Model for Tc
     ghost view = { λ door. record { faults = door.faults; given = door.given } };
 }
 
-impl<'a, R: Net<Listener = TcpListener, Stream = TcpStream> + Sync> TcpDoor<'a, R> {
+impl<'a, R: Net<Listener = TcpListener, Stream = TcpStream> + time::Clock + Sync> TcpDoor<'a, R> {
     /// A door over this runtime's network, not bound yet.
     pub fn new(rt: &'a R) -> TcpDoor<'a, R>
         ensures { result ≡ record { faults = 0; given = 0 } }
@@ -176,7 +214,8 @@ impl<'a, R: Net<Listener = TcpListener, Stream = TcpStream> + Sync> TcpDoor<'a, 
     }
 }
 
-impl<'a, R: Net<Listener = TcpListener, Stream = TcpStream> + Sync> Door for TcpDoor<'a, R> {
+impl<'a, R: Net<Listener = TcpListener, Stream = TcpStream> + time::Clock + Sync> Door
+    for TcpDoor<'a, R> {
     type Line = TcpLine;
 
     ghost faults = { λ door. door.faults };
@@ -209,7 +248,9 @@ impl<'a, R: Net<Listener = TcpListener, Stream = TcpStream> + Sync> Door for Tcp
         Err(Failed)
     }
 
-    /// Waits for the next connection. It never answers None.
+    /// Waits for the next connection. It never answers None. An error that passes, as the lack of a
+    /// descriptor does, is waited out and doesn't count: the pauses grow to 100 milliseconds, for about
+    /// a day. The door fails where an error stays.
     fn accept(&mut self) -> Result<Option<TcpLine>, Failed>
         ensures failed_rose { OnErr result (Rose self.old.faults self.new.faults) }
         ensures never_falls { self.old.faults ≤ self.new.faults }
@@ -224,7 +265,7 @@ impl<'a, R: Net<Listener = TcpListener, Stream = TcpStream> + Sync> Door for Tcp
         ensures err { OnErr result (self.new.faults ≡ count_up self.old.faults) }
     {
         if let Some(listener) = &self.listener {
-            if let Ok((stream, _)) = listener.accept() {
+            if let Some(stream) = next_stream(self.rt, listener) {
                 self.given = self.given.saturating_add(1);
                 return Ok(Some(TcpLine::new(stream)));
             }
@@ -238,5 +279,31 @@ impl<'a, R: Net<Listener = TcpListener, Stream = TcpStream> + Sync> Door for Tcp
         ensures { self.new ≡ self.old }
     {
         drop(line);
+    }
+}
+
+/// The next connection, and None where an error stays.
+fn next_stream<R: time::Clock>(rt: &R, listener: &TcpListener) -> Option<TcpStream> {
+    let mut pause = FIRST_PAUSE;
+    for _ in 0..MOST_PAUSES {
+        match listener.accept() {
+            Ok((stream, _)) => return Some(stream),
+            Err(error) if passes(&error) => {}
+            Err(_) => return None,
+        }
+        thread::sleep(rt, Duration::from_millis(pause));
+        pause = (pause * 2).min(LONGEST_PAUSE);
+    }
+    None
+}
+
+/// Whether the error of an `accept` passes: it was interrupted, or its connection was aborted, or the
+/// system or the process lacks memory or descriptors.
+fn passes(error: &io::Error) -> bool
+    ensures { result ≡ is_passing (raw_os_error error.now) }
+{
+    match error.raw_os_error() {
+        Some(code) => PASSING.contains(&code),
+        None => false,
     }
 }
