@@ -10,6 +10,7 @@ import glob
 import os
 import shutil
 import sqlite3
+import subprocess
 import sys
 import tempfile
 from contextlib import closing
@@ -18,7 +19,8 @@ import kill_store
 import unfit_files
 from load_rows import rows_after
 from store_files import (
-    BESIDE, INDEX, Client, Server, Wrong, asks, contents, copy, expect, expect_answers, make, query, replay, rows, run,
+    BESIDE, INDEX, Client, Server, Wrong, asks, contents, copy, expect, expect_answers, expect_unchanged,
+    make, query, replay, rows, run,
 )
 
 TOP = os.path.dirname(os.path.dirname(os.path.abspath(__file__)))
@@ -56,7 +58,7 @@ class Folder:
         """The program refuses the file, by one line, and leaves each byte of it and of those beside it."""
         before = contents(path)
         expect(run(self.program, ["replay", "--db", path], NOTHING), REFUSED)
-        expect(contents(path), before)
+        expect_unchanged(path, before)
 
     def takes(self, path, answers):
         expect_answers(self.program, path, answers)
@@ -100,7 +102,7 @@ def log_beside(folder):
     with closing(sqlite3.connect(path)) as conn:
         conn.executescript("UPDATE member SET name = 'ann' WHERE id = 2; INSERT INTO link VALUES (3, 2, 0);")
         twin = copy(path, folder.path("twin"))
-    if not contents(twin).get("-wal"):
+    if "-wal" not in contents(twin):
         raise Wrong("sqlite left no log")
     folder.takes(twin, {"profile:2": "ann 0 1", "pending:2": "3"})
 
@@ -211,12 +213,26 @@ def used_by_two(folder):
     expect(rows(path)[0], [(1, "m1"), (2, "ann"), (3, "m3")])
 
 
+# Another process: a lock of this one would end where it reads the file otherwise.
+HOLDS = """
+import sqlite3, sys
+conn = sqlite3.connect(sys.argv[1], isolation_level=None)
+conn.executescript(sys.argv[2])
+conn.execute("SELECT * FROM member").fetchone()
+print("held", flush=True)
+sys.stdin.read()
+"""
+
+
 def used_by_sqlite(folder):
-    """While sqlite writes the file, the program is refused."""
+    """While sqlite writes the file, or reads it, the program is refused."""
     path = folder.fit()
-    with closing(sqlite3.connect(path, isolation_level=None)) as conn:
-        conn.execute("BEGIN IMMEDIATE")
-        folder.refuses(path)
+    for statements in ("BEGIN IMMEDIATE", "BEGIN", "PRAGMA journal_mode = WAL; PRAGMA locking_mode = EXCLUSIVE"):
+        words = [sys.executable, "-c", HOLDS, path, statements]
+        with subprocess.Popen(words, stdin=subprocess.PIPE, stdout=subprocess.PIPE) as other:
+            expect(other.stdout.readline(), b"held\n")
+            folder.refuses(path)
+            other.communicate(timeout=60)
     folder.takes(path, {"profile:2": "bob 0 0"})
 
 
@@ -277,13 +293,13 @@ def moved(folder):
 
 
 def backed_up(folder):
-    """The copy that sqlite makes of a file, and the one that its text makes."""
+    """The copies that sqlite makes of a file, page by page and as it packs it anew."""
     path = folder.path()
     change(folder, path)
-    with closing(sqlite3.connect(path)) as conn, closing(sqlite3.connect(folder.path("copy.db"))) as other:
+    with closing(sqlite3.connect(path)) as conn, closing(sqlite3.connect(folder.path("pages.db"))) as other:
         conn.backup(other)
-        make(folder.path("text.db"), [" ".join(conn.iterdump())])
-    for name in ("copy.db", "text.db"):
+        conn.execute("VACUUM INTO ?", (folder.path("packed.db"),))
+    for name in ("pages.db", "packed.db"):
         expect_answers(folder.program, folder.path(name), CHANGED_ANSWERS)
 
 
@@ -319,8 +335,18 @@ def answers_ahead(folder):
         client.send(["begin write", "qareg blocked:2 1", "stage pending:2 1 invite 1 2", "stage profile:2 1 rename 2 ann", "iqabort 1"])
         told = ["SESSION 1", "GRANTED 1", "VALUE pending:2 0 1", "1", "END", "VALUE profile:2 0 7", "ann 0 0", "END", "RELEASED 1"]
         expect([client.reply() for _ in told], told)
-        expect(contents(path), before)
+        expect_unchanged(path, before)
     folder.takes(path, {"profile:2": "m2 0 0", "pending:2": "."})
+
+
+def longest_answer(folder):
+    """A member whose friends are all others, of as many as there may be."""
+    numbers = "WITH RECURSIVE n(i) AS (SELECT 1 UNION ALL SELECT i + 1 FROM n WHERE i < 100000)"
+    members = f"{numbers} INSERT INTO member SELECT i, 'm' || i FROM n"
+    links = "INSERT INTO link SELECT 1, id, 1 FROM member WHERE id > 1"
+    path = folder.made([unfit_files.MEMBER, unfit_files.LINK, INDEX, f"BEGIN; {members}; {links}; COMMIT"])
+    ids = ",".join(str(member) for member in range(2, 100001))
+    folder.takes(path, {"friends:1": ids, "profile:1": "m1 99999 0", "friends:100000": "1"})
 
 
 def loads(folder):
@@ -433,6 +459,7 @@ RUNS = [
     ("paths that look like something else", odd_paths),
     ("nothing is made of faulty words", nothing_made),
     ("answers ahead leave the files as they are", answers_ahead),
+    ("the longest answer", longest_answer),
     ("a load over a file and in memory", loads),
     ("loads on threads over a file", loads_on_threads),
     ("a disk that is full", full_disk),

@@ -18,6 +18,7 @@ INDEX = "CREATE INDEX link_by_b ON link(b, a)"
 THREE = "INSERT INTO member VALUES (1, 'm1'), (2, 'bob'), (3, 'm3')"
 
 BESIDE = ("", "-wal", "-journal", "-shm")
+NO_PAGE = 56  # The bytes of a log's head, and of the head of its first page.
 
 
 class Wrong(Exception):
@@ -51,13 +52,25 @@ def rows(path):
 
 
 def contents(path):
-    """The bytes of a file, and of those that sqlite may have beside it; an empty one counts as none."""
+    """The bytes of a file, and of those that sqlite may have beside it."""
     found = {}
     for suffix in BESIDE:
         if os.path.isfile(path + suffix):
             with open(path + suffix, "rb") as stream:
                 found[suffix] = stream.read()
-    return {suffix: data for suffix, data in found.items() if suffix == "" or data}
+    return found
+
+
+def expect_unchanged(path, before):
+    """A file and those beside it have these bytes still. The log may end in bytes that are too few for a page: a start that
+    is refused makes a log, or shuts the one that it found."""
+    after = contents(path)
+    for suffix in BESIDE:
+        was, now = before.get(suffix, b""), after.get(suffix, b"")
+        if suffix == "-wal" and now.startswith(was) and len(now) - len(was) <= NO_PAGE:
+            continue
+        if was != now:
+            raise Wrong(f"{os.path.basename(path)}{suffix} is changed: {len(was)} bytes before, {len(now)} after")
 
 
 def copy(path, folder):
