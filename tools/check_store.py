@@ -375,6 +375,7 @@ def full_disk(folder):
     path = folder.path()
     with Server(folder.program, path, kill_store.MEMBERS, most=1000000).ready() as server, Client(server) as client:
         answered = kill_store.commit_on(client, 1, 5000) - 1
+        expect(client.last, "SERVER_ERROR store")
         if not 0 < answered < 4000:
             raise Wrong(f"{answered} commits were answered in files of 1,000,000 bytes")
     with Server(folder.program, path, kill_store.MEMBERS).ready() as server, Client(server) as client:

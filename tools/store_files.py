@@ -170,17 +170,19 @@ class Client:
         self.stream = socket.create_connection(("127.0.0.1", server.port), timeout=PATIENCE)
         self.stream.setsockopt(socket.IPPROTO_TCP, socket.TCP_NODELAY, 1)
         self.lines = self.stream.makefile("rb")
+        self.last = ""
 
     def send(self, lines):
         self.stream.sendall("".join(line + "\r\n" for line in lines).encode())
 
     def reply(self):
-        """The next line, or nothing where the server is gone."""
+        """The next line, or nothing where the server is gone. It is the last one until the next."""
         try:
             line = self.lines.readline()
         except OSError:
-            return ""
-        return line[:-2].decode() if line.endswith(b"\r\n") else ""
+            line = b""
+        self.last = line[:-2].decode() if line.endswith(b"\r\n") else ""
+        return self.last
 
     def values(self, keys):
         """What the store answers to keys, each in one line, by the session 1 that was begun."""
