@@ -371,15 +371,21 @@ def loads_on_threads(folder):
 
 
 def full_disk(folder):
-    """Where the file may not grow, a commit is told of a store that failed, and those before it are in the file."""
+    """Where the files may not grow, a commit is told of a store that failed. The ones before it are in the file, and once
+    there is room others are made."""
     path = folder.path()
-    with Server(folder.program, path, kill_store.MEMBERS, most=1000000).ready() as server, Client(server) as client:
-        answered = kill_store.commit_on(client, 1, 5000) - 1
-        expect(client.last, "SERVER_ERROR store")
-        if not 0 < answered < 4000:
-            raise Wrong(f"{answered} commits were answered in files of 1,000,000 bytes")
+    with Server(folder.program, path, kill_store.MEMBERS, most=1000000).ready() as server:
+        with Client(server) as client:
+            answered = kill_store.commit_on(client, 1, 5000) - 1
+            expect(client.last, "SERVER_ERROR store")
+            if not 0 < answered < 4000:
+                raise Wrong(f"{answered} commits were answered in files of 1,000,000 bytes")
+        with Client(server) as client:
+            expect(kill_store.found_names(client), kill_store.names_after(answered))
+            server.give_room()
+            expect(kill_store.commit_on(client, answered + 1, answered + 11), answered + 11)
     with Server(folder.program, path, kill_store.MEMBERS).ready() as server, Client(server) as client:
-        kill_store.count_of(kill_store.found_names(client), answered)
+        expect(kill_store.found_names(client), kill_store.names_after(answered + 10))
 
 
 def full_disk_at_start(folder):
