@@ -136,6 +136,14 @@ def hot_journal_beside(folder):
     folder.takes(folder.path("twin/store.db"), {"profile:2": "bob 0 0"})
 
 
+def by_each_command(folder):
+    path = folder.made([*unfit_files.FIT, "INSERT INTO link VALUES (1, 1, 0)"])
+    before = contents(path)
+    for words in (["replay"], ["work", 3, 0, 1, 1, 1], ["serve", "127.0.0.1:0", 1, 1, 1, 3]):
+        expect(run(folder.program, [words[0], "--db", path, *words[1:]], NOTHING), REFUSED)
+        expect_unchanged(path, before)
+
+
 def text_file(folder):
     folder.refuses(folder.write("store.db", b"members 3, and no database"))
 
@@ -436,6 +444,7 @@ class Checks:
 
 
 REFUSED_FILES = [
+    ("by each command, a link to oneself", by_each_command),
     ("a text", text_file),
     ("a page of zeros", zeros),
     ("the first page alone", first_page_alone),
