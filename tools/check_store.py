@@ -136,6 +136,14 @@ def hot_journal_beside(folder):
     folder.takes(folder.path("twin/store.db"), {"profile:2": "bob 0 0"})
 
 
+def by_each_command(folder):
+    path = folder.made([*unfit_files.FIT, "INSERT INTO link VALUES (1, 1, 0)"])
+    before = contents(path)
+    for words in (["replay"], ["work", 3, 0, 1, 1, 1], ["serve", "127.0.0.1:0", 1, 1, 1, 3]):
+        expect(run(folder.program, [words[0], "--db", path, *words[1:]], NOTHING), REFUSED)
+        expect_unchanged(path, before)
+
+
 def text_file(folder):
     folder.refuses(folder.write("store.db", b"members 3, and no database"))
 
@@ -371,15 +379,21 @@ def loads_on_threads(folder):
 
 
 def full_disk(folder):
-    """Where the file may not grow, a commit is told of a store that failed, and those before it are in the file."""
+    """Where the files may not grow, a commit is told of a store that failed. The ones before it are in the file, and once
+    there is room others are made."""
     path = folder.path()
-    with Server(folder.program, path, kill_store.MEMBERS, most=1000000).ready() as server, Client(server) as client:
-        answered = kill_store.commit_on(client, 1, 5000) - 1
-        expect(client.last, "SERVER_ERROR store")
-        if not 0 < answered < 4000:
-            raise Wrong(f"{answered} commits were answered in files of 1,000,000 bytes")
+    with Server(folder.program, path, kill_store.MEMBERS, most=1000000).ready() as server:
+        with Client(server) as client:
+            answered = kill_store.commit_on(client, 1, 5000) - 1
+            expect(client.last, "SERVER_ERROR store")
+            if not 0 < answered < 4000:
+                raise Wrong(f"{answered} commits were answered in files of 1,000,000 bytes")
+        with Client(server) as client:
+            expect(kill_store.found_names(client), kill_store.names_after(answered))
+            server.give_room()
+            expect(kill_store.commit_on(client, answered + 1, answered + 11), answered + 11)
     with Server(folder.program, path, kill_store.MEMBERS).ready() as server, Client(server) as client:
-        kill_store.count_of(kill_store.found_names(client), answered)
+        expect(kill_store.found_names(client), kill_store.names_after(answered + 10))
 
 
 def full_disk_at_start(folder):
@@ -430,6 +444,7 @@ class Checks:
 
 
 REFUSED_FILES = [
+    ("by each command, a link to oneself", by_each_command),
     ("a text", text_file),
     ("a page of zeros", zeros),
     ("the first page alone", first_page_alone),

@@ -65,8 +65,6 @@ def commit_on(client, number, most=None):
 
 def found_names(client):
     """The members' names, as the server tells them."""
-    client.send(["begin read"])
-    expect(client.reply(), "SESSION 1")
     values = client.values([f"profile:{member}" for member in range(1, MEMBERS + 1)])
     return [value.split(" ")[0] for value in values]
 

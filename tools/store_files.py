@@ -126,7 +126,7 @@ def _limit(most):
 
     def limit():
         signal.signal(signal.SIGXFSZ, signal.SIG_IGN)
-        resource.setrlimit(resource.RLIMIT_FSIZE, (most, most))
+        resource.setrlimit(resource.RLIMIT_FSIZE, (most, resource.RLIM_INFINITY))
 
     return limit if most else None
 
@@ -150,6 +150,12 @@ class Server:
         """Waits until connections are taken."""
         expect(self.process.stdout.readline(), b"ready\n")
         return self
+
+    def give_room(self):
+        """Lets its files grow."""
+        import resource
+
+        resource.prlimit(self.process.pid, resource.RLIMIT_FSIZE, (resource.RLIM_INFINITY, resource.RLIM_INFINITY))
 
     def kill(self):
         """Ends it at once."""
@@ -184,12 +190,18 @@ class Client:
         self.last = line[:-2].decode() if line.endswith(b"\r\n") else ""
         return self.last
 
+    def begin(self, role):
+        """Begins a session, and gives its number."""
+        self.send([f"begin {role}"])
+        return self.reply().partition(" ")[2]
+
     def values(self, keys):
-        """What the store answers to keys, each in one line, by the session 1 that was begun."""
+        """What the store answers to keys, each in one line."""
+        session = self.begin("read")
         values = []
         for first in range(0, len(keys), 100):
             group = keys[first : first + 100]
-            self.send([f"ask {key} 1" for key in group])
+            self.send([f"ask {key} {session}" for key in group])
             for key in group:
                 if not self.reply().startswith(f"VALUE {key} "):
                     raise Wrong(f"no answer to {key}")
