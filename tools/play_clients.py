@@ -7,7 +7,9 @@ PROGRAM is the proved `iq`, PAGE is docs/protocol.md, and CHECK is one of the na
 prints. The status is 0 where the server does what it must; else a line on standard error says what it did.
 """
 import re
+import resource
 import socket
+import struct
 import subprocess
 import sys
 import time
@@ -35,13 +37,14 @@ def conversations(page):
 class Server:
     """A server at a port that was free a moment ago."""
 
-    def __init__(self, program, numbers):
+    def __init__(self, program, numbers, descriptors=None):
         with socket.create_server(("127.0.0.1", 0)) as probe:
             self.port = probe.getsockname()[1]
         self.process = subprocess.Popen(
             [program, "serve", f"127.0.0.1:{self.port}", *map(str, numbers)],
             stdout=subprocess.PIPE,
             stderr=subprocess.PIPE,
+            preexec_fn=descriptors and (lambda: resource.setrlimit(resource.RLIMIT_NOFILE, (descriptors, descriptors))),
         )
         expect(self.process.stdout.readline(), b"ready\n")
 
@@ -162,6 +165,37 @@ def broken(program, path):
     server.served(2)
 
 
+def crowded(program, path):
+    """A server with descriptors for few serves the others when those leave."""
+    _, turns = next(conversations(path))
+    # Three streams, the listener and 8 connections.
+    server = Server(program, [32, 16, 1, 3], descriptors=12)
+    clients = [server.connect() for _ in range(32)]
+    time.sleep(0.5)
+    expect(server.process.poll(), None)
+    play(clients[0], turns)
+    for client in clients[1:]:
+        client.sendall(b"quit\r\n")
+        expect(client.recv(1), b"")
+        client.close()
+    server.served(32)
+
+
+def reset(program, path):
+    """Clients that reset their connections, before they are served or while they are, end nothing but those."""
+    _, turns = next(conversations(path))
+    server = Server(program, [41, 1, 1, 3])
+    holder = server.connect()
+    for round_ in range(40):
+        client = server.connect()
+        if round_ % 2:
+            client.sendall(b"ask profile:2 7\r\n" * 100)
+        client.setsockopt(socket.SOL_SOCKET, socket.SO_LINGER, struct.pack("ii", 1, 0))
+        client.close()
+    play(holder, turns)
+    server.served(41)
+
+
 def taken(program, _path):
     """An address at which another one listens is a door fault."""
     with socket.create_server(("127.0.0.1", 0)) as other:
@@ -175,7 +209,7 @@ def taken(program, _path):
     expect((ran.stdout, ran.stderr, ran.returncode), (b"", b"door fault\n", 5))
 
 
-CHECKS = {it.__name__: it for it in (page, silent, queued, unread, broken, taken)}
+CHECKS = {it.__name__: it for it in (page, silent, queued, unread, broken, crowded, reset, taken)}
 
 
 def main():

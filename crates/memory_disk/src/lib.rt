@@ -1,16 +1,22 @@
-//! A file in memory for a database that ends with its process. A crash leaves what a read returns.
+//! Files of a database that tell no lie: one in memory, which ends with its process, and one with a copy
+//! in memory, from which all reads are answered.
 #![tactic(auto)]
 
-ghost use Rattle.std.specs.Prelude.{◌≡◌, length, [], true, false, refl, is_ok, OnOk};
-ghost use Rattle.sqlite_disk.specs.Disk.{Holds, Torn, Cut, CountsFault};
+ghost use Rattle.std.specs.Prelude.{ℕ, ◌≡◌, ◌≤◌, ◌<◌, length, slice_index, [], true, false, refl, is_ok, OnOk, OnErr};
+ghost use Rattle.sqlite_disk.specs.Disk.{Holds, Torn, Mixed, Cut, CountsFault};
 ghost use Rattle.sqlite_disk.specs.Refusal.{finds_no_room};
+
+pub use copied::CopiedDisk;
+
+mod copied;
 
 use sqlite_disk::{Disk, Tally, digest_of};
 use std::alloc::{AllocError, Global};
 use std::io;
 
-/// A file whose bytes lie in memory. A call that finds no memory fails and is counted, as a full disk
-/// fails. Nothing is written behind its end but zeros and what a caller writes.
+/// A file whose bytes lie in memory. A crash leaves what a read returns. A call that finds no memory
+/// fails and is counted, as a full disk fails, and leaves the bytes as they were. Nothing is written
+/// behind its end but zeros and what a caller writes.
 #[derive(Drop)]
 pub struct MemoryDisk {
     bytes: Vec<u8>,
@@ -123,6 +129,9 @@ fn counted(outcome: Result<(), AllocError>, faults: &mut u64) -> io::Result<()>
 fn resize(file: &mut Vec<u8>, len: usize) -> Result<(), AllocError>
     ensures len { OnOk result (length file.new.items ≡ len) }
     ensures others { Cut len file.old.items file.new.items }
+    ensures zeros { OnOk result ((i : ℕ) → length file.old.items ≤ i → i < len
+        → slice_index file.new.items i ≡ 0) }
+    ensures kept { OnErr result (file.new.items ≡ file.old.items) }
 {
     file.resize(len, 0)
 }
@@ -131,6 +140,10 @@ fn resize(file: &mut Vec<u8>, len: usize) -> Result<(), AllocError>
 fn overwrite(file: &mut Vec<u8>, at: usize, bytes: &[u8]) -> Result<(), AllocError>
     ensures written { OnOk result (Holds file.new.items at bytes.now) }
     ensures others { Torn at (length bytes.now) file.old.items file.new.items }
+    ensures mixed { Mixed at bytes.now file.old.items file.new.items }
+    ensures zeros { OnOk result ((i : ℕ) → length file.old.items ≤ i → i < at
+        → slice_index file.new.items i ≡ 0) }
+    ensures kept { OnErr result (file.new.items ≡ file.old.items) }
 {
     let end = at.checked_add(bytes.len()).ok_or(AllocError)?;
     if end > file.len() {

@@ -50,10 +50,17 @@ enum Lies<F: Alter> {
 }
 
 impl SqliteKeeper<FileStore<File>, AnyFile> {
-    /// A keeper that wasn't started. No call has failed.
+    /// A keeper that wasn't started. No call has failed. It may go to another thread.
     pub fn new(rt: &HostRuntime) -> SqliteKeeper<FileStore<File>, AnyFile> {
-        SqliteKeeper::over(rt, AnyFile)
+        sendable(SqliteKeeper::over(rt, AnyFile))
     }
+}
+
+// The same keeper, which may go to another thread.
+fn sendable<K: Keeper + Send>(keeper: K) -> K
+    ensures { result ≡ keeper }
+{
+    keeper
 }
 
 impl<F: Alter + Drop, O: Opens<F>> SqliteKeeper<F, O> {
