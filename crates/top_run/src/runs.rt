@@ -167,11 +167,12 @@ pub fn run<
 ) -> RunEnd<K>
     ensures usage { result.status ≡ Status.Usage →
         AreNoCommand (map (λ word. word.items) words.now) }
-    ensures ended { let before = seen (told_by S.Source source.old) W.Sink K.Keeper sink.old keeper in
+    ensures ended { let tells = told D.lines D.faults D.ended D.closed in
+        let before = seen (told_by S.Source source.old) W.Sink K.Keeper sink.old keeper in
         let after = seen (told_by S.Source source.new) W.Sink K.Keeper sink.new result.keeper in
-        let tells = told D.lines D.faults D.ended D.closed in
-        CommandEnded (map (λ word. word.items) words.now) result.status (λ place. course_of
-        (held_at place (K.holds keeper place)) before after (tells door.old) (tells door.new) result) }
+        CommandEnded (map (λ word. word.items) words.now) result.status (λ place.
+        course_of (held_at place (K.holds keeper place)) before after
+        (tells door.old) (tells door.new) result) }
     ensures started { IsSome result.opening → K.is_started result.keeper }
     ensures unstarted { result.opening ≡ None → K.is_started result.keeper → K.is_started keeper }
     ensures reads { RoseWhere S.faults (is_read_fault result.status) source.old source.new }
