@@ -2,7 +2,7 @@
 use Rattle.std.proofs.Common.{ℕ, ◌≡◌, ◌==◌, ◌&&◌, ◌||◌, Bool, true, false, cond, not, find, List, [], ◌∷◌, All, Option, None, Some, refl, sym, ap, subst, ◌∙◌, ⊎_elim}
 use Rattle.std.specs.List.{list_any}
 use Rattle.std.proofs.lemmas.Bool.{false≢true, eqb-true, eq-eqb, or_cases, and_parts, and_from}
-use Rattle.std.proofs.lemmas.List.Elements.{All-head, All-tail}
+use Rattle.std.proofs.lemmas.List.Elements.{All-head, All-tail, All-weaker}
 use Rattle.rows_model.specs.declared.keys.QKey.{QKey}
 use Rattle.rows_model.specs.declared.keys.Sid.{Sid}
 use Rattle.rows_model.specs.declared.changes.Change.{Change}
@@ -69,6 +69,11 @@ covered_is true who permits txn count cap h = by (uncovered who permits txn) h
     by (Some key) e = absurd cc
     by None e = refl
 
+-- and is that of an open session
+pub admitted_is_open : (may : Bool) (who : Sid) (permits : List Permit) (txn : List Change) (count cap : ℕ) → commit_fault may who permits txn count cap ≡ None → may ≡ true
+admitted_is_open false who permits txn count cap h = absurd cc
+admitted_is_open true who permits txn count cap h = refl
+
 pub admitted_is_granted : (shards : ℕ) (seen : Seen) (may : Bool) (who : Sid) (permits : List Permit) (txn : List Change) (count cap : ℕ)
     → commit_fault may who permits txn count cap ≡ None → All (IsGrantSeen shards seen) permits → IsGranted shards seen.steps (Commit who txn)
 admitted_is_granted shards seen may who permits txn count cap h all = λ key touched.
@@ -97,3 +102,7 @@ grants_are_seen shards token has old new grant last begins =
 
 pub closed_are_over : ClosedAreOver
 closed_are_over shards seen who sound may closed = over_is_known seen.events who (closed_is_over who seen.events sound.in_order may closed)
+
+-- so are they all
+pub all_go_on : (shards : ℕ) (old new : Seen) (permits : List Permit) → IsBeginning old new → All (IsGrantSeen shards old) permits → All (IsGrantSeen shards new) permits
+all_go_on shards old new permits begins all = All-weaker (IsGrantSeen shards old) (IsGrantSeen shards new) (grant_goes_on shards old new begins) permits all

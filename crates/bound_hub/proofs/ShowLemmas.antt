@@ -1,5 +1,5 @@
 -- What the replies of the store show by the events that its pass has seen, and that nothing seen is lost.
-use Rattle.std.proofs.Common.{ℕ, ◌+◌, ◌≡◌, ◌<◌, Bool, true, false, ◌||◌, List, length, take, Option, None, Some, IsSome, is_none, Result, Ok, Err, IfOk}
+use Rattle.std.proofs.Common.{ℕ, suc, ◌+◌, ◌≡◌, ◌<◌, Bool, true, false, ◌||◌, List, length, take, Option, None, Some, IsSome, is_none, Result, Ok, Err, IfOk}
 use Rattle.std.proofs.Common.{refl, sym, ap, subst, ◌∙◌, arith}
 use Rattle.std.proofs.lemmas.Bool.{false≢true}
 use Rattle.rows_model.specs.declared.keys.QKey.{QKey}
@@ -15,13 +15,13 @@ use Rattle.sql_keeper.specs.declared.faults.AfterFault.{AfterFault}
 use Rattle.sql_keeper.specs.declared.faults.CommitFault.{CommitFault}
 use Rattle.sql_keeper.specs.declared.faults.KeepFault.{KeepFault}
 use Rattle.sql_keeper.specs.Commits.{commit_fault}
-use Rattle.sql_keeper.specs.Faults.{keep_failed}
+use Rattle.sql_keeper.specs.Faults.{keep_failed, staged_failed, is_failure, Counts}
 use Rattle.sql_keeper.specs.Keepers.{AnswersAfter}
 use Rattle.sql_keeper.specs.Log.{rows_after}
 use Rattle.sql_keeper.specs.Sessions.{is_open}
-use Rattle.sql_keeper.specs.Stores.{StoreView, rows_of, first_fault, with_session, IsRefusal, IsTrueFault}
+use Rattle.sql_keeper.specs.Stores.{StoreView, rows_of, first_fault, with_session, with_call, IsRefusal, IsTrueFault}
 use Rattle.shard_lock.specs.Names.{IsNamedStore}
-use Rattle.executor.specs.OnStore.{IsAnswer, IsStaged, IsCommitted, IsRefused}
+use Rattle.executor.specs.OnStore.{Goes, IsAnswer, IsStaged, IsCommitted, IsRefused}
 use Rattle.log_word.specs.declared.events.StoreEvent.{StoreEvent}
 use Rattle.log_word.specs.declared.events.StoreEvent.TheVariants as event
 use Rattle.log_word.specs.declared.seen.Seen.{Seen}
@@ -60,7 +60,7 @@ commit_goes_on sid txn stopped old new is =
 pub failure_is_seen : (did_fail stopped : Bool) (old here new : Seen) → IsBeginning old here → new ≡ with_keeper_call did_fail stopped here → SeesFailure did_fail old new
 failure_is_seen true stopped old here new begins is =
     let least = begins.failures in
-    let e : new.failures ≡ here.failures + 1 = ap (λ (s : Seen). s.failures) is in
+    let e : new.failures ≡ suc here.failures = ap (λ (s : Seen). s.failures) is in
     omega (arith, least, e)
 failure_is_seen false stopped old here new begins is = tt
 
@@ -83,7 +83,45 @@ pub still_tells : (did_fail : Bool) (told : Option Tables) (old new : Seen) → 
 still_tells did_fail told old new is running =
     neither old.stopped told (sym (either_is did_fail (is_none told) old) ∙ sym (ap (λ (s : Seen). s.stopped) is) ∙ running)
 
+-- an ask goes as its clauses say
+pub ask_goes : (old new : StoreView) (asked : Result Answer KeepFault) {X : Type 0} → new.ledger ≡ with_call (keep_failed asked) old.ledger → Counts (keep_failed asked) old.faults new.faults
+    → (IsSome new.told → IsSome old.told × X) → Goes (keep_failed asked) (with_call (keep_failed asked) old.ledger) old new
+ask_goes old new asked ledger counts tells = record { ledger_is = ledger; counted = counts; told_before = λ some. (tells some).0 }
+
+pub answers : (key : QKey) (old new : StoreView) (asked : Result Answer KeepFault) → IfOk asked (λ given. (given.key ≡ key) × (given.stamp ≡ length old.ledger.log))
+    → (IsSome new.told → IsSome old.told × IfOk asked (λ given. given.value ≡ query.answer key (rows_of old.ledger))) → IfOk asked (IsAnswer key old new)
+answers key old new (Ok given) is tells = record { of_key = is.0; stamped = is.1; value_is = λ some. (tells some).1 }
+answers key old new (Err fault) is tells = tt
+
+-- and so does one on staged rows
+pub staged_goes : (old new : StoreView) (asked : Result (List ℕ) AfterFault) {X : Type 0} → new.ledger ≡ with_call (staged_failed asked) old.ledger → Counts (staged_failed asked) old.faults new.faults
+    → (IsSome new.told → IsSome old.told × X) → Goes (staged_failed asked) (with_call (staged_failed asked) old.ledger) old new
+staged_goes old new asked ledger counts tells = record { ledger_is = ledger; counted = counts; told_before = λ some. (tells some).0 }
+
+pub staged_is : (key : QKey) (txn : List Change) (old new : StoreView) (asked : Result (List ℕ) AfterFault) → new.ledger ≡ with_call (staged_failed asked) old.ledger
+    → Counts (staged_failed asked) old.faults new.faults → (IsSome new.told → IsSome old.told × AnswersAfter txn key (rows_of old.ledger) asked) → IsStaged key txn old new asked
+staged_is key txn old new asked ledger counts tells = record { goes = staged_goes old new asked ledger counts tells; value_is = λ some. (tells some).1 }
+
+-- a commit for which there was no memory for a copy leaves the store
+pub copy_refused : (sid : Sid) (txn : List Change) (permits : List Permit) (old : StoreView) (fault : CommitFault) → is_failure fault ≡ false
+    → IsRefusal (first_fault old.ledger sid permits txn) fault → ((rows : Tables) → IsTrueFault txn rows fault) → IsRefused sid txn permits old old fault
+copy_refused sid txn permits old fault unasked refusal any_rows = record {
+  refusal = refusal;
+  goes = subst (λ b. Goes b (with_call b old.ledger) old old) (sym unasked) (record { ledger_is = refl; counted = refl; told_before = λ some. some });
+  true_place = λ some. any_rows (rows_of old.ledger);
+}
+
+or_same : (b : Bool) → (b || b) ≡ b
+or_same true = refl
+or_same false = refl
+
 module _ (word : WordView) (begun failed : ℕ) (old new : StoreView) (pass : PassView) (bound : IsBoundStore word begun failed old pass) where
+  -- the pass had seen already whether the store tells its rows
+  pub heard_already : pass.seen ≡ with_keeper_call false (is_none old.told) pass.seen
+  heard_already =
+      ap (λ b. record { events = pass.seen.events; failures = pass.seen.failures; stopped = b; steps = pass.seen.steps })
+      (bound.stopped ∙ sym (or_same (is_none old.told)) ∙ sym (ap (λ b. b || is_none old.told) bound.stopped))
+
   pub begin_shows : (sid : Sid) (worker : ℕ) (writes : Bool) (seen : Seen) → new.ledger ≡ with_session writes old.ledger → sid.number ≡ length new.ledger.sessions
       → seen ≡ with_event (event.Begin sid worker writes) pass.seen → ShowsBegin begun worker writes seen sid
   begin_shows sid worker writes seen made number is = record {

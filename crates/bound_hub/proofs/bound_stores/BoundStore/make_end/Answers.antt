@@ -10,13 +10,13 @@ use Rattle.bound_hub.proofs.bound_stores.BoundStore.make_end.Goals as goal
 
 pub add-requires-clause-follows : goal.add-requires-clause-follows
 add-requires-clause-follows g c =
-    let may : is_open c.args.sid c.self.inside.store.ledger.sessions ≡ true = sym c.end-closed.ensures.was ∙ sym c.was.ensures ∙ c.if-not-was.ensures in
+    let may : is_open c.args.sid c.self.inside.store.ledger.sessions ≡ true = sym c.end-closed.ensures.was ∙ sym c.was.ensures ∙ c.if-not-was.false in
     open_by_events c.args.sid.number c.self.inside.pass.seen.events c.sound.ensures.in_order
     (open_by g.H.BoundName.begun c.self.inside.pass.seen.events c.self.inside.store.ledger.sessions c.self.invariant.1.sessions c.args.sid may)
 
 pub invariant_of-self-2 : goal.invariant_of-self-2
 invariant_of-self-2 g c =
-    let may : is_open c.args.sid c.self.inside.store.ledger.sessions ≡ true = sym c.end-closed.ensures.was ∙ sym c.was.ensures ∙ c.if-not-was.ensures in
+    let may : is_open c.args.sid c.self.inside.store.ledger.sessions ≡ true = sym c.end-closed.ensures.was ∙ sym c.was.ensures ∙ c.if-not-was.false in
     let made = c.end-closed.ensures in (
       named_with_end g.H.HubName.opening g.H.HubName.cap g.H.HubName.told g.H.HubName.start c.self.inside.store c.end-closed.new.self c.args.sid
           c.self.invariant.0 made.ledger made.keeper.0 made.keeper.1,
