@@ -5,6 +5,9 @@ pub mod FactLemmas
 pub mod PassLemmas
 pub mod SessionLemmas
 pub mod StoreTies
+pub mod GrantLemmas
+pub mod ShowLemmas
 pub mod GetLemmas
 pub mod GotTies
 pub mod FreshLemmas
+pub mod PartLemmas

@@ -1,22 +1,28 @@
--- The store and its pass still belong together when a session begins.
-use Rattle.std.proofs.Common.{ℕ, suc, ◌+◌, ◌-◌, ◌^◌, ◌≡◌, ◌≤◌, min, Bool, false, [], ◌∷◌, ◌++◌, length, length-append, Option, IsSome, is_none, sym, ap, subst, ◌∙◌, arith}
+-- The store and its pass still belong together when a session begins, is ended or commits, and when the keeper is asked.
+use Rattle.std.proofs.Common.{ℕ, suc, ◌+◌, ◌-◌, ◌^◌, ◌≡◌, ◌≤◌, min, cond, Bool, true, false, ◌==◌, ◌||◌, List, [], ◌∷◌, ◌++◌, length, length-append, Option, None, Some}
+use Rattle.std.proofs.Common.{IsSome, is_none, refl, sym, ap, subst, ◌∙◌, arith}
+use Rattle.std.proofs.lemmas.Bool.{false≢true}
 use Rattle.std.specs.Option.{ForSome}
 use Rattle.rows_model.specs.declared.keys.Sid.{Sid}
+use Rattle.rows_model.specs.declared.changes.Change.{Change}
 use Rattle.rows_model.specs.Rows.{Tables}
-use Rattle.sql_keeper.specs.Sessions.{first_phase}
-use Rattle.sql_keeper.specs.Stores.{StoreView, Ledger, with_session}
+use Rattle.sql_keeper.specs.declared.stores.Phase.TheVariants as phase
+use Rattle.sql_keeper.specs.Sessions.{is_open, first_phase, with_phase}
+use Rattle.sql_keeper.specs.Stores.{StoreView, Ledger, with_session, with_end, with_commit, with_call}
 use Rattle.shard_lock.specs.Names.{IsNamedStore}
+use Rattle.executor.specs.OnStore.{Goes}
 use Rattle.log_word.specs.declared.events.StoreEvent.TheVariants as event
 use Rattle.log_word.specs.declared.seen.Seen.{Seen}
 use Rattle.log_word.specs.Events.{has_begun}
-use Rattle.log_word.specs.Views.{with_event}
+use Rattle.log_word.specs.Views.{with_event, with_failure, with_stop}
 use Rattle.log_word.specs.Passes.{WordView, PassView}
 use Rattle.bound_hub.specs.Knowns.{commits_of}
 use Rattle.bound_hub.specs.Ties.{IsBoundStore, AreSessions}
-use Rattle.bound_hub.proofs.SessionLemmas.{next_is_new, sessions_with_begin}
+use Rattle.bound_hub.specs.Stores.{with_end_of, with_keeper_call}
+use Rattle.bound_hub.proofs.SessionLemmas.{next_is_new, sessions_with_begin, sessions_with_close}
 
 -- the number of the session that began is the next one
-next_number : (old new : Ledger) (writes : Bool) (sid : Sid) → new ≡ with_session writes old → sid.number ≡ length new.sessions → sid.number ≡ suc (length old.sessions)
+pub next_number : (old new : Ledger) (writes : Bool) (sid : Sid) → new ≡ with_session writes old → sid.number ≡ length new.sessions → sid.number ≡ suc (length old.sessions)
 next_number old new writes sid made number =
     let e : length new.sessions ≡ length (old.sessions ++ first_phase writes ∷ []) = ap (λ (l : Ledger). length l.sessions) made in
     omega (arith, number, e, length-append old.sessions (first_phase writes ∷ []))
@@ -44,12 +50,131 @@ bound_with_begin word begun failed old new pass told sid worker writes bound mad
       stopped = ap (λ (s : Seen). s.stopped) seen ∙ bound.stopped ∙ sym (ap (λ (o : Option Tables). is_none o) same);
     }
 
--- what is named of the store stays so where ledger and keeper are as told
+-- whether the store tells its rows now, where it told them before if it does
+stop_seen : (old new : Option Tables) → (IsSome new → IsSome old) → (is_none old || is_none new) ≡ is_none new
+stop_seen None None h = refl
+stop_seen (Some before) None h = refl
+stop_seen None (Some after) h = absurd (false≢true (h refl))
+stop_seen (Some before) (Some after) h = refl
+
+-- one more call failed
+counted : (failed n count : ℕ) → count ≡ min (failed + n) (2 ^ 64 - 1) → min (count + 1) (2 ^ 64 - 1) ≡ min (failed + suc n) (2 ^ 64 - 1)
+counted failed n count h = omega (arith, h)
+
+-- what the pass saw, in a word that stays
+at_word : (pass told : PassView) (seen : Seen) → told.word ≡ pass.word → told.seen ≡ seen → told ≡ record { word = pass.word; seen = seen }
+at_word pass told seen at is = ap (λ (w : WordView). record { word = w; seen = told.seen }) at ∙ ap (λ (s : Seen). record { word = pass.word; seen = s }) is
+
+module _ (word : WordView) (begun failed : ℕ) (old new : StoreView) (pass : PassView) (bound : IsBoundStore word begun failed old pass) where
+  stays_stopped : (IsSome new.told → IsSome old.told) → (pass.seen.stopped || is_none new.told) ≡ is_none new.told
+  stays_stopped h = ap (λ b. b || is_none new.told) bound.stopped ∙ stop_seen old.told new.told h
+
+  -- a call of the keeper came back
+  called : (did_fail : Bool) → Goes did_fail (with_call did_fail old.ledger) old new
+      → IsBoundStore word begun failed new (record { word = pass.word; seen = with_keeper_call did_fail (is_none new.told) pass.seen })
+  called true goes = record {
+    word_is = bound.word_is;
+    log = ap (λ (l : Ledger). l.log) goes.ledger_is ∙ bound.log;
+    sessions = subst (λ (l : Ledger). AreSessions begun pass.seen.events l.sessions) (sym goes.ledger_is) bound.sessions;
+    failures = ap (λ (l : Ledger). l.failed) goes.ledger_is ∙ counted failed pass.seen.failures old.ledger.failed bound.failures;
+    stopped = stays_stopped goes.told_before;
+  }
+  called false goes = record {
+    word_is = bound.word_is;
+    log = ap (λ (l : Ledger). l.log) goes.ledger_is ∙ bound.log;
+    sessions = subst (λ (l : Ledger). AreSessions begun pass.seen.events l.sessions) (sym goes.ledger_is) bound.sessions;
+    failures = ap (λ (l : Ledger). l.failed) goes.ledger_is ∙ bound.failures;
+    stopped = stays_stopped goes.told_before;
+  }
+
+  pub bound_with_call : (did_fail : Bool) (told : PassView) → Goes did_fail (with_call did_fail old.ledger) old new
+      → told.word ≡ pass.word → told.seen ≡ with_keeper_call did_fail (is_none new.told) pass.seen → IsBoundStore word begun failed new told
+  bound_with_call did_fail told goes at seen =
+      subst (IsBoundStore word begun failed new) (sym (at_word pass told (with_keeper_call did_fail (is_none new.told) pass.seen) at seen)) (called did_fail goes)
+
+  -- a session committed
+  committed : (sid : Sid) (txn : List Change) → is_open sid old.ledger.sessions ≡ true → Goes false (with_commit sid txn old.ledger) old new
+      → IsBoundStore word begun failed new (record { word = pass.word; seen = with_event (event.Commit sid txn) (with_keeper_call false (is_none new.told) pass.seen) })
+  committed sid txn may goes = record {
+    word_is = bound.word_is;
+    log = ap (λ (l : Ledger). l.log) goes.ledger_is ∙ ap (λ log. log ++ record { sid = sid; txn = txn } ∷ []) bound.log;
+    sessions =
+        subst (λ (l : Ledger). AreSessions begun (event.Commit sid txn ∷ pass.seen.events) l.sessions) (sym goes.ledger_is)
+        (sessions_with_close begun pass.seen.events old.ledger.sessions bound.sessions sid phase.Committed (event.Commit sid txn) may refl (λ who. refl));
+    failures = ap (λ (l : Ledger). l.failed) goes.ledger_is ∙ bound.failures;
+    stopped = stays_stopped goes.told_before;
+  }
+
+  pub bound_with_commit : (sid : Sid) (txn : List Change) (told : PassView) → is_open sid old.ledger.sessions ≡ true → Goes false (with_commit sid txn old.ledger) old new
+      → told.word ≡ pass.word → told.seen ≡ with_event (event.Commit sid txn) (with_keeper_call false (is_none new.told) pass.seen) → IsBoundStore word begun failed new told
+  bound_with_commit sid txn told may goes at seen =
+      subst (IsBoundStore word begun failed new)
+      (sym (at_word pass told (with_event (event.Commit sid txn) (with_keeper_call false (is_none new.told) pass.seen)) at seen)) (committed sid txn may goes)
+
+  -- a session was ended, or wasn't open
+  ended : (sid : Sid) (was : Bool) → is_open sid old.ledger.sessions ≡ was → new.ledger ≡ with_end sid old.ledger → new.told ≡ old.told
+      → IsBoundStore word begun failed new (record { word = pass.word; seen = with_end_of sid was pass.seen })
+  ended sid true may made same =
+      let is : new.ledger.sessions ≡ _ = ap (λ (l : Ledger). l.sessions) made ∙ ap (λ b. cond b (with_phase sid phase.Ended old.ledger.sessions) old.ledger.sessions) may in
+      record {
+        word_is = bound.word_is;
+        log = ap (λ (l : Ledger). l.log) made ∙ bound.log;
+        sessions =
+            subst (λ l. AreSessions begun (event.End sid ∷ pass.seen.events) l) (sym is)
+            (sessions_with_close begun pass.seen.events old.ledger.sessions bound.sessions sid phase.Ended (event.End sid) may refl (λ who. refl));
+        failures = ap (λ (l : Ledger). l.failed) made ∙ bound.failures;
+        stopped = bound.stopped ∙ sym (ap (λ (o : Option Tables). is_none o) same);
+      }
+  ended sid false never made same =
+      let is : new.ledger.sessions ≡ _ = ap (λ (l : Ledger). l.sessions) made ∙ ap (λ b. cond b (with_phase sid phase.Ended old.ledger.sessions) old.ledger.sessions) never in
+      record {
+        word_is = bound.word_is;
+        log = ap (λ (l : Ledger). l.log) made ∙ bound.log;
+        sessions = subst (λ l. AreSessions begun pass.seen.events l) (sym is) bound.sessions;
+        failures = ap (λ (l : Ledger). l.failed) made ∙ bound.failures;
+        stopped = bound.stopped ∙ sym (ap (λ (o : Option Tables). is_none o) same);
+      }
+
+  pub bound_with_end : (sid : Sid) (was : Bool) (told : PassView) → is_open sid old.ledger.sessions ≡ was → new.ledger ≡ with_end sid old.ledger → new.told ≡ old.told
+      → told.word ≡ pass.word → told.seen ≡ with_end_of sid was pass.seen → IsBoundStore word begun failed new told
+  bound_with_end sid was told is made same at seen =
+      subst (IsBoundStore word begun failed new) (sym (at_word pass told (with_end_of sid was pass.seen) at seen)) (ended sid was is made same)
+
+-- what is named of the store stays so where opening rows and cap do, the keeper tells no rows anew, and its count of faults doesn't fall
+pub named_stays : (opening : Tables) (cap : ℕ) (told : Option Tables) (start : Option ℕ) (old new : StoreView) → IsNamedStore opening cap told start old
+    → new.ledger.opening ≡ old.ledger.opening → new.ledger.cap ≡ old.ledger.cap → (IsSome new.told → IsSome old.told) → old.faults ≤ new.faults
+    → IsNamedStore opening cap told start new
+named_stays opening cap told start old new named rows most tells rises = record {
+  opening_is = rows ∙ named.opening_is;
+  cap_is = most ∙ named.cap_is;
+  told_before = λ some. named.told_before (tells some);
+  never_fell = λ first is. let low = named.never_fell first is in omega (arith, low, rises);
+}
+
+-- so it does where a session begins
 pub named_with_begin : (opening : Tables) (cap : ℕ) (told : Option Tables) (start : Option ℕ) (old new : StoreView) (writes : Bool) → IsNamedStore opening cap told start old
     → new.ledger ≡ with_session writes old.ledger → new.told ≡ old.told → new.faults ≡ old.faults → IsNamedStore opening cap told start new
-named_with_begin opening cap told start old new writes named made same faults = record {
-  opening_is = ap (λ (l : Ledger). l.opening) made ∙ named.opening_is;
-  cap_is = ap (λ (l : Ledger). l.cap) made ∙ named.cap_is;
-  told_before = λ h. named.told_before (subst (λ (o : Option Tables). IsSome o) same h);
-  never_fell = subst (λ (n : ℕ). ForSome start (λ first. first ≤ n)) (sym faults) named.never_fell;
-}
+named_with_begin opening cap told start old new writes named made same faults =
+    named_stays opening cap told start old new named (ap (λ (l : Ledger). l.opening) made) (ap (λ (l : Ledger). l.cap) made)
+    (λ some. subst (λ (o : Option Tables). IsSome o) same some) (omega (arith, faults))
+
+-- or is ended
+pub named_with_end : (opening : Tables) (cap : ℕ) (told : Option Tables) (start : Option ℕ) (old new : StoreView) (sid : Sid) → IsNamedStore opening cap told start old
+    → new.ledger ≡ with_end sid old.ledger → new.told ≡ old.told → new.faults ≡ old.faults → IsNamedStore opening cap told start new
+named_with_end opening cap told start old new sid named made same faults =
+    named_stays opening cap told start old new named (ap (λ (l : Ledger). l.opening) made) (ap (λ (l : Ledger). l.cap) made)
+    (λ some. subst (λ (o : Option Tables). IsSome o) same some) (omega (arith, faults))
+
+-- or the keeper is asked
+pub named_with_call : (opening : Tables) (cap : ℕ) (told : Option Tables) (start : Option ℕ) (old new : StoreView) (did_fail : Bool) → IsNamedStore opening cap told start old
+    → Goes did_fail (with_call did_fail old.ledger) old new → old.faults ≤ new.faults → IsNamedStore opening cap told start new
+named_with_call opening cap told start old new true named goes rises =
+    named_stays opening cap told start old new named (ap (λ (l : Ledger). l.opening) goes.ledger_is) (ap (λ (l : Ledger). l.cap) goes.ledger_is) goes.told_before rises
+named_with_call opening cap told start old new false named goes rises =
+    named_stays opening cap told start old new named (ap (λ (l : Ledger). l.opening) goes.ledger_is) (ap (λ (l : Ledger). l.cap) goes.ledger_is) goes.told_before rises
+
+-- or a session commits
+pub named_with_commit : (opening : Tables) (cap : ℕ) (told : Option Tables) (start : Option ℕ) (old new : StoreView) (sid : Sid) (txn : List Change) → IsNamedStore opening cap told start old
+    → Goes false (with_commit sid txn old.ledger) old new → old.faults ≤ new.faults → IsNamedStore opening cap told start new
+named_with_commit opening cap told start old new sid txn named goes rises =
+    named_stays opening cap told start old new named (ap (λ (l : Ledger). l.opening) goes.ledger_is) (ap (λ (l : Ledger). l.cap) goes.ledger_is) goes.told_before rises

@@ -5,3 +5,5 @@ pub mod Facts
 pub mod Ties
 pub mod Names
 pub mod Gets
+pub mod Stores
+pub mod Parts

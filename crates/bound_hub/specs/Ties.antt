@@ -11,6 +11,7 @@ use Rattle.sql_keeper.specs.declared.stores.Phase.{Phase}
 use Rattle.sql_keeper.specs.declared.stores.Phase.TheVariants as phase
 use Rattle.sql_keeper.specs.Sessions.{phase_of, is_open, first_phase}
 use Rattle.sql_keeper.specs.Stores.{StoreView}
+use Rattle.bound_hub.specs.Knowns.{begin_count}
 use Rattle.log_word.specs.declared.events.StoreEvent.{StoreEvent}
 use Rattle.log_word.specs.declared.events.StoreEvent.TheVariants as event
 use Rattle.log_word.specs.declared.seen.Seen.{Seen}
@@ -73,7 +74,7 @@ phase_by who (event.End sid ∷ events) =
 -- The sessions of the store are those by the events, but for so many that had begun before, of which
 -- none is open, and of which no event is.
 pub record AreSessions (begun : ℕ) (events : List StoreEvent) (sessions : List Phase) : Type 0 where
-  pub many : begun ≤ length sessions
+  pub many : length sessions ≡ begun + begin_count events
   pub since : (who : Sid) → begun < who.number → phase_of who sessions ≡ phase_by who.number events
   pub before : (who : Sid) → who.number ≤ begun → (is_open who sessions ≡ false) × (phase_by who.number events ≡ None)
 

@@ -28,9 +28,9 @@ use std::sync::ledger::Share;
 /// the pass has seen that the store stopped telling its rows.
 #[derive(Drop)]
 pub struct BoundShard<H: BoundName> {
-    shard: Shard,
-    token: Share<H>,
-    pass: ShardPass,
+    pub(crate) shard: Shard,
+    pub(crate) token: Share<H>,
+    pub(crate) pass: ShardPass,
 }
 
 impl<H: BoundName> Model for BoundShard<H> {

@@ -1,18 +1,24 @@
 //! What lies under the lock of the store: the store, and its pass.
-ghost use Rattle.std.specs.Prelude.{◌≡◌, is_none, length, IfOk, OnOk, OnErr};
-ghost use Rattle.sql_keeper.specs.Stores.{with_session};
+ghost use Rattle.std.specs.Prelude.{◌≡◌, false, is_none, length, IfOk, OnOk, OnErr};
+ghost use Rattle.std.specs.Bool.{IsFalse};
+ghost use Rattle.sql_keeper.specs.Sessions.{has_committed, is_open};
+ghost use Rattle.sql_keeper.specs.Stores.{with_end, with_session};
+ghost use Rattle.executor.specs.OnStore.{Goes};
 ghost use Rattle.log_word.specs.declared.events.StoreEvent.TheVariants.{Begin};
 ghost use Rattle.log_word.specs.Steps.{IsBeginning};
-ghost use Rattle.log_word.specs.Views.{with_event, with_stop};
+ghost use Rattle.log_word.specs.Views.{with_event};
 ghost use Rattle.log_word.specs.Passes.{IsTogether, blind_pass};
 ghost use Rattle.shard_lock.specs.Names.{IsNamedStore};
+ghost use Rattle.key_freshness.specs.Known.{IsLogged};
+ghost use Rattle.bound_hub.specs.Knowns.{commits_of};
 ghost use Rattle.bound_hub.specs.Ties.{HasSeenOnly, IsNewStore};
+ghost use Rattle.bound_hub.specs.Stores.{with_end_of, with_keeper_call, ShowsBegin, ShowsEnd};
 
 use crate::names::BoundName;
 use log_word::{LogWord, Note, StoreEvent, StorePass};
 use rows_model::{Memory, Sid};
 use shard_lock::StartOf;
-use sql_keeper::{Keeper, Store};
+use sql_keeper::{Closed, Keeper, Store};
 use std::marker::{Brand, Model};
 
 /// The store of a hub, with what is named of it, and the pass that has seen each event of the store
@@ -22,8 +28,8 @@ use std::marker::{Brand, Model};
 /// failed, and whether the store tells its rows.
 #[derive(Drop)]
 pub struct BoundStore<K: Keeper, H: BoundName> {
-    store: Store<K, StartOf<H>>,
-    pass: StorePass,
+    pub(crate) store: Store<K, StartOf<H>>,
+    pub(crate) pass: StorePass,
 }
 
 impl<K: Keeper, H: BoundName> Model for BoundStore<K, H> {
@@ -50,13 +56,18 @@ impl<K: Keeper, H: BoundName> BoundStore<K, H> {
         ensures only { HasSeenOnly (is_none store.told) result.seen }
     {
         let mut pass = pass;
-        watch(word, &store, &mut pass);
+        hear(word, &store, &mut pass, false);
         BoundStore { store, pass }
     }
 
     /// Begins a session, as the store does, and its Begin, by this worker's desk, is seen. For want of
     /// memory everything is as before.
-    pub fn begin(&mut self, word: &LogWord, worker: u32, writes: bool) -> Result<Sid, Memory>
+    pub(crate) fn make_begin(
+        &mut self,
+        word: &LogWord,
+        worker: u32,
+        writes: bool,
+    ) -> Result<Sid, Memory>
         requires word { word.now ≡ H.word }
         ensures ledger { OnOk result
             (self.new.store.ledger ≡ with_session writes self.old.store.ledger) }
@@ -64,6 +75,8 @@ impl<K: Keeper, H: BoundName> BoundStore<K, H> {
             sid.number ≡ length self.new.store.ledger.sessions) }
         ensures seen { IfOk result (λ sid.
             self.new.seen ≡ with_event (Begin sid worker writes) self.old.seen) }
+        ensures goes_on { IsBeginning self.old.seen self.new.seen }
+        ensures shows { IfOk result (ShowsBegin H.begun worker writes self.new.seen) }
         ensures err { OnErr result (self.new ≡ self.old) }
     {
         let sid = self.store.begin(writes)?;
@@ -74,6 +87,35 @@ impl<K: Keeper, H: BoundName> BoundStore<K, H> {
         };
         self.pass.add(word, &event);
         Ok(sid)
+    }
+
+    /// Ends a session, as the store does. Where it was open, its End is seen.
+    pub(crate) fn make_end(&mut self, word: &LogWord, sid: Sid) -> Closed
+        requires word { word.now ≡ H.word }
+        ensures sid { result.sid ≡ sid }
+        ensures was { result.was ≡ is_open sid self.old.store.ledger.sessions }
+        ensures goes { Goes false (with_end sid self.old.store.ledger)
+            self.old.store self.new.store }
+        ensures seen { self.new.seen ≡ with_end_of sid result.was self.old.seen }
+        ensures goes_on { IsBeginning self.old.seen self.new.seen }
+        ensures shows { ShowsEnd sid self.new.seen result.was }
+    {
+        let closed = self.store.end(sid);
+        if !closed.was() {
+            return closed;
+        }
+        self.pass.sound();
+        self.pass.add(word, &StoreEvent::End { sid });
+        closed
+    }
+
+    /// Whether the session has committed. Where it hasn't, no commit of its is among those that are seen.
+    pub(crate) fn has_commit(&self, sid: Sid) -> bool
+        ensures was { result ≡ has_committed sid self.now.store.ledger.sessions }
+        ensures shows { IsFalse result
+            → IsLogged (commits_of self.now.seen.events) sid.number → ⊥ }
+    {
+        self.store.has_committed(sid)
     }
 
     /// A note of what its pass has seen.
@@ -95,21 +137,29 @@ impl<K: Keeper, H: BoundName> BoundStore<K, H> {
         ensures mine { IsBeginning self.old.seen self.new.seen }
         ensures theirs { IsBeginning note.seen self.new.seen }
         ensures together { IsTogether self.old.seen note.seen self.new.seen }
+        ensures events { self.new.seen.events ≡ self.old.seen.events }
+        ensures failures { self.new.seen.failures ≡ self.old.seen.failures }
+        ensures stopped { self.new.seen.stopped ≡ self.old.seen.stopped }
     {
         self.pass.join(word, note);
     }
 }
 
-/// The pass sees whether the store tells its rows.
-fn watch<K: Keeper, H: BoundName>(
+/// The pass sees what a call of the store's keeper made of it: that it failed, where it did, and whether
+/// the store tells its rows.
+pub(crate) fn hear<K: Keeper, H: BoundName>(
     word: &LogWord,
     store: &Store<K, StartOf<H>>,
     pass: &mut StorePass,
+    failed: bool,
 )
     requires word { word.now ≡ H.word }
     requires pass { pass.old.word ≡ H.word }
     ensures word { pass.new.word ≡ pass.old.word }
-    ensures seen { pass.new.seen ≡ with_stop (is_none store.now.told) pass.old.seen }
+    ensures seen { pass.new.seen ≡ with_keeper_call failed (is_none store.now.told) pass.old.seen }
 {
+    if failed {
+        pass.fail(word);
+    }
     pass.watch::<Brand, _>(word, store);
 }

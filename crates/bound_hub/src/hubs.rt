@@ -26,14 +26,14 @@ use std::sync::ledger::{Blank, Book, Share, Total};
 /// Each time a lock is free, what lies under it and its pass belong together.
 #[derive(Drop)]
 pub struct BoundHub<K: Keeper, H: BoundName> {
-    word: LogWord,
-    shards: Vec<Mutex<BoundShard<H>>>,
-    store: Mutex<BoundStore<K, H>>,
-    count: u32,
+    pub(crate) word: LogWord,
+    pub(crate) shards: Vec<Mutex<BoundShard<H>>>,
+    pub(crate) store: Mutex<BoundStore<K, H>>,
+    pub(crate) count: u32,
     /// Room for the shards, once they are taken from under their locks.
-    room: Mutex<KeptRoom<H>>,
+    pub(crate) room: Mutex<KeptRoom<H>>,
     /// What the tokens of all shards have. They take no bytes.
-    tokens: Total<H>,
+    pub(crate) tokens: Total<H>,
 }
 
 impl<K: Keeper, H: BoundName> Model for BoundHub<K, H> {

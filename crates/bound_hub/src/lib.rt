@@ -8,9 +8,14 @@ pub use hubs::BoundHub;
 pub use names::BoundName;
 pub use shorts::short_of;
 
+pub mod bound_asks;
+pub mod bound_commits;
 pub mod bound_shards;
 pub mod bound_stores;
+pub mod hub_calls;
+pub mod hub_parts;
 pub mod hubs;
 pub mod laws;
 pub mod names;
 pub mod shorts;
+pub mod store_calls;

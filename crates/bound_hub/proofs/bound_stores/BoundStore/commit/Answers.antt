@@ -1,0 +1,18 @@
+use Rattle.std.proofs.Common.{sym, ap, subst, ◌∙◌}
+use Rattle.log_word.specs.declared.seen.Seen.{Seen}
+use Rattle.log_word.specs.Passes.{PassView}
+use Rattle.bound_hub.specs.Stores.{ShowsCommit, ShowsRefusal}
+use Rattle.log_word.specs.Steps.{IsBeginning}
+use Rattle.bound_hub.proofs.GrantLemmas.{all_go_on}
+use Rattle.bound_hub.proofs.ShowLemmas.{caller_goes_on}
+use Rattle.bound_hub.proofs.bound_stores.BoundStore.commit.Goals as goal
+
+pub returns-clause-seen : goal.returns-clause-seen
+returns-clause-seen g c =
+    let now = ap (λ (p : PassView). p.seen) c.into_pass.ensures ∙ c.note-2.ensures.seen in
+    caller_goes_on c.args.pass.now c.note.result c.join.new.self.seen c.make_commit-made.new.self.seen c.into_pass.result.seen c.note.ensures.note c.join.ensures.theirs c.make_commit-made.ensures.goes_on now
+
+pub make_commit-made-requires-clause-granted : goal.make_commit-made-requires-clause-granted
+make_commit-made-requires-clause-granted g c =
+    all_go_on g.H.BoundName.word.shards c.args.pass.now.seen c.join.new.self.seen c.args.grants.now
+    (subst (λ (p : PassView). IsBeginning p.seen c.join.new.self.seen) c.note.ensures.note c.join.ensures.theirs) c.requires.granted

@@ -1,0 +1,47 @@
+use Rattle.std.proofs.Common.{◌≡◌, Bool, IfOk, is_none, sym, ap, subst, ◌∙◌}
+use Rattle.sql_keeper.specs.Faults.{keep_failed}
+use Rattle.sql_keeper.specs.Stores.{with_call}
+use Rattle.executor.specs.OnStore.{Goes}
+use Rattle.log_word.specs.Steps.{IsBeginning}
+use Rattle.bound_hub.specs.Ties.{BoundStoreView}
+use Rattle.bound_hub.specs.Stores.{with_keeper_call}
+use Rattle.bound_hub.proofs.StoreTies.{bound_with_call, named_with_call}
+use Rattle.bound_hub.proofs.ShowLemmas.{answers, ask_goes, ask_shows, call_goes_on}
+use Rattle.bound_hub.proofs.bound_stores.BoundStore.make_ask.Goals as goal
+
+pub invariant_of-self : goal.invariant_of-self
+invariant_of-self g c =
+    let old = c.self.inside.store in
+    let new = c.ask-asked.new.self in
+    let pass = c.self.inside.pass in
+    let asked = c.ask-asked.result in
+    let made = c.ask-asked.ensures in
+    let goes = ask_goes old new asked made.ledger made.counts made.tells in
+    let seen = c.hear.ensures.seen ∙ ap (λ b. with_keeper_call b (is_none new.told) pass.seen) c.has_failed.ensures in (
+      named_with_call g.H.HubName.opening g.H.HubName.cap g.H.HubName.told g.H.HubName.start old new (keep_failed asked) c.self.invariant.0 goes made.never_falls,
+      bound_with_call g.H.BoundName.word g.H.BoundName.begun g.H.BoundName.failed old new pass c.self.invariant.1 (keep_failed asked) c.hear.new.pass goes c.hear.ensures.word seen,
+    )
+
+pub returns-clause-goes_on : goal.returns-clause-goes_on
+returns-clause-goes_on g c =
+    let new = c.ask-asked.new.self in
+    let pass = c.self.inside.pass in
+    subst (λ (v : BoundStoreView). IsBeginning v.seen c.hear.new.pass.seen) c.self.view_is
+    (call_goes_on c.has_failed.result (is_none new.told) pass.seen c.hear.new.pass.seen c.hear.ensures.seen)
+
+pub returns-clause-answer : goal.returns-clause-answer
+returns-clause-answer g c =
+    let made = c.ask-asked.ensures in
+    rw (← c.self.view_is)
+    (answers c.args.key.now c.self.inside.store c.ask-asked.new.self c.ask-asked.result made.answer made.tells)
+
+pub returns-clause-shows : goal.returns-clause-shows
+returns-clause-shows g c =
+    let old = c.self.inside.store in
+    let new = c.ask-asked.new.self in
+    let pass = c.self.inside.pass in
+    let asked = c.ask-asked.result in
+    let made = c.ask-asked.ensures in
+    let seen = c.hear.ensures.seen ∙ ap (λ b. with_keeper_call b (is_none new.told) pass.seen) c.has_failed.ensures in
+    ask_shows g.H.BoundName.word g.H.BoundName.begun g.H.BoundName.failed old new pass c.self.invariant.1 g.H.HubName.opening g.H.HubName.cap g.H.HubName.told g.H.HubName.start c.self.invariant.0
+    c.args.key.now asked c.hear.new.pass.seen (answers c.args.key.now old new asked made.answer made.tells) seen

@@ -1,0 +1,30 @@
+-- What holds of the shards and the store of a hub that is taken apart.
+use Rattle.std.specs.Prelude.{ℕ, ◌≡◌, ◌≤◌, true, List, ◌++◌, length, Some, IsSome, slice_get}
+use Rattle.rows_model.specs.declared.keys.QKey.{QKey}
+use Rattle.rows_model.specs.Rows.{Tables}
+use Rattle.rows_model.specs.Changes.{touches}
+use Rattle.rows_model.specs.Query as query
+use Rattle.lease_table.specs.declared.records.Quar.{Quar}
+use Rattle.key_shard.specs.declared.steps.Step.{Step}
+use Rattle.key_shard.specs.Answers.{IsAtHome}
+use Rattle.key_shard.specs.Past.{entry, standing}
+use Rattle.key_shard.specs.Shards.{ShardView, past_of}
+use Rattle.sql_keeper.specs.declared.stores.Commit.{Commit}
+use Rattle.sql_keeper.specs.Log.{state}
+use Rattle.sql_keeper.specs.Stores.{StoreView}
+use Rattle.key_freshness.specs.Held.{stands_as}
+
+-- An entry is of a number of commits of the log. Each later commit on its key has a quarantine of its session standing
+-- there. Where the store tells its rows, the entry is the key's answer after so many commits.
+pub record IsKept (opening : Tables) (store : StoreView) (key : QKey) (stands : List Quar) (value : List ℕ) (stamp : ℕ) : Type 0 where
+  pub within : stamp ≤ length store.ledger.log
+  pub lacking : (place : ℕ) (commit : Commit) → slice_get store.ledger.log place ≡ Some commit → stamp ≤ place
+      → touches commit.txn key ≡ true → (token : ℕ) × (stands_as commit.sid.number token stands ≡ true)
+  pub right : IsSome store.told → value ≡ query.answer key (state opening store.ledger.log stamp)
+
+-- A shard goes on from the steps that it had made before, and each of its entries is kept beside the store.
+pub record IsLeft (opening : Tables) (before : ℕ → List Step) (store : StoreView) (shard : ShardView) : Type 0 where
+  pub more : List Step
+  pub goes_on : past_of shard ≡ more ++ before shard.terms.no
+  pub entries : (key : QKey) (value : List ℕ) (stamp : ℕ) → IsAtHome shard.terms key
+      → entry key (past_of shard) ≡ Some (value, stamp) → IsKept opening store key (standing key (past_of shard)) value stamp
