@@ -5,3 +5,8 @@ pub mod Facts
 pub mod Ties
 pub mod Names
 pub mod Gets
+pub mod Told
+pub mod Asked
+pub mod Olds
+pub mod Releases
+pub mod Sweeps

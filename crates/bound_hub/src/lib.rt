@@ -8,9 +8,15 @@ pub use hubs::BoundHub;
 pub use names::BoundName;
 pub use shorts::short_of;
 
+pub mod bound_quarantines;
+pub mod bound_raises;
+pub mod bound_releases;
+pub mod bound_sets;
 pub mod bound_shards;
 pub mod bound_stores;
+pub mod bound_sweeps;
 pub mod hubs;
 pub mod laws;
 pub mod names;
 pub mod shorts;
+pub mod told;
