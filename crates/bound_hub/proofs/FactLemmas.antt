@@ -1,5 +1,5 @@
 -- The facts of a key hold at first, and where more was seen.
-use Rattle.std.proofs.Common.{ℕ, ◌≡◌, Bool, true, false, List, [], ◌++◌, take, Option, None, Some, refl, sym, subst, ◌∙◌, true≢false, arith}
+use Rattle.std.proofs.Common.{ℕ, ◌≡◌, Bool, true, false, List, [], ◌++◌, take, Option, None, Some, refl, sym, subst, ◌∙◌, inr, true≢false, arith}
 use Rattle.rows_model.specs.declared.keys.QKey.{QKey}
 use Rattle.rows_model.specs.Rows.{Tables}
 use Rattle.rows_model.specs.Placement.{shard_of}
@@ -21,7 +21,7 @@ use Rattle.bound_hub.specs.Facts.{answer_after, stamp_of, HoldsFacts, IsFirst}
 use Rattle.bound_hub.specs.Ties.{IsBoundShard, IsNewShard}
 use Rattle.bound_hub.proofs.RuledLemmas.{keys_are_ruled, more_is_known}
 
-stamped_first : (found : Option (List ℕ × ℕ)) → IsStamped [] (stamp_of found) found
+pub stamped_first : (found : Option (List ℕ × ℕ)) → IsStamped [] (stamp_of found) found
 stamped_first None = tt
 stamped_first (Some found) = refl
 
@@ -57,7 +57,7 @@ still_right answer key marks old new None more held right = tt
 still_right answer key marks old new (Some found) more held right = more_is_right answer old new found.0 found.1 more held.within right
 
 -- what isn't seen now wasn't seen before
-was_not : (old new : Bool) → (old ≡ true → new ≡ true) → new ≡ false → old ≡ false
+pub was_not : (old new : Bool) → (old ≡ true → new ≡ true) → new ≡ false → old ≡ false
 was_not true new stays e = absurd (true≢false (sym (stays refl) ∙ e))
 was_not false new stays e = refl
 
@@ -77,6 +77,11 @@ facts_go_on opening shards before more old new key sound_old sound_new were are 
           (facts.right (was_not old.stopped new.stopped begins.stopped told));
     }
 
+zero_first : (opening : Tables) (stopped : Bool) (key : QKey) (found : Option (List ℕ × ℕ)) → IsFirst opening stopped key found
+    → (stamp : ℕ) → stamp_of found ≡ Some stamp → stamp ≡ 0
+zero_first opening stopped key None first stamp e = absurd cc
+zero_first opening stopped key (Some found) first stamp e = let same : found.1 ≡ stamp = cc in sym same ∙ first.0
+
 -- the tie of a new shard
 pub bound_first : (word : WordView) (opening : Tables) (before : ℕ → List Step) (shard : ShardView) (pass : ShardPassView) → pass.word ≡ word
     → pass.shard ≡ shard.terms.no → shard.terms.count ≡ word.shards → pass.seen.events ≡ [] → steps_of shard.terms.no pass.seen.steps ≡ []
@@ -85,10 +90,13 @@ bound_first word opening before shard pass at number count none blind new = reco
   word_is = at;
   number = number;
   count = count;
+  from_one = new.from_one;
   quiet = new.quiet;
+  stamps = λ key stamp e. zero_first opening pass.seen.stopped key (entry key (before shard.terms.no)) (new.entries key) stamp e;
   more = [];
   goes_on = new.past_is;
   told = blind;
+  outs = λ permit is. inr (new.drawn permit is);
   facts = λ key home. first_facts opening (before shard.terms.no) pass.seen key none (new.entries key);
 }
 
@@ -101,10 +109,13 @@ bound_goes_on word opening before shard old new bound same_word same_shard begin
   word_is = same_word ∙ bound.word_is;
   number = same_shard ∙ bound.number;
   count = bound.count;
+  from_one = bound.from_one;
   quiet = bound.quiet;
+  stamps = bound.stamps;
   more = bound.more;
   goes_on = bound.goes_on;
   told = told;
+  outs = bound.outs;
   facts = λ key home.
       facts_go_on opening word.shards (before shard.terms.no) bound.more old.seen new.seen key
       (subst (λ (w : WordView). IsSound w.shards old.seen) bound.word_is sound_old)

@@ -32,3 +32,7 @@ begins_with_step number step mine here now begins is =
 -- and the step stands last
 pub last_with_step : (number : ℕ) (step : Short) (here now : Seen) → now ≡ with_step number step here → IsLastStep number step now
 last_with_step number step here now is = (steps_of number here.steps, ap (λ (v : Seen). steps_of number v.steps) is ∙ steps_with_step number step here.steps)
+
+-- and what is seen in the end, where the caller takes over what was seen here
+pub begins_on : (mine here made now : Seen) → IsBeginning mine here → IsBeginning here made → now ≡ made → IsBeginning mine now
+begins_on mine here made now begins goes_on same = subst (IsBeginning mine) (sym same) (beginning_trans mine here made begins goes_on)

@@ -1,6 +1,6 @@
 -- A get's step: its short, that it is borne out, and that the facts stay.
 use Rattle.std.proofs.Common.{ℕ, ◌≡◌, ◌≤◌, ◌==◌, Bool, true, false, cond, List, [], ◌∷◌, ◌++◌, length, Option, None}
-use Rattle.std.proofs.Common.{Some, Ok, Err, is_some, option_map, nat_le, refl, sym, ap, subst, inl, inr, ⊎_elim, eqb-true, arith}
+use Rattle.std.proofs.Common.{Some, Ok, Err, is_some, option_map, nat_le, refl, sym, ap, subst, ◌∙◌, inl, inr, ⊎_elim, eqb-true, arith}
 use Rattle.std.proofs.lemmas.Bool.{false≢true}
 use Rattle.rows_model.specs.declared.keys.QKey.{QKey}
 use Rattle.rows_model.specs.declared.keys.Sid.{Sid}
@@ -24,89 +24,30 @@ use Rattle.log_word.specs.declared.events.StoreEvent.{StoreEvent}
 use Rattle.log_word.specs.declared.seen.Seen.{Seen}
 use Rattle.log_word.specs.Events.{commit_count}
 use Rattle.log_word.specs.Steps.{IsBorneOut}
-use Rattle.key_freshness.specs.Marks.{Mark, Leased, key_of, marks_of}
-use Rattle.key_freshness.specs.Held.{IsHeld, IsTied, IsEntryHeld, IsEntryRight}
+use Rattle.key_freshness.specs.Marks.{Mark, key_of}
+use Rattle.key_freshness.specs.Held.{IsEntryHeld}
 use Rattle.key_freshness.proofs.MarkLemmas.{by_test}
 use Rattle.bound_hub.specs.Shorts.{short_of}
 use Rattle.bound_hub.specs.Knowns.{commits_of, known_of}
-use Rattle.bound_hub.specs.Facts.{answer_after, stamp_of, HoldsFacts}
 use Rattle.bound_hub.specs.Gets.{got_short}
 use Rattle.bound_hub.proofs.EventLemmas.{commits_counted}
+use Rattle.bound_hub.proofs.StepFacts.{IsHonestStep}
 
--- what marks nothing, whatever key it is on
-quiet : (P : List Mark → Type 0) (b : Bool) (marks : List Mark) → P marks → P (cond b [] [] ++ marks)
-quiet P true marks p = p
-quiet P false marks p = p
+-- a get's step is honest: it ends nothing, and writes nothing
+pub got_is_honest : (opening : Tables) (before more : List Step) (seen : Seen) (s : Step) (answer : Got) → ShowsGot s answer → IsHonestStep opening before more seen s
+got_is_honest opening before more seen (step.Hit on sid floor value stamp) answer shows = record { own = tt; honest = tt; true_step = λ _. tt }
+got_is_honest opening before more seen (step.Own on sid) answer shows = record { own = tt; honest = tt; true_step = λ _. tt }
+got_is_honest opening before more seen (step.Again on sid floor now stands) answer shows = record { own = tt; honest = tt; true_step = λ _. tt }
+got_is_honest opening before more seen (step.Lease on sid floor now token deadline) answer shows = record { own = tt; honest = tt; true_step = λ _. tt }
+got_is_honest opening before more seen other answer shows = absurd shows
 
--- what leaves no entry of its key, and marks this on it
-missed : (P : List Mark → Option (List ℕ × ℕ) → Type 0) (more : List Mark) (b : Bool) (marks : List Mark) (found : Option (List ℕ × ℕ))
-    → P (more ++ marks) None → P marks found → P (cond b more [] ++ marks) (cond b None found)
-missed P more true marks found here else = here
-missed P more false marks found here else = else
-
-tied_none : (marks : List Mark) (start : Option ℕ) (quars : List Quar) (found : Option (List ℕ × ℕ)) → IsTied marks start quars found → IsTied marks start quars None
-tied_none marks start quars found tied = record { granted = tied.granted; stamped = tt }
-
-tied_leased : (token : ℕ) (marks : List Mark) (start : Option ℕ) (quars : List Quar) (found : Option (List ℕ × ℕ)) → IsTied marks start quars found → IsTied (Leased token ∷ marks) start quars None
-tied_leased token marks start quars found tied = record {
-  granted = λ who its h. ⊎_elim (λ e. absurd cc) (λ old. ⊎_elim (λ stands. inl stands) (λ ended. inr (inr ended)) (tied.granted who its old)) h;
-  stamped = tt;
-}
-
--- the facts of each key stay when a get was made
-pub facts_with_got : (opening : Tables) (before more : List Step) (seen : Seen) (key : QKey) (s : Step) (answer : Got) → ShowsGot s answer
-    → HoldsFacts opening before more seen key → HoldsFacts opening before (s ∷ more) seen key
-facts_with_got opening before more seen key (step.Hit on sid floor value stamp) answer shows facts =
-    let found = entry key (more ++ before) in
-    record {
-      tied = quiet (λ ms. IsTied ms (stamp_of (entry key before)) (standing key (more ++ before)) found) (same_key key on) (marks_of key more) facts.tied;
-      held = quiet (λ ms. IsEntryHeld key ms (known_of seen.events) found) (same_key key on) (marks_of key more) facts.held;
-      right = facts.right;
-    }
-facts_with_got opening before more seen key (step.Own on sid) answer shows facts =
-    let found = entry key (more ++ before) in
-    record {
-      tied = quiet (λ ms. IsTied ms (stamp_of (entry key before)) (standing key (more ++ before)) found) (same_key key on) (marks_of key more) facts.tied;
-      held = quiet (λ ms. IsEntryHeld key ms (known_of seen.events) found) (same_key key on) (marks_of key more) facts.held;
-      right = facts.right;
-    }
-facts_with_got opening before more seen key (step.Again on sid floor now stands) answer shows facts =
-    let found = entry key (more ++ before) in
-    let start = stamp_of (entry key before) in
-    let quars = standing key (more ++ before) in
-    record {
-      tied = missed (λ ms o. IsTied ms start quars o) [] (same_key key on) (marks_of key more) found (tied_none (marks_of key more) start quars found facts.tied) facts.tied;
-      held = missed (λ ms o. IsEntryHeld key ms (known_of seen.events) o) [] (same_key key on) (marks_of key more) found tt facts.held;
-      right = λ told. missed (λ ms o. IsEntryRight (answer_after opening key) (commits_of seen.events) o) [] (same_key key on) (marks_of key more) found tt (facts.right told);
-    }
-facts_with_got opening before more seen key (step.Lease on sid floor now token deadline) answer shows facts =
-    let found = entry key (more ++ before) in
-    let start = stamp_of (entry key before) in
-    let quars = standing key (more ++ before) in
-    record {
-      tied = missed (λ ms o. IsTied ms start quars o) (Leased token ∷ []) (same_key key on) (marks_of key more) found (tied_leased token (marks_of key more) start quars found facts.tied) facts.tied;
-      held = missed (λ ms o. IsEntryHeld key ms (known_of seen.events) o) (Leased token ∷ []) (same_key key on) (marks_of key more) found tt facts.held;
-      right = λ told. missed (λ ms o. IsEntryRight (answer_after opening key) (commits_of seen.events) o) [] (same_key key on) (marks_of key more) found tt (facts.right told);
-    }
-facts_with_got opening before more seen key other answer shows facts = absurd shows
-
--- what was held is held with the marks of a get too
-pub held_with_got : (before more : List Step) (seen : Seen) (key : QKey) (s : Step) (answer : Got) → ShowsGot s answer → (stamp : ℕ)
-    → IsHeld key (marks_of key more) (known_of seen.events) stamp → IsHeld key (marks_of key (s ∷ more)) (known_of seen.events) stamp
-held_with_got before more seen key (step.Hit on sid floor value n) answer shows stamp held =
-    quiet (λ ms. IsHeld key ms (known_of seen.events) stamp) (same_key key on) (marks_of key more) held
-held_with_got before more seen key (step.Own on sid) answer shows stamp held =
-    quiet (λ ms. IsHeld key ms (known_of seen.events) stamp) (same_key key on) (marks_of key more) held
-held_with_got before more seen key (step.Again on sid floor now stands) answer shows stamp held =
-    quiet (λ ms. IsHeld key ms (known_of seen.events) stamp) (same_key key on) (marks_of key more) held
-held_with_got before more seen key (step.Lease on sid floor now token deadline) answer shows stamp held =
-    by_test (λ b. IsHeld key (cond b (Leased token ∷ []) [] ++ marks_of key more) (known_of seen.events) stamp) (same_key key on)
-    (λ is. record {
-      within = held.within;
-      pending = λ place commit its at from touched. ⊎_elim (λ e. absurd cc) (λ h. held.pending place commit its at from touched h);
-    })
-    (λ is. held)
-held_with_got before more seen key other answer shows stamp held = absurd shows
+-- a hit leaves the entry
+pub hit_leaves : (key : QKey) (past : List Step) (s : Step) (value : List ℕ) (stamp : ℕ) → ShowsGot s (got.Hit value stamp) → entry key (s ∷ past) ≡ entry key past
+hit_leaves key past (step.Hit on sid floor v n) value stamp shows = refl
+hit_leaves key past (step.Own on sid) value stamp shows = refl
+hit_leaves key past (step.Again on sid floor now stands) value stamp shows = absurd cc
+hit_leaves key past (step.Lease on sid floor now token deadline) value stamp shows = absurd cc
+hit_leaves key past other value stamp shows = absurd shows
 
 module _ (terms : Terms) (past : List Step) (key : QKey) (who : Sid) (floor now : ℕ) (answer : Got) (has : Bool) where
   -- what a get's step is in short, its answer tells
@@ -214,3 +155,7 @@ not_refused_at_home {X} shard key s x h =
 pub is_some_mapped : {X Y : Type 0} (f : X → Y) (o : Option X) → is_some o ≡ is_some (option_map f o)
 is_some_mapped f None = refl
 is_some_mapped f (Some x) = refl
+
+-- whether there is an entry is told by looking at it
+pub has_mapped : {X Y : Type 0} (f : X → Y) (o : Option X) (found : Option Y) (has : Bool) → has ≡ is_some o → option_map f o ≡ found → has ≡ is_some found
+has_mapped f o found has told is = told ∙ is_some_mapped f o ∙ ap (λ x. is_some x) is

@@ -1,10 +1,12 @@
 -- What holds of each key of a shard, by what the pass beside it has seen.
-use Rattle.std.specs.Prelude.{ℕ, ◌≡◌, false, Bool, List, [], ◌++◌, Option, None, Some, option_map}
+use Rattle.std.specs.Prelude.{ℕ, ◌≡◌, ◌⊎◌, ◌<◌, true, false, Bool, List, [], ◌++◌, Option, None, Some, option_map}
+use Rattle.std.specs.List.{list_any}
 use Rattle.rows_model.specs.declared.keys.QKey.{QKey}
 use Rattle.rows_model.specs.Rows.{Tables}
 use Rattle.rows_model.specs.Query as query
 use Rattle.key_shard.specs.declared.steps.Step.{Step}
-use Rattle.key_shard.specs.Past.{entry, standing, recorded}
+use Rattle.key_shard.specs.Past.{Terms, entry, standing, recorded, grants, next_token}
+use Rattle.key_shard.specs.Permit.{Permit}
 use Rattle.sql_keeper.specs.declared.stores.Commit.{Commit}
 use Rattle.sql_keeper.specs.Log.{rows_after}
 use Rattle.log_word.specs.declared.seen.Seen.{Seen}
@@ -39,3 +41,13 @@ IsFirst opening stopped key (Some found) =
 -- No quarantine stands after these steps, and no lease to read is recorded.
 abbrev pub IsQuiet : List Step → Type 0
 IsQuiet past = (key : QKey) → (standing key past ≡ []) × (recorded key past ≡ None)
+
+-- Each entry after these steps is of stamp 0.
+abbrev pub AreOfStampZero : List Step → Type 0
+AreOfStampZero past = (key : QKey) (stamp : ℕ) → stamp_of (entry key past) ≡ Some stamp → stamp ≡ 0
+
+-- The quarantine of which the permit speaks was granted by one of the later steps, or its token was drawn
+-- by those before.
+abbrev pub WasGrantedOr : Terms → List Step → List Step → Permit → Type 0
+WasGrantedOr terms before more permit =
+    (list_any (grants permit) more ≡ true) ⊎ (permit.token < next_token terms before)

@@ -7,3 +7,8 @@ pub mod Names
 pub mod Gets
 pub mod Stores
 pub mod Parts
+pub mod Told
+pub mod Asked
+pub mod Olds
+pub mod Releases
+pub mod Sweeps

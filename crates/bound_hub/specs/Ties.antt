@@ -1,12 +1,13 @@
 -- What ties a shard and the store to the pass beside it.
-use Rattle.std.specs.Prelude.{ℕ, ◌≡◌, ◌+◌, ◌-◌, ◌^◌, ◌<◌, ◌≤◌, min, Bool, false, ◌==◌, if◌then◌else◌, is_none, List, [], ◌∷◌, ◌++◌, length, Option, None, Some}
+use Rattle.std.specs.Prelude.{ℕ, ◌≡◌, ◌+◌, ◌-◌, ◌^◌, ◌<◌, ◌≤◌, min, Bool, true, false, ◌==◌, if◌then◌else◌, is_none, List, [], ◌∷◌, ◌++◌, length, Option, None, Some}
 use Rattle.rows_model.specs.declared.keys.QKey.{QKey}
 use Rattle.rows_model.specs.declared.keys.Sid.{Sid}
 use Rattle.rows_model.specs.Rows.{Tables}
 use Rattle.rows_model.specs.Placement.{shard_of}
 use Rattle.key_shard.specs.declared.steps.Step.{Step}
-use Rattle.key_shard.specs.Past.{entry}
-use Rattle.key_shard.specs.Shards.{ShardView, past_of}
+use Rattle.key_shard.specs.Past.{entry, next_token}
+use Rattle.key_shard.specs.Permit.{Permit}
+use Rattle.key_shard.specs.Shards.{ShardView, past_of, is_out}
 use Rattle.sql_keeper.specs.declared.stores.Phase.{Phase}
 use Rattle.sql_keeper.specs.declared.stores.Phase.TheVariants as phase
 use Rattle.sql_keeper.specs.Sessions.{phase_of, is_open, first_phase}
@@ -19,7 +20,7 @@ use Rattle.log_word.specs.Lists.{steps_of}
 use Rattle.log_word.specs.Passes.{WordView, PassView, ShardPassView}
 use Rattle.bound_hub.specs.Shorts.{shorts_of}
 use Rattle.bound_hub.specs.Knowns.{commits_of}
-use Rattle.bound_hub.specs.Facts.{HoldsFacts, IsFirst, IsQuiet}
+use Rattle.bound_hub.specs.Facts.{HoldsFacts, IsFirst, IsQuiet, AreOfStampZero, WasGrantedOr}
 
 -- What contracts see of a shard and the pass beside it.
 pub record BoundShardView : Type 0 where
@@ -38,24 +39,31 @@ pub record HasSeenOnly (stopped : Bool) (seen : Seen) : Type 0 where
   pub stopped_is : seen.stopped ≡ stopped
 
 -- A shard and its pass belong together: the pass is the shard's, and has seen each step that the shard
--- made since the hub was made, which come after the steps before. Nothing stood at first, and the facts
--- hold of each key of the shard.
+-- made since the hub was made, which come after the steps before. Nothing stood at first, and each entry
+-- was of stamp 0. Each grant that is out was granted since, or its token was drawn before. The facts hold
+-- of each key of the shard.
 pub record IsBoundShard (word : WordView) (opening : Tables) (before : ℕ → List Step) (shard : ShardView) (pass : ShardPassView) : Type 0 where
   pub word_is : pass.word ≡ word
   pub number : pass.shard ≡ shard.terms.no
   pub count : shard.terms.count ≡ word.shards
+  pub from_one : 1 ≤ shard.terms.first
   pub quiet : IsQuiet (before shard.terms.no)
+  pub stamps : AreOfStampZero (before shard.terms.no)
   pub more : List Step
   pub goes_on : past_of shard ≡ more ++ before shard.terms.no
   pub told : steps_of shard.terms.no pass.seen.steps ≡ shorts_of (before shard.terms.no) more
+  pub outs : (permit : Permit) → is_out shard permit ≡ true → WasGrantedOr shard.terms (before shard.terms.no) more permit
   pub facts : (key : QKey) → shard_of key word.shards ≡ shard.terms.no → HoldsFacts opening (before shard.terms.no) more pass.seen key
 
 -- A shard is as it was when it was named: nothing stands, and each entry is of stamp 0, and right where
--- the store tells its rows.
+-- the store tells its rows. Its first token isn't 0, and the token of each grant that is out was drawn.
+-- Each shard is so that was made, but a shard doesn't tell it.
 pub record IsNewShard (opening : Tables) (before : ℕ → List Step) (stopped : Bool) (shard : ShardView) : Type 0 where
+  pub from_one : 1 ≤ shard.terms.first
   pub past_is : past_of shard ≡ before shard.terms.no
   pub quiet : IsQuiet (before shard.terms.no)
   pub entries : (key : QKey) → IsFirst opening stopped key (entry key (before shard.terms.no))
+  pub drawn : (permit : Permit) → is_out shard permit ≡ true → permit.token < next_token shard.terms (before shard.terms.no)
 
 -- The shard is one of so many.
 abbrev pub HasCount : ℕ → ShardView → Type 0

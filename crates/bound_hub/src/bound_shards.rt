@@ -1,6 +1,6 @@
 //! What lies under the lock of a shard: the shard, its token, and its pass.
-ghost use Rattle.std.specs.Prelude.{◌≡◌, [], IfOk, OnOk, OnErr, is_some};
-ghost use Rattle.key_shard.specs.Answers.{get_step};
+ghost use Rattle.std.specs.Prelude.{◌≡◌, ◌+◌, [], IfOk, OnOk, OnErr, is_some, length};
+ghost use Rattle.key_shard.specs.Answers.{Legal, get_step};
 ghost use Rattle.key_shard.specs.Past.{entry};
 ghost use Rattle.key_shard.specs.Replies.{ShowsGot};
 ghost use Rattle.key_shard.specs.Shards.{past_of, stepped, rolled, refusal, Refuses};
@@ -138,6 +138,7 @@ impl<H: BoundName> BoundShard<H> {
             IsGotHeld H.opening (H.before no) no self.new.seen key told.0) }
         ensures err { OnErr result (self.new ≡ self.old) }
     {
+        self.pass.sound();
         let got = self.shard.get(key, who, floor, now)?;
         let has = self.shard.peek(&key).is_some();
         let short = got_short(&key, who, &got, has);
@@ -168,4 +169,13 @@ impl<H: BoundName> BoundShard<H> {
         self.pass.join(word, note);
         self.pass.sound();
     }
+}
+
+/// How many steps of the shard are in memory.
+pub(crate) fn kept_steps(shard: &Shard) -> usize
+    ensures count { result + shard.now.gone ≡ length shard.now.history }
+    ensures legal { Legal shard.now.terms shard.now.history }
+{
+    let _base = shard.base();
+    shard.history().len()
 }

@@ -10,8 +10,13 @@ pub use shorts::short_of;
 
 pub mod bound_asks;
 pub mod bound_commits;
+pub mod bound_quarantines;
+pub mod bound_raises;
+pub mod bound_releases;
+pub mod bound_sets;
 pub mod bound_shards;
 pub mod bound_stores;
+pub mod bound_sweeps;
 pub mod hub_calls;
 pub mod hub_parts;
 pub mod hubs;
@@ -19,3 +24,4 @@ pub mod laws;
 pub mod names;
 pub mod shorts;
 pub mod store_calls;
+pub mod told;

@@ -8,7 +8,7 @@ use log_word::{Short, ShortKind};
 use rows_model::{QKey, Sid};
 
 /// No session.
-const NOBODY: Sid = Sid { number: 0 };
+pub(crate) const NOBODY: Sid = Sid { number: 0 };
 
 /// A step in short, after which its key has an entry or has none. It takes no memory.
 pub fn short_of(step: &Step, has: bool) -> Short
@@ -80,7 +80,14 @@ pub fn got_short(key: &QKey, who: Sid, got: &Got, has: bool) -> Short
 }
 
 /// A step in short, of these parts.
-fn made(kind: ShortKind, key: &QKey, sid: &Sid, token: u64, stamp: u64, entry: bool) -> Short
+pub(crate) fn made(
+    kind: ShortKind,
+    key: &QKey,
+    sid: &Sid,
+    token: u64,
+    stamp: u64,
+    entry: bool,
+) -> Short
     ensures { result ≡ short kind key.now sid.now token stamp entry }
 {
     Short {

@@ -41,7 +41,7 @@ invariant_of-self-2 g c =
       subst (λ (v : ShardView). IsNamed g.H.HubName.terms v) (sym told.step) c.self.invariant.0,
       subst (λ (v : ShardView). IsTokenOf v.terms.no c.self.inside.token.parts c.self.inside.token.amount) (sym told.step) c.self.invariant.1,
       bound_with_got g.H.BoundName.word g.H.HubName.opening g.H.BoundName.before shard pass bound key c.args.who c.args.floor c.args.now answer home
-          told.shows c.get.new.self c.tell-note.new.self c.is_some-has.result told.step has c.tell-note.ensures.word c.tell-note.ensures.shard seen,
+          told.shows c.sound.ensures c.get.new.self c.tell-note.new.self c.is_some-has.result told.step has c.tell-note.ensures.word c.tell-note.ensures.shard seen,
     )
 
 pub returns-clause-held : goal.returns-clause-held
@@ -59,4 +59,4 @@ returns-clause-held g c =
     let seen = c.tell-note.ensures.seen ∙ ap (λ (x : Short). with_step pass.shard x pass.seen) c.got_short-short.ensures in
     subst (λ (v : BoundShardView). IsGotHeld g.H.HubName.opening (g.H.BoundName.before v.shard.terms.no) v.shard.terms.no c.tell-note.new.self.seen key answer) c.self.view_is
     (got_is_held g.H.BoundName.word g.H.HubName.opening g.H.BoundName.before shard pass bound key c.args.who c.args.floor c.args.now answer home
-    told.shows c.get.new.self c.tell-note.new.self c.is_some-has.result told.step has c.tell-note.ensures.word c.tell-note.ensures.shard seen)
+    told.shows c.sound.ensures c.get.new.self c.tell-note.new.self c.is_some-has.result told.step has c.tell-note.ensures.word c.tell-note.ensures.shard seen)

@@ -1,0 +1,104 @@
+use Rattle.std.proofs.Common.{ℕ, ◌≡◌, true, false, is_some, sym, ap, subst, ◌∙◌}
+use Rattle.std.proofs.lemmas.Bool.{false≢true}
+use Rattle.key_shard.specs.Answers.{raise_step}
+use Rattle.key_shard.specs.Past.{Terms, entry}
+use Rattle.key_shard.specs.Shards.{past_of, is_out}
+use Rattle.log_word.specs.Steps.{IsBeginning}
+use Rattle.bound_hub.specs.Gets.{IsLastStep}
+use Rattle.bound_hub.specs.Olds.{IsOldHeld, IsRaiseHeld}
+use Rattle.bound_hub.specs.Ties.{BoundShardView}
+use Rattle.bound_hub.specs.Told.{raise_short}
+use Rattle.bound_hub.proofs.CountLemmas.{not_out, is_out_then, raised_more}
+use Rattle.bound_hub.proofs.GetLemmas.{has_mapped}
+use Rattle.bound_hub.proofs.QuarantineLemmas.{found_is_seen}
+use Rattle.bound_hub.proofs.RaiseTies.{raise_is_honest, raise_leaves, raise_tells, raise_is_held, has_raised}
+use Rattle.bound_hub.proofs.StepTies.{told_so, invariant_after, invariant_still, home_of_made, step_is_more, step_is_last}
+use Rattle.bound_hub.proofs.bound_shards.BoundShard.make_raise.Goals as goal
+
+pub invariant_of-self-then-kept_steps-kept : goal.invariant_of-self-then-kept_steps-kept
+invariant_of-self-then-kept_steps-kept g c =
+    let shard = c.self.inside.shard in
+    let a = c.args in
+    let new = c.raise.new.self in
+    let told = c.in-Ok.ensures in
+    let out = not_out shard new c.kept_steps-kept.result c.kept_steps.result (is_out shard a.grant) c.kept_steps-kept.ensures.count c.kept_steps.ensures.count
+    (λ e. raised_more shard new a.grant (told.out e)) c.if-kept_steps-kept.true in
+    invariant_still g.H.HubName.terms c.self.inside.token.parts c.self.inside.token.amount g.H.BoundName.word g.H.HubName.opening g.H.BoundName.before
+    shard new c.self.inside.pass c.note-then-kept_steps-kept.new.self (told.unknown out).0 c.note-then-kept_steps-kept.ensures.same c.self.invariant
+
+pub returns-then-kept_steps-kept-clause-last : goal.returns-then-kept_steps-kept-clause-last
+returns-then-kept_steps-kept-clause-last g c = λ is.
+    let shard = c.self.inside.shard in
+    let a = c.args in
+    let new = c.raise.new.self in
+    let told = c.in-Ok.ensures in
+    let out = not_out shard new c.kept_steps-kept.result c.kept_steps.result (is_out shard a.grant) c.kept_steps-kept.ensures.count c.kept_steps.ensures.count
+    (λ e. raised_more shard new a.grant (told.out e)) c.if-kept_steps-kept.true in
+    absurd (false≢true (sym out ∙ subst (λ (v : BoundShardView). is_out v.shard a.grant ≡ true) (sym c.self.view_is) is))
+
+pub returns-then-kept_steps-kept-clause-old : goal.returns-then-kept_steps-kept-clause-old
+returns-then-kept_steps-kept-clause-old g c = λ is.
+    let shard = c.self.inside.shard in
+    let a = c.args in
+    let new = c.raise.new.self in
+    let told = c.in-Ok.ensures in
+    let out = not_out shard new c.kept_steps-kept.result c.kept_steps.result (is_out shard a.grant) c.kept_steps-kept.ensures.count c.kept_steps.ensures.count
+    (λ e. raised_more shard new a.grant (told.out e)) c.if-kept_steps-kept.true in
+    absurd (false≢true (sym out ∙ subst (λ (v : BoundShardView). is_out v.shard a.grant ≡ true) (sym c.self.view_is) is))
+
+pub invariant_of-self-2 : goal.invariant_of-self-2
+invariant_of-self-2 g c =
+    let shard = c.self.inside.shard in
+    let pass = c.self.inside.pass in
+    let a = c.args in
+    let before = g.H.BoundName.before in
+    let new = c.raise.new.self in
+    let told = c.in-Ok.ensures in
+    let has = c.is_some-has.result in
+    let step = raise_step (past_of shard) a.grant in
+    let out = is_out_then shard new c.kept_steps-kept.result c.kept_steps.result (is_out shard a.grant) c.kept_steps-kept.ensures.count c.kept_steps.ensures.count
+    (λ e. (told.unknown e).0) c.if-kept_steps-kept.false in
+    let short = c.raise_short-short.ensures ∙ (λ i. raise_short (c.key-key.ensures i) (c.sid-sid.ensures i) (c.token-token.ensures i) c.in-Ok.told has) in
+    let has_is = has_mapped _ c.peek.result (entry a.grant.key (past_of new)) has c.is_some-has.ensures (c.peek.ensures ∙ ap (λ k. entry k (past_of new)) c.key-key.ensures) in
+    let tells = raise_tells (past_of shard) a.grant c.in-Ok.told has (told.shows out) in
+    invariant_after g.H.HubName.terms c.self.inside.token.parts c.self.inside.token.amount g.H.BoundName.word g.H.HubName.opening before shard pass c.self.invariant c.sound.ensures step
+    (raise_is_honest (past_of shard) a.grant g.H.HubName.opening (before shard.terms.no) c.self.invariant.2.more pass.seen) new (has_raised (past_of shard) a.grant shard new (told.out out))
+    c.raise_short-short.result c.tell.new.self
+    (told_so step c.raise_short-short.result has a.grant.key new pass c.tell.new.self (short ∙ tells.0) tells.1 has_is c.tell.ensures.word c.tell.ensures.shard c.tell.ensures.seen)
+
+pub returns-clause-goes_on : goal.returns-clause-goes_on
+returns-clause-goes_on g c =
+    subst (λ (v : BoundShardView). IsBeginning v.seen c.tell.new.self.seen) c.self.view_is
+    (step_is_more c.self.inside.pass.shard c.raise_short-short.result c.self.inside.pass.seen c.tell.new.self.seen c.tell.ensures.seen)
+
+pub returns-clause-last : goal.returns-clause-last
+returns-clause-last g c = λ out.
+    let pass = c.self.inside.pass in
+    let a = c.args in
+    let new = c.raise.new.self in
+    let has_is = has_mapped _ c.peek.result (entry a.grant.key (past_of new)) c.is_some-has.result c.is_some-has.ensures (c.peek.ensures ∙ ap (λ k. entry k (past_of new)) c.key-key.ensures) in
+    let short = raise_short a.grant.key a.grant.sid a.grant.token c.in-Ok.told (is_some (entry a.grant.key (past_of new))) in
+    subst (λ (v : BoundShardView). IsLastStep v.shard.terms.no short c.tell.new.self.seen) c.self.view_is
+    (step_is_last pass.shard c.self.inside.shard.terms.no c.raise_short-short.result short pass.seen c.tell.new.self.seen c.self.invariant.2.number
+    (c.raise_short-short.ensures ∙ (λ i. raise_short (c.key-key.ensures i) (c.sid-sid.ensures i) (c.token-token.ensures i) c.in-Ok.told (has_is i))) c.tell.ensures.seen)
+
+pub returns-clause-old : goal.returns-clause-old
+returns-clause-old g c = λ is.
+    let shard = c.self.inside.shard in
+    let a = c.args in
+    let opening = g.H.HubName.opening in
+    let before = g.H.BoundName.before in
+    let new = c.raise.new.self in
+    let told = c.in-Ok.ensures in
+    let now = invariant_of-self-2 g c in
+    let out = subst (λ (v : BoundShardView). is_out v.shard a.grant ≡ true) (sym c.self.view_is) is in
+    let step = raise_step (past_of shard) a.grant in
+    let made = has_raised (past_of shard) a.grant shard new (told.out out) in
+    let same_no : new.terms.no ≡ shard.terms.no = ap (λ (t : Terms). t.no) made.terms in
+    let home = home_of_made g.H.BoundName.word opening before shard new c.self.inside.pass c.self.invariant.2 step made c.kept_steps.ensures.legal a.grant.key
+    (raise_tells (past_of shard) a.grant c.in-Ok.told c.is_some-has.result (told.shows out)).1 in
+    let held = found_is_seen g.H.BoundName.word opening before new c.tell.new.self now.2 a.grant.key (home ∙ sym same_no) (entry a.grant.key (past_of shard))
+    (ap (entry a.grant.key) made.past ∙ raise_leaves (past_of shard) a.grant) in
+    subst (λ (v : BoundShardView). IsRaiseHeld opening (before v.shard.terms.no) v.shard.terms.no c.tell.new.self.seen a.grant.key c.in-Ok.told) c.self.view_is
+    (raise_is_held (past_of shard) a.grant opening (before shard.terms.no) shard.terms.no c.tell.new.self.seen c.in-Ok.told
+    (subst (λ n. IsOldHeld opening (before n) n c.tell.new.self.seen a.grant.key (entry a.grant.key (past_of shard))) same_no held) (told.shows out))

@@ -1,0 +1,27 @@
+use Rattle.std.proofs.Common.{ap, sym, subst, ◌∙◌}
+use Rattle.log_word.specs.Passes.{PassView}
+use Rattle.log_word.specs.Steps.{IsBeginning}
+use Rattle.bound_hub.specs.Releases.{MayRelease}
+use Rattle.bound_hub.proofs.FreshLemmas.{begins_on}
+use Rattle.bound_hub.proofs.ReleaseLemmas.{may_goes_on}
+use Rattle.bound_hub.proofs.bound_shards.BoundShard.release.Goals as goal
+
+pub make_release-told-requires-clause-over : goal.make_release-told-requires-clause-over
+make_release-told-requires-clause-over g c =
+    let here = c.join.new.self in
+    let theirs = subst (λ (p : PassView). IsBeginning p.seen here.seen) c.note.ensures.note c.join.ensures.theirs in
+    may_goes_on c.args.grant.sid.number c.args.how c.args.pass.now.seen here.seen theirs c.requires.over
+
+pub returns-clause-seen : goal.returns-clause-seen
+returns-clause-seen g c =
+    let here = c.join.new.self in
+    let made = c.make_release-told in
+    begins_on c.args.pass.now.seen here.seen made.new.self.seen c.into_pass.result.seen (subst (λ (p : PassView). IsBeginning p.seen here.seen) c.note.ensures.note c.join.ensures.theirs)
+    made.ensures.goes_on (ap (λ (p : PassView). p.seen) c.into_pass.ensures ∙ made.ensures.note.1)
+
+pub returns-clause-here : goal.returns-clause-here
+returns-clause-here g c =
+    let here = c.join.new.self in
+    let made = c.make_release-told in
+    begins_on c.args.self.now.seen here.seen made.new.self.seen c.into_pass.result.seen c.join.ensures.mine made.ensures.goes_on
+    (ap (λ (p : PassView). p.seen) c.into_pass.ensures ∙ made.ensures.note.1)
