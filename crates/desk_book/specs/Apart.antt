@@ -1,0 +1,20 @@
+-- The grants of a commit that its session holds, and the others, which are set apart and put back.
+use Rattle.std.specs.Prelude.{ℕ, ◌≤◌, ◌+◌, Bool, List, [], ◌∷◌, length}
+use Rattle.std.specs.List.{insert, list_any}
+use Rattle.key_shard.specs.Permit.{Permit, same_permit}
+use Rattle.desk_book.specs.Told.{Told}
+use Rattle.desk_book.specs.declared.apart.Other.{Other}
+
+-- Whether the session holds this grant.
+abbrev pub is_held : Told → Permit → Bool
+is_held told grant = list_any (λ one. same_permit one.permit grant) told.held
+
+-- The grants with the others put back, the one that was set apart last first: each at the place where it stood.
+abbrev pub put_back : List Other → List Permit → List Permit
+put_back [] grants = grants
+put_back (other ∷ others) grants = insert (put_back others grants) other.place other.grant
+
+-- Each of the others has its place among so many grants.
+abbrev pub HavePlaces : List Other → ℕ → Type 0
+HavePlaces [] count = Unit {0}
+HavePlaces (other ∷ others) count = (other.place ≤ count + length others) × HavePlaces others count

@@ -1,0 +1,6 @@
+pub mod Told
+pub mod Borne
+pub mod Heard
+pub mod Laws
+pub mod Apart
+pub mod Made

@@ -1,0 +1,269 @@
+// Looks at a book: which requests it bears out, and the form in which a request is made.
+ghost use Rattle.std.specs.Prelude.{◌≡◌, ◌↔◌, ℕ, List, None, Some, IsTrue, is_some, All, IfOk, OnErr};
+ghost use Rattle.std.specs.List.{Any};
+ghost use Rattle.rows_model.specs.declared.changes.Change.{Change};
+ghost use Rattle.key_shard.specs.Permit.{Permit};
+ghost use Rattle.session_client.specs.declared.replies.Wanted.TheVariants as wanted;
+ghost use Rattle.sql_keeper.specs.declared.stores.Answer.{Answer};
+ghost use Rattle.desk_book.specs.Borne.{IsForm, IsBorne, IsOwn, MayQuarantine, IsPut, release_form};
+ghost use Rattle.desk_book.specs.Told.{Held, may_write};
+
+use crate::books::Book;
+use crate::forms::Form;
+use crate::held::{HeldGrant, Ticket, holds, holds_old, holds_shift};
+use key_shard::Grant;
+use lease_table::Mode;
+use rows_model::{Memory, QKey, Sid, Value, delta_of};
+use session_client::Wanted;
+use sql_keeper::Answer;
+
+/// Whether one of the answers is this one.
+fn has_answer(answers: &[Answer], key: &QKey, value: &Value, stamp: u64) -> bool
+    ensures { IsTrue result ↔ Any (λ (answer : Answer).
+        answer ≡ record { key = key.now; value = value.now; stamp = stamp }) answers.now }
+{
+    match answers {
+        [] => false,
+        [one, rest @ ..] => {
+            one.key == *key && one.value.bytes() == value.bytes() && one.stamp == stamp
+                || has_answer(rest, key, value, stamp)
+        }
+    }
+}
+
+/// Whether each of the grants is one of those that are held.
+fn holds_all(held: &[HeldGrant], grants: &[Grant]) -> bool
+    ensures { IsTrue result ↔ All (λ (grant : Permit).
+        Any (λ (one : Held). one.permit ≡ grant) held.now) grants.now }
+{
+    match grants {
+        [] => true,
+        [grant, rest @ ..] => holds(held, &Ticket::of(grant)) && holds_all(held, rest),
+    }
+}
+
+impl Book {
+    /// The form in which a session's request is made: as it is asked for, exactly where the book bears it
+    /// out. It looks at the grants and answers of the present session alone. Memory is asked for a release
+    /// with a new value alone, since that value is made again; for want of it nothing is known.
+    pub fn form(&self, who: Sid, request: &Wanted) -> Result<Form, Memory>
+        ensures form { IfOk result (IsForm self.now.told who request.now) }
+        ensures memory { OnErr result (IsPut request.now) }
+    {
+        Ok(match request {
+            Wanted::Set {
+                key,
+                token,
+                value,
+                stamp,
+            } => self.set_form(who, key, *token, value, *stamp),
+            Wanted::Sar {
+                grant,
+                value: Some(value),
+                stamp,
+            } => self.put_form(who, grant, value, *stamp)?,
+            Wanted::Sar {
+                grant,
+                value: None,
+                stamp: _,
+            } => self.drop_form(who, grant),
+            Wanted::Apply { grant, stamp } => self.shift_form(who, grant, *stamp),
+            Wanted::Dar { grant } => self.drop_form(who, grant),
+            Wanted::Raise { grant } => self.raise_form(who, grant),
+            Wanted::QaReg { key: _ } => self.quarantine_form(who, Mode::Invalidate),
+            Wanted::QaRead { key: _ } => self.quarantine_form(who, Mode::Refresh),
+            Wanted::Delta { key: _, by: _ } => self.quarantine_form(who, Mode::Delta),
+            Wanted::Commit { txn: _, grants } => self.commit_form(who, grants.items()),
+            Wanted::Abort { grant } => self.abort_form(who, grant),
+            Wanted::Get { key: _, floor: _ }
+            | Wanted::Ask { key: _ }
+            | Wanted::Staged { key: _, txn: _ }
+            | Wanted::Renew { grant: _ }
+            | Wanted::End
+            | Wanted::Nothing => Form::AsAsked,
+        })
+    }
+
+    fn set_form(&self, who: Sid, key: &QKey, token: u64, value: &Value, stamp: u64) -> Form
+        ensures { IsForm self.now.told who (wanted.Set key.now token value.now stamp) result }
+    {
+        if self.is_present(who)
+            && self.has_lease(key, token)
+            && has_answer(self.answers.as_slice(), key, value, stamp)
+        {
+            Form::AsAsked
+        } else {
+            Form::VoidSet
+        }
+    }
+
+    fn put_form(&self, who: Sid, grant: &Grant, value: &Value, stamp: u64) -> Result<Form, Memory>
+        ensures { IfOk result (IsForm self.now.told who (wanted.Sar grant.now (Some value.now) stamp)) }
+    {
+        if self.puts(who, grant, value, stamp)? {
+            Ok(Form::AsAsked)
+        } else {
+            Ok(self.release_form(grant, Form::NoValue))
+        }
+    }
+
+    fn shift_form(&self, who: Sid, grant: &Grant, stamp: u64) -> Form
+        ensures { IsForm self.now.told who (wanted.Apply grant.now stamp) result }
+    {
+        if self.shifts(who, grant, stamp) {
+            Form::AsAsked
+        } else {
+            self.release_form(grant, Form::DropOnly)
+        }
+    }
+
+    fn drop_form(&self, who: Sid, grant: &Grant) -> Form
+        ensures drop { IsForm self.now.told who (wanted.Dar grant.now) result }
+        ensures put { (stamp : ℕ) → IsForm self.now.told who (wanted.Sar grant.now None stamp) result }
+    {
+        if self.is_own(who, grant) && self.has_committed() {
+            Form::AsAsked
+        } else {
+            Form::EndDrop {
+                session: grant.sid(),
+            }
+        }
+    }
+
+    fn raise_form(&self, who: Sid, grant: &Grant) -> Form
+        ensures { IsForm self.now.told who (wanted.Raise grant.now) result }
+    {
+        if self.is_own(who, grant) && !self.has_committed() {
+            Form::AsAsked
+        } else if self.is_present(grant.sid()) {
+            Form::Shared
+        } else {
+            Form::EndDrop {
+                session: grant.sid(),
+            }
+        }
+    }
+
+    /// The form of a quarantine in this mode.
+    fn quarantine_form(&self, who: Sid, mode: Mode) -> Form
+        ensures borne { (result ≡ Form.AsAsked) ↔ MayQuarantine self.now.told who }
+        ensures odd { (MayQuarantine self.now.told who → ⊥) → result ≡ Form.Refused mode }
+    {
+        if self.is_present(who) && self.is_writer() && !self.has_committed() {
+            Form::AsAsked
+        } else {
+            Form::Refused { mode }
+        }
+    }
+
+    fn commit_form(&self, who: Sid, grants: &[Grant]) -> Form
+        ensures { (txn : List Change) (room : ℕ) → IsForm self.now.told who
+            (wanted.Commit txn (record { items = grants.now; room = room })) result }
+    {
+        if !self.is_present(who) {
+            Form::NotCommitted
+        } else if holds_all(self.held.as_slice(), grants) {
+            Form::AsAsked
+        } else {
+            Form::HeldAlone
+        }
+    }
+
+    fn abort_form(&self, who: Sid, grant: &Grant) -> Form
+        ensures { IsForm self.now.told who (wanted.Abort grant.now) result }
+    {
+        if self.is_own(who, grant) && !self.has_committed() && self.ended {
+            Form::AsAsked
+        } else {
+            Form::EndDrop {
+                session: grant.sid(),
+            }
+        }
+    }
+
+    /// The form of a release that isn't borne out: this one after the commit of the grant's session, where
+    /// that is the present one.
+    fn release_form(&self, grant: &Grant, after: Form) -> Form
+        ensures { result ≡ release_form self.now.told grant.now after }
+    {
+        if self.is_present(grant.sid()) && self.has_committed() {
+            after
+        } else {
+            Form::EndDrop {
+                session: grant.sid(),
+            }
+        }
+    }
+
+    /// Whether the session was given this lease last.
+    fn has_lease(&self, key: &QKey, token: u64) -> bool
+        ensures { IsTrue result
+            ↔ (self.now.told.lease ≡ Some (record { key = key.now; token = token })) }
+    {
+        match self.lease {
+            Some(lease) => lease.key == *key && lease.token == token,
+            None => false,
+        }
+    }
+
+    /// Whether the session is the present one and the grant its own.
+    fn is_own(&self, who: Sid, grant: &Grant) -> bool
+        ensures { IsTrue result ↔ IsOwn self.now.told who grant.now }
+    {
+        self.is_present(who) && grant.sid() == who
+    }
+
+    /// Whether the present session was begun for writing.
+    fn is_writer(&self) -> bool
+        ensures { result ≡ may_write self.now.told.present }
+    {
+        match self.present {
+            Some(present) => present.writes,
+            None => false,
+        }
+    }
+
+    /// Whether the present session has committed.
+    fn has_committed(&self) -> bool
+        ensures { result ≡ is_some self.now.told.commit }
+    {
+        self.commit.is_some()
+    }
+
+    /// Whether the book bears out a release with this new value.
+    fn puts(&self, who: Sid, grant: &Grant, value: &Value, stamp: u64) -> Result<bool, Memory>
+        ensures { IfOk result (λ is. IsTrue is
+            ↔ IsBorne self.now.told who (wanted.Sar grant.now (Some value.now) stamp)) }
+    {
+        let Some(done) = &self.commit else {
+            return Ok(false);
+        };
+        if !self.is_own(who, grant) || done.number != stamp {
+            return Ok(false);
+        }
+        let alloc = *self.held.allocator();
+        holds_old(
+            alloc,
+            self.held.as_slice(),
+            &Ticket::of(grant),
+            &done.txn,
+            value,
+        )
+    }
+
+    /// Whether the book bears out a release that shifts the value.
+    fn shifts(&self, who: Sid, grant: &Grant, stamp: u64) -> bool
+        ensures { IsTrue result ↔ IsBorne self.now.told who (wanted.Apply grant.now stamp) }
+    {
+        let Some(done) = &self.commit else {
+            return false;
+        };
+        self.is_own(who, grant)
+            && done.number == stamp
+            && holds_shift(
+                self.held.as_slice(),
+                &Ticket::of(grant),
+                delta_of(&grant.key(), &done.txn),
+            )
+    }
+}
