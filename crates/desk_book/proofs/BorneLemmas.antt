@@ -30,14 +30,15 @@ use Rattle.desk_book.proofs.WriterSteps.{IsUnended}
 -- each grant of a list is held where the list is held
 all-held : (txn : List Change) (ones : List Given) → All (λ (grant : Permit). Any (λ (one : Held). one.permit ≡ grant) (map (held_of txn) ones)) (permits ones)
 all-held txn [] = λ k d less. absurd (omega (arith, less))
-all-held txn (first ∷ ones) = λ k d less. by k d less
+all-held txn (first ∷ ones) = λ k d less. by (all-held txn ones) k d less
   where
-    by : (k : ℕ) (d : Permit) → k < length (permits (first ∷ ones))
+    by : All (λ (grant : Permit). Any (λ (one : Held). one.permit ≡ grant) (map (held_of txn) ones)) (permits ones)
+        → (k : ℕ) (d : Permit) → k < length (permits (first ∷ ones))
         → Any (λ (one : Held). one.permit ≡ get_or (permits (first ∷ ones)) k d) (map (held_of txn) (first ∷ ones))
-    by zero d less = any-here (λ (one : Held). one.permit ≡ first.permit) (held_of txn first) (map (held_of txn) ones) refl
-    by (suc k) d less =
+    by rest zero d less = any-here (λ (one : Held). one.permit ≡ first.permit) (held_of txn first) (map (held_of txn) ones) refl
+    by rest (suc k) d less =
         any-later (λ (one : Held). one.permit ≡ get_or (permits ones) k d) (held_of txn first) (map (held_of txn) ones)
-        (all-held txn ones k d (omega (arith, less)))
+        (rest k d (omega (arith, less)))
 
 -- the commit that a book knows
 done-as : (book : Told) (P : List Change → Type 0) (txn : List Change) (number : ℕ) → book.commit ≡ Some (record { number = number; txn = txn })

@@ -1,6 +1,6 @@
 // The grants of a commit that the book doesn't hold are set apart for the commit, and put back after it.
-ghost use Rattle.std.specs.Prelude.{◌≡◌, ◌≤◌, ◌+◌, length, filter, IfOk, IfErr};
-ghost use Rattle.desk_book.specs.Apart.{is_held, put_back, HavePlaces};
+ghost use Rattle.std.specs.Prelude.{◌≡◌, filter, IfOk, IfErr};
+ghost use Rattle.desk_book.specs.Apart.{is_held, put_back, AreLeft};
 
 use crate::books::Book;
 use crate::held::{Ticket, has};
@@ -31,14 +31,20 @@ impl Model for Apart {
 }
 
 impl Book {
+    /// Whether the session holds this grant.
+    fn is_held(&self, grant: &Grant) -> bool
+        ensures { result ≡ is_held self.now.told grant.now }
+    {
+        has(self.held.as_slice(), &Ticket::of(grant))
+    }
+
     /// Sets apart those of a commit's grants that the book doesn't hold. The others keep their order and
     /// the room of all. For want of memory all come back as they were.
     pub fn set_apart(&self, alloc: Global, grants: Grants) -> Result<(Grants, Apart), Grants>
         ensures held { IfOk result (λ parts. parts.0.items ≡ filter (is_held self.now.told) grants.items) }
         ensures room { IfOk result (λ parts. parts.0.room ≡ grants.room) }
         ensures back { IfOk result (λ parts. put_back parts.1 parts.0.items ≡ grants.items) }
-        ensures places { IfOk result (λ parts. HavePlaces parts.1 (length parts.0.items)) }
-        ensures fits { IfOk result (λ parts. length parts.0.items + length parts.1 ≤ grants.room) }
+        ensures left { IfOk result (λ parts. AreLeft parts.1 parts.0) }
         ensures err { IfErr result (λ back. back ≡ grants) }
     {
         let Ok(mut others) = Vec::with_capacity(alloc, grants.len()) else {
@@ -47,7 +53,7 @@ impl Book {
         let mut held = grants;
         let mut place = 0;
         while place < held.len() {
-            if has(self.held.as_slice(), &Ticket::of(&held.items()[place])) {
+            if self.is_held(&held.items()[place]) {
                 place += 1;
             } else {
                 let grant = held.take(place);
@@ -59,10 +65,10 @@ impl Book {
 }
 
 impl Apart {
-    /// Puts the grants back that were set apart from these, each at its place. It takes no memory.
+    /// Puts the grants back that were set apart from these, each at its place. There may be more room for
+    /// these by now. It takes no memory.
     pub fn join(self, grants: Grants) -> Grants
-        requires places { HavePlaces self (length grants.items) }
-        requires room { length grants.items + length self ≤ grants.room }
+        requires { AreLeft self grants }
         ensures items { result.items ≡ put_back self grants.items }
         ensures room { result.room ≡ grants.room }
     {

@@ -2,7 +2,7 @@ ghost use Rattle.std.specs.Prelude.{◌≡◌, ◌≤◌, ◌<◌, ℤ, length, 
 ghost use Rattle.desk_book.specs.Told.{nothing_told, begun, is_present, is_on, noted_for, with_lease, with_answer, with_grant, with_raised, without_grant, with_commit, with_end, most_answers};
 
 use crate::facts::{Committed, Leased, Present};
-use crate::held::{HeldGrant, Ticket, place_of, raise_first};
+use crate::held::{HeldGrant, Ticket, raise_first, spend_first};
 use rows_model::{Memory, QKey, Sid, Txn, Value};
 use sql_keeper::Answer;
 use std::alloc::Global;
@@ -163,9 +163,7 @@ impl Book {
         ensures { self.new.told ≡ noted_for who (without_grant ticket.now) self.old.told }
     {
         if self.is_present(who) {
-            if let Some(place) = place_of(self.held.as_slice(), ticket) {
-                self.held.remove(place);
-            }
+            spend_first(&mut self.held, ticket);
         }
     }
 

@@ -112,6 +112,30 @@ impl HeldGrant {
         &self.ticket
     }
 
+    /// Whether the grant says this and is to shift the value by this much.
+    fn is_to_shift(&self, ticket: &Ticket, by: i32) -> bool
+        ensures { IsTrue result ↔ ((self.now.permit ≡ ticket.now) × (self.now.by ≡ by)) }
+    {
+        self.ticket.is_equal(ticket) && self.by == by
+    }
+
+    /// Whether the grant says this and has an old value that the transaction refreshes to this one.
+    fn is_to_put(
+        &self,
+        alloc: Global,
+        ticket: &Ticket,
+        txn: &Txn,
+        value: &Value,
+    ) -> Result<bool, Memory>
+        ensures { IfOk result (λ is. IsTrue is ↔ ((self.now.permit ≡ ticket.now)
+            × (new_value ticket.now.key txn.now self.now.old ≡ Some value.now))) }
+    {
+        if !self.ticket.is_equal(ticket) {
+            return Ok(false);
+        }
+        self.refreshes_to(alloc, txn, value)
+    }
+
     /// Whether the transaction refreshes the old value to this one.
     fn refreshes_to(&self, alloc: Global, txn: &Txn, value: &Value) -> Result<bool, Memory>
         ensures { IfOk result (λ is. IsTrue is
@@ -129,10 +153,28 @@ impl HeldGrant {
 }
 
 /// The place of the first grant that says this, from 0.
-pub(crate) fn place_of(held: &[HeldGrant], ticket: &Ticket) -> Option<usize>
+fn place_of(held: &[HeldGrant], ticket: &Ticket) -> Option<usize>
     ensures { result ≡ position (λ (one : Held). same_permit one.permit ticket.now) held.now }
 {
     held.iter().position(|one| one.ticket.is_same(ticket))
+}
+
+/// The place of the first grant that says this once its quarantine is raised, from 0.
+fn place_raised(held: &[HeldGrant], ticket: &Ticket) -> Option<usize>
+    ensures { result ≡ position (λ (one : Held). same_permit (raised one.permit) ticket.now) held.now }
+{
+    held.iter()
+        .position(|one| one.ticket.raised().is_same(ticket))
+}
+
+/// Takes out the first grant that says this.
+#[tactic(auto, using(crate::proofs::HeldLemmas::spent_first, crate::proofs::HeldLemmas::spent_none))]
+pub(crate) fn spend_first(held: &mut Vec<HeldGrant>, ticket: &Ticket)
+    ensures { held.new.items ≡ all_but ticket.now held.old.items }
+{
+    if let Some(place) = place_of(held.as_slice(), ticket) {
+        held.remove(place);
+    }
 }
 
 /// Whether one of the grants says this, as a test.
@@ -143,24 +185,12 @@ pub(crate) fn has(held: &[HeldGrant], ticket: &Ticket) -> bool
 }
 
 /// The first grant that was raised to this one says this now, and this old value came along.
+#[tactic(auto, using(crate::proofs::HeldLemmas::raised_first, crate::proofs::HeldLemmas::raised_none))]
 pub(crate) fn raise_first(held: &mut [HeldGrant], ticket: Ticket, old: Option<(Value, u64)>)
     ensures { held.new ≡ all_raised ticket old held.old }
 {
-    let place = held
-        .iter()
-        .position(|one| one.ticket.raised().is_same(&ticket));
-    if let Some(place) = place {
+    if let Some(place) = place_raised(held, &ticket) {
         held[place] = HeldGrant::new(ticket, old, 0);
-    }
-}
-
-/// Whether one of the grants says this.
-pub(crate) fn holds(held: &[HeldGrant], ticket: &Ticket) -> bool
-    ensures { IsTrue result ↔ Any (λ (one : Held). one.permit ≡ ticket.now) held.now }
-{
-    match held {
-        [] => false,
-        [one, rest @ ..] => one.ticket.is_equal(ticket) || holds(rest, ticket),
     }
 }
 
@@ -171,9 +201,7 @@ pub(crate) fn holds_shift(held: &[HeldGrant], ticket: &Ticket, by: i32) -> bool
 {
     match held {
         [] => false,
-        [one, rest @ ..] => {
-            one.ticket.is_equal(ticket) && one.by == by || holds_shift(rest, ticket, by)
-        }
+        [one, rest @ ..] => one.is_to_shift(ticket, by) || holds_shift(rest, ticket, by),
     }
 }
 
@@ -191,7 +219,7 @@ pub(crate) fn holds_old(
     match held {
         [] => Ok(false),
         [one, rest @ ..] => {
-            if one.ticket.is_equal(ticket) && one.refreshes_to(alloc, txn, value)? {
+            if one.is_to_put(alloc, ticket, txn, value)? {
                 return Ok(true);
             }
             holds_old(alloc, rest, ticket, txn, value)

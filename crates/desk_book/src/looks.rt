@@ -1,21 +1,29 @@
 // Looks at a book: which requests it bears out, and the form in which a request is made.
 ghost use Rattle.std.specs.Prelude.{◌≡◌, ◌↔◌, ℕ, List, None, Some, IsTrue, is_some, All, IfOk, OnErr};
-ghost use Rattle.std.specs.List.{Any};
+ghost use Rattle.std.specs.List.{Any, list_all, list_any};
 ghost use Rattle.rows_model.specs.declared.changes.Change.{Change};
-ghost use Rattle.key_shard.specs.Permit.{Permit};
+ghost use Rattle.key_shard.specs.Permit.{Permit, same_permit};
 ghost use Rattle.session_client.specs.declared.replies.Wanted.TheVariants as wanted;
 ghost use Rattle.sql_keeper.specs.declared.stores.Answer.{Answer};
-ghost use Rattle.desk_book.specs.Borne.{IsForm, IsBorne, IsOwn, MayQuarantine, IsPut, release_form};
+ghost use Rattle.desk_book.specs.Borne.{IsForm, IsBorne, IsOwn, Holds, MayQuarantine, IsPut, release_form};
 ghost use Rattle.desk_book.specs.Told.{Held, may_write};
 
 use crate::books::Book;
 use crate::forms::Form;
-use crate::held::{HeldGrant, Ticket, holds, holds_old, holds_shift};
+use crate::held::{HeldGrant, Ticket, has, holds_old, holds_shift};
 use key_shard::Grant;
 use lease_table::Mode;
 use rows_model::{Memory, QKey, Sid, Value, delta_of};
-use session_client::Wanted;
+use session_client::{Grants, Wanted};
 use sql_keeper::Answer;
+
+/// Whether an answer is this one.
+fn is_answer(answer: &Answer, key: &QKey, value: &Value, stamp: u64) -> bool
+    ensures { IsTrue result
+        ↔ (answer.now ≡ record { key = key.now; value = value.now; stamp = stamp }) }
+{
+    answer.key == *key && answer.value.bytes() == value.bytes() && answer.stamp == stamp
+}
 
 /// Whether one of the answers is this one.
 fn has_answer(answers: &[Answer], key: &QKey, value: &Value, stamp: u64) -> bool
@@ -25,21 +33,17 @@ fn has_answer(answers: &[Answer], key: &QKey, value: &Value, stamp: u64) -> bool
     match answers {
         [] => false,
         [one, rest @ ..] => {
-            one.key == *key && one.value.bytes() == value.bytes() && one.stamp == stamp
-                || has_answer(rest, key, value, stamp)
+            is_answer(one, key, value, stamp) || has_answer(rest, key, value, stamp)
         }
     }
 }
 
-/// Whether each of the grants is one of those that are held.
+/// Whether each of the grants is one of those that are held, as a test.
 fn holds_all(held: &[HeldGrant], grants: &[Grant]) -> bool
-    ensures { IsTrue result ↔ All (λ (grant : Permit).
-        Any (λ (one : Held). one.permit ≡ grant) held.now) grants.now }
+    ensures { result ≡ list_all (λ (grant : Permit).
+        list_any (λ (one : Held). same_permit one.permit grant) held.now) grants.now }
 {
-    match grants {
-        [] => true,
-        [grant, rest @ ..] => holds(held, &Ticket::of(grant)) && holds_all(held, rest),
-    }
+    grants.iter().all(|grant| has(held, &Ticket::of(grant)))
 }
 
 impl Book {
@@ -73,7 +77,7 @@ impl Book {
             Wanted::QaReg { key: _ } => self.quarantine_form(who, Mode::Invalidate),
             Wanted::QaRead { key: _ } => self.quarantine_form(who, Mode::Refresh),
             Wanted::Delta { key: _, by: _ } => self.quarantine_form(who, Mode::Delta),
-            Wanted::Commit { txn: _, grants } => self.commit_form(who, grants.items()),
+            Wanted::Commit { txn: _, grants } => self.commit_form(who, grants),
             Wanted::Abort { grant } => self.abort_form(who, grant),
             Wanted::Get { key: _, floor: _ }
             | Wanted::Ask { key: _ }
@@ -156,17 +160,25 @@ impl Book {
         }
     }
 
-    fn commit_form(&self, who: Sid, grants: &[Grant]) -> Form
-        ensures { (txn : List Change) (room : ℕ) → IsForm self.now.told who
-            (wanted.Commit txn (record { items = grants.now; room = room })) result }
+    fn commit_form(&self, who: Sid, grants: &Grants) -> Form
+        ensures { (txn : List Change) → IsForm self.now.told who (wanted.Commit txn grants.now) result }
     {
-        if !self.is_present(who) {
-            Form::NotCommitted
-        } else if holds_all(self.held.as_slice(), grants) {
-            Form::AsAsked
+        if self.is_present(who) {
+            if self.holds_each(grants.items()) {
+                Form::AsAsked
+            } else {
+                Form::HeldAlone
+            }
         } else {
-            Form::HeldAlone
+            Form::NotCommitted
         }
+    }
+
+    /// Whether the session holds each of these grants.
+    fn holds_each(&self, grants: &[Grant]) -> bool
+        ensures { IsTrue result ↔ All (Holds self.now.told) grants.now }
+    {
+        holds_all(self.held.as_slice(), grants)
     }
 
     fn abort_form(&self, who: Sid, grant: &Grant) -> Form
