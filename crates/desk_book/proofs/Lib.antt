@@ -1,6 +1,7 @@
 pub mod ListLemmas
 pub mod PermitLemmas
 pub mod HeldLemmas
+pub mod PutLemmas
 pub mod GivenLemmas
 pub mod ApartLemmas
 pub mod WriterLemmas

@@ -1,7 +1,8 @@
 -- What holds of each of a list, or of one, and lists with one more, one less or one changed.
-use Rattle.std.proofs.Common.{ℕ, zero, suc, ◌≡◌, ◌+◌, ◌<◌, Bool, true, false, ◌&&◌, List, [], ◌∷◌, ◌++◌, length, drop, set, Option, Some, slice_get}
+use Rattle.std.proofs.Common.{ℕ, zero, suc, ◌≡◌, ◌+◌, ◌<◌, Bool, true, false, ◌&&◌, List, [], ◌∷◌, ◌++◌, ◌-◌, length, take, drop, set, Option, Some, slice_get}
 use Rattle.std.proofs.Common.{get_or, refl, sym, ap, subst, ◌∙◌, ◌⊎◌, inl, inr, arith}
 use Rattle.std.specs.List.{AllByRecursion, Any, remove}
+use Rattle.std.specs.Prelude.{◌≤◌, IsTrue, IfOk, ◌↔◌, Result, Ok, Err}
 use Rattle.std.proofs.lemmas.Bool.{false≢true}
 use Rattle.std.proofs.lemmas.Option.{same_Some, none-some}
 
@@ -59,3 +60,23 @@ both false b h k = absurd (false≢true h)
 pub not_true : (b : Bool) → (b ≡ true → ⊥) → b ≡ false
 not_true true h = absurd (h refl)
 not_true false h = refl
+
+take_all : {X : Type 0} (xs : List X) → take (length xs) xs ≡ xs
+take_all [] = refl
+take_all (x ∷ xs) = ap (λ l. x ∷ l) (take_all xs)
+
+-- where something doesn't hold of the first, it holds of one exactly where it holds of a later one
+pub any_skip : {X : Type 0} (P : X → Type 0) (xs : List X) (x : X) → 1 ≤ length xs → x ≡ get_or xs 0 x → (P x → ⊥) → (b : Bool)
+    → (IsTrue b ↔ Any P (take (length xs - 1) (drop 1 xs))) → (IsTrue b ↔ Any P xs)
+any_skip P [] x some same fails b h = absurd (omega (arith, some))
+any_skip P (y ∷ ys) x some same fails b h =
+    let rest : take (length (y ∷ ys) - 1) ys ≡ ys = ap (λ n. take n ys) (omega arith) ∙ take_all ys in
+    let later : IsTrue b ↔ Any P ys = subst (λ l. IsTrue b ↔ Any P l) rest h in (
+      λ t. any-later P y ys (later.0 t),
+      λ any. elim (any-cases P y ys any) [ inl p ↦ absurd (fails (subst P (sym same) p)) | inr more ↦ later.1 more ],
+    )
+
+-- what is known of an answer, where there is one, gives more
+pub ok_gives : {T E : Type 0} (P Q : T → Type 0) (r : Result T E) → ((x : T) → P x → Q x) → IfOk r P → IfOk r Q
+ok_gives P Q (Ok x) f h = f x h
+ok_gives P Q (Err e) f h = tt

@@ -1,13 +1,14 @@
 // The grants that a book holds, each with what came along with it.
 ghost use Rattle.std.specs.Prelude.{◌≡◌, ◌↔◌, Some, IsTrue, IfOk, position};
 ghost use Rattle.std.specs.List.{Any, list_any};
+ghost use Rattle.rows_model.specs.Delta.{delta_of};
 ghost use Rattle.key_shard.specs.Permit.{same_permit};
 ghost use Rattle.session_client.specs.Wants.{new_value};
 ghost use Rattle.desk_book.specs.Told.{Held, raised, all_raised, all_but};
 
 use key_shard::Grant;
 use lease_table::Mode;
-use rows_model::{Memory, QKey, Sid, Txn, Value, refresh};
+use rows_model::{Memory, QKey, Sid, Txn, Value, delta_of, refresh};
 use std::alloc::Global;
 use std::marker::Model;
 
@@ -112,11 +113,12 @@ impl HeldGrant {
         &self.ticket
     }
 
-    /// Whether the grant says this and is to shift the value by this much.
-    fn is_to_shift(&self, ticket: &Ticket, by: i32) -> bool
-        ensures { IsTrue result ↔ ((self.now.permit ≡ ticket.now) × (self.now.by ≡ by)) }
+    /// Whether the grant says this and is to shift the value by what the transaction adds to it.
+    fn is_to_shift(&self, ticket: &Ticket, txn: &Txn) -> bool
+        ensures { IsTrue result ↔ ((self.now.permit ≡ ticket.now)
+            × (self.now.by ≡ delta_of ticket.now.key txn.now)) }
     {
-        self.ticket.is_equal(ticket) && self.by == by
+        self.ticket.is_equal(ticket) && self.by == delta_of(&ticket.key, txn)
     }
 
     /// Whether the grant says this and has an old value that the transaction refreshes to this one.
@@ -194,14 +196,14 @@ pub(crate) fn raise_first(held: &mut [HeldGrant], ticket: Ticket, old: Option<(V
     }
 }
 
-/// Whether one of the grants says this and is to shift the value by this much.
-pub(crate) fn holds_shift(held: &[HeldGrant], ticket: &Ticket, by: i32) -> bool
-    ensures { IsTrue result
-        ↔ Any (λ (one : Held). (one.permit ≡ ticket.now) × (one.by ≡ by)) held.now }
+/// Whether one of the grants says this and is to shift the value by what the transaction adds to it.
+pub(crate) fn holds_shift(held: &[HeldGrant], ticket: &Ticket, txn: &Txn) -> bool
+    ensures { IsTrue result ↔ Any (λ (one : Held). (one.permit ≡ ticket.now)
+        × (one.by ≡ delta_of ticket.now.key txn.now)) held.now }
 {
     match held {
         [] => false,
-        [one, rest @ ..] => one.is_to_shift(ticket, by) || holds_shift(rest, ticket, by),
+        [one, rest @ ..] => one.is_to_shift(ticket, txn) || holds_shift(rest, ticket, txn),
     }
 }
 

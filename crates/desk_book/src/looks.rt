@@ -5,7 +5,7 @@ ghost use Rattle.rows_model.specs.declared.changes.Change.{Change};
 ghost use Rattle.key_shard.specs.Permit.{Permit, same_permit};
 ghost use Rattle.session_client.specs.declared.replies.Wanted.TheVariants as wanted;
 ghost use Rattle.sql_keeper.specs.declared.stores.Answer.{Answer};
-ghost use Rattle.desk_book.specs.Borne.{IsForm, IsBorne, IsOwn, Holds, MayQuarantine, IsPut, release_form};
+ghost use Rattle.desk_book.specs.Borne.{IsForm, IsBorne, IsOwn, Holds, MayQuarantine, Refreshes, IsPut, release_form};
 ghost use Rattle.desk_book.specs.Told.{Held, may_write};
 
 use crate::books::Book;
@@ -13,7 +13,7 @@ use crate::forms::Form;
 use crate::held::{HeldGrant, Ticket, has, holds_old, holds_shift};
 use key_shard::Grant;
 use lease_table::Mode;
-use rows_model::{Memory, QKey, Sid, Value, delta_of};
+use rows_model::{Memory, QKey, Sid, Txn, Value};
 use session_client::{Grants, Wanted};
 use sql_keeper::Answer;
 
@@ -253,14 +253,16 @@ impl Book {
         if !self.is_own(who, grant) || done.number != stamp {
             return Ok(false);
         }
+        self.refreshes(grant, &done.txn, value)
+    }
+
+    /// Whether the session holds the grant with an old value that the transaction refreshes to this one.
+    fn refreshes(&self, grant: &Grant, txn: &Txn, value: &Value) -> Result<bool, Memory>
+        ensures { IfOk result (λ is. IsTrue is
+            ↔ Refreshes self.now.told grant.now value.now txn.now) }
+    {
         let alloc = *self.held.allocator();
-        holds_old(
-            alloc,
-            self.held.as_slice(),
-            &Ticket::of(grant),
-            &done.txn,
-            value,
-        )
+        holds_old(alloc, self.held.as_slice(), &Ticket::of(grant), txn, value)
     }
 
     /// Whether the book bears out a release that shifts the value.
@@ -272,10 +274,6 @@ impl Book {
         };
         self.is_own(who, grant)
             && done.number == stamp
-            && holds_shift(
-                self.held.as_slice(),
-                &Ticket::of(grant),
-                delta_of(&grant.key(), &done.txn),
-            )
+            && holds_shift(self.held.as_slice(), &Ticket::of(grant), &done.txn)
     }
 }

@@ -5,7 +5,7 @@ use Rattle.desk_book.proofs.apart.Apart.join.Goals as goal
 
 pub loop-place-init : goal.loop-place-init
 loop-place-init c =
-    subst (λ l. IsJoined c.args.self c.args.grants l c.args.grants) (c.self.view_is)
+    subst (λ l. IsJoined c.args.self c.args.grants l c.args.grants) (sym c.self.view_is)
     (record { back = refl; room = refl; places = places-left c.args.self c.args.grants c.requires })
 
 pub put_back-requires-clause-place : goal.put_back-requires-clause-place
