@@ -20,7 +20,7 @@ use Rattle.session_client.specs.Wants.{Given, given, granted, number_of, release
 use Rattle.session_client.specs.Wants.{Release, Keeps, Drops, Finishes, release_by, release_after, release_of}
 use Rattle.session_client.proofs.WantCases.{is_asking, is_ending, asking-goes, write_cases, permits, granted-given}
 use Rattle.desk_book.specs.declared.facts.Committed.{Committed}
-use Rattle.desk_book.specs.Told.{Told, Held, may_write}
+use Rattle.desk_book.specs.Books.{Book, Held, may_write}
 use Rattle.desk_book.specs.Borne.{IsBorne, IsPresent, IsOwn, IsDone, MayQuarantine, Holds, Refreshes, Shifts}
 use Rattle.desk_book.proofs.ListLemmas.{each-at, any-here, any-later, drop_at}
 use Rattle.desk_book.proofs.GivenLemmas.{held_of, given-at}
@@ -41,7 +41,7 @@ all-held txn (first ∷ ones) = λ k d less. by (all-held txn ones) k d less
         (rest k d (omega (arith, less)))
 
 -- the commit that a book knows
-done-as : (book : Told) (P : List Change → Type 0) (txn : List Change) (number : ℕ) → book.commit ≡ Some (record { number = number; txn = txn })
+done-as : (book : Book) (P : List Change → Type 0) (txn : List Change) (number : ℕ) → book.commit ≡ Some (record { number = number; txn = txn })
     → P txn → IsDone book number P
 done-as book P txn number e p = subst (λ c. IsSomeAnd c (λ (done : Committed). (done.number ≡ number) × P done.txn)) (sym e) (refl, p)
 
@@ -65,7 +65,7 @@ not-kept txn (Some one) grant e = cc
 not-kept txn None grant e = cc
 
 -- what a session wants that drops a key's value comes after its commit
-dropped : (who : Sid) (writing : Writing) (short : Bool) (heard : List Reply) (book : Told) (grant : Permit) → is_ending heard ≡ true
+dropped : (who : Sid) (writing : Writing) (short : Bool) (heard : List Reply) (book : Book) (grant : Permit) → is_ending heard ≡ true
     → write_wants writing short heard ≡ wanted.Dar grant → Stands who writing heard book → IsNumbered heard
 dropped who writing short heard book grant ends e s = by (number_of heard) refl (came_back heard) refl
   where
@@ -77,7 +77,7 @@ dropped who writing short heard book grant ends e s = by (number_of heard) refl 
         (ap (λ how. release_of writing.txn how (slice_get (given heard) (released heard))) (sym (kept short heard is back))
         ∙ sym (ending-wants writing short heard ends) ∙ e))
 
-pub write-borne : (who : Sid) (writing : Writing) (short : Bool) (heard : List Reply) (book : Told) → Stands who writing heard book
+pub write-borne : (who : Sid) (writing : Writing) (short : Bool) (heard : List Reply) (book : Book) → Stands who writing heard book
     → IsBorne book who (write_wants writing short heard)
 write-borne who writing short heard book s =
     write_cases (λ request. write_wants writing short heard ≡ request → IsBorne book who request) writing short heard

@@ -11,7 +11,7 @@ use Rattle.session_client.specs.Plans.{shift_in}
 use Rattle.session_client.specs.Belongs.{IsRaised}
 use Rattle.session_client.specs.Wants.{Given}
 use Rattle.session_client.proofs.WantCases.{permits}
-use Rattle.desk_book.specs.Told.{Held, raised, all_raised, all_but}
+use Rattle.desk_book.specs.Books.{Held, raised, all_raised, all_but}
 use Rattle.desk_book.proofs.ListLemmas.{each-push, each-remove, each-set, each-at, each-weaker, drop_at, not_true}
 use Rattle.desk_book.proofs.PermitLemmas.{same_permit-refl, same_permit-equal, raised-back}
 

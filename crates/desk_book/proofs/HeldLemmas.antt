@@ -11,7 +11,7 @@ use Rattle.std.proofs.lemmas.Option.{none-some}
 use Rattle.std.proofs.lemmas.List.Quantifiers.{position-Some}
 use Rattle.key_shard.specs.Permit.{Permit, same_permit}
 use Rattle.key_shard.proofs.OutLemmas.{same_permit-true}
-use Rattle.desk_book.specs.Told.{Held, raised, all_raised, all_but}
+use Rattle.desk_book.specs.Books.{Held, raised, all_raised, all_but}
 use Rattle.desk_book.proofs.PermitLemmas.{same_permit-equal}
 
 -- whether a grant is raised to this one

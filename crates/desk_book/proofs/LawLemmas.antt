@@ -12,7 +12,7 @@ use Rattle.session_client.specs.Desks.{Call, Began, Asked}
 use Rattle.session_client.specs.Plans.{writes}
 use Rattle.session_client.specs.Wants.{wants, write_wants, Writing, writing_of}
 use Rattle.session_client.proofs.WantCases.{plan-once}
-use Rattle.desk_book.specs.Told.{Told, begun, noted_for}
+use Rattle.desk_book.specs.Books.{Book, begun, noted_for}
 use Rattle.desk_book.specs.Heard.{note_of, book_of}
 use Rattle.desk_book.specs.Borne.{IsBorne}
 use Rattle.desk_book.specs.Laws.{HasAsked, WantsAreBorne}

@@ -9,7 +9,7 @@ use Rattle.lease_table.specs.declared.records.Mode.TheVariants.{Invalidate, Refr
 use Rattle.key_shard.specs.Permit.{Permit, same_permit}
 use Rattle.key_shard.proofs.OutLemmas.{same_permit-true}
 use Rattle.session_client.specs.Belongs.{IsRaised}
-use Rattle.desk_book.specs.Told.{raised}
+use Rattle.desk_book.specs.Books.{raised}
 use Rattle.desk_book.proofs.ListLemmas.{both}
 
 same_way-refl : (mode : Mode) → same_way (way_of mode) (way_of mode) ≡ true

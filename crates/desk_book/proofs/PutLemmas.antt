@@ -8,26 +8,26 @@ use Rattle.rows_model.specs.declared.changes.Change.{Change}
 use Rattle.key_shard.specs.Permit.{Permit}
 use Rattle.session_client.specs.declared.replies.Wanted.TheVariants as wanted
 use Rattle.desk_book.specs.declared.facts.Committed.{Committed}
-use Rattle.desk_book.specs.Told.{Told}
+use Rattle.desk_book.specs.Books.{Book}
 use Rattle.desk_book.specs.Borne.{IsBorne, IsOwn, IsDone, Refreshes}
 use Rattle.desk_book.proofs.ListLemmas.{ok_gives}
 
 -- what a session did once it has committed so
-pub done-is : (told : Told) (done : Committed) (number : ℕ) (P : List Change → Type 0) → told.commit ≡ Some done → done.number ≡ number
-    → P done.txn → IsDone told number P
-done-is told done number P e same p = subst (λ c. IsSomeAnd c (λ (d : Committed). (d.number ≡ number) × P d.txn)) (sym e) (same, p)
+pub done-is : (book : Book) (done : Committed) (number : ℕ) (P : List Change → Type 0) → book.commit ≡ Some done → done.number ≡ number
+    → P done.txn → IsDone book number P
+done-is book done number P e same p = subst (λ c. IsSomeAnd c (λ (d : Committed). (d.number ≡ number) × P d.txn)) (sym e) (same, p)
 
-pub done-was : (told : Told) (done : Committed) (number : ℕ) (P : List Change → Type 0) → told.commit ≡ Some done → IsDone told number P → P done.txn
-done-was told done number P e h = (subst (λ c. IsSomeAnd c (λ (d : Committed). (d.number ≡ number) × P d.txn)) e h).1
+pub done-was : (book : Book) (done : Committed) (number : ℕ) (P : List Change → Type 0) → book.commit ≡ Some done → IsDone book number P → P done.txn
+done-was book done number P e h = (subst (λ c. IsSomeAnd c (λ (d : Committed). (d.number ≡ number) × P d.txn)) e h).1
 
-pub put_done : (told : Told) (who : Sid) (grant : Permit) (value : List ℕ) (stamp : ℕ) (done : Committed) (r : Result Bool Memory)
-    → told.commit ≡ Some done → done.number ≡ stamp → IsOwn told who grant
-    → IfOk r (λ is. IsTrue is ↔ Refreshes told grant value done.txn)
-    → IfOk r (λ is. IsTrue is ↔ IsBorne told who (wanted.Sar grant (Some value) stamp))
-put_done told who grant value stamp done r commit same own h =
-    ok_gives (λ is. IsTrue is ↔ Refreshes told grant value done.txn)
-    (λ is. IsTrue is ↔ IsBorne told who (wanted.Sar grant (Some value) stamp)) r
+pub put_done : (book : Book) (who : Sid) (grant : Permit) (value : List ℕ) (stamp : ℕ) (done : Committed) (r : Result Bool Memory)
+    → book.commit ≡ Some done → done.number ≡ stamp → IsOwn book who grant
+    → IfOk r (λ is. IsTrue is ↔ Refreshes book grant value done.txn)
+    → IfOk r (λ is. IsTrue is ↔ IsBorne book who (wanted.Sar grant (Some value) stamp))
+put_done book who grant value stamp done r commit same own h =
+    ok_gives (λ is. IsTrue is ↔ Refreshes book grant value done.txn)
+    (λ is. IsTrue is ↔ IsBorne book who (wanted.Sar grant (Some value) stamp)) r
     (λ is both. (
-      λ t. (own, done-is told done stamp (Refreshes told grant value) commit same (both.0 t)),
-      λ borne. both.1 (done-was told done stamp (Refreshes told grant value) commit borne.1),
+      λ t. (own, done-is book done stamp (Refreshes book grant value) commit same (both.0 t)),
+      λ borne. both.1 (done-was book done stamp (Refreshes book grant value) commit borne.1),
     )) h

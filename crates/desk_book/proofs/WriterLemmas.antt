@@ -15,7 +15,7 @@ use Rattle.session_client.specs.Wants.{Given, given, given_by, given_in, is_had,
 use Rattle.session_client.proofs.WantCases.{is_ending}
 use Rattle.desk_book.specs.declared.facts.Committed.{Committed}
 use Rattle.desk_book.specs.declared.facts.Present.{Present}
-use Rattle.desk_book.specs.Told.{Told, is_of, is_present, noted_for}
+use Rattle.desk_book.specs.Books.{Book, is_of, is_present, noted_for}
 use Rattle.desk_book.proofs.GivenLemmas.{held_of, Apart}
 use Rattle.desk_book.proofs.ListLemmas.{each-weaker}
 
@@ -49,7 +49,7 @@ pub record IsNumbered (heard : List Reply) : Type 0 where
 
 -- the book of a session that writes and has heard this: it holds each grant that the session was given and hasn't released, knows of its
 -- commit exactly where the session was told of one, and of its end where it was told of that and of no commit
-pub record Stands (who : Sid) (writing : Writing) (heard : List Reply) (book : Told) : Type 0 where
+pub record Stands (who : Sid) (writing : Writing) (heard : List Reply) (book : Book) : Type 0 where
   pub present : book.present ≡ Some (record { sid = who; writes = true })
   pub commit : book.commit ≡ commit_in writing.txn (number_of heard)
   pub held : book.held ≡ map (held_of writing.txn) (drop (released heard) (given heard))
@@ -60,11 +60,11 @@ pub record Stands (who : Sid) (writing : Writing) (heard : List Reply) (book : T
   pub ended : is_ending heard ≡ true → number_of heard ≡ None → book.ended ≡ true
   pub back : came_back heard ≡ true → IsNumbered heard
 
-pub is-now : (who : Sid) (writes : Bool) (book : Told) → book.present ≡ Some (record { sid = who; writes = writes }) → is_present book who ≡ true
+pub is-now : (who : Sid) (writes : Bool) (book : Book) → book.present ≡ Some (record { sid = who; writes = writes }) → is_present book who ≡ true
 is-now who writes book e = ap (λ p. is_of p who) e ∙ eq-eqb who.number who.number refl
 
 -- what is told to the present session is noted
-pub noted-now : (who : Sid) (writes : Bool) (note : Told → Told) (book : Told) → book.present ≡ Some (record { sid = who; writes = writes })
+pub noted-now : (who : Sid) (writes : Bool) (note : Book → Book) (book : Book) → book.present ≡ Some (record { sid = who; writes = writes })
     → noted_for who note book ≡ note book
 noted-now who writes note book e = ap (λ b. cond b (note book) book) (is-now who writes book e)
 
@@ -85,12 +85,12 @@ pub record IsMild (told : Reply) : Type 0 where
   pub back : (heard : List Reply) → came_back (told ∷ heard) ≡ false
 
 -- what a book knows of grants, commit and end is the same
-pub record IsAlike (old new : Told) : Type 0 where
+pub record IsAlike (old new : Book) : Type 0 where
   pub present : new.present ≡ old.present
   pub commit : new.commit ≡ old.commit
   pub held : new.held ≡ old.held
 
-pub alike : (book : Told) → IsAlike book book
+pub alike : (book : Book) → IsAlike book book
 alike book = record { present = refl; commit = refl; held = refl }
 
 -- one more reply counts as one more, or as none
@@ -111,7 +111,7 @@ asked-more keys told heard ones h =
     record { place = asked.place; before = omega (arith, more, before); at = asked.at }) h
 
 -- a reply that leaves what was given
-pub stays : (who : Sid) (writing : Writing) (told : Reply) (heard : List Reply) (old new : Told)
+pub stays : (who : Sid) (writing : Writing) (told : Reply) (heard : List Reply) (old new : Book)
     → given (told ∷ heard) ≡ given heard → released (told ∷ heard) ≡ released heard → new.present ≡ old.present → new.held ≡ old.held
     → new.commit ≡ commit_in writing.txn (number_of (told ∷ heard))
     → (is_ending (told ∷ heard) ≡ false → is_over (told ∷ heard) ≡ false → (number_of (told ∷ heard) ≡ None) × (released (told ∷ heard) ≡ 0))
@@ -133,7 +133,7 @@ stays who writing told heard old new same count present held commit going ended 
 }
 
 -- a mild reply, of which a session that goes on is told
-pub mild : (who : Sid) (writing : Writing) (told : Reply) (heard : List Reply) (old new : Told) → IsMild told → IsAlike old new
+pub mild : (who : Sid) (writing : Writing) (told : Reply) (heard : List Reply) (old new : Book) → IsMild told → IsAlike old new
     → (is_over (told ∷ heard) ≡ false → (number_of heard ≡ None) × (released heard ≡ 0))
     → Stands who writing heard old → Stands who writing (told ∷ heard) new
 mild who writing told heard old new m like going s =

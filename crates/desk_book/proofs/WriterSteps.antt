@@ -27,7 +27,7 @@ use Rattle.session_client.specs.declared.replies.Wanted.{Wanted}
 use Rattle.session_client.specs.declared.replies.Wanted.TheVariants as wanted
 use Rattle.session_client.specs.Wants.{Given, given, granted, is_had, is_release, number_of, released, turned, write_wants, Writing, quarantine_as, commit_with, new_value}
 use Rattle.session_client.proofs.WantCases.{AreOnce, is_asking, is_ending, asking-goes, write_cases, permits, granted-given}
-use Rattle.desk_book.specs.Told.{Told, Held, all_raised, all_but, with_grant, without_grant, with_commit, with_end}
+use Rattle.desk_book.specs.Books.{Book, Held, all_raised, all_but, with_grant, without_grant, with_commit, with_end}
 use Rattle.desk_book.specs.Heard.{note_of}
 use Rattle.desk_book.proofs.ListLemmas.{each-push, each-set, each-remove, each-at, each-weaker}
 use Rattle.desk_book.proofs.GivenLemmas.{held_of, Apart, apart-push, apart-set, apart-remove, given-at, raised-at, spent-at, released-at}
@@ -38,7 +38,7 @@ abbrev pub IsUnended : List Reply → Type 0
 IsUnended heard = (number_of heard ≡ None) × (released heard ≡ 0)
 
 -- a quarantine of the next key was granted
-granted-step : (who : Sid) (writing : Writing) (heard : List Reply) (book : Told) (key : QKey) (mode : Mode) (grant : Permit)
+granted-step : (who : Sid) (writing : Writing) (heard : List Reply) (book : Book) (key : QKey) (mode : Mode) (grant : Permit)
     (old : Option (List ℕ × ℕ)) (by : ℤ) → AreOnce writing.keys → slice_get writing.keys (count_by is_had heard) ≡ Some key
     → IsUnended heard → IsGrantOf who key mode grant → by ≡ shift_in grant.mode grant.key writing.txn
     → Stands who writing heard book → Stands who writing (reply.Quar (quarantine.Granted grant old) ∷ heard) (with_grant grant old by book)
@@ -80,7 +80,7 @@ fault-mild : (fault : Fault) → IsMild (reply.Fault fault)
 fault-mild fault = record { left = λ p o. refl; none = refl; release = refl; number = λ h. refl; ending = λ h. refl; back = λ h. refl }
 
 -- what a session that hasn't ended is told of a quarantine of the next key
-reg-step : (who : Sid) (writing : Writing) (heard : List Reply) (book : Told) (key : QKey) (told : Reply) → AreOnce writing.keys
+reg-step : (who : Sid) (writing : Writing) (heard : List Reply) (book : Book) (key : QKey) (told : Reply) → AreOnce writing.keys
     → slice_get writing.keys (count_by is_had heard) ≡ Some key → IsUnended heard → Belongs who (wanted.QaReg key) told
     → Stands who writing heard book → Stands who writing (told ∷ heard) (note_of (wanted.QaReg key) told book)
 reg-step who writing heard book key (reply.Quar (quarantine.Granted grant old)) once at none belongs s =
@@ -95,7 +95,7 @@ reg-step who writing heard book key (reply.Fault fault) once at none belongs s =
     mild who writing (reply.Fault fault) heard book book (fault-mild fault) (alike book) (λ on. none) s
 reg-step who writing heard book key other once at none belongs s = elim belongs [ ]
 
-read-step : (who : Sid) (writing : Writing) (heard : List Reply) (book : Told) (key : QKey) (told : Reply) → AreOnce writing.keys
+read-step : (who : Sid) (writing : Writing) (heard : List Reply) (book : Book) (key : QKey) (told : Reply) → AreOnce writing.keys
     → slice_get writing.keys (count_by is_had heard) ≡ Some key → IsUnended heard → Belongs who (wanted.QaRead key) told
     → Stands who writing heard book → Stands who writing (told ∷ heard) (note_of (wanted.QaRead key) told book)
 read-step who writing heard book key (reply.Quar (quarantine.Granted grant old)) once at none belongs s =
@@ -110,7 +110,7 @@ read-step who writing heard book key (reply.Fault fault) once at none belongs s 
     mild who writing (reply.Fault fault) heard book book (fault-mild fault) (alike book) (λ on. none) s
 read-step who writing heard book key other once at none belongs s = elim belongs [ ]
 
-delta-step : (who : Sid) (writing : Writing) (heard : List Reply) (book : Told) (key : QKey) (told : Reply) → AreOnce writing.keys
+delta-step : (who : Sid) (writing : Writing) (heard : List Reply) (book : Book) (key : QKey) (told : Reply) → AreOnce writing.keys
     → slice_get writing.keys (count_by is_had heard) ≡ Some key → IsUnended heard → Belongs who (wanted.Delta key (delta_of key writing.txn)) told
     → Stands who writing heard book → Stands who writing (told ∷ heard) (note_of (wanted.Delta key (delta_of key writing.txn)) told book)
 delta-step who writing heard book key (reply.Quar (quarantine.Granted grant old)) once at none belongs s =
@@ -126,7 +126,7 @@ delta-step who writing heard book key (reply.Fault fault) once at none belongs s
 delta-step who writing heard book key other once at none belongs s = elim belongs [ ]
 
 -- what such a session is told of a raise of the next grant
-raise-step : (who : Sid) (writing : Writing) (heard : List Reply) (book : Told) (grant : Permit) (told : Reply)
+raise-step : (who : Sid) (writing : Writing) (heard : List Reply) (book : Book) (grant : Permit) (told : Reply)
     → slice_get (granted heard) (turned heard) ≡ Some grant → IsUnended heard → Belongs who (wanted.Raise grant) told
     → Stands who writing heard book → Stands who writing (told ∷ heard) (note_of (wanted.Raise grant) told book)
 raise-step who writing heard book grant (reply.Raise (raising.Raised back old)) at none belongs s =
@@ -188,7 +188,7 @@ raise-step who writing heard book grant (reply.RaiseBack back) at none belongs s
 raise-step who writing heard book grant other at none belongs s = elim belongs [ ]
 
 -- what it is told of a renewal
-renew-step : (who : Sid) (writing : Writing) (heard : List Reply) (book : Told) (grant : Permit) (told : Reply)
+renew-step : (who : Sid) (writing : Writing) (heard : List Reply) (book : Book) (grant : Permit) (told : Reply)
     → IsUnended heard → Belongs who (wanted.Renew grant) told
     → Stands who writing heard book → Stands who writing (told ∷ heard) (note_of (wanted.Renew grant) told book)
 renew-step who writing heard book grant (reply.Renew back renewal) none belongs s =
@@ -200,7 +200,7 @@ got-mild : (found : Got) → IsMild (reply.Got found)
 got-mild found = record { left = λ p o. refl; none = refl; release = refl; number = λ h. refl; ending = λ h. refl; back = λ h. refl }
 
 -- what it is told of a key of its own
-get-step : (who : Sid) (writing : Writing) (heard : List Reply) (book : Told) (key : QKey) (told : Reply)
+get-step : (who : Sid) (writing : Writing) (heard : List Reply) (book : Book) (key : QKey) (told : Reply)
     → IsUnended heard → Belongs who (wanted.Get key 0) told
     → Stands who writing heard book → Stands who writing (told ∷ heard) (note_of (wanted.Get key 0) told book)
 get-step who writing heard book key (reply.Got (got.Lease token)) none belongs s =
@@ -217,7 +217,7 @@ get-step who writing heard book key (reply.Fault fault) none belongs s =
 get-step who writing heard book key other none belongs s = elim belongs [ ]
 
 -- what it is told of the answer that its transaction would leave
-staged-step : (who : Sid) (writing : Writing) (heard : List Reply) (book : Told) (key : QKey) (txn : List Change) (told : Reply)
+staged-step : (who : Sid) (writing : Writing) (heard : List Reply) (book : Book) (key : QKey) (txn : List Change) (told : Reply)
     → IsUnended heard → Belongs who (wanted.Staged key txn) told
     → Stands who writing heard book → Stands who writing (told ∷ heard) (note_of (wanted.Staged key txn) told book)
 staged-step who writing heard book key txn (reply.Staged value changes) none belongs s =
@@ -232,7 +232,7 @@ some-none : {X : Type 0} {x : X} → Some x ≡ None → ⊥
 some-none e = cc
 
 -- what it is told of its commit
-commit-step : (who : Sid) (writing : Writing) (heard : List Reply) (book : Told) (grants : GrantsView) (told : Reply)
+commit-step : (who : Sid) (writing : Writing) (heard : List Reply) (book : Book) (grants : GrantsView) (told : Reply)
     → IsUnended heard → Belongs who (wanted.Commit writing.txn grants) told
     → Stands who writing heard book → Stands who writing (told ∷ heard) (note_of (wanted.Commit writing.txn grants) told book)
 commit-step who writing heard book grants (reply.Committed number txn back) none belongs s =
@@ -248,7 +248,7 @@ commit-step who writing heard book grants (reply.NotCommitted fault txn back) no
 commit-step who writing heard book grants other none belongs s = elim belongs [ ]
 
 -- what it is told of its end
-end-step : (who : Sid) (writing : Writing) (heard : List Reply) (book : Told) (told : Reply)
+end-step : (who : Sid) (writing : Writing) (heard : List Reply) (book : Book) (told : Reply)
     → Belongs who wanted.End told → Stands who writing heard book → Stands who writing (told ∷ heard) (note_of wanted.End told book)
 end-step who writing heard book (reply.End was) belongs s =
     let told = reply.End was in
@@ -257,7 +257,7 @@ end-step who writing heard book (reply.End was) belongs s =
 end-step who writing heard book other belongs s = elim belongs [ ]
 
 -- the next grant was released
-released-step : (who : Sid) (writing : Writing) (heard : List Reply) (book : Told) (one : Given) (rel : Rel)
+released-step : (who : Sid) (writing : Writing) (heard : List Reply) (book : Book) (one : Given) (rel : Rel)
     → slice_get (given heard) (released heard) ≡ Some one → is_ending heard ≡ true
     → Stands who writing heard book → Stands who writing (reply.Rel rel ∷ heard) (without_grant one.permit book)
 released-step who writing heard book one rel at ending s =
@@ -281,32 +281,32 @@ released-step who writing heard book one rel at ending s =
     }
 
 -- what it is told of each of the four releases of the next grant
-abort-step : (who : Sid) (writing : Writing) (heard : List Reply) (book : Told) (one : Given) (told : Reply)
+abort-step : (who : Sid) (writing : Writing) (heard : List Reply) (book : Book) (one : Given) (told : Reply)
     → slice_get (given heard) (released heard) ≡ Some one → is_ending heard ≡ true → Belongs who (wanted.Abort one.permit) told
     → Stands who writing heard book → Stands who writing (told ∷ heard) (note_of (wanted.Abort one.permit) told book)
 abort-step who writing heard book one (reply.Rel rel) at ending belongs s = released-step who writing heard book one rel at ending s
 abort-step who writing heard book one other at ending belongs s = elim belongs [ ]
 
-dar-step : (who : Sid) (writing : Writing) (heard : List Reply) (book : Told) (one : Given) (told : Reply)
+dar-step : (who : Sid) (writing : Writing) (heard : List Reply) (book : Book) (one : Given) (told : Reply)
     → slice_get (given heard) (released heard) ≡ Some one → is_ending heard ≡ true → Belongs who (wanted.Dar one.permit) told
     → Stands who writing heard book → Stands who writing (told ∷ heard) (note_of (wanted.Dar one.permit) told book)
 dar-step who writing heard book one (reply.Rel rel) at ending belongs s = released-step who writing heard book one rel at ending s
 dar-step who writing heard book one other at ending belongs s = elim belongs [ ]
 
-apply-step : (who : Sid) (writing : Writing) (heard : List Reply) (book : Told) (one : Given) (stamp : ℕ) (told : Reply)
+apply-step : (who : Sid) (writing : Writing) (heard : List Reply) (book : Book) (one : Given) (stamp : ℕ) (told : Reply)
     → slice_get (given heard) (released heard) ≡ Some one → is_ending heard ≡ true → Belongs who (wanted.Apply one.permit stamp) told
     → Stands who writing heard book → Stands who writing (told ∷ heard) (note_of (wanted.Apply one.permit stamp) told book)
 apply-step who writing heard book one stamp (reply.Rel rel) at ending belongs s = released-step who writing heard book one rel at ending s
 apply-step who writing heard book one stamp other at ending belongs s = elim belongs [ ]
 
 -- the next grant came back, from a session that has committed
-back-step : (who : Sid) (writing : Writing) (heard : List Reply) (book : Told) (back : Permit) (number : ℕ) → number_of heard ≡ Some number
+back-step : (who : Sid) (writing : Writing) (heard : List Reply) (book : Book) (back : Permit) (number : ℕ) → number_of heard ≡ Some number
     → is_ending heard ≡ true → Stands who writing heard book → Stands who writing (reply.SarBack back ∷ heard) book
 back-step who writing heard book back number told ending s =
     stays who writing (reply.SarBack back) heard book book (append-nil (given heard)) (same-count is_release (reply.SarBack back) heard refl) refl refl
     s.commit (λ still. absurd (false≢true (sym still))) (λ ends no. s.ended ending no) (λ came. record { number = number; is = told }) s
 
-sar-step : (who : Sid) (writing : Writing) (heard : List Reply) (book : Told) (one : Given) (value : Option (List ℕ)) (stamp : ℕ) (told : Reply)
+sar-step : (who : Sid) (writing : Writing) (heard : List Reply) (book : Book) (one : Given) (value : Option (List ℕ)) (stamp : ℕ) (told : Reply)
     → slice_get (given heard) (released heard) ≡ Some one → is_ending heard ≡ true → (number : ℕ) → number_of heard ≡ Some number
     → Belongs who (wanted.Sar one.permit value stamp) told
     → Stands who writing heard book → Stands who writing (told ∷ heard) (note_of (wanted.Sar one.permit value stamp) told book)
@@ -316,7 +316,7 @@ sar-step who writing heard book one (Some value) stamp (reply.SarBack back) at e
 sar-step who writing heard book one value stamp other at ending number told belongs s = elim belongs [ ]
 
 -- a session that wants nothing is told so
-nothing-step : (who : Sid) (writing : Writing) (heard : List Reply) (book : Told) (told : Reply)
+nothing-step : (who : Sid) (writing : Writing) (heard : List Reply) (book : Book) (told : Reply)
     → Belongs who wanted.Nothing told → Stands who writing heard book → Stands who writing (told ∷ heard) (note_of wanted.Nothing told book)
 nothing-step who writing heard book reply.Nothing belongs s =
     mild who writing reply.Nothing heard book book
@@ -325,7 +325,7 @@ nothing-step who writing heard book reply.Nothing belongs s =
 nothing-step who writing heard book other belongs s = elim belongs [ ]
 
 -- whatever a session that writes is told, its book stands afterwards
-pub write-step : (who : Sid) (writing : Writing) (short : Bool) (heard : List Reply) (book : Told) (told : Reply) → AreOnce writing.keys
+pub write-step : (who : Sid) (writing : Writing) (short : Bool) (heard : List Reply) (book : Book) (told : Reply) → AreOnce writing.keys
     → Belongs who (write_wants writing short heard) told → Stands who writing heard book
     → Stands who writing (told ∷ heard) (note_of (write_wants writing short heard) told book)
 write-step who writing short heard book told once belongs s =

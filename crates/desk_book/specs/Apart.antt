@@ -4,12 +4,12 @@ use Rattle.std.specs.List.{insert, list_any}
 use Rattle.key_shard.specs.Permit.{Permit, same_permit}
 use Rattle.session_client.specs.Belongs.{AreBack}
 use Rattle.session_client.specs.Grants.{GrantsView}
-use Rattle.desk_book.specs.Told.{Told}
+use Rattle.desk_book.specs.Books.{Book}
 use Rattle.desk_book.specs.declared.apart.Other.{Other}
 
 -- Whether the session holds this grant.
-abbrev pub is_held : Told → Permit → Bool
-is_held told grant = list_any (λ one. same_permit one.permit grant) told.held
+abbrev pub is_held : Book → Permit → Bool
+is_held book grant = list_any (λ one. same_permit one.permit grant) book.held
 
 -- The grants with the others put back, the one that was set apart last first: each at the place where it stood.
 abbrev pub put_back : List Other → List Permit → List Permit

@@ -14,15 +14,15 @@ use Rattle.desk_book.specs.Heard.{book_of}
 -- Whether memory ran out so far when the session was told of its commit. That stays as it was, but for the reply that
 -- tells of a commit and brings a grant to refresh.
 abbrev pub IsShort : Bool → Reply → Bool → Type 0
-IsShort before told now = (now ≡ before) ⊎ (IsRefreshing told × (now ≡ true))
+IsShort before book now = (now ≡ before) ⊎ (IsRefreshing book × (now ≡ true))
 
 -- A session of this number and plan began and has heard these replies by these calls, both the latest first: each
 -- request is the one that it wanted after the replies before, and each reply belongs to its request.
 abbrev pub HasAsked : Sid → Plan → Bool → List Reply → List Call → Type 0
 HasAsked who plan short [] calls = (short ≡ false) × (calls ≡ Began (writes plan) who ∷ [])
-HasAsked who plan short (told ∷ heard) calls =
+HasAsked who plan short (book ∷ heard) calls =
     (before : Bool) × (earlier : List Call) × HasAsked who plan before heard earlier
-    × Belongs who (wants plan before heard) told × IsShort before told short × (calls ≡ Asked who (wants plan before heard) told ∷ earlier)
+    × Belongs who (wants plan before heard) book × IsShort before book short × (calls ≡ Asked who (wants plan before heard) book ∷ earlier)
 
 -- The book of its calls bears out what a session wants next, whatever it has heard.
 abbrev pub WantsAreBorne : Type 0

@@ -1,4 +1,4 @@
-pub mod Told
+pub mod Book
 pub mod Borne
 pub mod Heard
 pub mod Laws

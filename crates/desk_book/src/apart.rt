@@ -33,7 +33,7 @@ impl Model for Apart {
 impl Book {
     /// Whether the session holds this grant.
     fn is_held(&self, grant: &Grant) -> bool
-        ensures { result ≡ is_held self.now.told grant.now }
+        ensures { result ≡ is_held self.now.book grant.now }
     {
         has(self.held.as_slice(), &Ticket::of(grant))
     }
@@ -41,7 +41,7 @@ impl Book {
     /// Sets apart those of a commit's grants that the book doesn't hold. The others keep their order and
     /// the room of all. For want of memory all come back as they were.
     pub fn set_apart(&self, alloc: Global, grants: Grants) -> Result<(Grants, Apart), Grants>
-        ensures held { IfOk result (λ parts. parts.0.items ≡ filter (is_held self.now.told) grants.items) }
+        ensures held { IfOk result (λ parts. parts.0.items ≡ filter (is_held self.now.book) grants.items) }
         ensures room { IfOk result (λ parts. parts.0.room ≡ grants.room) }
         ensures back { IfOk result (λ parts. put_back parts.1 parts.0.items ≡ grants.items) }
         ensures left { IfOk result (λ parts. AreLeft parts.1 parts.0) }

@@ -1,5 +1,5 @@
 ghost use Rattle.std.specs.Prelude.{◌≡◌, ◌≤◌, ◌<◌, ℤ, length, OnOk, OnErr};
-ghost use Rattle.desk_book.specs.Told.{nothing_told, begun, is_present, is_on, noted_for, with_lease, with_answer, with_grant, with_raised, without_grant, with_commit, with_end, most_answers};
+ghost use Rattle.desk_book.specs.Books.{empty_book, begun, is_present, is_on, noted_for, with_lease, with_answer, with_grant, with_raised, without_grant, with_commit, with_end, most_answers};
 
 use crate::facts::{Committed, Leased, Present};
 use crate::held::{HeldGrant, Ticket, raise_first, spend_first};
@@ -24,12 +24,12 @@ pub struct Book {
 
 impl Model for Book {
     ghost use Rattle.std.specs.Prelude.{◌≤◌, length, vec_capacity};
-    ghost use Rattle.desk_book.specs.Told.{BookView, most_answers};
+    ghost use Rattle.desk_book.specs.Books.{BookView, most_answers};
 
     ghost Value = { BookView };
 
     ghost view = { λ b. record {
-      told = record {
+      book = record {
         present = b.present;
         lease = b.lease;
         answers = b.answers.items;
@@ -50,7 +50,7 @@ const MOST_ANSWERS: usize = 4;
 impl Book {
     /// The book of a desk that has begun no session yet. It takes no memory.
     pub fn new(alloc: Global) -> Book
-        ensures { result.told ≡ nothing_told }
+        ensures { result.book ≡ empty_book }
     {
         Book {
             present: None,
@@ -65,7 +65,7 @@ impl Book {
     /// A session has begun, and is the present one from now on. All that was noted before goes. It takes
     /// no memory.
     pub fn begin(&mut self, sid: Sid, writes: bool)
-        ensures { self.new.told ≡ begun sid writes }
+        ensures { self.new.book ≡ begun sid writes }
     {
         self.present = Some(Present { sid, writes });
         self.lease = None;
@@ -77,7 +77,7 @@ impl Book {
 
     /// Whether the session is the present one.
     pub fn is_present(&self, who: Sid) -> bool
-        ensures { result ≡ is_present self.now.told who }
+        ensures { result ≡ is_present self.now.book who }
     {
         match self.present {
             Some(present) => present.sid.number == who.number,
@@ -87,7 +87,7 @@ impl Book {
 
     /// Whether the lease is on this key.
     fn is_leased(&self, key: &QKey) -> bool
-        ensures { result ≡ is_on self.now.told.lease key.now }
+        ensures { result ≡ is_on self.now.book.lease key.now }
     {
         match self.lease {
             Some(lease) => lease.key == *key,
@@ -97,7 +97,7 @@ impl Book {
 
     /// Takes the room to note an answer.
     pub fn room_for_answer(&mut self) -> Result<(), Memory>
-        ensures told { self.new.told ≡ self.old.told }
+        ensures book { self.new.book ≡ self.old.book }
         ensures ok { OnOk result (most_answers ≤ self.new.answer_room) }
     {
         self.answers.reserve(MOST_ANSWERS - self.answers.len())?;
@@ -106,8 +106,8 @@ impl Book {
 
     /// Takes the room to note a grant.
     pub fn room_for_grant(&mut self) -> Result<(), Memory>
-        ensures told { self.new.told ≡ self.old.told }
-        ensures ok { OnOk result (length self.new.told.held < self.new.grant_room) }
+        ensures book { self.new.book ≡ self.old.book }
+        ensures ok { OnOk result (length self.new.book.held < self.new.grant_room) }
     {
         self.held.reserve(1)?;
         Ok(())
@@ -115,7 +115,7 @@ impl Book {
 
     /// Notes that the session was given this lease. Answers from before it don't count for it, and go.
     pub fn note_lease(&mut self, who: Sid, key: QKey, token: u64)
-        ensures { self.new.told ≡ noted_for who (with_lease key token) self.old.told }
+        ensures { self.new.book ≡ noted_for who (with_lease key token) self.old.book }
     {
         if self.is_present(who) {
             self.lease = Some(Leased { key, token });
@@ -127,7 +127,7 @@ impl Book {
     /// kept. Of more than four the oldest goes.
     pub fn note_answer(&mut self, who: Sid, answer: Answer)
         requires { most_answers ≤ self.old.answer_room }
-        ensures { self.new.told ≡ noted_for who (with_answer answer) self.old.told }
+        ensures { self.new.book ≡ noted_for who (with_answer answer) self.old.book }
     {
         if self.is_present(who) && self.is_leased(&answer.key) {
             if self.answers.len() >= MOST_ANSWERS {
@@ -140,8 +140,8 @@ impl Book {
     /// Notes that the session was granted a quarantine, with the old value that came along and its stamp,
     /// and by how much it is to shift the key's value: 0 unless it is of mode Delta.
     pub fn note_grant(&mut self, who: Sid, ticket: Ticket, old: Option<(Value, u64)>, by: i32)
-        requires { length self.old.told.held < self.old.grant_room }
-        ensures { self.new.told ≡ noted_for who (with_grant ticket old by) self.old.told }
+        requires { length self.old.book.held < self.old.grant_room }
+        ensures { self.new.book ≡ noted_for who (with_grant ticket old by) self.old.book }
     {
         if self.is_present(who) {
             self.held.push_reserved(HeldGrant::new(ticket, old, by));
@@ -151,7 +151,7 @@ impl Book {
     /// Notes that a quarantine of the session was raised: its grant says this now, and this old value
     /// came along, with its stamp.
     pub fn note_raised(&mut self, who: Sid, ticket: Ticket, old: Option<(Value, u64)>)
-        ensures { self.new.told ≡ noted_for who (with_raised ticket old) self.old.told }
+        ensures { self.new.book ≡ noted_for who (with_raised ticket old) self.old.book }
     {
         if self.is_present(who) {
             raise_first(self.held.as_mut_slice(), ticket, old);
@@ -160,7 +160,7 @@ impl Book {
 
     /// Notes that a grant of the session is spent.
     pub fn note_spent(&mut self, who: Sid, ticket: &Ticket)
-        ensures { self.new.told ≡ noted_for who (without_grant ticket.now) self.old.told }
+        ensures { self.new.book ≡ noted_for who (without_grant ticket.now) self.old.book }
     {
         if self.is_present(who) {
             spend_first(&mut self.held, ticket);
@@ -169,7 +169,7 @@ impl Book {
 
     /// Notes that the session's transaction is the commit of this number.
     pub fn note_commit(&mut self, who: Sid, number: u64, txn: Txn)
-        ensures { self.new.told ≡ noted_for who (with_commit number txn) self.old.told }
+        ensures { self.new.book ≡ noted_for who (with_commit number txn) self.old.book }
     {
         if self.is_present(who) {
             self.commit = Some(Committed { number, txn });
@@ -178,7 +178,7 @@ impl Book {
 
     /// Notes that the session's end was answered.
     pub fn note_end(&mut self, who: Sid)
-        ensures { self.new.told ≡ noted_for who with_end self.old.told }
+        ensures { self.new.book ≡ noted_for who with_end self.old.book }
     {
         if self.is_present(who) {
             self.ended = true;

@@ -4,7 +4,7 @@ ghost use Rattle.std.specs.List.{Any, list_any};
 ghost use Rattle.rows_model.specs.Delta.{delta_of};
 ghost use Rattle.key_shard.specs.Permit.{same_permit};
 ghost use Rattle.session_client.specs.Wants.{new_value};
-ghost use Rattle.desk_book.specs.Told.{Held, raised, all_raised, all_but};
+ghost use Rattle.desk_book.specs.Books.{Held, raised, all_raised, all_but};
 
 use key_shard::Grant;
 use lease_table::Mode;
@@ -92,7 +92,7 @@ pub struct HeldGrant {
 }
 
 impl Model for HeldGrant {
-    ghost use Rattle.desk_book.specs.Told.{Held};
+    ghost use Rattle.desk_book.specs.Books.{Held};
 
     ghost Value = { Held };
 

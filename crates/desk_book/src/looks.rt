@@ -6,7 +6,7 @@ ghost use Rattle.key_shard.specs.Permit.{Permit, same_permit};
 ghost use Rattle.session_client.specs.declared.replies.Wanted.TheVariants as wanted;
 ghost use Rattle.sql_keeper.specs.declared.stores.Answer.{Answer};
 ghost use Rattle.desk_book.specs.Borne.{IsForm, IsBorne, IsOwn, Holds, MayQuarantine, Refreshes, IsPut, release_form};
-ghost use Rattle.desk_book.specs.Told.{Held, may_write};
+ghost use Rattle.desk_book.specs.Books.{Held, may_write};
 
 use crate::books::Book;
 use crate::forms::Form;
@@ -51,7 +51,7 @@ impl Book {
     /// out. It looks at the grants and answers of the present session alone. Memory is asked for a release
     /// with a new value alone, since that value is made again; for want of it nothing is known.
     pub fn form(&self, who: Sid, request: &Wanted) -> Result<Form, Memory>
-        ensures form { IfOk result (IsForm self.now.told who request.now) }
+        ensures form { IfOk result (IsForm self.now.book who request.now) }
         ensures memory { OnErr result (IsPut request.now) }
     {
         Ok(match request {
@@ -89,7 +89,7 @@ impl Book {
     }
 
     fn set_form(&self, who: Sid, key: &QKey, token: u64, value: &Value, stamp: u64) -> Form
-        ensures { IsForm self.now.told who (wanted.Set key.now token value.now stamp) result }
+        ensures { IsForm self.now.book who (wanted.Set key.now token value.now stamp) result }
     {
         if self.is_present(who)
             && self.has_lease(key, token)
@@ -102,7 +102,7 @@ impl Book {
     }
 
     fn put_form(&self, who: Sid, grant: &Grant, value: &Value, stamp: u64) -> Result<Form, Memory>
-        ensures { IfOk result (IsForm self.now.told who (wanted.Sar grant.now (Some value.now) stamp)) }
+        ensures { IfOk result (IsForm self.now.book who (wanted.Sar grant.now (Some value.now) stamp)) }
     {
         if self.puts(who, grant, value, stamp)? {
             Ok(Form::AsAsked)
@@ -112,7 +112,7 @@ impl Book {
     }
 
     fn shift_form(&self, who: Sid, grant: &Grant, stamp: u64) -> Form
-        ensures { IsForm self.now.told who (wanted.Apply grant.now stamp) result }
+        ensures { IsForm self.now.book who (wanted.Apply grant.now stamp) result }
     {
         if self.shifts(who, grant, stamp) {
             Form::AsAsked
@@ -122,8 +122,8 @@ impl Book {
     }
 
     fn drop_form(&self, who: Sid, grant: &Grant) -> Form
-        ensures drop { IsForm self.now.told who (wanted.Dar grant.now) result }
-        ensures put { (stamp : ℕ) → IsForm self.now.told who (wanted.Sar grant.now None stamp) result }
+        ensures drop { IsForm self.now.book who (wanted.Dar grant.now) result }
+        ensures put { (stamp : ℕ) → IsForm self.now.book who (wanted.Sar grant.now None stamp) result }
     {
         if self.is_own(who, grant) && self.has_committed() {
             Form::AsAsked
@@ -135,7 +135,7 @@ impl Book {
     }
 
     fn raise_form(&self, who: Sid, grant: &Grant) -> Form
-        ensures { IsForm self.now.told who (wanted.Raise grant.now) result }
+        ensures { IsForm self.now.book who (wanted.Raise grant.now) result }
     {
         if self.is_own(who, grant) && !self.has_committed() {
             Form::AsAsked
@@ -150,8 +150,8 @@ impl Book {
 
     /// The form of a quarantine in this mode.
     fn quarantine_form(&self, who: Sid, mode: Mode) -> Form
-        ensures borne { (result ≡ Form.AsAsked) ↔ MayQuarantine self.now.told who }
-        ensures odd { (MayQuarantine self.now.told who → ⊥) → result ≡ Form.Refused mode }
+        ensures borne { (result ≡ Form.AsAsked) ↔ MayQuarantine self.now.book who }
+        ensures odd { (MayQuarantine self.now.book who → ⊥) → result ≡ Form.Refused mode }
     {
         if self.is_present(who) && self.is_writer() && !self.has_committed() {
             Form::AsAsked
@@ -161,7 +161,7 @@ impl Book {
     }
 
     fn commit_form(&self, who: Sid, grants: &Grants) -> Form
-        ensures { (txn : List Change) → IsForm self.now.told who (wanted.Commit txn grants.now) result }
+        ensures { (txn : List Change) → IsForm self.now.book who (wanted.Commit txn grants.now) result }
     {
         if self.is_present(who) {
             if self.holds_each(grants.items()) {
@@ -176,13 +176,13 @@ impl Book {
 
     /// Whether the session holds each of these grants.
     fn holds_each(&self, grants: &[Grant]) -> bool
-        ensures { IsTrue result ↔ All (Holds self.now.told) grants.now }
+        ensures { IsTrue result ↔ All (Holds self.now.book) grants.now }
     {
         holds_all(self.held.as_slice(), grants)
     }
 
     fn abort_form(&self, who: Sid, grant: &Grant) -> Form
-        ensures { IsForm self.now.told who (wanted.Abort grant.now) result }
+        ensures { IsForm self.now.book who (wanted.Abort grant.now) result }
     {
         if self.is_own(who, grant) && !self.has_committed() && self.ended {
             Form::AsAsked
@@ -196,7 +196,7 @@ impl Book {
     /// The form of a release that isn't borne out: this one after the commit of the grant's session, where
     /// that is the present one.
     fn release_form(&self, grant: &Grant, after: Form) -> Form
-        ensures { result ≡ release_form self.now.told grant.now after }
+        ensures { result ≡ release_form self.now.book grant.now after }
     {
         if self.is_present(grant.sid()) && self.has_committed() {
             after
@@ -210,7 +210,7 @@ impl Book {
     /// Whether the session was given this lease last.
     fn has_lease(&self, key: &QKey, token: u64) -> bool
         ensures { IsTrue result
-            ↔ (self.now.told.lease ≡ Some (record { key = key.now; token = token })) }
+            ↔ (self.now.book.lease ≡ Some (record { key = key.now; token = token })) }
     {
         match self.lease {
             Some(lease) => lease.key == *key && lease.token == token,
@@ -220,14 +220,14 @@ impl Book {
 
     /// Whether the session is the present one and the grant its own.
     fn is_own(&self, who: Sid, grant: &Grant) -> bool
-        ensures { IsTrue result ↔ IsOwn self.now.told who grant.now }
+        ensures { IsTrue result ↔ IsOwn self.now.book who grant.now }
     {
         self.is_present(who) && grant.sid() == who
     }
 
     /// Whether the present session was begun for writing.
     fn is_writer(&self) -> bool
-        ensures { result ≡ may_write self.now.told.present }
+        ensures { result ≡ may_write self.now.book.present }
     {
         match self.present {
             Some(present) => present.writes,
@@ -237,7 +237,7 @@ impl Book {
 
     /// Whether the present session has committed.
     fn has_committed(&self) -> bool
-        ensures { result ≡ is_some self.now.told.commit }
+        ensures { result ≡ is_some self.now.book.commit }
     {
         self.commit.is_some()
     }
@@ -245,7 +245,7 @@ impl Book {
     /// Whether the book bears out a release with this new value.
     fn puts(&self, who: Sid, grant: &Grant, value: &Value, stamp: u64) -> Result<bool, Memory>
         ensures { IfOk result (λ is. IsTrue is
-            ↔ IsBorne self.now.told who (wanted.Sar grant.now (Some value.now) stamp)) }
+            ↔ IsBorne self.now.book who (wanted.Sar grant.now (Some value.now) stamp)) }
     {
         let Some(done) = &self.commit else {
             return Ok(false);
@@ -259,7 +259,7 @@ impl Book {
     /// Whether the session holds the grant with an old value that the transaction refreshes to this one.
     fn refreshes(&self, grant: &Grant, txn: &Txn, value: &Value) -> Result<bool, Memory>
         ensures { IfOk result (λ is. IsTrue is
-            ↔ Refreshes self.now.told grant.now value.now txn.now) }
+            ↔ Refreshes self.now.book grant.now value.now txn.now) }
     {
         let alloc = *self.held.allocator();
         holds_old(alloc, self.held.as_slice(), &Ticket::of(grant), txn, value)
@@ -267,7 +267,7 @@ impl Book {
 
     /// Whether the book bears out a release that shifts the value.
     fn shifts(&self, who: Sid, grant: &Grant, stamp: u64) -> bool
-        ensures { IsTrue result ↔ IsBorne self.now.told who (wanted.Apply grant.now stamp) }
+        ensures { IsTrue result ↔ IsBorne self.now.book who (wanted.Apply grant.now stamp) }
     {
         let Some(done) = &self.commit else {
             return false;

@@ -3,7 +3,7 @@ use Rattle.std.specs.Prelude.{IsTrue, ◌↔◌}
 use Rattle.std.specs.List.{Any}
 use Rattle.std.proofs.lemmas.Bool.{false≢true}
 use Rattle.session_client.specs.Wants.{new_value}
-use Rattle.desk_book.specs.Told.{Held}
+use Rattle.desk_book.specs.Books.{Held}
 use Rattle.desk_book.proofs.ListLemmas.{any_skip, ok_gives}
 use Rattle.desk_book.proofs.held.+holds_old.Goals as goal
 

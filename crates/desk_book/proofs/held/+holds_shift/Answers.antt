@@ -1,7 +1,7 @@
 use Rattle.std.proofs.Common.{◌≡◌, sym, ◌∙◌}
 use Rattle.std.proofs.lemmas.Bool.{false≢true}
 use Rattle.rows_model.specs.Delta.{delta_of}
-use Rattle.desk_book.specs.Told.{Held}
+use Rattle.desk_book.specs.Books.{Held}
 use Rattle.desk_book.proofs.ListLemmas.{any_skip}
 use Rattle.desk_book.proofs.held.+holds_shift.Goals as goal
 

@@ -19,7 +19,7 @@ pub record Held : Type 0 where
 
 -- What a desk was told for its present session: the lease that it was given last, what the store has answered for that key
 -- since, the grants that it holds, its commit, and whether its end was answered.
-pub record Told : Type 0 where
+pub record Book : Type 0 where
   pub present : Option Present
   pub lease : Option Leased
   pub answers : List Answer
@@ -29,16 +29,16 @@ pub record Told : Type 0 where
 
 -- What contracts see of a book: what was told, and for how many answers and grants there is room in all.
 pub record BookView : Type 0 where
-  pub told : Told
+  pub book : Book
   pub answer_room : ℕ
   pub grant_room : ℕ
 
 -- Nothing was told, and no session has begun.
-abbrev pub nothing_told : Told
-nothing_told = record { present = None; lease = None; answers = []; held = []; commit = None; ended = false }
+abbrev pub empty_book : Book
+empty_book = record { present = None; lease = None; answers = []; held = []; commit = None; ended = false }
 
 -- A session has begun, and nothing was told to it yet.
-abbrev pub begun : Sid → Bool → Told
+abbrev pub begun : Sid → Bool → Book
 begun who writes =
     record { present = Some (record { sid = who; writes = writes }); lease = None; answers = []; held = []; commit = None; ended = false }
 
@@ -47,8 +47,8 @@ abbrev pub is_of : Option Present → Sid → Bool
 is_of (Some one) who = one.sid.number == who.number
 is_of None who = false
 
-abbrev pub is_present : Told → Sid → Bool
-is_present told who = is_of told.present who
+abbrev pub is_present : Book → Sid → Bool
+is_present book who = is_of book.present who
 
 -- Whether the present session was begun for writing.
 abbrev pub may_write : Option Present → Bool
@@ -69,17 +69,17 @@ abbrev pub with_place : List Answer → List Answer
 with_place answers = if nat_lt (length answers) most_answers then answers else drop 1 answers
 
 -- A lease was given. Answers from before it don't count for it.
-abbrev pub with_lease : QKey → ℕ → Told → Told
-with_lease key token told = record told { lease = Some (record { key = key; token = token }); answers = [] }
+abbrev pub with_lease : QKey → ℕ → Book → Book
+with_lease key token book = record book { lease = Some (record { key = key; token = token }); answers = [] }
 
 -- The store has answered. Of another key than the lease's that isn't kept.
-abbrev pub with_answer : Answer → Told → Told
-with_answer answer told =
-    if is_on told.lease answer.key then record told { answers = with_place told.answers ++ answer ∷ [] } else told
+abbrev pub with_answer : Answer → Book → Book
+with_answer answer book =
+    if is_on book.lease answer.key then record book { answers = with_place book.answers ++ answer ∷ [] } else book
 
 -- A quarantine was granted.
-abbrev pub with_grant : Permit → Option (List ℕ × ℕ) → ℤ → Told → Told
-with_grant permit old by told = record told { held = told.held ++ record { permit = permit; old = old; by = by } ∷ [] }
+abbrev pub with_grant : Permit → Option (List ℕ × ℕ) → ℤ → Book → Book
+with_grant permit old by book = record book { held = book.held ++ record { permit = permit; old = old; by = by } ∷ [] }
 
 -- What a grant says once its quarantine is raised.
 abbrev pub raised : Permit → Permit
@@ -94,8 +94,8 @@ all_raised permit old (one ∷ held) =
     else one ∷ all_raised permit old held
 
 -- A quarantine was raised.
-abbrev pub with_raised : Permit → Option (List ℕ × ℕ) → Told → Told
-with_raised permit old told = record told { held = all_raised permit old told.held }
+abbrev pub with_raised : Permit → Option (List ℕ × ℕ) → Book → Book
+with_raised permit old book = record book { held = all_raised permit old book.held }
 
 -- All of these grants but the first that says this.
 abbrev pub all_but : Permit → List Held → List Held
@@ -103,17 +103,17 @@ all_but permit [] = []
 all_but permit (one ∷ held) = if same_permit one.permit permit then held else one ∷ all_but permit held
 
 -- A grant is spent.
-abbrev pub without_grant : Permit → Told → Told
-without_grant permit told = record told { held = all_but permit told.held }
+abbrev pub without_grant : Permit → Book → Book
+without_grant permit book = record book { held = all_but permit book.held }
 
 -- The transaction was committed with this number.
-abbrev pub with_commit : ℕ → List Change → Told → Told
-with_commit number txn told = record told { commit = Some (record { number = number; txn = txn }) }
+abbrev pub with_commit : ℕ → List Change → Book → Book
+with_commit number txn book = record book { commit = Some (record { number = number; txn = txn }) }
 
 -- The session's end was answered.
-abbrev pub with_end : Told → Told
-with_end told = record told { ended = true }
+abbrev pub with_end : Book → Book
+with_end book = record book { ended = true }
 
 -- What is noted for a session: nothing, where it isn't the present one.
-abbrev pub noted_for : Sid → (Told → Told) → Told → Told
-noted_for who note told = if is_present told who then note told else told
+abbrev pub noted_for : Sid → (Book → Book) → Book → Book
+noted_for who note book = if is_present book who then note book else book
