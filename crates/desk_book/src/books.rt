@@ -13,6 +13,7 @@ use std::marker::Model;
 /// It holds one lease, the last that was given, and the store's answers for its key since, four at the
 /// most: of more the oldest goes. A fact of another session is never noted. Room for a fact is taken
 /// before the event that brings it, and to note it takes none.
+#[derive(Drop)]
 pub struct Book {
     pub(crate) present: Option<Present>,
     pub(crate) lease: Option<Leased>,
