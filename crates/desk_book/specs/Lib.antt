@@ -1,4 +1,4 @@
-pub mod Book
+pub mod Books
 pub mod Borne
 pub mod Heard
 pub mod Laws
