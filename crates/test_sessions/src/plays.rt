@@ -88,7 +88,7 @@ fn fit(plan: Plan) -> Option<Plan>
 }
 
 /// The plan that a line of a script says.
-fn plan_of(rt: &impl Abort, alloc: Global, line: &str) -> Plan {
+pub fn plan_of(rt: &impl Abort, alloc: Global, line: &str) -> Plan {
     let text = format!(in alloc; "members 9\n{line}\nend").expect(rt, "memory");
     match Script::parse(alloc, text.as_bytes()) {
         Ok(script) => match script.into_acts().pop() {

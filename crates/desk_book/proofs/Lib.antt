@@ -1,0 +1,11 @@
+pub mod ListLemmas
+pub mod PermitLemmas
+pub mod HeldLemmas
+pub mod PutLemmas
+pub mod GivenLemmas
+pub mod ApartLemmas
+pub mod WriterLemmas
+pub mod WriterSteps
+pub mod BorneLemmas
+pub mod ReaderLemmas
+pub mod LawLemmas

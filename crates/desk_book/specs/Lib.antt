@@ -1,0 +1,6 @@
+pub mod Books
+pub mod Borne
+pub mod Heard
+pub mod Laws
+pub mod Apart
+pub mod Made
