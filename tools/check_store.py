@@ -29,6 +29,7 @@ KILL_SEED = 33
 NOTHING = "members 3\nend\n"
 NOTHING_TOLD = "end commits 0 hits 0 stores 0 agains 0\n"
 REFUSED = ("", "store fault\n", 6)
+NOBODY = 65534
 
 
 class Folder:
@@ -196,15 +197,27 @@ def no_file(folder):
 
 
 def no_permission(folder):
-    if os.getuid() == 0:
-        print("store: nothing is forbidden to root, so no file without permission is tried")
-        return
+    """Nothing is forbidden to root, so the program is then run as another user."""
+    user = NOBODY if os.getuid() == 0 else None
     path = folder.fit()
-    for mode in (0o000, 0o400):
+    os.mkdir(folder.path("shut"))
+    os.chmod(folder.path("shut"), 0o555)
+    os.chmod(folder.place, 0o755)
+    for mode in (0o000, 0o444):
         os.chmod(path, mode)
-        expect(run(folder.program, ["replay", "--db", path], NOTHING), REFUSED)
+        expect(run(folder.program, ["replay", "--db", path], NOTHING, user=user), REFUSED)
+    missing = folder.path("shut/store.db")
+    expect(run(folder.program, ["replay", "--db", missing], NOTHING, user=user), REFUSED)
     os.chmod(path, 0o600)
     expect(rows(path), ([(1, "m1"), (2, "bob"), (3, "m3")], []))
+
+
+def is_run_by_nobody(program):
+    """Whether the program can be run as another user, who may be kept from its folder."""
+    try:
+        return os.getuid() != 0 or run(program, [], user=NOBODY)[2] == 1
+    except (OSError, subprocess.SubprocessError):
+        return False
 
 
 def used_by_two(folder):
@@ -454,7 +467,6 @@ REFUSED_FILES = [
     ("a log beside it with rows that aren't fit", unfit_log_beside),
     ("a journal beside it that has to be played back", hot_journal_beside),
     ("what no file is, or no file of its own", no_file),
-    ("a file without permission", no_permission),
     ("a file that sqlite writes", used_by_sqlite),
 ]
 TAKEN_FILES = [
@@ -499,6 +511,10 @@ def check_all(program, kills):
         checks.refused(name, statements)
     for name, work in REFUSED_FILES:
         checks.check(f"refused and left as it is: {name}", work)
+    if is_run_by_nobody(program):
+        checks.check("refused and left as it is: a file without permission", no_permission)
+    else:
+        print("store: only root can run the program here, to whom nothing is forbidden: no such file is tried")
     for script in sorted(glob.glob(os.path.join(TOP, "examples", "*.iq"))):
         checks.example(script)
     checks.check(f"a server that is killed, {kills} times", killed, kills)

@@ -83,8 +83,9 @@ def copy(path, folder):
     return os.path.join(folder, "store.db")
 
 
-def run(program, words, script="", most=None):
-    """Runs the program, with files of no more than so many bytes. What it printed, its standard error, and its status."""
+def run(program, words, script="", most=None, user=None):
+    """Runs the program, with files of no more than so many bytes, and as another user. What it printed, its standard
+    error, and its status."""
     ran = subprocess.run(
         [program, *map(str, words)],
         input=script.encode(),
@@ -93,6 +94,7 @@ def run(program, words, script="", most=None):
         check=False,
         restore_signals=False,
         preexec_fn=_limit(most),
+        user=user,
     )
     return ran.stdout.decode(), ran.stderr.decode(), ran.returncode
 
