@@ -1,6 +1,7 @@
 -- What a shard's pass and the store's have seen together keeps each entry of the shard beside the store.
-use Rattle.std.proofs.Common.{ℕ, ◌≡◌, ◌≤◌, Bool, true, false, ◌||◌, List, [], ◌∷◌, ◌++◌, length, length-append, take, slice_get, Option, Some, None, IsSome, is_none, refl, sym, ap, subst, ◌∙◌, arith}
+use Rattle.std.proofs.Common.{ℕ, ◌≡◌, ◌≤◌, Bool, true, false, ◌||◌, List, [], ◌∷◌, ◌++◌, length, length-append, append_assoc, All, take, slice_get, Option, Some, None, IsSome, is_none, refl, sym, ap, subst, ◌∙◌, arith}
 use Rattle.std.proofs.lemmas.Bool.{false≢true}
+use Rattle.std.proofs.lemmas.List.Elements.{All-weaker}
 use Rattle.rows_model.specs.declared.keys.QKey.{QKey}
 use Rattle.rows_model.specs.Rows.{Tables}
 use Rattle.rows_model.specs.Placement.{shard_of}
@@ -12,8 +13,9 @@ use Rattle.sql_keeper.specs.Stores.{StoreView}
 use Rattle.log_word.specs.declared.seen.Seen.{Seen}
 use Rattle.log_word.specs.Lists.{IsStart, longer, steps_of}
 use Rattle.log_word.specs.Steps.{IsSound, IsBeginning}
-use Rattle.log_word.specs.Passes.{WordView, IsTogether}
-use Rattle.log_word.proofs.StartLemmas.{longer_elim}
+use Rattle.log_word.specs.Passes.{WordView, PassView, IsTogether}
+use Rattle.log_word.proofs.StartLemmas.{longer_elim, start_trans}
+use Rattle.log_word.proofs.ViewLemmas.{beginning_trans}
 use Rattle.key_freshness.specs.Marks.{marks_of}
 use Rattle.key_freshness.specs.Held.{IsEntryHeld, IsEntryRight}
 use Rattle.key_freshness.proofs.HitLemmas.{lacking_stands}
@@ -55,7 +57,8 @@ tells (Some rows) h = refl
 module _ (word : WordView) (opening : Tables) (before : ℕ → List Step) (begun failed : ℕ) (shard : ShardView) (store : StoreView) (mine theirs : Seen)
     (bound : IsBoundShard word opening before shard (record { word = word; shard = shard.terms.no; seen = mine })) (sound : IsSound word.shards mine)
     (tied : IsBoundStore word begun failed store (record { word = word; seen = theirs }))
-    (events : mine.events ≡ theirs.events) (running : theirs.stopped ≡ false → mine.stopped ≡ false) where
+    (events : mine.events ≡ theirs.events) (running : theirs.stopped ≡ false → mine.stopped ≡ false)
+    (early : Seen) (steps : IsStart (steps_of shard.terms.no early.steps) (steps_of shard.terms.no mine.steps)) where
   -- the log is the commits that the shard has seen
   log_is : store.ledger.log ≡ commits_of mine.events
   log_is = tied.log ∙ sym (ap commits_of events)
@@ -79,11 +82,31 @@ module _ (word : WordView) (opening : Tables) (before : ℕ → List Step) (begu
             value_is ∙ sym (ap (λ log. answer_after opening key (take stamp log)) log_is);
       }
 
-  pub is_left : IsLeft opening before store shard
+  pub is_left : IsLeft opening before store early shard
   is_left = record {
     more = bound.more;
     goes_on = bound.goes_on;
+    told = subst (IsStart (steps_of shard.terms.no early.steps)) bound.told steps;
     entries = λ key value stamp home at.
         subst (λ past. IsKept opening store key (standing key past) value stamp) (sym bound.goes_on)
         (is_kept key value stamp (subst (λ n. shard_of key n ≡ shard.terms.no) bound.count home) (subst (λ past. entry key past ≡ Some (value, stamp)) bound.goes_on at));
   }
+
+-- who has seen less has seen the first of what was seen
+pub left_early : (opening : Tables) (before : ℕ → List Step) (store : StoreView) (shard : ShardView) (early late : Seen) → IsBeginning early late
+    → IsLeft opening before store late shard → IsLeft opening before store early shard
+left_early opening before store shard early late begins left = record {
+  more = left.more;
+  goes_on = left.goes_on;
+  told =
+      start_trans (steps_of shard.terms.no early.steps) (steps_of shard.terms.no late.steps) (shorts_of (before shard.terms.no) left.more) (begins.steps shard.terms.no) left.told;
+  entries = left.entries;
+}
+
+-- passes that are left and those that are gathered are all there are
+pub gather_last : (left all done : List PassView) (last : PassView) (rest : List PassView) → all ≡ left ++ done → left ≡ rest ++ last ∷ [] → all ≡ rest ++ last ∷ done
+gather_last left all done last rest are is = are ∙ ap (λ (l : List PassView). l ++ done) is ∙ append_assoc rest (last ∷ []) done
+
+-- what began what was seen begins what is seen now
+pub all_begin : (old new : Seen) (passes : List PassView) → IsBeginning old new → All (λ pass. IsBeginning pass.seen old) passes → All (λ pass. IsBeginning pass.seen new) passes
+all_begin old new passes goes all = All-weaker (λ (pass : PassView). IsBeginning pass.seen old) (λ (pass : PassView). IsBeginning pass.seen new) (λ pass h. beginning_trans pass.seen old new h goes) passes all

@@ -1,17 +1,18 @@
 //! A hub is taken apart: what lay under its locks, once the threads have ended.
 ghost use Rattle.std.specs.Prelude.{◌≡◌, ◌≤◌, ◌^◌, All, length, sum_by, vec_len, vec_capacity};
 ghost use Rattle.key_shard.specs.Answers.{Legal};
-ghost use Rattle.log_word.specs.Steps.{IsSound};
+ghost use Rattle.log_word.specs.declared.seen.Seen.{Seen};
+ghost use Rattle.log_word.specs.Steps.{IsSound, IsBeginning};
 ghost use Rattle.shard_lock.specs.Names.{AreAll, AreLegal, ArePlaced, AreTokens, IsNamed, IsNamedStore, IsTokenOf};
 ghost use Rattle.bound_hub.specs.Ties.{IsBoundShard, IsBoundStore};
-ghost use Rattle.bound_hub.specs.Parts.{IsLeft};
+ghost use Rattle.bound_hub.specs.Parts.{IsGathered, IsLeft};
 
 use crate::bound_shards::BoundShard;
 use crate::bound_stores::BoundStore;
 use crate::hubs::BoundHub;
 use crate::names::BoundName;
 use key_shard::Shard;
-use log_word::LogWord;
+use log_word::{LogWord, Pass};
 use shard_lock::StartOf;
 use sql_keeper::{Keeper, Store};
 use std::sync::Mutex;
@@ -23,12 +24,17 @@ impl<K: Keeper, H: BoundName> BoundHub<K, H> {
     /// commits of the log, and each later commit on its key has its quarantine standing. Where the store
     /// tells its rows, each entry is its key's answer after so many commits. It takes no lock and no
     /// memory.
-    pub fn into_parts(self) -> (Store<K, StartOf<H>>, Vec<Shard>)
+    ///
+    /// The passes of its callers are handed in: all that they have seen is a beginning of what happened,
+    /// of which the commits are the log, and of which no shard made other steps first.
+    pub fn into_parts(self, passes: Vec<Pass>) -> (Store<K, StartOf<H>>, Vec<Shard>)
+        requires { All (λ pass. pass.word ≡ H.word) passes.items }
         ensures store { IsNamedStore H.opening H.cap H.told H.start result.0 }
         ensures as_many { length result.1.items ≡ self }
         ensures all { AreAll H.terms result.1.items }
         ensures legal { AreLegal result.1.items }
-        ensures entries { All (IsLeft H.opening H.before result.0) result.1.items }
+        ensures kept { (seen : Seen) × IsGathered H.word.shards H.failed result.0 passes.items seen
+            × All (IsLeft H.opening H.before result.0 seen) result.1.items }
     {
         let BoundHub {
             word,
@@ -39,7 +45,15 @@ impl<K: Keeper, H: BoundName> BoundHub<K, H> {
             tokens,
         } = self;
         let mut store = store.into_inner();
-        let shards = unlocked(&word, shards, room.into_inner().into_shards(), &tokens, &mut store);
+        gather(&word, passes, &mut store);
+        store.tied();
+        let shards = unlocked(
+            &word,
+            shards,
+            room.into_inner().into_shards(),
+            &tokens,
+            &mut store,
+        );
         (store.into_store(), shards)
     }
 }
@@ -63,12 +77,13 @@ impl<H: BoundName> BoundShard<H> {
 }
 
 impl<K: Keeper, H: BoundName> BoundStore<K, H> {
-    /// The store and what its pass has seen belong together.
+    /// The store and what its pass has seen belong together, and that is sound.
     pub(crate) fn tied(&self)
-        ensures { IsBoundStore H.word H.begun H.failed self.now.store
+        ensures tied { IsBoundStore H.word H.begun H.failed self.now.store
             (record { word = H.word; seen = self.now.seen }) }
+        ensures sound { IsSound H.word.shards self.now.seen }
     {
-        let _store = &self.store;
+        self.pass.sound();
     }
 
     /// The store alone.
@@ -78,6 +93,20 @@ impl<K: Keeper, H: BoundName> BoundStore<K, H> {
     {
         let BoundStore { store, pass: _ } = self;
         store
+    }
+}
+
+/// The store's pass sees all that these passes have seen.
+fn gather<K: Keeper, H: BoundName>(word: &LogWord, passes: Vec<Pass>, store: &mut BoundStore<K, H>)
+    requires word { word.now ≡ H.word }
+    requires passes { All (λ pass. pass.word ≡ H.word) passes.items }
+    ensures store { store.new.store ≡ store.old.store }
+    ensures begun { All (λ pass. IsBeginning pass.seen store.new.seen) passes.items }
+{
+    let mut passes = passes;
+    while let Some(pass) = passes.pop() {
+        let mut pass = pass;
+        store.join(word, pass.note(word));
     }
 }
 
@@ -100,7 +129,7 @@ fn unlocked<K: Keeper, H: BoundName>(
     ensures named { All (IsNamed H.terms) result.items }
     ensures legal { AreLegal result.items }
     ensures placed { ArePlaced result.items }
-    ensures entries { All (IsLeft H.opening H.before store.old.store) result.items }
+    ensures left { All (IsLeft H.opening H.before store.old.store store.old.seen) result.items }
 {
     let (mut shards, mut all) = taken(word, locks, room, store);
     tokens.audit(&mut all);
@@ -123,7 +152,7 @@ fn taken<K: Keeper, H: BoundName>(
     ensures as_many { length result.0.items ≡ vec_len locks }
     ensures named { All (IsNamed H.terms) result.0.items }
     ensures legal { AreLegal result.0.items }
-    ensures entries { All (IsLeft H.opening H.before store.old.store) result.0.items }
+    ensures left { All (IsLeft H.opening H.before store.old.store store.old.seen) result.0.items }
     ensures parts { result.1.parts ≡ vec_len locks }
     ensures amount { result.1.amount ≡ sum_by (λ shard. 2 ^ shard.terms.no) result.0.items }
 {
@@ -154,7 +183,8 @@ fn left<K: Keeper, H: BoundName>(
     ensures named { IsNamed H.terms result.0 }
     ensures legal { Legal result.0.terms result.0.history }
     ensures token { IsTokenOf result.0.terms.no result.1.parts result.1.amount }
-    ensures entries { IsLeft H.opening H.before store.old.store result.0 }
+    ensures left { IsLeft H.opening H.before store.old.store store.old.seen result.0 }
+    ensures goes_on { IsBeginning store.old.seen store.new.seen }
 {
     let mut bound = bound;
     store.join(word, bound.note(word));

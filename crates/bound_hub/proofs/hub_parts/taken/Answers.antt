@@ -5,7 +5,9 @@ use Rattle.key_shard.specs.Answers.{Legal}
 use Rattle.key_shard.specs.Shards.{ShardView}
 use Rattle.sql_keeper.specs.Stores.{StoreView}
 use Rattle.shard_lock.specs.Names.{IsNamed}
+use Rattle.log_word.proofs.ViewLemmas.{beginning_trans}
 use Rattle.bound_hub.specs.Parts.{IsLeft}
+use Rattle.bound_hub.proofs.PartLemmas.{left_early}
 use Rattle.bound_hub.proofs.hub_parts.taken.Goals as goal
 
 pub loop-lock-preserved : goal.loop-lock-preserved
@@ -16,7 +18,8 @@ loop-lock-preserved g c =
     let items = c.push_reserved-in-Some-pop.ensures.items in
     let Named : ShardView → Type 0 = IsNamed g.H.HubName.terms in
     let Right : ShardView → Type 0 = λ shard. Legal shard.terms shard.history in
-    let Left : StoreView → ShardView → Type 0 = IsLeft g.H.HubName.opening g.H.BoundName.before in
+    let first = c.args.store.now.seen in
+    let Left : StoreView → ShardView → Type 0 = λ s. IsLeft g.H.HubName.opening g.H.BoundName.before s first in
     let power : ShardView → ℕ = λ shard. 2 ^ shard.terms.no in
     let more : (P : ShardView → Type 0) → All P c.loop-lock.shards.items → P new → All P c.push_reserved-in-Some-pop.new.self.items = λ P all here.
     subst (All P) (sym {A = List ShardView} items) (All-append P c.loop-lock.shards.items (new ∷ []) all (All-cons P new [] here (All-nil P))) in
@@ -24,7 +27,11 @@ loop-lock-preserved g c =
     record {
       named = more Named before.named told.named;
       legal = more Right before.legal told.legal;
-      entries = more (Left c.args.store.now.store) before.entries (subst (λ s. Left s new) before.store told.entries);
+      left =
+          more (Left c.args.store.now.store) before.left
+          (subst (λ s. Left s new) before.store
+          (left_early g.H.HubName.opening g.H.BoundName.before c.loop-lock.store.store new first c.loop-lock.store.seen before.seen told.left));
+      seen = beginning_trans first c.loop-lock.store.seen c.left-shard-in-Some-pop.new.store.seen before.seen told.goes_on;
       store = told.store ∙ before.store;
       all = grind (arith, before.all, c.push_reserved-in-Some-pop.ensures.len, c.in-Some-pop.ensures.cases);
       room = grind (arith, before.room, c.push_reserved-in-Some-pop.ensures.capacity);

@@ -1,5 +1,6 @@
 use Rattle.std.proofs.Common.{◌≡◌, ◌≤◌, ◌+◌, ◌^◌, All, sum_by, vec_len, vec_capacity}
 use Rattle.shard_lock.specs.Names.{AreLegal, IsNamed}
+use Rattle.log_word.specs.Steps.{IsBeginning}
 use Rattle.bound_hub.specs.Parts.{IsLeft}
 use Rattle.bound_hub.proofs.hub_parts.taken.Given as goal
 
@@ -8,7 +9,8 @@ abbrev pub invariant-loop-lock : goal.invariant-loop-lock
 invariant-loop-lock g l = record {
   named : All (IsNamed g.H.HubName.terms) l.shards.items;
   legal : AreLegal l.shards.items;
-  entries : All (IsLeft g.H.HubName.opening g.H.BoundName.before l.fn.store.store) l.shards.items;
+  left : All (IsLeft g.H.HubName.opening g.H.BoundName.before l.fn.store.store l.fn.store.seen) l.shards.items;
+  seen : IsBeginning l.fn.store.seen l.store.seen;
   store : l.store.store ≡ l.fn.store.store;
   all : vec_len l.locks + vec_len l.shards ≡ vec_len l.fn.locks;
   room : vec_len l.fn.locks ≤ vec_capacity l.shards;

@@ -78,7 +78,7 @@ returns-clause-goes_on g c =
     let stop = is_none c.commit.new.self.told in
     subst (λ (v : BoundStoreView). IsBeginning v.seen c.match-commit.self.seen) c.self.view_is
     (elim c.match-commit.branch [
-      in-Ok-commit w ↦
+      | in-Ok-commit w ↦
           subst (λ (v : BoundStoreView). IsBeginning pass.seen v.seen) (sym w.self-is)
           (commit_goes_on c.args.sid c.args.txn stop pass.seen w.add_commit.new.pass.seen
           (w.add_commit.ensures.seen ∙ ap (λ (s : Seen). with_event (event.Commit c.args.sid c.args.txn) s) w.hear.ensures.seen))
