@@ -17,6 +17,7 @@ pub mod QuarantineLemmas
 pub mod GrantLemmas
 pub mod MarkShorts
 pub mod AloneLemmas
+pub mod WriteTies
 pub mod CountLemmas
 pub mod ReleaseLemmas
 pub mod RaiseTies
