@@ -19,6 +19,7 @@ pub mod QuarantineLemmas
 pub mod StandingGrants
 pub mod MarkShorts
 pub mod AloneLemmas
+pub mod WriteTies
 pub mod CountLemmas
 pub mod ReleaseLemmas
 pub mod RaiseTies

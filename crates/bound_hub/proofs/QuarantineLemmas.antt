@@ -64,21 +64,21 @@ module _ (terms : Terms) (past : List Step) (key : QKey) (who : Sid) (mode : Mod
   pub quarantine_leaves : entry key (s ∷ past) ≡ entry key past
   quarantine_leaves = quarantine_cases (λ x. entry key (x ∷ past) ≡ entry key past) terms past key who mode shift now (λ _. refl) refl (λ _ _. refl)
 
-  pub quarantine_tells : (answer : QAnswer) (has : Bool) → ShowsQuarantine terms past s answer → (quarantine_short key who answer has ≡ short_of s has) × (key_of s ≡ key)
+  pub quarantine_tells : (answer : QAnswer) (has : Bool) → ShowsQuarantine terms past s answer → (quarantine_short key who mode shift answer has ≡ short_of s has) × (key_of s ≡ key)
   quarantine_tells answer has =
-      quarantine_cases (λ x. ShowsQuarantine terms past x answer → (quarantine_short key who answer has ≡ short_of x has) × (key_of x ≡ key)) terms past key who mode shift now
-      (λ _ shows. (ap (λ a. quarantine_short key who a has) shows, refl))
-      (λ shows. (ap (λ a. quarantine_short key who a has) shows, refl))
-      (λ _ _ shows. (ap (λ a. quarantine_short key who a has) shows, refl))
+      quarantine_cases (λ x. ShowsQuarantine terms past x answer → (quarantine_short key who mode shift answer has ≡ short_of x has) × (key_of x ≡ key)) terms past key who mode shift now
+      (λ _ shows. (ap (λ a. quarantine_short key who mode shift a has) shows, refl))
+      (λ shows. (ap (λ a. quarantine_short key who mode shift a has) shows, refl))
+      (λ _ _ shows. (ap (λ a. quarantine_short key who mode shift a has) shows, refl))
 
   pub quarantine_borne_out : (events : List StoreEvent) (answer : QAnswer) (has : Bool) → may_write who.number events ≡ true
-      → ShowsQuarantine terms past s answer → IsBorneOut events (quarantine_short key who answer has)
+      → ShowsQuarantine terms past s answer → IsBorneOut events (quarantine_short key who mode shift answer has)
   quarantine_borne_out events answer has begun =
-      quarantine_cases (λ x. ShowsQuarantine terms past x answer → IsBorneOut events (quarantine_short key who answer has)) terms past key who mode shift now
-      (λ _ shows. subst (λ a. IsBorneOut events (quarantine_short key who a has)) (sym shows) (record { begun = λ _. begun; over = λ e. absurd (false≢true e); stamped = omega arith }))
-      (λ shows. subst (λ a. IsBorneOut events (quarantine_short key who a has)) (sym shows)
+      quarantine_cases (λ x. ShowsQuarantine terms past x answer → IsBorneOut events (quarantine_short key who mode shift answer has)) terms past key who mode shift now
+      (λ _ shows. subst (λ a. IsBorneOut events (quarantine_short key who mode shift a has)) (sym shows) (record { begun = λ _. begun; over = λ e. absurd (false≢true e); stamped = omega arith }))
+      (λ shows. subst (λ a. IsBorneOut events (quarantine_short key who mode shift a has)) (sym shows)
       (record { begun = λ e. absurd (false≢true e); over = λ e. absurd (false≢true e); stamped = omega arith }))
-      (λ _ _ shows. subst (λ a. IsBorneOut events (quarantine_short key who a has)) (sym shows)
+      (λ _ _ shows. subst (λ a. IsBorneOut events (quarantine_short key who mode shift a has)) (sym shows)
       (record { begun = λ e. absurd (false≢true e); over = λ e. absurd (false≢true e); stamped = omega arith }))
 
   -- what holds of the entry holds of the old value, if there is one

@@ -12,3 +12,4 @@ pub mod Asked
 pub mod Olds
 pub mod Releases
 pub mod Sweeps
+pub mod Writes

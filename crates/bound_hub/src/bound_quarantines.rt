@@ -52,7 +52,8 @@ impl<H: BoundName> BoundShard<H> {
         ensures seen { IsBeginning pass.old.seen pass.new.seen }
         ensures here { IsBeginning self.old.seen pass.new.seen }
         ensures last { IfOk result (λ told. IsLastStep self.old.shard.terms.no
-            (quarantine_short key who told (is_some (entry key (past_of self.new.shard))))
+            (quarantine_short key who mode shift told
+            (is_some (entry key (past_of self.new.shard))))
             pass.new.seen) }
         ensures old { IfOk result (λ told. let no = self.old.shard.terms.no in
             IsGrantHeld H.opening (H.before no) no pass.new.seen key told) }
@@ -88,7 +89,8 @@ impl<H: BoundName> BoundShard<H> {
         ensures err { OnErr result.0 (self.new.shard ≡ self.old.shard) }
         ensures goes_on { IsBeginning self.old.seen self.new.seen }
         ensures last { IfOk result.0 (λ told. IsLastStep self.old.shard.terms.no
-            (quarantine_short key who told (is_some (entry key (past_of self.new.shard))))
+            (quarantine_short key who mode shift told
+            (is_some (entry key (past_of self.new.shard))))
             self.new.seen) }
         ensures old { IfOk result.0 (λ told. let no = self.old.shard.terms.no in
             IsGrantHeld H.opening (H.before no) no self.new.seen key told) }
@@ -98,7 +100,7 @@ impl<H: BoundName> BoundShard<H> {
         match self.shard.quarantine(key, who, mode, shift, now) {
             Ok(told) => {
                 let has = self.shard.peek(&key).is_some();
-                let short = quarantine_short(&key, who, &told, has);
+                let short = quarantine_short(&key, who, mode, shift, &told, has);
                 (Ok(told), self.pass.tell(word, &short))
             }
             Err(fault) => (Err(fault), self.pass.note(word)),

@@ -1,9 +1,10 @@
 //! The steps of a shard, in short.
 ghost use Rattle.std.specs.Prelude.{◌≡◌};
-ghost use Rattle.bound_hub.specs.Shorts.{short, short_of, kind_of_end, stamp_of_end};
+ghost use Rattle.bound_hub.specs.Shorts.{short, short_of, granted_short, raised_short, is_alone, kind_of_end, stamp_of_end};
 ghost use Rattle.bound_hub.specs.Gets.{got_short};
 
 use key_shard::{Ended, Got, Step};
+use lease_table::Mode;
 use log_word::{Short, ShortKind};
 use rows_model::{QKey, Sid};
 
@@ -39,9 +40,11 @@ pub fn short_of(step: &Step, has: bool) -> Short
         Step::Granted {
             key,
             sid,
+            mode,
+            shift,
             token,
             ..
-        } => made(ShortKind::Granted, key, sid, *token, 0, has),
+        } => granted(key, sid, *mode, *shift, *token, has),
         Step::Held { key, sid, .. } => made(ShortKind::Held, key, sid, 0, 0, has),
         Step::Refused { key, sid, .. } => made(ShortKind::Refused, key, sid, 0, 0, has),
         Step::Released {
@@ -51,7 +54,7 @@ pub fn short_of(step: &Step, has: bool) -> Short
             how,
         } => made(kind_of(how), key, sid, *token, stamp_of(how), has),
         Step::Gone { key, sid, token } => made(ShortKind::Gone, key, sid, *token, 0, has),
-        Step::Raised { key, sid, token } => made(ShortKind::Raised, key, sid, *token, 0, has),
+        Step::Raised { key, sid, token } => raised(key, sid, *token, has),
         Step::Shared {
             key,
             sid,
@@ -96,7 +99,47 @@ pub(crate) fn made(
         sid: *sid,
         token,
         stamp,
+        alone: false,
+        by: 0,
         entry,
+    }
+}
+
+/// A grant in short, in this mode and with this shift.
+pub(crate) fn granted(
+    key: &QKey,
+    sid: &Sid,
+    mode: Mode,
+    shift: i32,
+    token: u64,
+    entry: bool,
+) -> Short
+    ensures { result ≡ granted_short key.now sid.now mode shift token entry }
+{
+    Short {
+        alone: is_alone(mode),
+        by: shift,
+        ..made(ShortKind::Granted, key, sid, token, 0, entry)
+    }
+}
+
+/// A raise in short.
+pub(crate) fn raised(key: &QKey, sid: &Sid, token: u64, entry: bool) -> Short
+    ensures { result ≡ raised_short key.now sid.now token entry }
+{
+    Short {
+        alone: true,
+        ..made(ShortKind::Raised, key, sid, token, 0, entry)
+    }
+}
+
+/// Whether a quarantine that stands in this mode stands alone on its key.
+fn is_alone(mode: Mode) -> bool
+    ensures { result ≡ is_alone mode }
+{
+    match mode {
+        Mode::Invalidate => false,
+        Mode::Refresh | Mode::Delta => true,
     }
 }
 

@@ -1,9 +1,10 @@
 //! Steps in short, told by the answers to their requests.
 ghost use Rattle.std.specs.Prelude.{◌≡◌};
-ghost use Rattle.bound_hub.specs.Told.{set_short, quarantine_short, kind_of_how, stamp_of_how, release_short, raise_short, renew_short};
+ghost use Rattle.bound_hub.specs.Told.{set_short, quarantine_short, kind_of_how, stamp_of_how, release_short, replace_short, raise_short, renew_short};
 
-use crate::shorts::{NOBODY, made};
+use crate::shorts::{NOBODY, granted, made, raised};
 use key_shard::{How, QAnswer, Raising, Rel, Renewal, SetAnswer};
+use lease_table::Mode;
 use log_word::{Short, ShortKind};
 use rows_model::{QKey, Sid};
 
@@ -17,14 +18,19 @@ pub fn set_short(key: &QKey, token: u64, stamp: u64, answer: &SetAnswer, has: bo
     }
 }
 
-/// The step of a quarantine in short.
-pub fn quarantine_short(key: &QKey, who: Sid, answer: &QAnswer, has: bool) -> Short
-    ensures { result ≡ quarantine_short key.now who answer.now has }
+/// The step of a quarantine in short, in this mode and with this shift.
+pub fn quarantine_short(
+    key: &QKey,
+    who: Sid,
+    mode: Mode,
+    shift: i32,
+    answer: &QAnswer,
+    has: bool,
+) -> Short
+    ensures { result ≡ quarantine_short key.now who mode shift answer.now has }
 {
     match answer {
-        QAnswer::Granted { grant, .. } => {
-            made(ShortKind::Granted, key, &who, grant.token(), 0, has)
-        }
+        QAnswer::Granted { grant, .. } => granted(key, &who, mode, shift, grant.token(), has),
         QAnswer::Held => made(ShortKind::Held, key, &who, 0, 0, has),
         QAnswer::Refused { .. } => made(ShortKind::Refused, key, &who, 0, 0, has),
     }
@@ -40,12 +46,22 @@ pub fn release_short(key: &QKey, sid: Sid, token: u64, how: &How, answer: &Rel, 
     }
 }
 
+/// The step of a release with a new value in short.
+pub fn replace_short(key: &QKey, sid: Sid, token: u64, stamp: u64, answer: &Rel, has: bool) -> Short
+    ensures { result ≡ replace_short key.now sid token stamp answer.now has }
+{
+    match answer {
+        Rel::Released { .. } => made(ShortKind::Put, key, &sid, token, stamp, has),
+        Rel::Gone => made(ShortKind::Gone, key, &sid, token, 0, has),
+    }
+}
+
 /// The step of a raise in short.
 pub fn raise_short(key: &QKey, sid: Sid, token: u64, answer: &Raising, has: bool) -> Short
     ensures { result ≡ raise_short key.now sid token answer.now has }
 {
     match answer {
-        Raising::Raised { .. } => made(ShortKind::Raised, key, &sid, token, 0, has),
+        Raising::Raised { .. } => raised(key, &sid, token, has),
         Raising::Shared { .. } => made(ShortKind::Shared, key, &sid, token, 0, has),
         Raising::Gone => made(ShortKind::Gone, key, &sid, token, 0, has),
     }

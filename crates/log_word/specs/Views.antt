@@ -1,5 +1,5 @@
 -- What each kind of step on the word makes of what a seat has seen.
-use Rattle.std.specs.Prelude.{ℕ, suc, max, ◌||◌, Bool, false, [], ◌∷◌}
+use Rattle.std.specs.Prelude.{ℕ, suc, max, pos, ◌||◌, Bool, false, [], ◌∷◌}
 use Rattle.log_word.specs.declared.events.StoreEvent.{StoreEvent}
 use Rattle.log_word.specs.declared.events.StoreEvent.TheVariants.{End}
 use Rattle.log_word.specs.declared.events.Short.{Short}
@@ -150,5 +150,7 @@ no_step = record {
   sid = record { number = 0 };
   token = 0;
   stamp = 0;
+  alone = false;
+  by = pos 0;
   entry = false;
 }

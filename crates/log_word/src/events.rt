@@ -44,6 +44,11 @@ pub struct Short {
     pub token: u64,
     /// The number of commits that the value holds, of a step that has a value.
     pub stamp: u64,
+    /// Whether the step leaves its session's quarantine alone on the key: it granted one to refresh or to
+    /// shift, or raised one.
+    pub alone: bool,
+    /// The number by which a quarantine that is granted shifts the key's, 0 where the step has none.
+    pub by: i32,
     /// Whether the key has an entry after the step.
     pub entry: bool,
 }

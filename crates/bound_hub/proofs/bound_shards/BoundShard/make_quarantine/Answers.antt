@@ -74,10 +74,10 @@ returns-in-Ok-clause-last g c =
     let pass = c.self.inside.pass in
     let a = c.args in
     let has = has_mapped _ c.peek.result (entry a.key (past_of c.quarantine.new.self)) c.is_some-has.result c.is_some-has.ensures c.peek.ensures in
-    let short = quarantine_short a.key a.who c.in-Ok.told (is_some (entry a.key (past_of c.quarantine.new.self))) in
+    let short = quarantine_short a.key a.who a.mode a.shift c.in-Ok.told (is_some (entry a.key (past_of c.quarantine.new.self))) in
     subst (λ (v : BoundShardView). IsLastStep v.shard.terms.no short c.tell.new.self.seen) c.self.view_is
     (step_is_last pass.shard c.self.inside.shard.terms.no c.quarantine_short-short.result short pass.seen c.tell.new.self.seen c.self.invariant.2.number
-    (c.quarantine_short-short.ensures ∙ ap (quarantine_short a.key a.who c.in-Ok.told) has) c.tell.ensures.seen)
+    (c.quarantine_short-short.ensures ∙ (λ i. quarantine_short a.key a.who a.mode (to_z-of_z w32 a.shift c.ranges.shift i) c.in-Ok.told (has i))) c.tell.ensures.seen)
 
 pub returns-in-Ok-clause-old : goal.returns-in-Ok-clause-old
 returns-in-Ok-clause-old g c =

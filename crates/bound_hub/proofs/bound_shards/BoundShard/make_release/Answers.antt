@@ -9,8 +9,8 @@ use Rattle.bound_hub.specs.Ties.{BoundShardView}
 use Rattle.bound_hub.specs.Told.{release_short}
 use Rattle.bound_hub.proofs.CountLemmas.{not_out, is_out_then, returned_more}
 use Rattle.bound_hub.proofs.GetLemmas.{has_mapped}
-use Rattle.bound_hub.proofs.ReleaseLemmas.{release_is_honest, release_tells, release_borne_out}
-use Rattle.bound_hub.proofs.StepTies.{has_returned, told_so, invariant_after, invariant_still, step_is_more, step_is_last}
+use Rattle.bound_hub.proofs.ReleaseLemmas.{release_is_honest, release_on, release_tells, release_borne_out}
+use Rattle.bound_hub.proofs.StepTies.{has_returned, told_so, invariant_after, invariant_still, home_of_made, step_is_more, step_is_last}
 use Rattle.bound_hub.proofs.bound_shards.BoundShard.make_release.Goals as goal
 
 pub invariant_of-self : goal.invariant_of-self
@@ -34,10 +34,11 @@ tell-requires-clause-borne_out g c =
     let has = c.is_some-has.result in
     let out = is_out_then shard new c.kept_steps-kept.result c.kept_steps.result (is_out shard a.grant) c.kept_steps-kept.ensures.count c.kept_steps.ensures.count
     (λ e. (told.unknown e).0) c.if-kept_steps-kept.false in
-    let may = subst (λ (v : BoundShardView). MayRelease a.grant.sid.number a.how v.seen) (sym c.self.view_is) c.requires.over in
+    let may = subst (λ (v : BoundShardView). MayRelease g.H.HubName.opening g.H.BoundName.word.shards v.shard.terms.no a.grant a.how v.seen) (sym c.self.view_is) c.requires.honest in
     let short = c.release_short-short.ensures ∙ (λ i. release_short (c.key-key.ensures i) (c.sid-sid.ensures i) (c.token-token.ensures i) a.how c.release-told.result has) in
     subst (IsBorneOut pass.seen.events) (sym short)
-    (release_borne_out g.H.BoundName.word g.H.HubName.opening g.H.BoundName.before shard pass c.self.invariant.2 c.kept_steps-kept.ensures.legal a.grant a.how out may c.release-told.result has)
+    (release_borne_out g.H.BoundName.word g.H.HubName.opening g.H.BoundName.before shard pass c.self.invariant.2 c.kept_steps-kept.ensures.legal c.sound.ensures a.grant out a.how may
+    c.release-told.result has)
 
 pub invariant_of-self-2 : goal.invariant_of-self-2
 invariant_of-self-2 g c =
@@ -54,14 +55,17 @@ invariant_of-self-2 g c =
     let step = release_step (past_of shard) a.grant a.how in
     let out = is_out_then shard new c.kept_steps-kept.result c.kept_steps.result (is_out shard a.grant) c.kept_steps-kept.ensures.count c.kept_steps.ensures.count
     (λ e. (told.unknown e).0) c.if-kept_steps-kept.false in
-    let may = subst (λ (v : BoundShardView). MayRelease a.grant.sid.number a.how v.seen) (sym c.self.view_is) c.requires.over in
+    let may = subst (λ (v : BoundShardView). MayRelease g.H.HubName.opening g.H.BoundName.word.shards v.shard.terms.no a.grant a.how v.seen) (sym c.self.view_is) c.requires.honest in
     let short = c.release_short-short.ensures ∙ (λ i. release_short (c.key-key.ensures i) (c.sid-sid.ensures i) (c.token-token.ensures i) a.how c.release-told.result has) in
     let has_is = has_mapped _ c.peek.result (entry a.grant.key (past_of new)) has c.is_some-has.ensures (c.peek.ensures ∙ ap (λ k. entry k (past_of new)) c.key-key.ensures) in
-    let tells = release_tells word opening before shard pass c.self.invariant.2 legal a.grant a.how out c.release-told.result has (told.shows out) in
+    let tells = release_tells word opening before shard pass c.self.invariant.2 legal c.sound.ensures a.grant out a.how c.release-told.result has (told.shows out) in
+    let made = has_returned shard new a.grant step (told.out out) in
+    let on = release_on word opening before shard pass c.self.invariant.2 legal c.sound.ensures a.grant out a.how in
+    let home = home_of_made word opening before shard new pass c.self.invariant.2 step made c.kept_steps.ensures.legal a.grant.key on in
     invariant_after g.H.HubName.terms c.self.inside.token.parts c.self.inside.token.amount word opening before shard pass c.self.invariant c.sound.ensures step
-    (release_is_honest word opening before shard pass c.self.invariant.2 legal a.grant a.how out may) new (has_returned shard new a.grant step (told.out out))
+    (release_is_honest word opening before shard pass c.self.invariant.2 legal c.sound.ensures a.grant out a.how home may) new made
     c.release_short-short.result c.tell.new.self
-    (told_so step c.release_short-short.result has a.grant.key new pass c.tell.new.self (short ∙ tells.0) tells.1 has_is c.tell.ensures.word c.tell.ensures.shard c.tell.ensures.seen)
+    (told_so step c.release_short-short.result has a.grant.key new pass c.tell.new.self (short ∙ tells) on has_is c.tell.ensures.word c.tell.ensures.shard c.tell.ensures.seen)
 
 pub returns-clause-goes_on : goal.returns-clause-goes_on
 returns-clause-goes_on g c =

@@ -1,16 +1,19 @@
 use Rattle.std.proofs.Common.{ap, sym, subst, ◌∙◌}
+use Rattle.key_shard.specs.Shards.{ShardView}
 use Rattle.log_word.specs.Passes.{PassView}
 use Rattle.log_word.specs.Steps.{IsBeginning}
+use Rattle.bound_hub.specs.Releases.{MayRelease}
 use Rattle.bound_hub.specs.Releases.{MayRelease}
 use Rattle.bound_hub.proofs.FreshLemmas.{begins_on}
 use Rattle.bound_hub.proofs.ReleaseLemmas.{may_goes_on}
 use Rattle.bound_hub.proofs.bound_shards.BoundShard.release.Goals as goal
 
-pub make_release-told-requires-clause-over : goal.make_release-told-requires-clause-over
-make_release-told-requires-clause-over g c =
+pub make_release-told-requires-clause-honest : goal.make_release-told-requires-clause-honest
+make_release-told-requires-clause-honest g c =
     let here = c.join.new.self in
     let theirs = subst (λ (p : PassView). IsBeginning p.seen here.seen) c.note.ensures.note c.join.ensures.theirs in
-    may_goes_on c.args.grant.sid.number c.args.how c.args.pass.now.seen here.seen theirs c.requires.over
+    subst (λ (v : ShardView). MayRelease g.H.HubName.opening g.H.BoundName.word.shards v.terms.no c.args.grant c.args.how here.seen) (sym c.join.ensures.shard)
+    (may_goes_on g.H.HubName.opening g.H.BoundName.word.shards c.args.self.now.shard.terms.no c.args.grant c.args.how c.args.pass.now.seen here.seen theirs c.requires.honest)
 
 pub returns-clause-seen : goal.returns-clause-seen
 returns-clause-seen g c =
