@@ -1,9 +1,9 @@
 //! The program: the words behind its name, standard input, standard output, connections over TCP, and an
-//! exit status. The rows of its store lie in an SQL database: in memory, or in the file that `--db` names.
+//! exit status. The rows of its store are in memory.
 #![tactic(auto)]
 
 use iq_outside::{OpenGate, ReaderSource, RuntimeClock, TcpDoor, WriterSink};
-use sqlite_keeper::SqliteKeeper;
+use sql_keeper::MapKeeper;
 use std::process::ExitCode;
 use std::{env, io};
 use top_run::{Status, run};
@@ -11,10 +11,10 @@ use top_run::{Status, run};
 fn main(rt: HostRuntime) -> ExitCode {
     let status = match words(&rt) {
         Ok(words) => {
-            // Standard input and standard output have no buffer.
+            // Standard input and standard output have no buffer, and the keeper is in memory.
             let mut source = ReaderSource::new(rt.stdin());
             let mut sink = WriterSink::new(rt.stdout());
-            let keeper = SqliteKeeper::new(&rt);
+            let keeper = MapKeeper::new(Vec::new(rt.alloc()));
             let mut door = TcpDoor::new(&rt);
             let clock = RuntimeClock::new(&rt);
             run(

@@ -50,17 +50,10 @@ enum Lies<F: Alter> {
 }
 
 impl SqliteKeeper<FileStore<File>, AnyFile> {
-    /// A keeper that wasn't started. No call has failed. It may go to another thread.
+    /// A keeper that wasn't started. No call has failed.
     pub fn new(rt: &HostRuntime) -> SqliteKeeper<FileStore<File>, AnyFile> {
-        sendable(SqliteKeeper::over(rt, AnyFile))
+        SqliteKeeper::over(rt, AnyFile)
     }
-}
-
-// The same keeper, which may go to another thread.
-fn sendable<K: Keeper + Send>(keeper: K) -> K
-    ensures { result ≡ keeper }
-{
-    keeper
 }
 
 impl<F: Alter + Drop, O: Opens<F>> SqliteKeeper<F, O> {
