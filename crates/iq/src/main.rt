@@ -36,7 +36,8 @@ fn main(rt: HostRuntime) -> ExitCode {
     ExitCode::from(status.exit_code())
 }
 
-/// The words behind the program's name, or how it ends without them.
+/// The words behind the program's name, or how it ends without them. One that names a file for the rows
+/// is a fault of the store.
 fn words(rt: &HostRuntime) -> Result<Vec<Vec<u8>>, Status> {
     let mut words = Vec::new(rt.alloc());
     let mut at_name = true;
@@ -45,7 +46,12 @@ fn words(rt: &HostRuntime) -> Result<Vec<Vec<u8>>, Status> {
             at_name = false;
             continue;
         }
-        if words.push(word.into_bytes()).is_err() {
+        let word = word.into_bytes();
+        if word.starts_with(b"--db") {
+            // This program keeps no rows in a file, so a store over one can't be started.
+            return Err(Status::KeepFault);
+        }
+        if words.push(word).is_err() {
             return Err(Status::Memory);
         }
     }
