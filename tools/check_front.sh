@@ -152,6 +152,8 @@ check_served() {
         python3 tools/play_clients.py out/iq docs/protocol.md "$check"
         count "served: $check" $?
     done
+    python3 tools/drawn_streams.py out/iq 2000
+    count "served: drawn streams, as the model" $?
 }
 
 # A picture is well-formed, and has a row for each line of the output but the last.

@@ -4,8 +4,9 @@
     python3 tools/play_clients.py PROGRAM PAGE CHECK
 
 PROGRAM is the proved `iq`, PAGE is docs/protocol.md, and CHECK is one of the names that `--list` in its place
-prints. The status is 0 where the server does what it must; else a line on standard error says what it did.
+prints, or `soak`, which takes minutes. The status is 0 where the server does what it must; else a line on standard error says what it did.
 """
+import os
 import re
 import resource
 import socket
@@ -55,6 +56,10 @@ class Server:
         """How many KiB of its memory are resident."""
         with open(f"/proc/{self.process.pid}/status", encoding="ascii") as status:
             return int(re.search(r"VmRSS:\s+(\d+) kB", status.read()).group(1))
+
+    def descriptors(self):
+        """How many descriptors it has open."""
+        return len(os.listdir(f"/proc/{self.process.pid}/fd"))
 
     def served(self, count):
         """Waits for its end, behind so many connections."""
@@ -168,9 +173,9 @@ def broken(program, path):
 def crowded(program, path):
     """A server with descriptors for few serves the others when those leave."""
     _, turns = next(conversations(path))
-    # Three streams, the listener and 8 connections.
-    server = Server(program, [32, 16, 1, 3], descriptors=12)
-    clients = [server.connect() for _ in range(32)]
+    # Three streams, the listener and 28 connections.
+    server = Server(program, [64, 64, 1, 3], descriptors=32)
+    clients = [server.connect() for _ in range(64)]
     time.sleep(0.5)
     expect(server.process.poll(), None)
     play(clients[0], turns)
@@ -178,22 +183,39 @@ def crowded(program, path):
         client.sendall(b"quit\r\n")
         expect(client.recv(1), b"")
         client.close()
-    server.served(32)
+    server.served(64)
+
+
+def thousand(program, _path):
+    """Of a thousand clients at once nine hundred are silent, and the others are served meanwhile."""
+    most = resource.getrlimit(resource.RLIMIT_NOFILE)[1]
+    resource.setrlimit(resource.RLIMIT_NOFILE, (min(most, 2048), most))
+    server = Server(program, [1000, 1000, 1, 3])
+    clients = [server.connect() for _ in range(1000)]
+    for _ in range(3):
+        for client in clients[900:]:
+            client.sendall(b"ask profile:2 7\r\n")
+        for client in clients[900:]:
+            expect(receive(client, 24), b"CLIENT_ERROR not yours\r\n")
+    for client in clients:
+        client.close()
+    server.served(1000)
 
 
 def reset(program, path):
     """Clients that reset their connections, before they are served or while they are, end nothing but those."""
     _, turns = next(conversations(path))
-    server = Server(program, [41, 1, 1, 3])
+    server = Server(program, [201, 1, 1, 3])
     holder = server.connect()
-    for round_ in range(40):
+    for number in range(200):
+        if number == 100:
+            play(holder, turns)
         client = server.connect()
-        if round_ % 2:
+        if number % 2:
             client.sendall(b"ask profile:2 7\r\n" * 100)
         client.setsockopt(socket.SOL_SOCKET, socket.SO_LINGER, struct.pack("ii", 1, 0))
         client.close()
-    play(holder, turns)
-    server.served(41)
+    server.served(201)
 
 
 def taken(program, _path):
@@ -209,22 +231,38 @@ def taken(program, _path):
     expect((ran.stdout, ran.stderr, ran.returncode), (b"", b"door fault\n", 5))
 
 
-CHECKS = {it.__name__: it for it in (page, silent, queued, unread, broken, crowded, reset, taken)}
+def soak(program, _path):
+    """Two hundred thousand connections one after another leave no memory and no descriptor. Takes minutes."""
+    server = Server(program, [200000, 4, 1, 3])
+    for number in range(200000):
+        with server.connect() as client:
+            client.sendall(b"ask profile:2 7\r\nquit\r\n")
+            expect(receive(client, 25), b"CLIENT_ERROR not yours\r\n")
+        if number == 20000:
+            before, opened = server.resident(), server.descriptors()
+    if server.resident() - before > 1024 or server.descriptors() > opened + 4:
+        raise AssertionError(f"{before} KiB and {opened} descriptors grew to {server.resident()} and {server.descriptors()}")
+    server.served(200000)
+
+
+CHECKS = {it.__name__: it for it in (page, silent, queued, unread, broken, crowded, thousand, reset, taken)}
+SLOW = {it.__name__: it for it in (soak,)}
 
 
 def main():
     if sys.argv[1:] == ["--list"]:
         print(*CHECKS)
         return 0
-    if len(sys.argv) != 4 or sys.argv[3] not in CHECKS:
+    if len(sys.argv) != 4 or sys.argv[3] not in CHECKS | SLOW:
         print(__doc__, file=sys.stderr)
         return 2
     try:
-        CHECKS[sys.argv[3]](sys.argv[1], sys.argv[2])
+        (CHECKS | SLOW)[sys.argv[3]](sys.argv[1], sys.argv[2])
     except (AssertionError, OSError, subprocess.SubprocessError) as wrong:
         print(f"{sys.argv[3]}: {wrong}", file=sys.stderr)
         return 1
     return 0
 
 
-sys.exit(main())
+if __name__ == "__main__":
+    sys.exit(main())

@@ -1,3 +1,2 @@
 pub mod GridLemmas
 pub mod RulesGrid
-pub mod VerbLemmas

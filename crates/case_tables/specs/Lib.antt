@@ -1,2 +1,1 @@
 pub mod Compatibility
-pub mod Verbs

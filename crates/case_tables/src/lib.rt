@@ -1,9 +1,6 @@
-//! Tables: which lease may stand beside which, and the verbs of the commands.
+//! The table of leases: which may be held beside which on one key.
 #![tactic(auto)]
 
 pub use grids::{Grid, Verdict, lease_grid};
-pub use verbs::{VerbRow, Verbs, lease_verbs};
 
 pub mod grids;
-pub mod verbs;
-mod words;

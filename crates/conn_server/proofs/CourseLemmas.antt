@@ -23,8 +23,8 @@ use Rattle.conn_server.specs.declared.ends.LineEnd.TheVariants as ends
 use Rattle.conn_server.specs.declared.serving.Serving.{Serving}
 use Rattle.conn_server.specs.Clients.{newcomer}
 use Rattle.conn_server.specs.Answers.{ItemAnswers, AllAnswer, GivenUp, with_calls}
-use Rattle.conn_server.specs.Service.{budget, texts, IsWithin, Lasts, place_of, TookSome, TookToFault, EndsSo, NoneLeft, IsServed}
-use Rattle.conn_server.specs.Course.{most_reads, IsUnserved, Start, Done, Course, RoseAt, Ending, Tells, Flushes, Shuts, Finishes}
+use Rattle.conn_server.specs.Service.{budget, texts, IsWithin, Lasts, place_of, TookSome, TookToFault, EndsSo, NoneLeft, IsServed, CountsReads, CountsWrites}
+use Rattle.conn_server.specs.Course.{most_reads, IsUnserved, Start, Done, Course, CountsAt, Ending, Tells, Flushes, Shuts, Finishes}
 use Rattle.conn_server.proofs.ClosingLemmas.{with_calls-append}
 use Rattle.conn_server.proofs.BoundLemmas.{first_bound, open_bound}
 
@@ -109,6 +109,7 @@ done_one start reads writes before after client new done item taken calls reply 
   asked = done.asked ++ calls;
   sent = done.sent;
   gives = done.gives;
+  adds = done.adds;
   takes = done.takes;
   asks = asks ∙ (ap (with_calls calls) done.asks ∙ sym (with_calls-append done.asked calls start.calls));
   first = first_one done.given done.items item done.size taken done.first stands;
@@ -142,6 +143,8 @@ course_one start rounds reads writes before after old new reply a few out c =
       place = ap (λ (f : Frames). f.place) a.framer ∙ place_more c.done.size a.taken old.framer.place (2 ^ 64 - 1) c.place;
       fed = c.fed;
       few = c.few;
+      no_read_fault = c.no_read_fault;
+      no_write_fault = c.no_write_fault;
     }
 
 -- behind its last item a connection ends
@@ -157,7 +160,7 @@ ending_one ends.Budget start rounds reads writes before after old new reply a to
         omega (arith, length-append c.done.items (a.item ∷ []), a.count, c.count, told.0),
         sym (due_one c.done.told c.done.sent old.out.items new.out.items reply c.due told.1),
       );
-      rose = tt;
+      counts = (c.no_read_fault, c.no_write_fault);
       none_left = tt;
     }
 ending_one ends.Memory start rounds reads writes before after old new reply a told c =
@@ -170,7 +173,7 @@ ending_one ends.Memory start rounds reads writes before after old new reply a to
         omega (arith, length-append c.done.items (a.item ∷ [])),
         inl (text_of reply, texts_one c.done.told reply ∙ ap (λ (xs : List ℕ). xs ++ text_of reply) all),
       );
-      rose = tt;
+      counts = (c.no_read_fault, c.no_write_fault);
       none_left = tt;
     }
 ending_one other start rounds reads writes before after old new reply a told c = absurd told
@@ -244,12 +247,12 @@ with_client serving client = record { framer = serving.framer; out = serving.out
 -- what a connection goes on with where its client and what it was fed are as before
 course_same : (start : Start) (rounds : ℕ) (reads : ReadSide) (writes new_writes : WriteSide) (calls : Option (List Call)) (old new : Serving)
     (done : Done start reads new_writes calls old.client)
-    → new.framer ≡ old.framer → new.client ≡ old.client → new.count ≡ old.count
+    → new_writes.faults ≡ writes.faults → new.framer ≡ old.framer → new.client ≡ old.client → new.count ≡ old.count
     → (course : Course start rounds reads writes calls old)
     → done.given ≡ course.done.given → done.items ≡ course.done.items → done.size ≡ course.done.size
     → texts done.told ≡ done.sent ++ new.out.items
     → Course start rounds reads new_writes calls new
-course_same start rounds reads writes new_writes calls old new done framer client count c given items size due =
+course_same start rounds reads writes new_writes calls old new done same framer client count c given items size due =
     subst (λ (x : Client). Course start rounds reads new_writes calls (with_client new x)) (sym client) (record {
       done = done;
       within = subst (λ (xs : List Item). IsWithin xs) (sym items) c.within;
@@ -260,6 +263,8 @@ course_same start rounds reads writes new_writes calls old new done framer clien
       place = ap (λ (f : Frames). f.place) framer ∙ (c.place ∙ ap (λ (n : ℕ). min n (2 ^ 64 - 1)) (sym size));
       fed = subst (λ (xs : List ℕ). rounds ≤ length xs) (sym given) c.fed;
       few = c.few;
+      no_read_fault = c.no_read_fault;
+      no_write_fault = same ∙ c.no_write_fault;
     })
 
 -- nothing whole stands next
@@ -267,7 +272,7 @@ pub course_open : (start : Start) (rounds : ℕ) (reads : ReadSide) (writes : Wr
     → new.framer ≡ old.framer → new.out.items ≡ old.out.items → new.client ≡ old.client → new.count ≡ old.count
     → Course start rounds reads writes calls old → Course start rounds reads writes calls new
 course_open start rounds reads writes calls old new framer out client count c =
-    course_same start rounds reads writes writes calls old new c.done framer client count c refl refl refl
+    course_same start rounds reads writes writes calls old new c.done refl framer client count c refl refl refl
     (c.due ∙ ap (λ (xs : List ℕ). c.done.sent ++ xs) (sym out))
 
 -- what stands to be written was taken
@@ -282,6 +287,7 @@ done_sent start reads old new calls client bytes gains up done = record {
   asked = done.asked;
   sent = done.sent ++ bytes;
   gives = done.gives;
+  adds = done.adds;
   takes = Gains-append start.writes.taken old.taken new.taken done.sent bytes done.takes gains;
   asks = done.asks;
   first = done.first;
@@ -297,7 +303,7 @@ course_flushed : (start : Start) (rounds : ℕ) (reads : ReadSide) (writes new_w
 course_flushed start rounds reads writes new_writes calls old new gains same none framer client count c =
     course_same start rounds reads writes new_writes calls old new
     (done_sent start reads writes new_writes calls old.client old.out.items gains (omega (arith, same)) c.done)
-    framer client count c refl refl refl
+    same framer client count c refl refl refl
     (c.due ∙ (sym (append-nil (c.done.sent ++ old.out.items)) ∙ ap (λ (xs : List ℕ). (c.done.sent ++ old.out.items) ++ xs) (sym none)))
 
 -- a beginning of what stands to be written was taken
@@ -322,7 +328,7 @@ ending_write start rounds reads writes new_writes calls old new written gains ro
         inl (subst (λ (xs : List ℕ). TookSome ((c.done.sent ++ take written old.out.items) ++ xs) c.done.told) (sym none)
             (some_of c.done.told c.done.sent old.out.items written c.due)),
       );
-      rose = Rose-later start.writes.faults writes.faults new_writes.faults c.done.write_faults rose;
+      counts = (c.done.read_faults, Rose-later start.writes.faults writes.faults new_writes.faults c.done.write_faults rose);
       none_left = tt;
     })
 
@@ -356,13 +362,13 @@ flushed_ends (Err end) reads new_reads writes new_writes old new f apart none cl
 ending_here : (end : LineEnd) (start : Start) (rounds : ℕ) (reads : ReadSide) (writes : WriteSide) (calls : Option (List Call)) (old new : Serving)
     → new.out.items ≡ old.out.items → new.client ≡ old.client → (c : Course start rounds reads writes calls old)
     → EndsSo end c.done.items c.done.size (drop c.done.size c.done.given) (c.done.sent ++ old.out.items) c.done.told
-    → RoseAt end start reads writes → NoneLeft end reads.left
+    → CountsAt end start reads writes → NoneLeft end reads.left
     → Ending end start reads writes calls new
-ending_here end start rounds reads writes calls old new out client c e rose none =
+ending_here end start rounds reads writes calls old new out client c e counts none =
     subst (λ (x : Client). Ending end start reads writes calls (with_client new x)) (sym client) (record {
       done = c.done;
       ends = subst (λ (xs : List ℕ). EndsSo end c.done.items c.done.size (drop c.done.size c.done.given) (c.done.sent ++ xs) c.done.told) (sym out) e;
-      rose = rose;
+      counts = counts;
       none_left = none;
     })
 
@@ -371,7 +377,7 @@ pub ending_quit : (start : Start) (rounds : ℕ) (reads : ReadSide) (writes : Wr
     → Course start rounds reads writes calls old → Ending ends.Quit start reads writes calls new
 ending_quit start rounds reads writes calls old new taken stands out client c =
     ending_here ends.Quit start rounds reads writes calls old new out client c
-    (c.within, (taken, subst (λ (bytes : List ℕ). Stands bytes (command Quit) taken) c.rest stands), sym c.due) tt tt
+    (c.within, (taken, subst (λ (bytes : List ℕ). Stands bytes (command Quit) taken) c.rest stands), sym c.due) (c.no_read_fault, c.no_write_fault) tt
 
 -- a beginning of the replies stands to be written
 all_due : (told : List LineReply) (taken : List ℕ) → texts told ≡ taken → TookSome taken told
@@ -383,7 +389,7 @@ pub ending_memory : (start : Start) (rounds : ℕ) (reads : ReadSide) (writes : 
 ending_memory start rounds reads writes calls old new out client c =
     let within = c.within in
     ending_here ends.Memory start rounds reads writes calls old new out client c
-    (omega arith, inl (all_due c.done.told (c.done.sent ++ old.out.items) c.due)) tt tt
+    (omega arith, inl (all_due c.done.told (c.done.sent ++ old.out.items) c.due)) (c.no_read_fault, c.no_write_fault) tt
 
 ending_shut : (fault : FrameFault) (last : LineReply) (start : Start) (rounds : ℕ) (reads : ReadSide) (writes : WriteSide)
     (calls : Option (List Call)) (old new : Serving)
@@ -401,7 +407,7 @@ ending_shut fault last start rounds reads writes calls old new lasts place out c
           sym (due_one c.done.told c.done.sent old.out.items new.out.items last c.due out),
         ),
       );
-      rose = tt;
+      counts = (c.no_read_fault, c.no_write_fault);
       none_left = tt;
     })
 
@@ -426,9 +432,9 @@ shut_by end fault found last start rounds reads writes calls old new is lasts pl
 
 -- more bytes were given
 abbrev done_fed : (start : Start) (old new : ReadSide) (writes : WriteSide) (calls : Option (List Call)) (client : Client) (bytes : List ℕ)
-    → Takes old.left new.left bytes → old.faults ≤ new.faults
+    → Takes old.left new.left bytes → Gains old.given new.given bytes → new.faults ≡ old.faults
     → Done start old writes calls client → Done start new writes calls client
-done_fed start old new writes calls client bytes gives up done = record {
+done_fed start old new writes calls client bytes gives adds same done = record {
   given = done.given ++ bytes;
   items = done.items;
   size = done.size;
@@ -436,18 +442,20 @@ done_fed start old new writes calls client bytes gives up done = record {
   asked = done.asked;
   sent = done.sent;
   gives = Takes-append start.reads.left old.left new.left done.given bytes done.gives gives;
+  adds = Gains-append start.reads.given old.given new.given done.given bytes done.adds adds;
   takes = done.takes;
   asks = done.asks;
   first = first_more done.given bytes done.items done.size done.first;
   answers = done.answers;
-  read_faults = let before = done.read_faults in omega arith;
+  read_faults = let before = done.read_faults in omega (arith, same);
   write_faults = done.write_faults;
 }
 
 -- what a read gave, by what it tells
 pub record Reads (old new : ReadSide) (bytes : List ℕ) : Type 0 where
   pub gives : Takes old.left new.left bytes
-  pub up : old.faults ≤ new.faults
+  pub adds : Gains old.given new.given bytes
+  pub same : new.faults ≡ old.faults
 
 -- the front of a stream takes no more bytes than there are
 size_fits : (stream : List ℕ) (items : List Item) (size : ℕ) → AreFirst stream items size → size ≤ length stream
@@ -476,7 +484,7 @@ course_fed start rounds reads new_reads writes calls old new bytes r some is_ope
     let fit = size_fits c.done.given c.done.items c.done.size c.done.first in
     let fed_before = c.fed in
     subst (λ (x : Client). Course start (rounds + 1) new_reads writes calls (with_client new x)) (sym client) (record {
-      done = done_fed start reads new_reads writes calls old.client bytes r.gives r.up c.done;
+      done = done_fed start reads new_reads writes calls old.client bytes r.gives r.adds r.same c.done;
       within = c.within;
       count = count ∙ c.count;
       due = c.due ∙ ap (λ (xs : List ℕ). c.done.sent ++ xs) (sym out);
@@ -485,6 +493,8 @@ course_fed start rounds reads new_reads writes calls old new bytes r some is_ope
       place = ap (λ (f : Frames). f.place) framer ∙ c.place;
       fed = omega (arith, length-append c.done.given bytes);
       few = rounds_few c.done.given c.done.items c.done.size rounds c.done.first c.within here c.fed;
+      no_read_fault = r.same ∙ c.no_read_fault;
+      no_write_fault = c.no_write_fault;
     })
 
 -- what was read was lost for want of memory, and nothing stood to be written
@@ -495,19 +505,20 @@ pub ending_unfed : (start : Start) (rounds : ℕ) (reads new_reads : ReadSide) (
 ending_unfed start rounds reads new_reads writes calls old new bytes r out client c =
     let within = c.within in
     subst (λ (x : Client). Ending ends.Memory start new_reads writes calls (with_client new x)) (sym client) (record {
-      done = done_fed start reads new_reads writes calls old.client bytes r.gives r.up c.done;
+      done = done_fed start reads new_reads writes calls old.client bytes r.gives r.adds r.same c.done;
       ends = (
         omega arith,
         inl (all_due c.done.told (c.done.sent ++ new.out.items) (c.due ∙ ap (λ (xs : List ℕ). c.done.sent ++ xs) (sym out))),
       );
-      rose = tt;
+      counts = (r.same ∙ c.no_read_fault, c.no_write_fault);
       none_left = tt;
     })
 
 -- a read that changed nothing that was given
 abbrev done_stays : (start : Start) (old new : ReadSide) (writes : WriteSide) (calls : Option (List Call)) (client : Client)
-    → new.left ≡ old.left → old.faults ≤ new.faults → Done start old writes calls client → Done start new writes calls client
-done_stays start old new writes calls client same up done = record {
+    → new.left ≡ old.left → new.given ≡ old.given → old.faults ≤ new.faults
+    → Done start old writes calls client → Done start new writes calls client
+done_stays start old new writes calls client same given up done = record {
   given = done.given;
   items = done.items;
   size = done.size;
@@ -515,6 +526,7 @@ done_stays start old new writes calls client same up done = record {
   asked = done.asked;
   sent = done.sent;
   gives = subst (λ (left : Option (List ℕ)). Takes start.reads.left left done.given) (sym same) done.gives;
+  adds = subst (λ (given : Option (List ℕ)). Gains start.reads.given given done.given) (sym given) done.adds;
   takes = done.takes;
   asks = done.asks;
   first = done.first;
@@ -524,35 +536,35 @@ done_stays start old new writes calls client same up done = record {
 }
 
 pub ending_closed : (left : ℕ) (start : Start) (rounds : ℕ) (reads new_reads : ReadSide) (writes : WriteSide) (calls : Option (List Call)) (old new : Serving)
-    → new_reads.left ≡ reads.left → reads.faults ≤ new_reads.faults → AtEnd new_reads.left → IsOpen old.framer.rest → left ≡ length old.framer.rest
+    → new_reads.left ≡ reads.left → new_reads.given ≡ reads.given → new_reads.faults ≡ reads.faults → AtEnd new_reads.left → IsOpen old.framer.rest → left ≡ length old.framer.rest
     → old.out.items ≡ [] → new.out.items ≡ old.out.items → new.client ≡ old.client
     → Course start rounds reads writes calls old → Ending (ends.Closed left) start new_reads writes calls new
-ending_closed left start rounds reads new_reads writes calls old new same up at_end is_open left_is none out client c =
+ending_closed left start rounds reads new_reads writes calls old new same given faults at_end is_open left_is none out client c =
     subst (λ (x : Client). Ending (ends.Closed left) start new_reads writes calls (with_client new x)) (sym client) (record {
-      done = done_stays start reads new_reads writes calls old.client same up c.done;
+      done = done_stays start reads new_reads writes calls old.client same given (omega (arith, faults)) c.done;
       ends = (
         c.within,
         subst (λ (xs : List ℕ). IsOpen xs) c.rest is_open,
         left_is ∙ ap (λ (xs : List ℕ). length xs) c.rest,
         sym (c.due ∙ ap (λ (xs : List ℕ). c.done.sent ++ xs) (sym out)),
       );
-      rose = tt;
+      counts = (faults ∙ c.no_read_fault, c.no_write_fault);
       none_left = at_end;
     })
 
 pub ending_read : (start : Start) (rounds : ℕ) (reads new_reads : ReadSide) (writes : WriteSide) (calls : Option (List Call)) (old new : Serving)
-    → new_reads.left ≡ reads.left → reads.faults ≤ new_reads.faults → Rose reads.faults new_reads.faults → IsOpen old.framer.rest
+    → new_reads.left ≡ reads.left → new_reads.given ≡ reads.given → reads.faults ≤ new_reads.faults → Rose reads.faults new_reads.faults → IsOpen old.framer.rest
     → new.out.items ≡ old.out.items → new.client ≡ old.client
     → Course start rounds reads writes calls old → Ending ends.ReadFault start new_reads writes calls new
-ending_read start rounds reads new_reads writes calls old new same up rose is_open out client c =
+ending_read start rounds reads new_reads writes calls old new same given up rose is_open out client c =
     subst (λ (x : Client). Ending ends.ReadFault start new_reads writes calls (with_client new x)) (sym client) (record {
-      done = done_stays start reads new_reads writes calls old.client same up c.done;
+      done = done_stays start reads new_reads writes calls old.client same given up c.done;
       ends = (
         c.within,
         subst (λ (xs : List ℕ). IsOpen xs) c.rest is_open,
         sym (c.due ∙ ap (λ (xs : List ℕ). c.done.sent ++ xs) (sym out)),
       );
-      rose = Rose-later start.reads.faults reads.faults new_reads.faults c.done.read_faults rose;
+      counts = (Rose-later start.reads.faults reads.faults new_reads.faults c.done.read_faults rose, c.no_write_fault);
       none_left = tt;
     })
 
@@ -570,6 +582,7 @@ course_begins reads writes calls serving fresh =
         asked = [];
         sent = [];
         gives = Takes-none reads.left;
+        adds = Gains-none reads.given;
         takes = Gains-none writes.taken;
         asks = refl;
         first = refl;
@@ -584,6 +597,8 @@ course_begins reads writes calls serving fresh =
       place = ap (λ (f : Frames). f.place) fresh.framer;
       fed = omega arith;
       few = omega arith;
+      no_read_fault = refl;
+      no_write_fault = refl;
     })
 
 -- more rounds than that there aren't
@@ -626,8 +641,8 @@ ends_less items size rest sent out told written e = (e.0, by e.1)
 
 -- what stands of a connection at its end, by what its line and its desk tell
 pub record Finished (start : Start) (reads : ReadSide) (writes : WriteSide) (calls : Option (List Call)) (end : LineEnd) : Type 0 where
-  pub served : IsServed start.reads.left reads.left start.writes.taken writes.taken start.calls calls end
-  pub rose : RoseAt end start reads writes
+  pub served : IsServed start.reads reads start.writes writes start.calls calls end
+  pub counts : CountsAt end start reads writes
   pub read_faults : start.reads.faults ≤ reads.faults
   pub write_faults : start.writes.faults ≤ writes.faults
 
@@ -636,15 +651,16 @@ finished_by : (end : LineEnd) (start : Start) (reads : ReadSide) (writes new_wri
     → (done : Done start reads writes calls serving.client)
     → Gains writes.taken new_writes.taken bytes → writes.faults ≤ new_writes.faults
     → EndsSo end done.items done.size (drop done.size done.given) (done.sent ++ bytes) done.told
-    → RoseAt end start reads new_writes → NoneLeft end reads.left
+    → CountsAt end start reads new_writes → NoneLeft end reads.left
     → GivenUp calls new_calls serving.client
     → Finished start reads new_writes new_calls end
-finished_by end start reads writes new_writes calls new_calls serving bytes done gains up e rose none up_given = record {
+finished_by end start reads writes new_writes calls new_calls serving bytes done gains up e counts none up_given = record {
   served = record {
     given = done.given;
     taken = done.sent ++ bytes;
     calls = done.asked ++ up_given.calls;
     gives = done.gives;
+    adds = done.adds;
     takes = Gains-append start.writes.taken writes.taken new_writes.taken done.sent bytes done.takes gains;
     asks = up_given.record_is
         ∙ (ap (λ (calls : Option (List Call)). with_calls up_given.calls calls) done.asks ∙ sym (with_calls-append done.asked up_given.calls start.calls));
@@ -664,17 +680,15 @@ finished_by end start reads writes new_writes calls new_calls serving bytes done
     };
     none_left = none;
   };
-  rose = rose;
+  counts = counts;
   read_faults = done.read_faults;
   write_faults = let before = done.write_faults in omega arith;
 }
 
--- a fault rises over what was counted before
-rose_on : (end : LineEnd) (start : Start) (reads : ReadSide) (old new : WriteSide) → new.faults ≡ old.faults → RoseAt end start reads old
-    → RoseAt end start reads new
-rose_on ends.ReadFault start reads old new same r = r
-rose_on ends.WriteFault start reads old new same r = subst (λ (n : ℕ). Rose start.writes.faults n) (sym same) r
-rose_on other start reads old new same r = tt
+-- the counts are those of an end where no write failed since
+counts_on : (end : LineEnd) (start : Start) (reads : ReadSide) (old new : WriteSide) → new.faults ≡ old.faults → CountsAt end start reads old
+    → CountsAt end start reads new
+counts_on end start reads old new same c = (c.0, subst (λ (n : ℕ). CountsWrites end start.writes.faults n) (sym same) c.1)
 
 pub finished : (due end : LineEnd) (start : Start) (reads new_reads : ReadSide) (writes new_writes : WriteSide)
     (calls new_calls : Option (List Call)) (serving : Serving)
@@ -684,7 +698,7 @@ finished due end start reads new_reads writes new_writes calls new_calls serving
     subst (λ (r : ReadSide). Finished start r new_writes new_calls end) (sym apart)
     (subst (λ (x : LineEnd). Finished start reads new_writes new_calls x) (sym f.2)
     (finished_by due start reads writes new_writes calls new_calls serving serving.out.items e.done f.0 (omega (arith, f.1)) e.ends
-    (rose_on due start reads writes new_writes f.1 e.rose) e.none_left up))
+    (counts_on due start reads writes new_writes f.1 e.counts) e.none_left up))
 finished due end start reads new_reads writes new_writes calls new_calls serving e (inr f) apart up =
     let bytes = take f.0.0 serving.out.items in
     let less = ends_less e.done.items e.done.size (drop e.done.size e.done.given) e.done.sent serving.out.items e.done.told f.0.0
@@ -692,16 +706,17 @@ finished due end start reads new_reads writes new_writes calls new_calls serving
     subst (λ (r : ReadSide). Finished start r new_writes new_calls end) (sym apart)
     (subst (λ (x : LineEnd). Finished start reads new_writes new_calls x) (sym f.3)
     (finished_by ends.WriteFault start reads writes new_writes calls new_calls serving bytes e.done f.0.1 f.2 less
-    (Rose-later start.writes.faults writes.faults new_writes.faults e.done.write_faults f.1) tt up))
+    (e.done.read_faults, Rose-later start.writes.faults writes.faults new_writes.faults e.done.write_faults f.1) tt up))
 
 -- a connection for which memory ran out at once
-pub never_served : (left taken : Option (List ℕ)) (calls : Option (List Call)) → IsServed left left taken taken calls calls ends.Memory
-never_served left taken calls = record {
+pub never_served : (reads : ReadSide) (writes : WriteSide) (calls : Option (List Call)) → IsServed reads reads writes writes calls calls ends.Memory
+never_served reads writes calls = record {
   given = [];
   taken = [];
   calls = [];
-  gives = Takes-none left;
-  takes = Gains-none taken;
+  gives = Takes-none reads.left;
+  adds = Gains-none reads.given;
+  takes = Gains-none writes.taken;
   asks = refl;
   served = record {
     items = [];
@@ -732,19 +747,25 @@ pub record OnCourse (start : Start) (rounds : ℕ) (reads : ReadSide) (writes : 
   pub course : Course start rounds reads writes calls serving
 
 -- what a line tells of its reading, in parts
-pub record IsSide (reads : ReadSide) (left : Option (List ℕ)) (faults : ℕ) : Type 0 where
+pub record IsSide (reads : ReadSide) (left given : Option (List ℕ)) (faults : ℕ) : Type 0 where
   pub left_is : reads.left ≡ left
+  pub given_is : reads.given ≡ given
   pub faults_is : reads.faults ≡ faults
 
 pub is_side : (reads : ReadSide) (left given : Option (List ℕ)) (faults : ℕ)
-    → reads ≡ record { left = left; given = given; faults = faults } → IsSide reads left faults
-is_side reads left given faults is = record { left_is = ap (λ (r : ReadSide). r.left) is; faults_is = ap (λ (r : ReadSide). r.faults) is }
+    → reads ≡ record { left = left; given = given; faults = faults } → IsSide reads left given faults
+is_side reads left given faults is = record {
+  left_is = ap (λ (r : ReadSide). r.left) is;
+  given_is = ap (λ (r : ReadSide). r.given) is;
+  faults_is = ap (λ (r : ReadSide). r.faults) is;
+}
 
-pub reads_by : (old new : ReadSide) (a b : Option (List ℕ)) (e f : ℕ) (bytes : List ℕ)
-    → IsSide old a e → IsSide new b f → Takes a b bytes → f ≡ e → Reads old new bytes
-reads_by old new a b e f bytes o n gives same = record {
+pub reads_by : (old new : ReadSide) (a b g h : Option (List ℕ)) (e f : ℕ) (bytes : List ℕ)
+    → IsSide old a g e → IsSide new b h f → Takes a b bytes → Gains g h bytes → f ≡ e → Reads old new bytes
+reads_by old new a b g h e f bytes o n gives adds same = record {
   gives = subst (λ (x : Option (List ℕ)). Takes x new.left bytes) (sym o.left_is) (subst (λ (x : Option (List ℕ)). Takes a x bytes) (sym n.left_is) gives);
-  up = omega (arith, o.faults_is, n.faults_is, same);
+  adds = subst (λ (x : Option (List ℕ)). Gains x new.given bytes) (sym o.given_is) (subst (λ (x : Option (List ℕ)). Gains g x bytes) (sym n.given_is) adds);
+  same = n.faults_is ∙ (same ∙ sym o.faults_is);
 }
 
 -- a read of no bytes
@@ -752,71 +773,72 @@ takes_nothing : (a b : Option (List ℕ)) → Takes a b [] → b ≡ a
 takes_nothing a None e = sym e
 takes_nothing a (Some rest) e = sym e
 
-pub left_same : (old new : ReadSide) (a b : Option (List ℕ)) (e f : ℕ) → IsSide old a e → IsSide new b f → b ≡ a → new.left ≡ old.left
-left_same old new a b e f o n same = n.left_is ∙ (same ∙ sym o.left_is)
+-- and of what was given before
+gains_nothing : (g h : Option (List ℕ)) → Gains g h [] → h ≡ g
+gains_nothing None h e = e
+gains_nothing (Some given) h e = e ∙ ap Some (append-nil given)
+
+pub left_same : (old new : ReadSide) (a b g h : Option (List ℕ)) (e f : ℕ) → IsSide old a g e → IsSide new b h f → b ≡ a → new.left ≡ old.left
+left_same old new a b g h e f o n same = n.left_is ∙ (same ∙ sym o.left_is)
+
+pub given_same : (old new : ReadSide) (a b g h : Option (List ℕ)) (e f : ℕ) → IsSide old a g e → IsSide new b h f → h ≡ g → new.given ≡ old.given
+given_same old new a b g h e f o n same = n.given_is ∙ (same ∙ sym o.given_is)
 
 -- the input ended
-pub closed_by : (left : ℕ) (old_reads new_reads : ReadSide) (old_writes new_writes : WriteSide) (a b : Option (List ℕ)) (e f n : ℕ) (room : List ℕ)
+pub closed_by : (left : ℕ) (old_reads new_reads : ReadSide) (old_writes new_writes : WriteSide) (a b g h : Option (List ℕ)) (e f n : ℕ) (room : List ℕ)
     (old new : Serving)
-    → IsSide old_reads a e → IsSide new_reads b f → Takes a b (take n room) → ZeroAtEnd a n → n ≡ 0 → f ≡ e → new_writes ≡ old_writes
+    → IsSide old_reads a g e → IsSide new_reads b h f → Takes a b (take n room) → Gains g h (take n room) → ZeroAtEnd a n → n ≡ 0 → f ≡ e → new_writes ≡ old_writes
     → IsOpen old.framer.rest → left ≡ length old.framer.rest → old.out.items ≡ [] → new.out.items ≡ old.out.items → new.client ≡ old.client
     → (start : Start) (rounds : ℕ) (calls : Option (List Call))
     → Course start rounds old_reads old_writes calls old → Ending (ends.Closed left) start new_reads new_writes calls new
-closed_by left old_reads new_reads old_writes new_writes a b e f n room old new o p gives zero is same apart stops left_is none out client start
+closed_by left old_reads new_reads old_writes new_writes a b g h e f n room old new o p gives adds zero is same apart stops left_is none out client start
     rounds calls c =
     let nothing : Takes a b [] = rw is at gives in
+    let none_more : Gains g h [] = rw is at adds in
     let at_end : AtEnd new_reads.left =
     subst (λ (x : Option (List ℕ)). AtEnd x) (sym p.left_is) (AtEnd-zero a b n room is zero gives) in
     subst (λ (w : WriteSide). Ending (ends.Closed left) start new_reads w calls new) (sym apart)
     (ending_closed left start rounds old_reads new_reads old_writes calls old new
-    (left_same old_reads new_reads a b e f o p (takes_nothing a b nothing))
-    (omega (arith, o.faults_is, p.faults_is, same)) at_end stops left_is none out client c)
+    (left_same old_reads new_reads a b g h e f o p (takes_nothing a b nothing))
+    (given_same old_reads new_reads a b g h e f o p (gains_nothing g h none_more))
+    (p.faults_is ∙ (same ∙ sym o.faults_is)) at_end stops left_is none out client c)
 
 -- a read failed
-pub read_failed : (old_reads new_reads : ReadSide) (old_writes new_writes : WriteSide) (a b : Option (List ℕ)) (e f : ℕ) (old new : Serving)
-    → IsSide old_reads a e → IsSide new_reads b f → b ≡ a → Rose e f → e ≤ f → new_writes ≡ old_writes
+pub read_failed : (old_reads new_reads : ReadSide) (old_writes new_writes : WriteSide) (a b g h : Option (List ℕ)) (e f : ℕ) (old new : Serving)
+    → IsSide old_reads a g e → IsSide new_reads b h f → b ≡ a → h ≡ g → Rose e f → e ≤ f → new_writes ≡ old_writes
     → IsOpen old.framer.rest → new.out.items ≡ old.out.items → new.client ≡ old.client
     → (start : Start) (rounds : ℕ) (calls : Option (List Call))
     → Course start rounds old_reads old_writes calls old → Ending ends.ReadFault start new_reads new_writes calls new
-read_failed old_reads new_reads old_writes new_writes a b e f old new o p same rose up apart stops out client start rounds calls c =
+read_failed old_reads new_reads old_writes new_writes a b g h e f old new o p same given rose up apart stops out client start rounds calls c =
     let risen : Rose old_reads.faults new_reads.faults =
     subst (λ (x : ℕ). Rose x new_reads.faults) (sym o.faults_is) (subst (λ (x : ℕ). Rose e x) (sym p.faults_is) rose) in
     subst (λ (w : WriteSide). Ending ends.ReadFault start new_reads w calls new) (sym apart)
     (ending_read start rounds old_reads new_reads old_writes calls old new
-    (left_same old_reads new_reads a b e f o p same) (omega (arith, o.faults_is, p.faults_is)) risen stops out client c)
+    (left_same old_reads new_reads a b g h e f o p same) (given_same old_reads new_reads a b g h e f o p given)
+    (omega (arith, o.faults_is, p.faults_is)) risen stops out client c)
 
 -- bytes were read, and fed
-pub fed_by : (old_reads new_reads : ReadSide) (old_writes new_writes : WriteSide) (a b : Option (List ℕ)) (e f : ℕ) (bytes : List ℕ) (old new : Serving)
-    → IsSide old_reads a e → IsSide new_reads b f → Takes a b bytes → f ≡ e → new_writes ≡ old_writes
+pub fed_by : (old_reads new_reads : ReadSide) (old_writes new_writes : WriteSide) (a b g h : Option (List ℕ)) (e f : ℕ) (bytes : List ℕ)
+    (old new : Serving)
+    → IsSide old_reads a g e → IsSide new_reads b h f → Takes a b bytes → Gains g h bytes → f ≡ e → new_writes ≡ old_writes
     → 1 ≤ length bytes → IsOpen old.framer.rest → new.framer ≡ fed old.framer bytes → new.out.items ≡ old.out.items → new.client ≡ old.client
     → new.count ≡ old.count
     → (start : Start) (rounds : ℕ) (calls : Option (List Call))
     → Course start rounds old_reads old_writes calls old → Course start (rounds + 1) new_reads new_writes calls new
-fed_by old_reads new_reads old_writes new_writes a b e f bytes old new o p gives same apart some stops framer out client count start rounds calls c =
+fed_by old_reads new_reads old_writes new_writes a b g h e f bytes old new o p gives adds same apart some stops framer out client count start
+    rounds calls c =
     subst (λ (w : WriteSide). Course start (rounds + 1) new_reads w calls new) (sym apart)
     (course_fed start rounds old_reads new_reads old_writes calls old new bytes
-    (reads_by old_reads new_reads a b e f bytes o p gives same) some stops framer out client count c)
+    (reads_by old_reads new_reads a b g h e f bytes o p gives adds same) some stops framer out client count c)
 
 -- bytes were read, and lost for want of memory
-pub unfed_by : (old_reads new_reads : ReadSide) (old_writes new_writes : WriteSide) (a b : Option (List ℕ)) (e f : ℕ) (bytes : List ℕ) (old new : Serving)
-    → IsSide old_reads a e → IsSide new_reads b f → Takes a b bytes → f ≡ e → new_writes ≡ old_writes
+pub unfed_by : (old_reads new_reads : ReadSide) (old_writes new_writes : WriteSide) (a b g h : Option (List ℕ)) (e f : ℕ) (bytes : List ℕ)
+    (old new : Serving)
+    → IsSide old_reads a g e → IsSide new_reads b h f → Takes a b bytes → Gains g h bytes → f ≡ e → new_writes ≡ old_writes
     → new.out.items ≡ old.out.items → new.client ≡ old.client
     → (start : Start) (rounds : ℕ) (calls : Option (List Call))
     → Course start rounds old_reads old_writes calls old → Ending ends.Memory start new_reads new_writes calls new
-unfed_by old_reads new_reads old_writes new_writes a b e f bytes old new o p gives same apart out client start rounds calls c =
+unfed_by old_reads new_reads old_writes new_writes a b g h e f bytes old new o p gives adds same apart out client start rounds calls c =
     subst (λ (w : WriteSide). Ending ends.Memory start new_reads w calls new) (sym apart)
     (ending_unfed start rounds old_reads new_reads old_writes calls old new bytes
-    (reads_by old_reads new_reads a b e f bytes o p gives same) out client c)
-
--- what is said of a line's sides is said of what it tells
-pub served_as : (reads reads_new : ReadSide) (writes writes_new : WriteSide) (left left_new given given_new taken taken_new : Option (List ℕ)) (a b d e : ℕ)
-    (calls calls_new : Option (List Call)) (end : LineEnd)
-    → reads ≡ record { left = left; given = given; faults = a } → reads_new ≡ record { left = left_new; given = given_new; faults = b }
-    → writes ≡ record { taken = taken; faults = d } → writes_new ≡ record { taken = taken_new; faults = e }
-    → IsServed reads.left reads_new.left writes.taken writes_new.taken calls calls_new end
-    → IsServed left left_new taken taken_new calls calls_new end
-served_as reads reads_new writes writes_new left left_new given given_new taken taken_new a b d e calls calls_new end r s w v h =
-    subst (λ (x : ReadSide). IsServed x.left left_new taken taken_new calls calls_new end) r
-    (subst (λ (x : ReadSide). IsServed reads.left x.left taken taken_new calls calls_new end) s
-    (subst (λ (x : WriteSide). IsServed reads.left reads_new.left x.taken taken_new calls calls_new end) w
-    (subst (λ (x : WriteSide). IsServed reads.left reads_new.left writes.taken x.taken calls calls_new end) v h)))
+    (reads_by old_reads new_reads a b g h e f bytes o p gives adds same) out client c)

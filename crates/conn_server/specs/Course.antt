@@ -13,7 +13,7 @@ use Rattle.conn_server.specs.declared.ends.LineEnd.TheVariants as ends
 use Rattle.conn_server.specs.declared.serving.Serving.{Serving}
 use Rattle.conn_server.specs.Clients.{newcomer}
 use Rattle.conn_server.specs.Answers.{AllAnswer, with_calls}
-use Rattle.conn_server.specs.Service.{budget, texts, IsWithin, EndsSo, NoneLeft}
+use Rattle.conn_server.specs.Service.{budget, texts, IsWithin, EndsSo, NoneLeft, CountsReads, CountsWrites}
 
 -- as many reads as the bytes of all commands that one connection is answered: a command has 1,050,628 bytes at most
 abbrev pub most_reads : ℕ
@@ -41,6 +41,7 @@ pub record Done (start : Start) (reads : ReadSide) (writes : WriteSide) (calls :
   pub asked : List Call
   pub sent : List ℕ
   pub gives : Takes start.reads.left reads.left given
+  pub adds : Gains start.reads.given reads.given given
   pub takes : Gains start.writes.taken writes.taken sent
   pub asks : calls ≡ with_calls asked start.calls
   pub first : AreFirst given items size
@@ -58,18 +59,18 @@ pub record Course (start : Start) (rounds : ℕ) (reads : ReadSide) (writes : Wr
   pub place : serving.framer.place ≡ min done.size (2 ^ 64 - 1)
   pub fed : rounds ≤ length done.given
   pub few : rounds ≤ most_reads
+  pub no_read_fault : reads.faults ≡ start.reads.faults
+  pub no_write_fault : writes.faults ≡ start.writes.faults
 
--- at a fault of a read or a write that count of the line rose
-abbrev pub RoseAt : LineEnd → Start → ReadSide → WriteSide → Type 0
-RoseAt ends.ReadFault start reads writes = Rose start.reads.faults reads.faults
-RoseAt ends.WriteFault start reads writes = Rose start.writes.faults writes.faults
-RoseAt other start reads writes = ⊤
+-- the counts of the line's faults are those of this end
+abbrev pub CountsAt : LineEnd → Start → ReadSide → WriteSide → Type 0
+CountsAt end start reads writes = CountsReads end start.reads.faults reads.faults × CountsWrites end start.writes.faults writes.faults
 
 -- a connection ends so, once what stands to be written is written
 pub record Ending (end : LineEnd) (start : Start) (reads : ReadSide) (writes : WriteSide) (calls : Option (List Call)) (serving : Serving) : Type 0 where
   pub done : Done start reads writes calls serving.client
   pub ends : EndsSo end done.items done.size (drop done.size done.given) (done.sent ++ serving.out.items) done.told
-  pub rose : RoseAt end start reads writes
+  pub counts : CountsAt end start reads writes
   pub none_left : NoneLeft end reads.left
 
 -- a connection at a moment: what its line tells of reads and writes, the calls that the desk records, and what is served

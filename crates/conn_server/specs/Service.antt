@@ -1,6 +1,6 @@
 -- What a connection was given, what it took, what it asked of the desk, and how it ended.
 use Rattle.std.specs.Prelude.{ℕ, ◌-◌, ◌^◌, ◌≡◌, ◌<◌, ◌≤◌, ◌⊎◌, ⊤, min, List, [], ◌∷◌, ◌++◌, length, drop, Option}
-use Rattle.iq_outside.specs.Outside.{Takes, Gains, AtEnd}
+use Rattle.iq_outside.specs.Outside.{Takes, Gains, Rose, AtEnd, ReadSide, WriteSide}
 use Rattle.mc_text.specs.Replies.{text_of}
 use Rattle.mc_text.specs.Streams.{Item, command, long_line, bad_block, big_block, Stands, IsOpen, AreFirst}
 use Rattle.mc_text.specs.declared.commands.Command.TheVariants.{Quit}
@@ -96,13 +96,27 @@ abbrev pub NoneLeft : LineEnd → Option (List ℕ) → Type 0
 NoneLeft (ends.Closed left) left_new = AtEnd left_new
 NoneLeft other left_new = ⊤
 
--- a line was served at a desk: what it had left and took, and what the desk records, each where it is told, before and after
-pub record IsServed (left_old left_new taken_old taken_new : Option (List ℕ)) (record_old record_new : Option (List Call)) (end : LineEnd) : Type 0 where
+-- a line was served at a desk: what it told of its reading and its writing, and what the desk records, each where it is
+-- told, before and after
+pub record IsServed (reads reads_new : ReadSide) (writes writes_new : WriteSide) (record_old record_new : Option (List Call)) (end : LineEnd) : Type 0 where
   pub given : List ℕ
   pub taken : List ℕ
   pub calls : List Call
-  pub gives : Takes left_old left_new given
-  pub takes : Gains taken_old taken_new taken
+  pub gives : Takes reads.left reads_new.left given
+  pub adds : Gains reads.given reads_new.given given
+  pub takes : Gains writes.taken writes_new.taken taken
   pub asks : record_new ≡ with_calls calls record_old
   pub served : Served given taken calls end
-  pub none_left : NoneLeft end left_new
+  pub none_left : NoneLeft end reads_new.left
+
+-- how often reads failed, before and after: the count rose where a read failed, and is as before where the connection
+-- ended by no fault of a read or a write
+abbrev pub CountsReads : LineEnd → ℕ → ℕ → Type 0
+CountsReads ends.ReadFault before after = Rose before after
+CountsReads ends.WriteFault before after = before ≤ after
+CountsReads other before after = after ≡ before
+
+-- how often writes failed: the count rose where a write failed, and else it is as before
+abbrev pub CountsWrites : LineEnd → ℕ → ℕ → Type 0
+CountsWrites ends.WriteFault before after = Rose before after
+CountsWrites other before after = after ≡ before

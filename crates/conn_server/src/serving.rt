@@ -4,7 +4,7 @@ ghost use Rattle.mc_text.specs.Streams.{IsOpen};
 ghost use Rattle.session_client.specs.Desks.{Call};
 ghost use Rattle.conn_server.specs.Answers.{GivenUp};
 ghost use Rattle.conn_server.specs.Course.{Start, Course, Ending, moment, GoesOn, ReadsOn, EndsFrom, IsUnserved, Finishes, Flushes, Tells, Shuts};
-ghost use Rattle.conn_server.specs.Service.{IsServed};
+ghost use Rattle.conn_server.specs.Service.{IsServed, CountsReads, CountsWrites};
 ghost use Rattle.conn_server.specs.declared.ends.LineEnd.TheVariants as ends;
 
 use crate::clients::Client;
@@ -43,17 +43,16 @@ struct Serving {
 /// is due is written before each read, so no reply waits for further input.
 ///
 /// At every end the client's session is given up: one that writes and hasn't committed is ended at the
-/// store, and then its grants are released, which takes no memory. The line isn't closed by that.
+/// store, and then its grants are released, which takes no memory. Only then are the last replies
+/// written, so a client that doesn't read them holds nothing. The line isn't closed by that.
 ///
 /// A read or a write that fails ends the connection, and so does a lack of memory, of which it is
 /// told nothing. A lasting fault of the input is told the client.
 pub fn serve_line<L: Line, D: Desk>(alloc: Global, line: &mut L, desk: &mut D) -> LineEnd
-    ensures served { IsServed (L.left line.old) (L.left line.new) (L.taken line.old)
-        (L.taken line.new) (D.record_of desk.old) (D.record_of desk.new) result }
-    ensures read_fault { result ≡ ends.ReadFault →
-        Rose (L.Source.faults line.old) (L.Source.faults line.new) }
-    ensures write_fault { result ≡ ends.WriteFault →
-        Rose (L.Sink.faults line.old) (L.Sink.faults line.new) }
+    ensures served { IsServed (L.read_side line.old) (L.read_side line.new) (L.write_side line.old)
+        (L.write_side line.new) (D.record_of desk.old) (D.record_of desk.new) result }
+    ensures reads { CountsReads result (L.Source.faults line.old) (L.Source.faults line.new) }
+    ensures writes { CountsWrites result (L.Sink.faults line.old) (L.Sink.faults line.new) }
     ensures reads_never_fall { L.Source.faults line.old ≤ L.Source.faults line.new }
     ensures writes_never_fall { L.Sink.faults line.old ≤ L.Sink.faults line.new }
 {
@@ -254,26 +253,24 @@ impl Serving {
         }
     }
 
-    /// Writes what stands to be written, gives the client's session up, and tells the end: a fault of
-    /// that write where it failed.
+    /// Gives the client's session up, writes what stands to be written, and tells the end: a fault of
+    /// that write where it failed. So a client that doesn't read holds nothing meanwhile.
     fn finish<L: Line, D: Desk>(self, line: &mut L, desk: &mut D, end: LineEnd) -> LineEnd
         ensures keeps_reading { L.read_side line.new ≡ L.read_side line.old }
         ensures finishes { Finishes end result (L.write_side line.old) (L.write_side line.new)
             self.out.items }
         ensures given_up { GivenUp (D.record_of desk.old) (D.record_of desk.new) self.client }
     {
-        let mut serving = self;
-        let written = serving.flush(line);
         let Serving {
             framer: _,
-            out: _,
+            out,
             client,
             count: _,
-        } = serving;
+        } = self;
         client.leave(desk);
-        match written {
+        match write_all(line, &out) {
             Ok(()) => end,
-            Err(fault) => fault,
+            Err(_) => LineEnd::WriteFault,
         }
     }
 }

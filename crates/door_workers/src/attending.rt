@@ -1,5 +1,5 @@
-ghost use Rattle.std.specs.Prelude.{◌≡◌, ℕ, ◌+◌, ◌<◌, ◌≤◌, ◌||◌, true, is_none, IfSome, IfNone, IfOk, OnOk, OnErr, length, vec_capacity};
-ghost use Rattle.iq_outside.specs.Outside.{Rose, lines_with};
+ghost use Rattle.std.specs.Prelude.{◌≡◌, ℕ, ◌+◌, ◌<◌, ◌≤◌, ◌||◌, [], ◌∷◌, ◌++◌, true, is_none, IfSome, IfNone, IfOk, OnOk, OnErr, length, vec_capacity};
+ghost use Rattle.iq_outside.specs.Outside.{Rose, IsFresh, HandedBack, lines_with};
 ghost use Rattle.door_workers.specs.Attending.{Stands, is_over, told};
 ghost use Rattle.door_workers.specs.Told.{Told};
 
@@ -33,6 +33,8 @@ impl<'a, D: Door> Lent<'a, D> {
             D.ended self.new.door.now ≡ (is_none answer || D.ended self.old.door.now)) }
         ensures no_line { OnErr result (D.lines self.new.door.now ≡ D.lines self.old.door.now) }
         ensures no_end { OnErr result (D.ended self.new.door.now ≡ D.ended self.old.door.now) }
+        ensures unused { D.fresh self.old.door.now → IfOk result (λ answer. IfSome answer
+            (λ line. IsFresh (D.Line.given line) (D.Line.taken line))) }
         ensures stays_fresh { D.fresh self.old.door.now → D.fresh self.new.door.now }
         ensures keeps_closed { D.closed self.new.door.now ≡ D.closed self.old.door.now }
     {
@@ -62,6 +64,10 @@ impl<'a, D: Door> Attending<'a, D> {
         ensures most { self.new.so_far.most ≡ self.old.so_far.most }
         ensures stands_still { is_over self.old.so_far ≡ true →
             self.new.lent.door.now ≡ self.old.lent.door.now }
+        ensures unused { D.fresh self.old.lent.door.now → IfSome result
+            (λ line. IsFresh (D.Line.given line) (D.Line.taken line)) }
+        ensures keeps_closed { D.closed self.new.lent.door.now ≡ D.closed self.old.lent.door.now }
+        ensures keeps_ends { self.new.so_far.ends.items ≡ self.old.so_far.ends.items }
         ensures stays_fresh { D.fresh self.old.lent.door.now → D.fresh self.new.lent.door.now }
     {
         let so_far = &mut self.so_far;
@@ -84,15 +90,20 @@ impl<'a, D: Door> Attending<'a, D> {
         }
     }
 
-    /// Hands a line back that was served, and notes how it ended. It takes no memory.
+    /// Hands a line back that was served and finished, and notes how it ended. It takes no memory.
     pub fn hand_back(&mut self, line: D::Line, end: LineEnd)
         requires room { length self.old.so_far.ends.items < vec_capacity self.old.so_far.ends }
+        requires finished { D.Line.finished line ≡ true }
         ensures same_door { self.new.lent.door.ghost_name ≡ self.old.lent.door.ghost_name }
         ensures stands { (first : Told) (most out : ℕ) →
             Stands first most (told D.lines D.faults D.ended D.closed self.old.lent.door.now)
             self.old.so_far (out + 1) →
             Stands first most (told D.lines D.faults D.ended D.closed self.new.lent.door.now)
             self.new.so_far out }
+        ensures handed_back { HandedBack (D.closed self.old.lent.door.now)
+            (D.closed self.new.lent.door.now)
+            (record { reads = D.Line.read_side line; writes = D.Line.write_side line }) }
+        ensures noted { self.new.so_far.ends.items ≡ self.old.so_far.ends.items ++ end ∷ [] }
         ensures accepted { self.new.so_far.accepted ≡ self.old.so_far.accepted }
         ensures most { self.new.so_far.most ≡ self.old.so_far.most }
         ensures stays_fresh { D.fresh self.old.lent.door.now → D.fresh self.new.lent.door.now }

@@ -1,5 +1,7 @@
-ghost use Rattle.std.specs.Prelude.{◌≡◌, ◌+◌, ◌≤◌, IfSome, IfNone};
+ghost use Rattle.std.specs.Prelude.{◌≡◌, ◌+◌, ◌≤◌, true, IfSome, IfNone};
+ghost use Rattle.iq_outside.specs.Outside.{IsFresh};
 ghost use Rattle.door_workers.specs.Attending.{Stands, told};
+ghost use Rattle.door_workers.specs.Ends.{IsEnded, AreHandedBack};
 
 use crate::attending::Attending;
 use crate::names::DoorName;
@@ -18,6 +20,7 @@ pub(crate) struct Kept<'a, D: Door, N: DoorName> {
 impl<'a, D: Door, N: DoorName> Model for Kept<'a, D, N> {
     ghost use Rattle.std.specs.Prelude.{◌≡◌};
     ghost use Rattle.door_workers.specs.Attending.{Stands, told};
+    ghost use Rattle.door_workers.specs.Ends.{AreHandedBack};
 
     ghost Value = { Unit {0} };
 
@@ -26,7 +29,9 @@ impl<'a, D: Door, N: DoorName> Model for Kept<'a, D, N> {
     ghost invariant = { λ kept. (kept.at.lent.door.ghost_name ≡ N.door)
         × Stands N.first N.most (told D.lines D.faults D.ended D.closed kept.at.lent.door.now)
         kept.at.so_far kept.out.total
-        × (N.fresh → D.fresh kept.at.lent.door.now) };
+        × (N.fresh → D.fresh kept.at.lent.door.now)
+        × (N.fresh → AreHandedBack kept.at.so_far.ends.items N.closed
+        (D.closed kept.at.lent.door.now)) };
 }
 
 impl<'a, D: Door, N: DoorName> Kept<'a, D, N> {
@@ -37,6 +42,8 @@ impl<'a, D: Door, N: DoorName> Kept<'a, D, N> {
         ensures part { mine.new.parts ≡ mine.old.parts }
         ensures one_more { IfSome result (λ line. mine.new.amount ≡ mine.old.amount + 1) }
         ensures none { IfNone result (mine.new.amount ≡ mine.old.amount) }
+        ensures unused { N.fresh → IfSome result
+            (λ line. IsFresh (D.Line.given line) (D.Line.taken line)) }
     {
         let Kept { at, out } = self;
         let line = at.accept()?;
@@ -44,9 +51,12 @@ impl<'a, D: Door, N: DoorName> Kept<'a, D, N> {
         Some(line)
     }
 
-    /// Hands a line back that the worker with this share served, and notes how it ended.
+    /// Hands a line back that the worker with this share served and finished, and notes how it ended.
     pub fn hand_back(&mut self, line: D::Line, end: LineEnd, mine: &mut Share<N>)
-        requires { 1 ≤ mine.old.amount }
+        requires out { 1 ≤ mine.old.amount }
+        requires finished { D.Line.finished line ≡ true }
+        requires ended { N.fresh → IsEnded
+            (record { reads = D.Line.read_side line; writes = D.Line.write_side line }) end }
         ensures part { mine.new.parts ≡ mine.old.parts }
         ensures one_less { mine.new.amount + 1 ≡ mine.old.amount }
     {
@@ -64,6 +74,8 @@ impl<'a, D: Door, N: DoorName> Kept<'a, D, N> {
         ensures stands { Stands N.first N.most
             (told D.lines D.faults D.ended D.closed result.lent.door.now) result.so_far 0 }
         ensures stays_fresh { N.fresh → D.fresh result.lent.door.now }
+        ensures handed_back { N.fresh → AreHandedBack result.so_far.ends.items N.closed
+            (D.closed result.lent.door.now) }
     {
         let mut all = all;
         let Kept { at, mut out } = self;

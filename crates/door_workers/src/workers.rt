@@ -1,9 +1,10 @@
-ghost use Rattle.std.specs.Prelude.{◌≡◌, ℕ, ◌≤◌, ◌⊎◌, true, false, [], length, vec_capacity};
+ghost use Rattle.std.specs.Prelude.{◌≡◌, ℕ, ◌≤◌, ◌⊎◌, true, false, List, [], Option, length, vec_capacity};
 ghost use Rattle.std.specs.Option.{option_map};
 ghost use Rattle.std.specs.Thread.{IsSync};
-ghost use Rattle.iq_outside.specs.Outside.{Rose};
+ghost use Rattle.iq_outside.specs.Outside.{Rose, LineRecord};
 ghost use Rattle.door_workers.specs.Attending.{GivesBack, Stands, count_up_by, is_over, told};
 ghost use Rattle.door_workers.specs.Told.{Told};
+ghost use Rattle.door_workers.specs.Ends.{AreHandedBack};
 
 use crate::attending::{Attending, Lent};
 use crate::kept::Kept;
@@ -35,8 +36,9 @@ pub struct Attended {
 /// the lock. The caller works at the last desk itself, and does the work for which no thread can be
 /// started. It may wait.
 ///
-/// `ends` is empty and has room for an entry for each connection. It becomes the list of the ends: a
-/// connection that ends by a fault is an entry like any other. Beyond what serving a line takes no
+/// `ends` is empty and has room for an entry for each connection. It becomes the list of the ends, in the
+/// order in which the lines were handed back: a connection that ends by a fault is an entry like any
+/// other. Where the door gives only fresh lines, and tells those handed back, each was served to its end. Beyond what serving a line takes no
 /// memory is taken, but what a thread needs.
 pub fn serve_all<D: Door, K: Desk + Send, R: Threads + Wait + Sync>(
     rt: &R,
@@ -60,6 +62,8 @@ pub fn serve_all<D: Door, K: Desk + Send, R: Threads + Wait + Sync>(
     ensures stays_fresh { D.fresh door.old → D.fresh door.new }
     ensures given_back { GivesBack (length result.ends.items)
         (option_map length (D.closed door.old)) (option_map length (D.closed door.new)) }
+    ensures handed_back { D.fresh door.old →
+        AreHandedBack result.ends.items (D.closed door.old) (D.closed door.new) }
 {
     let mut so_far = Progress::new(conns, ends);
     let ledger = Blank::new(desks.len() as u64);
@@ -89,11 +93,15 @@ fn attend<'a, D: Door, K: Desk + Send, N: DoorName + Send + Sync, R: Threads + W
     requires first { Stands N.first N.most
         (told D.lines D.faults D.ended D.closed lent.door.now) so_far.old 0 }
     requires fresh { N.fresh → D.fresh lent.door.now }
+    requires handed_back { N.fresh →
+        AreHandedBack so_far.old.ends.items N.closed (D.closed lent.door.now) }
     ensures same_door { result.door.ghost_name ≡ lent.entry.door.ghost_name }
     ensures stands { Stands N.first N.most
         (told D.lines D.faults D.ended D.closed result.door.now) so_far.new 0 }
     ensures over { is_over so_far.new ≡ true }
     ensures stays_fresh { N.fresh → D.fresh result.door.now }
+    ensures handed_back { N.fresh →
+        AreHandedBack so_far.new.ends.items N.closed (D.closed result.door.now) }
 {
     let conns = so_far.most;
     let (out, mine) = ledger.open::<N>();
@@ -207,6 +215,10 @@ fn attend_alone<D: Door, K: Desk>(alloc: Global, at: &mut Attending<'_, D>, desk
         at.new.so_far 0 }
     ensures over { is_over at.new.so_far ≡ true }
     ensures stays_fresh { D.fresh at.old.lent.door.now → D.fresh at.new.lent.door.now }
+    ensures handed_back { D.fresh at.old.lent.door.now →
+        (before : Option (List LineRecord)) →
+        AreHandedBack at.old.so_far.ends.items before (D.closed at.old.lent.door.now) →
+        AreHandedBack at.new.so_far.ends.items before (D.closed at.new.lent.door.now) }
 {
     while let Some(line) = at.accept() {
         let mut line = line;

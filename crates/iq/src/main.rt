@@ -1,9 +1,9 @@
 //! The program: the words behind its name, standard input, standard output, connections over TCP, and an
-//! exit status. The rows of its store are in memory.
+//! exit status. The rows of its store lie in an SQL database: in memory, or in the file that `--db` names.
 #![tactic(auto)]
 
 use iq_outside::{OpenGate, ReaderSource, RuntimeClock, TcpDoor, WriterSink};
-use sql_keeper::MapKeeper;
+use sqlite_keeper::SqliteKeeper;
 use std::process::ExitCode;
 use std::{env, io};
 use top_run::{Status, run};
@@ -11,13 +11,13 @@ use top_run::{Status, run};
 fn main(rt: HostRuntime) -> ExitCode {
     let status = match words(&rt) {
         Ok(words) => {
-            // Standard input and standard output have no buffer, and the keeper is in memory.
+            // Standard input and standard output have no buffer.
             let mut source = ReaderSource::new(rt.stdin());
             let mut sink = WriterSink::new(rt.stdout());
-            let keeper = MapKeeper::new(Vec::new(rt.alloc()));
+            let keeper = SqliteKeeper::new(&rt);
             let mut door = TcpDoor::new(&rt);
             let clock = RuntimeClock::new(&rt);
-            run(
+            let end = run(
                 &rt,
                 rt.alloc(),
                 words.as_slice(),
@@ -27,8 +27,10 @@ fn main(rt: HostRuntime) -> ExitCode {
                 &mut door,
                 &clock,
                 &OpenGate,
-            )
-            .status
+            );
+            // What isn't copied into the file stays in its log, where the next start finds it.
+            let _ = end.keeper.close();
+            end.status
         }
         Err(status) => status,
     };
@@ -36,8 +38,7 @@ fn main(rt: HostRuntime) -> ExitCode {
     ExitCode::from(status.exit_code())
 }
 
-/// The words behind the program's name, or how it ends without them. One that names a file for the rows
-/// is a fault of the store.
+/// The words behind the program's name, or how it ends without them.
 fn words(rt: &HostRuntime) -> Result<Vec<Vec<u8>>, Status> {
     let mut words = Vec::new(rt.alloc());
     let mut at_name = true;
@@ -46,12 +47,7 @@ fn words(rt: &HostRuntime) -> Result<Vec<Vec<u8>>, Status> {
             at_name = false;
             continue;
         }
-        let word = word.into_bytes();
-        if word.starts_with(b"--db") {
-            // This program keeps no rows in a file, so a store over one can't be started.
-            return Err(Status::KeepFault);
-        }
-        if words.push(word).is_err() {
+        if words.push(word.into_bytes()).is_err() {
             return Err(Status::Memory);
         }
     }

@@ -12,10 +12,11 @@ pub record WriterView (W : Type 0) : Type 0 where
   pub writer : W
   pub faults : ℕ
 
--- a line over TCP: how often a read failed, and how often a write
+-- a line over TCP: how often a read failed, how often a write, and whether it is finished
 pub record TcpLineView : Type 0 where
   pub read_faults : ℕ
   pub write_faults : ℕ
+  pub finished : Bool
 
 -- a door over TCP: how often it failed, and how many lines it gave
 pub record TcpDoorView : Type 0 where

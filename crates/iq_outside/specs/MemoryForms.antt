@@ -1,5 +1,5 @@
-use Rattle.std.specs.Prelude.{ℕ, List, Bool, Option, Some, None, cond}
-use Rattle.iq_outside.specs.Outside.{IsFresh}
+use Rattle.std.specs.Prelude.{ℕ, List, Bool, Option, Some, None, cond, map}
+use Rattle.iq_outside.specs.Outside.{IsFresh, LineRecord}
 
 -- a source in memory: the bytes left, the bytes given, the most that a call gives, the numbers of the calls that fail,
 -- and how many calls and faults there were
@@ -21,10 +21,11 @@ pub record SinkView : Type 0 where
   pub calls : ℕ
   pub faults : ℕ
 
--- a line in memory: what it reads from, and what it writes to
+-- a line in memory: what it reads from, what it writes to, and whether it is finished
 pub record LineView : Type 0 where
   pub source : SourceView
   pub sink : SinkView
+  pub finished : Bool
 
 -- a door in memory: the lines that it has yet to give, the lines closed and kept, whether each line that was closed
 -- was kept, how many it keeps, the numbers of the calls that fail, how many calls and faults there were, how many
@@ -44,6 +45,13 @@ pub record ListDoorView : Type 0 where
 abbrev pub IsUnused : LineView → Type 0
 IsUnused line = IsFresh (Some line.source.given) (Some line.sink.taken)
 
--- the lines handed back to a door in memory, which tells them while it has kept each
-abbrev pub kept_lines : ListDoorView → Option (List LineView)
-kept_lines door = cond door.all_kept (Some door.closed) None
+-- what a line in memory tells of its reading and of its writing
+abbrev pub line_record : LineView → LineRecord
+line_record line = record {
+  reads = record { left = Some line.source.left; given = Some line.source.given; faults = line.source.faults };
+  writes = record { taken = Some line.sink.taken; faults = line.sink.faults };
+}
+
+-- what the lines handed back to a door in memory told, which it tells while it has kept each
+abbrev pub kept_lines : ListDoorView → Option (List LineRecord)
+kept_lines door = cond door.all_kept (Some (map line_record door.closed)) None

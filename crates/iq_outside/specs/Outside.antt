@@ -44,6 +44,11 @@ pub record WriteSide : Type 0 where
   pub taken : Option (List ℕ)
   pub faults : ℕ
 
+-- what a line tells of its reading and of its writing
+pub record LineRecord : Type 0 where
+  pub reads : ReadSide
+  pub writes : WriteSide
+
 -- the reading of what is only written
 abbrev pub no_reading : ReadSide
 no_reading = record { left = None; given = None; faults = 0 }
@@ -61,7 +66,7 @@ abbrev pub lines_with : {L : Type 0} → Option L → ℕ → ℕ
 lines_with None n = n
 lines_with (Some line) n = count_up n
 
--- a line was handed back to a door: the door tells the lines handed back no longer, or they are those before and
--- then this line
-abbrev pub HandedBack : {L : Type 0} → Option (List L) → Option (List L) → L → Type 0
+-- a line that tells this was handed back to a door: the door tells the lines handed back no longer, or they told what
+-- those before did, and then this
+abbrev pub HandedBack : Option (List LineRecord) → Option (List LineRecord) → LineRecord → Type 0
 HandedBack before after line = (after ≡ None) ⊎ (after ≡ option_map (λ lines. lines ++ line ∷ []) before)

@@ -1,5 +1,5 @@
-ghost use Rattle.std.specs.Prelude.{◌≡◌, ℕ, ◌≤◌, ◌||◌, Bool, List, Option, is_none, IfSome, IfOk, OnOk, OnErr};
-ghost use Rattle.iq_outside.specs.Outside.{Rose, IsFresh, HandedBack, lines_with};
+ghost use Rattle.std.specs.Prelude.{◌≡◌, ℕ, ◌≤◌, ◌||◌, Bool, true, List, Option, is_none, IfSome, IfOk, OnOk, OnErr};
+ghost use Rattle.iq_outside.specs.Outside.{Rose, IsFresh, LineRecord, HandedBack, lines_with};
 
 use crate::failures::Failed;
 use crate::lines::Line;
@@ -10,7 +10,7 @@ use crate::lines::Line;
 /// call that fails, until the end of its type, and at no other. `lines` is how many lines it gave, up
 /// to 2^64 - 1, and `ended` whether an `accept` has answered None. A door of which `fresh` holds
 /// gives only lines that have given and taken nothing, where they tell that; no call ends this.
-/// `closed` is the list of the lines handed back, in order, or `None` where it isn't told.
+/// `closed` is what the lines handed back told then, in order, or `None` where it isn't told.
 pub trait Door: Send {
     type Line: Line + Send;
 
@@ -22,7 +22,7 @@ pub trait Door: Send {
 
     ghost fresh: { Self → Type 0 };
 
-    ghost closed: { Self → Option (List Self.Line) };
+    ghost closed: { Self → Option (List LineRecord) };
 
     /// Opens the door at this address. It may wait.
     fn bind(&mut self, addr: &[u8]) -> Result<(), Failed>
@@ -50,12 +50,16 @@ pub trait Door: Send {
         ensures stays_fresh { fresh self.old → fresh self.new }
         ensures keeps_closed { closed self.new ≡ closed self.old };
 
-    /// Takes back a line that was served. It can't fail, isn't counted, and takes no memory. Where
-    /// the door tells the lines handed back, this one is the last of them.
+    /// Takes back a line that is finished. It can't fail, isn't counted, and takes no memory. Where
+    /// the door tells what the lines handed back told, what this one tells is the last of it.
     fn close(&mut self, line: Self::Line)
+        requires finished { Self.Line.finished line ≡ true }
         ensures no_fault { faults self.new ≡ faults self.old }
         ensures no_line { lines self.new ≡ lines self.old }
         ensures no_end { ended self.new ≡ ended self.old }
         ensures stays_fresh { fresh self.old → fresh self.new }
-        ensures handed_back { HandedBack (closed self.old) (closed self.new) line };
+        ensures handed_back { HandedBack (closed self.old) (closed self.new) (record {
+          reads = Self.Line.read_side line;
+          writes = Self.Line.write_side line;
+        }) };
 }

@@ -1,4 +1,4 @@
-ghost use Rattle.std.specs.Prelude.{◌≡◌, ℕ, Option, List, IsSome};
+ghost use Rattle.std.specs.Prelude.{◌≡◌, ℕ, Bool, true, Option, List, IsSome};
 
 use crate::sinks::Sink;
 use crate::sources::Source;
@@ -7,16 +7,20 @@ use crate::sources::Source;
 ///
 /// It has one count of faults as a source and one as a sink. A read changes nothing that a contract
 /// sees of the writing, and a write nothing that it sees of the reading. Where the bytes left are
-/// told, those given so far are told too.
+/// told, those given so far are told too. `finished` tells whether the line was ended for the peer: a
+/// door takes back no other.
 ///
 /// A caller that knows no more of a line than this trait has from a read that `write_side` is as
 /// before, and from a write that `read_side` is. The laws `writing` and `reading` say what these are.
 pub trait Line: Source + Sink {
     ghost use Rattle.iq_outside.specs.Outside.{ReadSide, WriteSide};
 
+    ghost finished: { Self → Bool };
+
     /// Ends the connection for the peer. It can't fail, isn't counted, and takes no memory. The bytes
     /// left, given and taken are as before.
     fn finish(&mut self)
+        ensures finished { finished self.new ≡ true }
         ensures keeps_left { Self.left self.new ≡ Self.left self.old }
         ensures keeps_given { Self.given self.new ≡ Self.given self.old }
         ensures keeps_taken { Self.taken self.new ≡ Self.taken self.old }

@@ -1,6 +1,6 @@
 ghost use Rattle.std.specs.Prelude.{◌≡◌, ℕ, ◌≤◌, ◌↔◌, ◌⊎◌, ◌∷◌, ◌++◌, List, [], Bool, true, false, length, reverse, IsErr, IfOk, OnOk, OnErr, IfSome, IfNone, IsNone, MatchOption, Contains, All, if◌then◌else◌, nat_lt};
 ghost use Rattle.iq_outside.specs.Outside.{Rose, IsFresh, HandedBack, count_up};
-ghost use Rattle.iq_outside.specs.MemoryForms.{IsUnused, kept_lines};
+ghost use Rattle.iq_outside.specs.MemoryForms.{IsUnused, kept_lines, line_record};
 
 use crate::doors::Door;
 use crate::failures::Failed;
@@ -179,8 +179,10 @@ impl Door for ListDoor {
     /// Keeps the line as the last closed one, or drops it where it has kept as many as it was given,
     /// and no longer tells the lines handed back then.
     fn close(&mut self, line: MemLine)
+        requires { line.finished ≡ true }
         ensures stays_fresh { All IsUnused self.old.waiting → All IsUnused self.new.waiting }
-        ensures handed_back { HandedBack (kept_lines self.old) (kept_lines self.new) line }
+        ensures handed_back { HandedBack (kept_lines self.old) (kept_lines self.new)
+            (line_record line) }
 
         ensures value { self.new ≡ (if nat_lt (length self.old.closed) self.old.room
             then record self.old { closed = self.old.closed ++ line ∷ [] }

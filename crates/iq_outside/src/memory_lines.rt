@@ -1,4 +1,4 @@
-ghost use Rattle.std.specs.Prelude.{◌≡◌, ℕ, ◌-◌, ◌<◌, ◌≤◌, ◌↔◌, ◌⊎◌, Some, length, take, min, IsErr, IfOk, OnOk, OnErr, Contains, refl};
+ghost use Rattle.std.specs.Prelude.{◌≡◌, ℕ, ◌-◌, ◌<◌, ◌≤◌, ◌↔◌, ◌⊎◌, Some, true, false, length, take, min, IsErr, IfOk, OnOk, OnErr, Contains, refl};
 ghost use Rattle.iq_outside.specs.Outside.{Rose, Takes, ZeroAtEnd, Gains, count_up};
 
 use crate::failures::Failed;
@@ -14,6 +14,7 @@ use std::marker::Model;
 pub struct MemLine {
     source: MemSource,
     sink: MemSink,
+    finished: bool,
 }
 
 impl Model for MemLine {
@@ -21,15 +22,19 @@ impl Model for MemLine {
 
     ghost Value = { LineView };
 
-    ghost view = { λ line. record { source = line.source; sink = line.sink } };
+    ghost view = { λ line. record { source = line.source; sink = line.sink; finished = line.finished } };
 }
 
 impl MemLine {
-    /// A line that reads from this source and writes to this sink.
+    /// A line that reads from this source and writes to this sink, and isn't finished.
     pub fn new(source: MemSource, sink: MemSink) -> MemLine
-        ensures { result ≡ record { source = source; sink = sink } }
+        ensures { result ≡ record { source = source; sink = sink; finished = false } }
     {
-        MemLine { source, sink }
+        MemLine {
+            source,
+            sink,
+            finished: false,
+        }
     }
 
     /// The bytes that its sink has taken so far.
@@ -62,6 +67,7 @@ impl Source for MemLine {
         ensures keeps_given { OnErr result
             (Some self.new.source.given ≡ Some self.old.source.given) }
         ensures keeps_sink { self.new.sink ≡ self.old.sink }
+        ensures keeps_finished { self.new.finished ≡ self.old.finished }
         ensures failed_rose { OnErr result (Rose self.old.source.faults self.new.source.faults) }
         ensures no_fault { OnOk result (self.new.source.faults ≡ self.old.source.faults) }
         ensures never_falls { self.old.source.faults ≤ self.new.source.faults }
@@ -99,6 +105,7 @@ impl Sink for MemLine {
             (Some self.new.sink.taken) (take n piece.now)) }
         ensures keeps { OnErr result (Some self.new.sink.taken ≡ Some self.old.sink.taken) }
         ensures keeps_source { self.new.source ≡ self.old.source }
+        ensures keeps_finished { self.new.finished ≡ self.old.finished }
         ensures failed_rose { OnErr result (Rose self.old.sink.faults self.new.sink.faults) }
         ensures no_fault { OnOk result (self.new.sink.faults ≡ self.old.sink.faults) }
         ensures never_falls { self.old.sink.faults ≤ self.new.sink.faults }
@@ -125,8 +132,12 @@ impl Line for MemLine {
 
     ghost tells_given = { λ _ _. refl };
 
-    /// Does nothing.
+    ghost finished = { λ line. line.finished };
+
+    /// Notes that the line is finished.
     fn finish(&mut self)
-        ensures { self.new ≡ self.old }
-    {}
+        ensures { self.new ≡ record self.old { finished = true } }
+    {
+        self.finished = true;
+    }
 }

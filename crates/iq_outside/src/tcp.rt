@@ -1,4 +1,4 @@
-ghost use Rattle.std.specs.Prelude.{◌≡◌, ◌<◌, ◌≤◌, None, is_none, false, length, refl, IfOk, OnOk, OnErr, IfSome};
+ghost use Rattle.std.specs.Prelude.{◌≡◌, ◌<◌, ◌≤◌, None, is_none, true, false, length, refl, IfOk, OnOk, OnErr, IfSome};
 ghost use Rattle.std.specs.IoError.{raw_os_error};
 ghost use Rattle.iq_outside.specs.Adapters.{is_passing};
 ghost use Rattle.iq_outside.specs.Outside.{Rose, count_up, lines_with};
@@ -36,7 +36,7 @@ const PASSING: [i32; 7] = [4, 12, 23, 24, 71, 103, 105];
 
 /// A line over a TCP stream. Each error of the stream counts as a fault, an interrupted read or
 /// write too, and so does a write that takes no byte. It tells nothing of the bytes. Contracts see
-/// the two counts. A read waits for the peer for up to 300 seconds, and a write for up to 30: then
+/// the two counts, and whether it is finished. A read waits for the peer for up to 300 seconds, and a write for up to 30: then
 /// it fails.
 #[derive(Drop)]
 pub struct TcpLine {
@@ -47,18 +47,23 @@ pub struct TcpLine {
 }
 
 impl Model for TcpLine {
+    ghost use Rattle.std.specs.Prelude.{is_none};
     ghost use Rattle.iq_outside.specs.Adapters.{TcpLineView};
 
     ghost Value = { TcpLineView };
 
-    ghost view = { λ line. record { read_faults = line.read_faults; write_faults = line.write_faults } };
+    ghost view = { λ line. record {
+      read_faults = line.read_faults;
+      write_faults = line.write_faults;
+      finished = is_none line.stream;
+    } };
 }
 
 impl TcpLine {
     // A line over this stream, which sends small pieces at once and gives up a silent peer, where the
     // system can.
     fn new(stream: TcpStream) -> TcpLine
-        ensures { result ≡ record { read_faults = 0; write_faults = 0 } }
+        ensures { result ≡ record { read_faults = 0; write_faults = 0; finished = false } }
     {
         let _ = stream.set_nodelay(true);
         let _ = stream.set_read_timeout(Some(Duration::from_secs(READ_SECONDS)));
@@ -153,10 +158,12 @@ impl Line for TcpLine {
 
     ghost tells_given = { λ _ told. told };
 
+    ghost finished = { λ line. line.finished };
+
     /// Shuts the stream down both ways and closes it, where it isn't yet. Its descriptor is free then,
     /// before the line is handed back.
     fn finish(&mut self)
-        ensures { self.new ≡ self.old }
+        ensures { self.new ≡ record self.old { finished = true } }
     {
         if let Some(stream) = self.stream.take() {
             let _ = stream.shutdown(Shutdown::Both);
@@ -261,7 +268,7 @@ impl<'a, R: Net<Listener = TcpListener, Stream = TcpStream> + time::Clock + Sync
         ensures never_ends { IfOk result (λ answer. is_none answer ≡ false) }
         ensures no_line { OnErr result (self.new.given ≡ self.old.given) }
         ensures gives { IfOk result (λ answer. IfSome answer
-            (λ line. line ≡ record { read_faults = 0; write_faults = 0 })) }
+            (λ line. line ≡ record { read_faults = 0; write_faults = 0; finished = false })) }
         ensures err { OnErr result (self.new.faults ≡ count_up self.old.faults) }
     {
         if let Some(listener) = &self.listener {

@@ -1,9 +1,13 @@
 pub mod SplitLemmas
 pub mod NumberLemmas
+pub mod DecimalLemmas
+pub mod KindLemmas
 pub mod FirstLemmas
 pub mod RowLemmas
+pub mod TableLemmas
 pub mod VerbLemmas
 pub mod OnceLemmas
 pub mod FrontLemmas
+pub mod LineLemmas
 pub mod TellLemmas
 pub mod StreamLemmas

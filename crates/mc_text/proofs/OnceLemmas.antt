@@ -1,7 +1,7 @@
 -- What words say they say once: the row of a command, and how many bytes its block has.
 use Rattle.std.proofs.Common.{ℕ, ◌==◌, ◌≡◌, ◌≤◌, ◌⊎◌, ◌||◌, inl, inr, List, [], ◌∷◌, take, get_or, Option, Some, None, arith, refl, sym, ap, ◌∙◌}
 use Rattle.std.specs.Prelude.{if◌then◌else◌, codes, Result, Ok, Err, OnErr}
-use Rattle.case_tables.specs.Verbs.{Verb, IsRowOf, lease_rows, line_row, block_row}
+use Rattle.mc_text.specs.Verbs.{Verb, IsRowOf, lease_rows, line_row, block_row}
 use Rattle.rows_model.specs.declared.keys.QKey.{QKey}
 use Rattle.rows_model.specs.declared.keys.Sid.{Sid}
 use Rattle.rows_model.specs.Shift.{number_from}

@@ -1,6 +1,6 @@
 -- The commands: which words say which.
 use Rattle.std.specs.Prelude.{ℕ, ◌≡◌, List, [], ◌∷◌, Option, Some, None, codes, ⊤}
-use Rattle.case_tables.specs.Verbs.{IsNoVerb, lease_rows}
+use Rattle.mc_text.specs.Verbs.{IsNoVerb, lease_rows}
 use Rattle.mc_text.specs.declared.commands.Role.{Role}
 use Rattle.mc_text.specs.declared.commands.Role.TheVariants.{Read, Write}
 use Rattle.mc_text.specs.declared.commands.Command.{Command}

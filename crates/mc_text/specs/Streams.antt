@@ -1,6 +1,6 @@
 -- What stands first in a stream of bytes: which command or fault, and how many bytes it takes.
 use Rattle.std.specs.Prelude.{ℕ, ◌+◌, ◌==◌, ◌||◌, Bool, true, ◌≡◌, ◌<◌, ◌≤◌, List, [], ◌∷◌, length, take, drop, slice_index, Option, Some, None}
-use Rattle.case_tables.specs.Verbs.{Verb, IsRowOf, lease_rows}
+use Rattle.mc_text.specs.Verbs.{Verb, IsRowOf, lease_rows}
 use Rattle.mc_text.specs.declared.commands.Command.{Command}
 use Rattle.mc_text.specs.Words.{words_in}
 use Rattle.mc_text.specs.Commands.{AreWords, announced, block_of}

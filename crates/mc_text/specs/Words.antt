@@ -1,5 +1,5 @@
 -- The words of a command's line, and what a word may be: a key, a number, a session's number.
-use Rattle.std.specs.Prelude.{ℕ, ℤ, pos, neg_ℤ, ◌^◌, ◌≡◌, ◌<◌, ◌≤◌, ◌⊎◌, Bool, true, ◌==◌, ◌&&◌, not, nat_le, List, ◌∷◌, length, filter, Option, Some, None}
+use Rattle.std.specs.Prelude.{ℕ, ℤ, pos, neg_ℤ, ◌^◌, ◌≡◌, ◌<◌, ◌≤◌, ◌⊎◌, Bool, true, ◌==◌, ◌&&◌, not, nat_le, List, ◌∷◌, length, filter, decimal, Option, Some, None}
 use Rattle.std.specs.List.{list_all, slice_split}
 use Rattle.rows_model.specs.declared.keys.QKey.{QKey}
 use Rattle.rows_model.specs.declared.keys.Sid.{Sid}
@@ -26,6 +26,12 @@ is_key word = nat_le 1 (length word) && nat_le (length word) 250 && list_all is_
 pub record IsServed (word : List ℕ) (key : QKey) : Type 0 where
   pub text : IsKeyText word key
   pub id : key.id ≤ 100000
+
+-- the digits are the decimal of an id that a member can have
+pub record IsMember (digits : List ℕ) (id : ℕ) : Type 0 where
+  pub id_from : 1 ≤ id
+  pub id_to : id ≤ 100000
+  pub written : digits ≡ decimal id
 
 -- the word is this key that is served, or no such key
 abbrev pub Names : List ℕ → Option QKey → Type 0

@@ -1,5 +1,5 @@
 // What stands first in a stream: a command, a fault, or not enough to tell.
-ghost use Rattle.std.specs.Prelude.{◌≡◌, ◌+◌, ◌≤◌, [], ◌<◌, ◌^◌, length, take, IfSome, IfNone, IfOk, OnErr};
+ghost use Rattle.std.specs.Prelude.{◌≡◌, ◌+◌, ◌-◌, ◌≤◌, [], ◌<◌, ◌^◌, true, false, length, take, slice_index, IfSome, IfNone, IfOk, OnErr};
 ghost use Rattle.std.specs.Bool.{MatchBool};
 ghost use Rattle.mc_text.specs.Words.{words_in};
 ghost use Rattle.mc_text.specs.Commands.{AreWords};
@@ -9,6 +9,7 @@ ghost use Rattle.mc_text.specs.Telling.{Told, IsFront, IsEndless};
 
 use crate::commands::{Command, Head};
 use crate::lines::{Said, said_of};
+use memchr::memchr;
 use rows_model::{Memory, Value};
 use std::alloc::Global;
 
@@ -50,13 +51,28 @@ fn line_end(stream: &[u8]) -> Option<usize>
     ensures found { IfSome result (λ long. IsLine stream.now long) }
     ensures none { IfNone result (IsEndless stream.now 2049) }
 {
-    let places = (LONGEST_LINE + 1).min(stream.len());
-    for place in 0..places {
-        if ends_at(stream, place) {
-            return Some(place);
+    let near = &stream[..(LONGEST_LINE + 2).min(stream.len())];
+    let mut from = 0;
+    while from < near.len() {
+        let Some(behind) = memchr(b'\n', &near[from..]) else {
+            return None;
+        };
+        let feed = from + behind;
+        if is_behind_return(near, feed) {
+            return Some(feed - 1);
         }
+        from = feed + 1;
     }
     None
+}
+
+// Whether a CR stands right before this place.
+fn is_behind_return(bytes: &[u8], place: usize) -> bool
+    requires { place ≤ length bytes.now }
+    ensures yes { result ≡ true → (1 ≤ place) × (slice_index bytes.now (place - 1) ≡ 13) }
+    ensures no { result ≡ false → 1 ≤ place → slice_index bytes.now (place - 1) ≡ 13 → ⊥ }
+{
+    place > 0 && bytes[place - 1] == b'\r'
 }
 
 // Whether a CR LF begins at this place.

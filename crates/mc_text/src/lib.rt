@@ -6,6 +6,7 @@ pub use faults::FrameFault;
 pub use framing::Framer;
 pub use laws::streams_tell_items;
 pub use replies::{LineReply, reply_text, write_reply};
+pub use verbs::{VerbRow, Verbs, lease_verbs};
 
 pub mod commands;
 pub mod faults;
@@ -16,4 +17,6 @@ mod lines;
 mod numbers;
 pub mod replies;
 mod txns;
+mod verb_words;
+pub mod verbs;
 mod words;

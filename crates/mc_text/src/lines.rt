@@ -12,8 +12,8 @@ ghost use Rattle.mc_text.specs.Telling.{Tells, Told};
 
 use crate::commands::{Command, Head, Role};
 use crate::txns::txn_of;
+use crate::verbs::lease_verbs;
 use crate::words::{has_ended, next_word, take_by, take_flags, take_key, take_number, take_sid};
-use case_tables::lease_verbs;
 use rows_model::{Memory, QKey, Sid};
 use std::alloc::Global;
 

@@ -1,36 +1,88 @@
 // What a word is: a key, a number, the number of a session.
-ghost use Rattle.std.specs.Prelude.{◌≡◌, ◌<◌, ◌≤◌, ◌^◌, ℕ, ℤ, pos, neg_ℤ, Option, SomeIff, IfSome, IfNone};
+ghost use Rattle.std.specs.Prelude.{◌≡◌, ◌<◌, ◌≤◌, ◌^◌, ◌∷◌, ◌++◌, ℕ, ℤ, pos, neg_ℤ, List, Option, SomeIff, IfSome, IfNone};
 ghost use Rattle.std.specs.List.{list_all};
+ghost use Rattle.rows_model.specs.declared.keys.Kind.{Kind};
 ghost use Rattle.rows_model.specs.declared.keys.QKey.{QKey};
-ghost use Rattle.mc_text.specs.Words.{is_key_byte, is_key, is_numeral, IsKey, IsNumber, IsFlags, IsSid, IsBy};
+ghost use Rattle.rows_model.specs.Key.{word_of};
+ghost use Rattle.mc_text.specs.Words.{is_key_byte, is_key, is_numeral, Names, IsMember, IsKey, IsNumber, IsFlags, IsSid, IsBy};
 
-use rows_model::{QKey, Sid};
+use rows_model::{Kind, QKey, Sid};
 
 // The most bytes of a key, and the most digits of a number.
 const LONGEST_KEY: usize = 250;
 
 // The greatest id that a member can have. No key beyond it is served, since each key that is missed and
 // never set has a lease for good: so they are bounded.
-const LAST_ID: u32 = 100_000;
+const LAST_ID: u64 = 100_000;
 
 const MOST_DIGITS: usize = 20;
 
 /// The key of the cache that the word is, if it is one whose id a member can have; `None` where it may not
 /// be a key at all.
+#[tactic(auto, using(crate::proofs::KindLemmas::served_form))]
 pub(crate) fn key_of(word: &[u8]) -> Option<Option<QKey>>
     ensures found { IfSome result (λ key. IsKey word.now key) }
     ensures none { IfNone result ((key : Option QKey) → IsKey word.now key → ⊥) }
 {
+    if let Some(key) = served_of(word) {
+        return Some(Some(key));
+    }
     if !is_key(word) {
         return None;
     }
-    let Some(key) = QKey::parse(word) else {
-        return Some(None);
-    };
-    if key.id > LAST_ID {
-        return Some(None);
+    Some(None)
+}
+
+// The key of the cache that the word is, if it is one whose id a member can have.
+fn served_of(word: &[u8]) -> Option<QKey>
+    ensures { Names word.now result }
+{
+    let (kind, digits) = kind_of(word)?;
+    let id = id_of(digits)?;
+    Some(QKey { kind, id })
+}
+
+// The kind whose word stands in front, with a colon behind it, and what stands behind that.
+fn kind_of(word: &[u8]) -> Option<(Kind, &[u8])>
+    ensures found { IfSome result (λ read. word.now ≡ word_of read.0 ++ 58 ∷ read.1.now) }
+    ensures none { IfNone result ((kind : Kind) (digits : List ℕ) →
+        word.now ≡ word_of kind ++ 58 ∷ digits → ⊥) }
+{
+    let kind = likely_kind(word);
+    match word.strip_prefix(kind.word())? {
+        [b':', digits @ ..] => Some((kind, digits)),
+        _ => None,
     }
-    Some(Some(key))
+}
+
+// The kind that the word is of, if it is of one: its first two bytes tell them apart.
+fn likely_kind(word: &[u8]) -> Kind
+    ensures { (kind : Kind) (digits : List ℕ) → word.now ≡ word_of kind ++ 58 ∷ digits →
+        result ≡ kind }
+{
+    match word {
+        [b'p', b'r', ..] => Kind::Profile,
+        [b'p', ..] => Kind::Pending,
+        [b'f', ..] => Kind::Friends,
+        [b'n', b'f', ..] => Kind::NFriends,
+        [b'n', ..] => Kind::NPending,
+        _ => Kind::Blocked,
+    }
+}
+
+// The id that a member can have and whose decimal this is.
+fn id_of(digits: &[u8]) -> Option<u32>
+    ensures found { IfSome result (λ id. IsMember digits.now id) }
+    ensures none { IfNone result ((id : ℕ) → IsMember digits.now id → ⊥) }
+{
+    let [b'1'..=b'9', ..] = digits else {
+        return None;
+    };
+    let number = number_of(digits)?;
+    if number > LAST_ID {
+        return None;
+    }
+    Some(number as u32)
 }
 
 /// The number below 2^64 that the word is: 1 to 20 digits, with zeros in front or without.

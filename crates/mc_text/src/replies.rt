@@ -329,10 +329,15 @@ fn push_key(out: &mut Vec<u8>, key: QKey) -> Result<(), AllocError>
 }
 
 // A number in decimal.
+#[tactic(auto, using(crate::proofs::DecimalLemmas::one_digit))]
 fn push_decimal(out: &mut Vec<u8>, number: u64) -> Result<(), AllocError>
     ensures ok { OnOk result (out.new.items ≡ out.old.items ++ decimal number) }
     ensures err { OnErr result (out.new.items ≡ out.old.items) }
 {
+    if number < 10 {
+        out.push(b'0' + number as u8)?;
+        return Ok(());
+    }
     let mut buffer = Buffer::new();
     out.extend_from_slice(buffer.format(number).as_bytes())
 }

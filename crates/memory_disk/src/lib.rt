@@ -1,14 +1,15 @@
-//! Files of a database that tell no lie: one in memory, which ends with its process, and one with a copy
-//! in memory, from which all reads are answered.
+//! Files of a database that tell no lie: all reads are answered from memory. A file behind it, where there
+//! is one, gets each write too.
 #![tactic(auto)]
 
 ghost use Rattle.std.specs.Prelude.{ℕ, ◌≡◌, ◌≤◌, ◌<◌, length, slice_index, [], true, false, refl, is_ok, OnOk, OnErr};
 ghost use Rattle.sqlite_disk.specs.Disk.{Holds, Torn, Mixed, Cut, CountsFault};
 ghost use Rattle.sqlite_disk.specs.Refusal.{finds_no_room};
 
-pub use copied::CopiedDisk;
+pub use stored::StoreDisk;
 
-mod copied;
+mod behind;
+mod stored;
 
 use sqlite_disk::{Disk, Tally, digest_of};
 use std::alloc::{AllocError, Global};

@@ -111,7 +111,7 @@ one_load : (a b c d e : List ℕ) (spec other : WorkSpec) → AreNumbers a b c d
 one_load a b c d e spec other h k =
     let members = one_small a 1 100000 _ _ (omega arith) h.members_are k.members_are in
     let sessions = one_small b 0 500000 _ _ (omega arith) h.sessions_are k.sessions_are in
-    let workers = one_small c 1 64 _ _ (omega arith) h.workers_are k.workers_are in
+    let workers = one_small c 1 1024 _ _ (omega arith) h.workers_are k.workers_are in
     let shards = one_small d 1 64 _ _ (omega arith) h.shards_are k.shards_are in
     let seed = one_decimal _ _ h.seed_below k.seed_below (sym h.seed_is ∙ k.seed_is) in
     same_load spec other members sessions workers shards seed

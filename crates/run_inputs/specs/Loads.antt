@@ -20,7 +20,7 @@ pub record IsWork (spec : WorkSpec) : Type 0 where
   pub few_members : spec.members ≤ 100000
   pub few_sessions : spec.sessions ≤ 500000
   pub some_workers : 1 ≤ spec.workers
-  pub few_workers : spec.workers ≤ 64
+  pub few_workers : spec.workers ≤ 1024
   pub some_shards : 1 ≤ spec.shards
   pub few_shards : spec.shards ≤ 64
 

@@ -79,7 +79,7 @@ pub record IsNumberWithin (word : List ℕ) (least most number : ℕ) : Type 0 w
 pub record AreNumbers (members sessions workers shards seed : List ℕ) (spec : WorkSpec) : Type 0 where
   pub members_are : IsNumberWithin members 1 100000 spec.members
   pub sessions_are : IsNumberWithin sessions 0 500000 spec.sessions
-  pub workers_are : IsNumberWithin workers 1 64 spec.workers
+  pub workers_are : IsNumberWithin workers 1 1024 spec.workers
   pub shards_are : IsNumberWithin shards 1 64 spec.shards
   pub seed_is : seed ≡ decimal spec.seed
   pub seed_below : spec.seed < 2 ^ 64

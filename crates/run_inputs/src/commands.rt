@@ -40,7 +40,7 @@ fn spec_of(
     Some(WorkSpec {
         members: number_within(members, 1, 100_000)?,
         sessions: number_within(sessions, 0, 500_000)?,
-        workers: number_within(workers, 1, 64)?,
+        workers: number_within(workers, 1, 1_024)?,
         shards: number_within(shards, 1, 64)?,
         seed: number_of(seed)?,
     })

@@ -21,7 +21,7 @@ pub struct WorkSpec {
     pub members: u32,
     /// How many sessions, at most 500,000.
     pub sessions: u32,
-    /// How many workers, from 1 to 64.
+    /// How many workers, from 1 to 1,024.
     pub workers: u32,
     /// How many shards, from 1 to 64. The plans don't depend on it.
     pub shards: u32,

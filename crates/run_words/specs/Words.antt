@@ -21,7 +21,7 @@ pub record IsServe (spec : ServeSpec) : Type 0 where
   pub some_conns : 1 ≤ spec.conns
   pub few_conns : spec.conns ≤ 1000000
   pub some_workers : 1 ≤ spec.workers
-  pub few_workers : spec.workers ≤ 64
+  pub few_workers : spec.workers ≤ 1024
   pub some_shards : 1 ≤ spec.shards
   pub few_shards : spec.shards ≤ 64
   pub some_members : 1 ≤ spec.members
@@ -39,7 +39,7 @@ pub record AreServe (words : List (List ℕ)) (spec : ServeSpec) : Type 0 where
 -- The four words are the numbers of what is served.
 pub record AreServeNumbers (conns workers shards members : List ℕ) (spec : ServeSpec) : Type 0 where
   pub conns_are : IsNumberWithin conns 1 1000000 spec.conns
-  pub workers_are : IsNumberWithin workers 1 64 spec.workers
+  pub workers_are : IsNumberWithin workers 1 1024 spec.workers
   pub shards_are : IsNumberWithin shards 1 64 spec.shards
   pub members_are : IsNumberWithin members 1 100000 spec.members
 

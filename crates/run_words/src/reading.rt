@@ -228,7 +228,7 @@ fn spec_of(
     Some(ServeSpec {
         addr,
         conns: number_within(conns.as_bytes(), 1, 1_000_000)?,
-        workers: number_within(workers.as_bytes(), 1, 64)?,
+        workers: number_within(workers.as_bytes(), 1, 1_024)?,
         shards: number_within(shards.as_bytes(), 1, 64)?,
         members: number_within(members.as_bytes(), 1, 100_000)?,
     })

@@ -11,7 +11,7 @@ pub struct ServeSpec {
     pub addr: Vec<u8>,
     /// How many are served, from 1 to 1,000,000.
     pub conns: u32,
-    /// How many workers serve them, from 1 to 64.
+    /// How many workers serve them, from 1 to 1,024.
     pub workers: u32,
     /// How many shards, from 1 to 64.
     pub shards: u32,

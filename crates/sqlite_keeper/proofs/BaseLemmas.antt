@@ -1,5 +1,5 @@
 -- What a database tells after a transaction that was dropped, and after one that was kept.
-use Rattle.std.proofs.Common.{◌≡◌, ◌≤◌, ℕ, Bool, true, false, List, Option, Some, Result, Ok, Err, IsTrue, refl, sym, ap, subst, ◌∙◌, arith}
+use Rattle.std.proofs.Common.{◌≡◌, ◌≤◌, ℕ, Bool, true, false, List, Option, Some, Result, Ok, Err, IsTrue, IsSome, refl, sym, ap, subst, ◌∙◌, arith}
 use Rattle.std.specs.Option.{ForSome}
 use Rattle.sqlite_trees.specs.View.{doubt}
 use Rattle.sqlite_trees.specs.declared.store.Store.{Ghosts}
@@ -180,3 +180,15 @@ pub told_some : (up clean : Bool) (db : Database) (rows : Tables) → (IsTrue up
 told_some true true db rows h = λ x e. let same : rows_in db ≡ x = cc in sym same ∙ h refl refl
 told_some true false db rows h = λ x e. absurd (cc)
 told_some false clean db rows h = λ x e. absurd (cc)
+
+-- they are told of a database that is open and has told no lie
+pub told_is : (up clean : Bool) (db : Database) → IsTrue up → IsTrue clean → IsSome (told_if up clean db)
+told_is true true db is_up is_clean = refl
+told_is true false db is_up is_clean = absurd (cc)
+told_is false clean db is_up is_clean = absurd (cc)
+
+-- and of no other
+pub told_clean : (up clean : Bool) (db : Database) → IsSome (told_if up clean db) → IsTrue clean
+told_clean true true db some = refl
+told_clean true false db some = absurd (cc)
+told_clean false clean db some = absurd (cc)

@@ -6,3 +6,6 @@ pub mod MakeLemmas
 pub mod OpeningLemmas
 pub mod SchemaLemmas
 pub mod LoadLemmas
+mod StoreCrosses
+mod ConnectionCrosses
+pub mod KeeperCrosses

@@ -23,6 +23,10 @@ told_if false clean db = None
 abbrev pub told : State → Option Tables
 told s = told_if s.is_open s.is_clean s.now
 
+-- a store that tells no lie, whatever becomes of it
+abbrev pub NeverLies : {S : Type 0} → Ghosts S → Type 0
+NeverLies {S} g = (store : S) → IsTrue (g.view store).is_clean
+
 -- and none are told of a database of which that isn't known
 abbrev pub shown : Bool → State → Option Tables
 shown true s = told s

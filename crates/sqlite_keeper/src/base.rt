@@ -17,8 +17,9 @@ use crate::changes::make_from;
 use crate::faults::staged;
 use rows_model::{QKey, Rows, Txn, Value};
 use sql_keeper::{AfterFault, KeepFault};
-use sqlite::{Alter, Connection, Transaction};
-use sqlite_tables::{drop_changes, keep_changes};
+use sqlite::{Alter, Connection, FileStore, Transaction};
+use sqlite_disk::Disk;
+use sqlite_tables::{drop_changes, fault_of, keep_changes};
 use std::alloc::Global;
 use std::marker::Model;
 
@@ -129,6 +130,16 @@ impl<S: Alter> Base<S> {
                 let _ended = self.conn.is_autocommit();
                 Err(staged(fault))
             }
+        }
+    }
+}
+
+impl<D: Disk + Drop> Base<FileStore<D>> {
+    // Ends it, and copies the log into the file.
+    pub(crate) fn close(self) -> Result<(), KeepFault> {
+        match self.conn.close() {
+            Ok(()) => Ok(()),
+            Err(error) => Err(fault_of(error)),
         }
     }
 }

@@ -1,162 +1,169 @@
-ghost use Rattle.std.specs.Prelude.{◌≡◌, ℕ, ◌≤◌, Option, Some, None, IfOk, OnOk, OnErr, IsSome};
+ghost use Rattle.std.specs.Prelude.{◌≡◌, ℕ, ◌≤◌, Some, None, IfOk, OnOk, OnErr, IsSome};
 ghost use Rattle.std.specs.Option.{ForSome};
 ghost use Rattle.rows_model.specs.Rows.{Tables};
 ghost use Rattle.rows_model.specs.Query.{answer};
 ghost use Rattle.sql_keeper.specs.Keepers.{AreHeld, HoldsFresh, Commits, AnswersAfter};
 ghost use Rattle.sql_keeper.specs.Faults.{Counts, keep_failed, staged_failed};
-ghost use Rattle.sqlite_keeper.specs.Keepers.{held_at, told_of, rows_of};
+ghost use Rattle.sqlite_keeper.specs.Keepers.{held_at, rows_of};
 
 use crate::base::Base;
 use crate::faults::{count, keep_failed, staged_failed};
-use crate::openers::{AnyFile, Opens};
+use crate::files::open_file;
 use crate::opening::{found_base, open_fresh};
-use memory_disk::MemoryDisk;
+use memory_disk::StoreDisk;
 use rows_model::{QKey, Rows, Txn, Value};
 use sql_keeper::{AfterFault, KeepFault, Keeper, Place};
-use sqlite::{Alter, File, FileStore};
+use sqlite::FileStore;
 use std::alloc::Global;
 use std::rt::HostRuntime;
 
 /// A keeper of the rows of a store in an SQL database: a fresh one in memory, or that of a file.
 ///
-/// The file lies in a store `F`, which the opener `O` opens. A program calls `new`, whose keeper takes
-/// any file. What this keeper tells is proved over each `F`, so also over one that names what the file
-/// holds before it is opened.
+/// A file is opened for this keeper alone, and is read into memory. Where it is missing or empty the
+/// tables are made, with the opening members. Where its tables have members they are kept, with their
+/// links and blocks, and the number of members is not used. A file that isn't such a database, or whose
+/// rows aren't fit for a store, is refused as `Failed`, and is left as it is.
 ///
-/// A file is opened for this keeper alone. Where it is missing or empty the tables are made, with the
-/// opening members. Where its tables have members they are kept, with their links and blocks, and the
-/// number of members is not used. A file that isn't such a database, or whose rows aren't fit for a
-/// store, is refused as `Failed`, and is left as it is.
-///
-/// The keeper tells its rows once it was started, as long as the database is open and its disk has told
-/// no lie: nothing else has written the files, and a read gives what was written. A disk in memory never
-/// lies. A want of memory under the database may shut it, and each later call fails.
+/// The keeper tells its rows once it was started, as long as the database is open. So the rows that a
+/// start answers are those that are told from then on, until a commit changes them: each read is answered
+/// from memory, whatever the file gives by then. A want of memory or a write that fails under the
+/// database may shut it, and each later call fails.
 ///
 /// Want of memory that the database tells of is `Memory`. Every other refusal of it is counted, and is
 /// `Failed`.
 #[derive(Drop)]
-pub struct SqliteKeeper<F: Alter, O: Opens<F>> {
+pub struct SqliteKeeper {
     rt: HostRuntime,
-    opener: O,
-    lies: Option<Lies<F>>,
+    // The database, once there was a start.
+    base: Option<Base<FileStore<StoreDisk>>>,
     faults: u64,
 }
 
-// Where the database of a keeper lies.
-#[derive(Drop)]
-enum Lies<F: Alter> {
-    InMemory(Base<FileStore<MemoryDisk>>),
-    InFile(Base<F>),
-}
-
-impl SqliteKeeper<FileStore<File>, AnyFile> {
-    /// A keeper that wasn't started. No call has failed.
-    pub fn new(rt: &HostRuntime) -> SqliteKeeper<FileStore<File>, AnyFile> {
-        SqliteKeeper::over(rt, AnyFile)
-    }
-}
-
-impl<F: Alter + Drop, O: Opens<F>> SqliteKeeper<F, O> {
-    /// The same, over the files that the opener opens.
-    pub fn over(rt: &HostRuntime, opener: O) -> SqliteKeeper<F, O> {
-        SqliteKeeper {
+impl SqliteKeeper {
+    /// A keeper that wasn't started. No call has failed. It may go to another thread.
+    pub fn new(rt: &HostRuntime) -> SqliteKeeper
+        ensures unstarted { result.base ≡ None }
+        ensures faultless { result.faults ≡ 0 }
+    {
+        sendable(SqliteKeeper {
             rt: *rt,
-            opener,
-            lies: None,
+            base: None,
             faults: 0,
+        })
+    }
+
+    /// Ends the keeper, and copies the log of a file into it, so that the file has all rows by itself. An
+    /// error leaves the rows in the two together, where the next start finds them.
+    pub fn close(self) -> Result<(), KeepFault> {
+        match self.base {
+            Some(base) => base.close(),
+            None => Ok(()),
         }
     }
 
     // Opens the database of the place.
-    fn open(&self, alloc: Global, place: &Place, members: u32) -> Result<(Lies<F>, Rows), KeepFault>
+    fn open(
+        &self,
+        alloc: Global,
+        place: &Place,
+        members: u32,
+    ) -> Result<(Base<FileStore<StoreDisk>>, Rows), KeepFault>
         requires some { 1 ≤ members }
         requires few { members ≤ 100000 }
-        ensures told { IfOk result (λ made. ForSome (told_of made.0) (λ told. told ≡ made.1)) }
-        ensures held { IfOk result (λ made.
-            AreHeld (told_of made.0) (held_at place.now members) made.1) }
+        ensures told { IfOk result (λ made. ForSome made.0 (λ told. told ≡ made.1)) }
+        ensures shown { IfOk result (λ made. IsSome made.0) }
+        ensures held { IfOk result (λ made. AreHeld made.0 (held_at place.now members) made.1) }
     {
         match place {
-            Place::Fresh => {
-                let (base, rows) = open_fresh(alloc, members)?;
-                Ok((Lies::InMemory(base), rows))
-            }
+            Place::Fresh => open_fresh(alloc, members),
             Place::File { path } => {
-                let conn = self.opener.open(&self.rt, path.bytes())?;
+                let conn = open_file(&self.rt, path.bytes())?;
                 let (base, rows) = found_base(alloc, conn, members)?;
-                Ok((Lies::InFile(base), rows))
+                Ok((base, rows))
             }
         }
     }
 }
 
-impl<F: Alter> Lies<F> {
-    fn ask(&mut self, alloc: Global, key: &QKey) -> Result<Value, KeepFault>
-        ensures tells { (told : Tables) → told_of self.new ≡ Some told
-            → (told_of self.old ≡ Some told) × IfOk result (λ value. value ≡ answer key.now told) }
-    {
-        match self {
-            Lies::InMemory(base) => base.ask(alloc, key),
-            Lies::InFile(base) => base.ask(alloc, key),
-        }
-    }
-
-    fn ask_after(&mut self, alloc: Global, txn: &Txn, key: &QKey) -> Result<Value, AfterFault>
-        ensures tells { (told : Tables) → told_of self.new ≡ Some told
-            → (told_of self.old ≡ Some told) × AnswersAfter txn.now key.now told result }
-    {
-        match self {
-            Lies::InMemory(base) => base.ask_after(alloc, txn, key),
-            Lies::InFile(base) => base.ask_after(alloc, txn, key),
-        }
-    }
-
-    fn commit(&mut self, alloc: Global, txn: &Txn) -> Result<(), AfterFault>
-        ensures tells { (told : Tables) → told_of self.new ≡ Some told
-            → (before : Tables) × (told_of self.old ≡ Some before)
-            × Commits txn.now before told result }
-    {
-        match self {
-            Lies::InMemory(base) => base.commit(alloc, txn),
-            Lies::InFile(base) => base.commit(alloc, txn),
-        }
-    }
+// The same keeper, which may go to another thread.
+fn sendable<K: Keeper + Send>(keeper: K) -> K
+    ensures { result ≡ keeper }
+{
+    keeper
 }
 
-impl<F: Alter + Drop, O: Opens<F>> Keeper for SqliteKeeper<F, O> {
-    ghost rows = { λ keeper. rows_of keeper.lies };
+impl Keeper for SqliteKeeper {
+    ghost rows = { λ keeper. rows_of keeper.base };
 
     ghost holds = { λ _ place members. held_at place members };
 
     ghost faults = { λ keeper. keeper.faults };
 
-    ghost is_started = { λ keeper. IsSome keeper.lies };
+    ghost is_started = { λ keeper. IsSome keeper.base };
 
-    fn start(&mut self, alloc: Global, place: &Place, members: u32) -> Result<Rows, KeepFault> {
+    /// The rows are told after a start that is Ok, and are those that it answers.
+    fn start(&mut self, alloc: Global, place: &Place, members: u32) -> Result<Rows, KeepFault>
+        requires some { 1 ≤ members }
+        requires few { members ≤ 100000 }
+        ensures shown { OnOk result (IsSome (rows_of self.new.base)) }
+        ensures started { OnOk result (IsSome self.new.base) }
+        ensures tells { IfOk result (λ opening.
+            ForSome (rows_of self.new.base) (λ told. told ≡ opening)) }
+        ensures held { IfOk result (AreHeld (rows_of self.new.base) (held_at place.now members)) }
+        ensures fresh { HoldsFresh place.now members (held_at place.now members) }
+        ensures kept { OnErr result (rows_of self.new.base ≡ rows_of self.old.base) }
+        ensures unstarted { OnErr result (IsSome self.new.base → IsSome self.old.base) }
+        ensures counts { Counts (keep_failed result) self.old.faults self.new.faults }
+        ensures never_falls { self.old.faults ≤ self.new.faults }
+    {
         let opened = self.open(alloc, place, members);
         count(keep_failed(&opened), &mut self.faults);
         match opened {
-            Ok((lies, rows)) => {
-                self.lies = Some(lies);
+            Ok((base, rows)) => {
+                self.base = Some(base);
                 Ok(rows)
             }
             Err(fault) => Err(fault),
         }
     }
 
-    fn ask(&mut self, alloc: Global, key: &QKey) -> Result<Value, KeepFault> {
-        let outcome = self.lies.as_mut().unwrap().ask(alloc, key);
+    fn ask(&mut self, alloc: Global, key: &QKey) -> Result<Value, KeepFault>
+        requires { IsSome self.old.base }
+        ensures started { IsSome self.new.base }
+        ensures tells { (told : Tables) → rows_of self.new.base ≡ Some told
+            → (rows_of self.old.base ≡ Some told)
+            × IfOk result (λ value. value ≡ answer key.now told) }
+        ensures counts { Counts (keep_failed result) self.old.faults self.new.faults }
+        ensures never_falls { self.old.faults ≤ self.new.faults }
+    {
+        let outcome = self.base.as_mut().unwrap().ask(alloc, key);
         count(keep_failed(&outcome), &mut self.faults);
         outcome
     }
 
-    fn ask_after(&mut self, alloc: Global, txn: &Txn, key: &QKey) -> Result<Value, AfterFault> {
-        let outcome = self.lies.as_mut().unwrap().ask_after(alloc, txn, key);
+    fn ask_after(&mut self, alloc: Global, txn: &Txn, key: &QKey) -> Result<Value, AfterFault>
+        requires { IsSome self.old.base }
+        ensures started { IsSome self.new.base }
+        ensures tells { (told : Tables) → rows_of self.new.base ≡ Some told
+            → (rows_of self.old.base ≡ Some told) × AnswersAfter txn.now key.now told result }
+        ensures counts { Counts (staged_failed result) self.old.faults self.new.faults }
+        ensures never_falls { self.old.faults ≤ self.new.faults }
+    {
+        let outcome = self.base.as_mut().unwrap().ask_after(alloc, txn, key);
         count(staged_failed(&outcome), &mut self.faults);
         outcome
     }
 
-    fn commit(&mut self, alloc: Global, txn: &Txn) -> Result<(), AfterFault> {
-        let outcome = self.lies.as_mut().unwrap().commit(alloc, txn);
+    fn commit(&mut self, alloc: Global, txn: &Txn) -> Result<(), AfterFault>
+        requires { IsSome self.old.base }
+        ensures started { IsSome self.new.base }
+        ensures tells { (told : Tables) → rows_of self.new.base ≡ Some told
+            → (before : Tables) × (rows_of self.old.base ≡ Some before)
+            × Commits txn.now before told result }
+        ensures counts { Counts (staged_failed result) self.old.faults self.new.faults }
+        ensures never_falls { self.old.faults ≤ self.new.faults }
+    {
+        let outcome = self.base.as_mut().unwrap().commit(alloc, txn);
         count(staged_failed(&outcome), &mut self.faults);
         outcome
     }

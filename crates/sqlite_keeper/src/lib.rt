@@ -2,7 +2,6 @@
 #![tactic(auto)]
 
 pub use keeper::SqliteKeeper;
-pub use openers::{AnyFile, Opens, at_path};
 
 mod answers;
 mod base;
@@ -10,9 +9,9 @@ mod bonds;
 mod changes;
 mod checks;
 mod faults;
+mod files;
 pub mod keeper;
 mod loading;
-pub mod openers;
 mod opening;
 mod schemas;
 mod texts;

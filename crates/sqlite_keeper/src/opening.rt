@@ -1,18 +1,19 @@
 // The start: the database is opened, its tables are made where there are none, and its rows are read.
-ghost use Rattle.std.specs.Prelude.{◌≡◌, ◌≤◌, ◌<◌, AllPairs, IfOk, OnOk};
+ghost use Rattle.std.specs.Prelude.{◌≡◌, ◌≤◌, ◌<◌, AllPairs, IfOk, OnOk, IsSome, IsTrue};
 ghost use Rattle.std.specs.Option.{ForSome};
 ghost use Rattle.rows_model.specs.Rows.{start_tables};
 ghost use Rattle.sqlite_trees.specs.View.{doubt};
 ghost use Rattle.sqlite.specs.State.{HasCleanDisk};
 ghost use Rattle.sqlite.specs.Held.{state};
 ghost use Rattle.sqlite_tables.specs.Schema.{empty_schema};
-ghost use Rattle.sqlite_tables.specs.Lists.{AreLists, HoldLists, HasTables, no_lists};
-ghost use Rattle.sqlite_keeper.specs.Openings.{members_alone, HoldsRows};
+ghost use Rattle.sqlite_tables.specs.Lists.{Lists, AreLists, HoldLists, HasTables, no_lists};
+ghost use Rattle.sqlite_keeper.specs.Bases.{NeverLies};
+ghost use Rattle.sqlite_keeper.specs.Openings.{members_alone, HoldsRows, begun, BeginsOn};
 
 use crate::base::{Base, tally_of};
 use crate::loading::rows_of;
 use crate::schemas::{has_tables, is_blank};
-use memory_disk::MemoryDisk;
+use memory_disk::StoreDisk;
 use rows_model::{Member, Rows};
 use sql_keeper::KeepFault;
 use sqlite::{Alter, Connection, FileStore, Files, Options, Transaction};
@@ -25,11 +26,12 @@ use std::alloc::Global;
 pub(crate) fn open_fresh(
     alloc: Global,
     members: u32,
-) -> Result<(Base<FileStore<MemoryDisk>>, Rows), KeepFault>
+) -> Result<(Base<FileStore<StoreDisk>>, Rows), KeepFault>
     requires some { 1 ≤ members }
     requires few { members ≤ 100000 }
     ensures told { IfOk result (λ made. ForSome made.0 (λ told. told ≡ made.1)) }
     ensures opening { IfOk result (λ made. made.1 ≡ start_tables members) }
+    ensures shown { IfOk result (λ made. IsSome made.0) }
 {
     let conn = in_memory(alloc)?;
     let rows = Rows::start(alloc, members)?;
@@ -44,7 +46,8 @@ fn fresh_base<S: Alter + Drop>(
     members: u32,
 ) -> Result<Base<S>, KeepFault>
     requires { rows.now ≡ start_tables members }
-    ensures { IfOk result (λ base. ForSome base (λ told. told ≡ rows.now)) }
+    ensures told { IfOk result (λ base. ForSome base (λ told. told ≡ rows.now)) }
+    ensures shown { NeverLies S.Store → IfOk result (λ base. IsSome base) }
 {
     let mut conn = conn;
     if !is_blank(conn.schema()) {
@@ -63,7 +66,10 @@ pub(crate) fn found_base<S: Alter + Drop>(
 ) -> Result<(Base<S>, Rows), KeepFault>
     requires some { 1 ≤ members }
     requires few { members ≤ 100000 }
-    ensures { IfOk result (λ made. ForSome made.0 (λ told. told ≡ made.1)) }
+    ensures told { IfOk result (λ made. ForSome made.0 (λ told. told ≡ made.1)) }
+    ensures begun { IfOk result (λ made. IsSome made.0
+        → BeginsOn members (state S.Store conn).now made.1) }
+    ensures shown { NeverLies S.Store → IfOk result (λ made. IsSome made.0) }
 {
     let mut conn = conn;
     let rows = settle(alloc, &mut conn, members)?;
@@ -71,10 +77,10 @@ pub(crate) fn found_base<S: Alter + Drop>(
     Ok((Base::new(conn, tally, true), rows))
 }
 
-fn in_memory(alloc: Global) -> Result<Connection<FileStore<MemoryDisk>>, KeepFault> {
+fn in_memory(alloc: Global) -> Result<Connection<FileStore<StoreDisk>>, KeepFault> {
     let files = Files {
-        log: MemoryDisk::new(alloc),
-        db: MemoryDisk::new(alloc),
+        log: StoreDisk::new(alloc),
+        db: StoreDisk::new(alloc),
     };
     match Connection::open_files(alloc, files, Options::new(1)) {
         Ok(conn) => Ok(conn),
@@ -93,6 +99,10 @@ fn settle<S: Alter>(
     requires few { members ≤ 100000 }
     ensures held { HasCleanDisk (state S.Store conn.new)
         → IfOk result (λ rows. HoldsRows rows (state S.Store conn.new).now) }
+    ensures begun { HasCleanDisk (state S.Store conn.new)
+        → IfOk result (BeginsOn members (state S.Store conn.old).now) }
+    ensures open { HasCleanDisk (state S.Store conn.new)
+        → OnOk result (IsTrue (state S.Store conn.new).is_open) }
 {
     if is_blank(conn.schema()) {
         return begin(alloc, conn, members);
@@ -110,6 +120,9 @@ fn begin<S: Alter>(alloc: Global, conn: &mut Connection<S>, members: u32) -> Res
     ensures held { HasCleanDisk (state S.Store conn.new)
         → (state S.Store conn.old).now.schema ≡ empty_schema
         → IfOk result (λ rows. HoldsRows rows (state S.Store conn.new).now) }
+    ensures begun { IfOk result (λ rows. rows ≡ start_tables members) }
+    ensures open { HasCleanDisk (state S.Store conn.new)
+        → OnOk result (IsTrue (state S.Store conn.new).is_open) }
 {
     let rows = Rows::start(alloc, members)?;
     make_rows(conn, rows.members())?;
@@ -124,6 +137,12 @@ fn load<S: Alter>(alloc: Global, conn: &mut Connection<S>, members: u32) -> Resu
     ensures held { HasCleanDisk (state S.Store conn.new)
         → HasTables (state S.Store conn.old).now.schema
         → IfOk result (λ rows. HoldsRows rows (state S.Store conn.new).now) }
+    ensures begun { HasCleanDisk (state S.Store conn.new)
+        → HasTables (state S.Store conn.old).now.schema
+        → (lists : Lists) → HoldLists (state S.Store conn.old).now.trees lists
+        → IfOk result (λ rows. rows ≡ begun members lists) }
+    ensures open { HasCleanDisk (state S.Store conn.new)
+        → OnOk result (IsTrue (state S.Store conn.new).is_open) }
 {
     if !conn.is_autocommit() {
         return Err(KeepFault::Failed);
@@ -153,6 +172,10 @@ fn loaded<S: Alter>(
     ensures held { HasCleanDisk (state S.Store tx.new.conn.now)
         → HasTables (state S.Store tx.old.conn.now).now.schema
         → IfOk result (λ rows. HoldsRows rows (state S.Store tx.new.conn.now).now) }
+    ensures begun { HasCleanDisk (state S.Store tx.new.conn.now)
+        → HasTables (state S.Store tx.old.conn.now).now.schema
+        → (lists : Lists) → HoldLists (state S.Store tx.old.conn.now).now.trees lists
+        → IfOk result (λ rows. rows ≡ begun members lists) }
     ensures clean { doubt (state S.Store tx.old.conn.now).is_clean
         ≤ doubt (state S.Store tx.new.conn.now).is_clean }
 {
@@ -179,6 +202,7 @@ fn fill<S: Alter>(
         → HasTables (state S.Store tx.old.conn.now).now.schema
         → HoldLists (state S.Store tx.old.conn.now).now.trees no_lists
         → IfOk result (λ rows. HoldsRows rows (state S.Store tx.new.conn.now).now) }
+    ensures begun { IfOk result (λ rows. rows ≡ start_tables members) }
     ensures clean { doubt (state S.Store tx.old.conn.now).is_clean
         ≤ doubt (state S.Store tx.new.conn.now).is_clean }
 {
@@ -194,6 +218,8 @@ fn make_rows<S: Alter>(conn: &mut Connection<S>, members: &[Member]) -> Result<(
     ensures made { HasCleanDisk (state S.Store conn.new)
         → (state S.Store conn.old).now.schema ≡ empty_schema
         → OnOk result (AreLists (state S.Store conn.new).now (members_alone members.now)) }
+    ensures open { HasCleanDisk (state S.Store conn.new)
+        → OnOk result (IsTrue (state S.Store conn.new).is_open) }
 {
     if !conn.is_autocommit() {
         return Err(KeepFault::Failed);

@@ -14,3 +14,5 @@ mod outside;
 mod talks;
 #[cfg(test)]
 mod test_desk;
+#[cfg(test)]
+mod verbs;

@@ -295,6 +295,8 @@ impl Line for Patient {
 
     ghost tells_given = { λ _ told. told };
 
+    ghost finished = { λ patient. patient.line.finished };
+
     fn finish(&mut self) {
         self.line.finish();
     }

@@ -299,6 +299,7 @@ fn echoes(rt: &impl Abort, door: &mut ListDoor, text: &[u8]) -> Result<(), Fail>
         Ok(Some(mut line)) => {
             echo(&mut line)?;
             assert!(rt; line.taken() == text);
+            line.finish();
             door.close(line);
         }
         Ok(None) => panic!(rt; "no line"),
@@ -316,7 +317,9 @@ fn a_door_counts_binds_and_accepts_together(rt: HostRuntime) -> Result<(), Fail>
     echoes(&rt, &mut door, b"a")?;
     echoes(&rt, &mut door, b"b")?;
     assert!(rt; matches!(door.accept(), Ok(None)));
-    door.close(mem_line(rt.alloc(), b"c")?);
+    let mut third = mem_line(rt.alloc(), b"c")?;
+    third.finish();
+    door.close(third);
     assert!(rt; door.closed().len() == 2);
     assert!(rt; door.closed()[1].taken() == b"b".as_slice());
     Ok(())

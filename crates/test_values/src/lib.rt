@@ -54,6 +54,5 @@ mod sweepers;
 #[cfg(test)]
 mod txns;
 #[cfg(test)]
-mod verbs;
 #[cfg(test)]
 mod writers;

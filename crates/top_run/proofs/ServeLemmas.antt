@@ -14,6 +14,9 @@ use Rattle.top_run.specs.Works.{IsKept}
 use Rattle.top_run.specs.Serves.{serve_shape, serve_keep, ready_line, served_line, serve_text, IsServedText, IsAttended, HasServed, Course, IsServed, ServeEnded}
 use Rattle.door_workers.specs.Attending.{GivesBack}
 use Rattle.door_workers.specs.Told.{Told}
+use Rattle.door_workers.specs.Ends.{AreHandedBack}
+use Rattle.door_workers.proofs.EndLemmas.{none-handed}
+use Rattle.iq_outside.specs.Outside.{LineRecord}
 use Rattle.top_run.proofs.PrintLemmas.{print_none}
 
 -- ---- what is written
@@ -143,3 +146,17 @@ same_server found spec (status.Stale shard place) course conns members shards h 
 same_server found spec (status.Uncovered commit key) course conns members shards h = h
 same_server found spec status.Memory course conns members shards (inl h) = inl h
 same_server found spec status.Memory course conns members shards (inr h) = inr (same_served found spec status.Memory course conns members shards h)
+
+-- ---- how the lines ended
+
+-- where no line was served none was handed back
+pub none_ended : (ends : List LineEnd) (closed after : Option (List LineRecord)) → ends ≡ [] → after ≡ closed → AreHandedBack ends closed after
+none_ended ends closed after none same =
+    subst (λ (l : List LineEnd). AreHandedBack l closed after) (sym none)
+    (subst (λ (o : Option (List LineRecord)). AreHandedBack [] closed o) (sym same) (none-handed closed))
+
+-- where memory ran out before the door was bound
+pub unserved_lines : (closed : Option (List LineRecord)) (ends : Vec LineEnd Global) (served : Served)
+    → served ≡ record { status = status.Memory; ends = ends; written = 0 } → ends.items ≡ [] → AreHandedBack served.ends.items closed closed
+unserved_lines closed ends served is none =
+    subst (λ (s : Served). AreHandedBack s.ends.items closed closed) (sym is) (none_ended ends.items closed closed none refl)

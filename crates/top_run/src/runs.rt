@@ -11,6 +11,7 @@ ghost use Rattle.top_run.specs.Runs.{Ended, Held, Input, told_by, moment, seen, 
 ghost use Rattle.top_run.specs.Commands.{AreNoCommand, CommandEnded};
 ghost use Rattle.top_run.specs.Serves.{course_of};
 ghost use Rattle.door_workers.specs.Attending.{told};
+ghost use Rattle.door_workers.specs.Ends.{AreHandedBack};
 ghost use Rattle.top_run.specs.Plays.{IsNew, IsFinished, IsStopped, IsUnread, at_write};
 
 use crate::endings::{ended_run, not_started, start_status};
@@ -140,7 +141,8 @@ pub fn replay<S: Source, W: Sink, K: Keeper>(
 /// The words `serve <addr> <conns> <workers> <shards> <members>` serve the lines that the door gives at this
 /// address: the workers accept and serve them in turn, until so many were accepted or no more come. `ready`
 /// goes to the sink once the door is bound, and `served` with the number of lines at the end. A line that
-/// ends with a fault ends alone, and `ends` tells of it. A keeper that fails later is told to the client.
+/// ends with a fault ends alone, and `ends` tells of it: where the door gives only fresh lines, and tells
+/// those handed back, each of them was served to its end. A keeper that fails later is told to the client.
 /// Where the door fails, no more lines are accepted, and those that it gave are served to their end. The
 /// server's shards give up their early steps as they go on: `histories` has the last ones of each.
 ///
@@ -178,6 +180,8 @@ pub fn run<
     ensures reads { RoseWhere S.faults (is_read_fault result.status) source.old source.new }
     ensures writes { RoseWhere W.faults (is_write_fault result.status) sink.old sink.new }
     ensures doors { RoseWhere D.faults (is_door_fault result.status) door.old door.new }
+    ensures lines { D.fresh door.old →
+        AreHandedBack result.ends.items (D.closed door.old) (D.closed door.new) }
     ensures done { (place : Place) →
         AreWords (map (λ word. word.items) words.now) (Words.Replay place) →
         result.status ≡ Status.Done → K.faults result.keeper ≡ K.faults keeper }

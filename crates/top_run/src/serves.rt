@@ -10,6 +10,7 @@ ghost use Rattle.top_run.specs.Runs.{Held, Input, Prints, moment, seen, held_at,
 ghost use Rattle.top_run.specs.Serves.{serve_shape, serve_keep, ready_line, served_line, IsServedText, HasServed, course_of, ServeEnded};
 ghost use Rattle.run_words.specs.Words.{IsServe};
 ghost use Rattle.door_workers.specs.Attending.{told};
+ghost use Rattle.door_workers.specs.Ends.{AreHandedBack};
 ghost use Rattle.top_run.specs.Works.{IsNameOf, hub_terms};
 ghost use Rattle.top_run.specs.declared.runs.Status.{Status};
 
@@ -73,6 +74,8 @@ pub(crate) fn serve<
     ensures unstarted { result.opening ≡ None → K.is_started result.keeper → K.is_started keeper }
     ensures writes { CountsWhere W.faults (is_write_fault result.status) sink.old sink.new }
     ensures doors { CountsWhere D.faults (is_door_fault result.status) door.old door.new }
+    ensures lines { D.fresh door.old →
+        AreHandedBack result.ends.items (D.closed door.old) (D.closed door.new) }
     ensures command { result.status ≢ Status.Usage }
     ensures no_read_fault { IsFalse (is_read_fault result.status) }
     ensures keeper_never_falls { K.faults keeper ≤ K.faults result.keeper }
@@ -155,6 +158,8 @@ fn serve_on<
     ensures began { IsSome result.opening }
     ensures writes { CountsWhere W.faults (is_write_fault result.status) sink.old sink.new }
     ensures doors { CountsWhere D.faults (is_door_fault result.status) door.old door.new }
+    ensures lines { D.fresh door.old →
+        AreHandedBack result.ends.items (D.closed door.old) (D.closed door.new) }
     ensures command { result.status ≢ Status.Usage }
     ensures no_read_fault { IsFalse (is_read_fault result.status) }
     ensures keeper_never_falls { store.faults ≤ K.faults result.keeper }
@@ -240,6 +245,8 @@ fn serve_hub<
     ensures served { let tells = told D.lines D.faults D.ended D.closed in
         HasServed W.Sink spec.now result.served sink.old sink.new
         (tells door.old) (tells door.new) }
+    ensures lines { D.fresh door.old →
+        AreHandedBack result.served.ends.items (D.closed door.old) (D.closed door.new) }
 {
     match Hub::new(alloc, store, shards, ledger) {
         Ok(hub) => {
@@ -293,8 +300,10 @@ fn serve_over<
     requires serve { IsServe spec.now }
     requires none { ends.items ≡ [] }
     requires room { spec.now.conns ≤ vec_capacity ends }
-    ensures { let tells = told D.lines D.faults D.ended D.closed in
+    ensures served { let tells = told D.lines D.faults D.ended D.closed in
         HasServed W.Sink spec.now result sink.old sink.new (tells door.old) (tells door.new) }
+    ensures lines { D.fresh door.old →
+        AreHandedBack result.ends.items (D.closed door.old) (D.closed door.new) }
 {
     match desks_over(rt, alloc, hub, spec.workers, clock, gate) {
         Ok(mut desks) => serve_with(rt, alloc, spec, sink, desks.as_mut_slice(), door, ends),
@@ -315,8 +324,10 @@ fn serve_with<W: Sink, K: Desk + Send, D: Door, R: Threads + Wait + Sync>(
     requires some { 1 ≤ length desks.old }
     requires none { ends.items ≡ [] }
     requires room { spec.now.conns ≤ vec_capacity ends }
-    ensures { let tells = told D.lines D.faults D.ended D.closed in
+    ensures served { let tells = told D.lines D.faults D.ended D.closed in
         HasServed W.Sink spec.now result sink.old sink.new (tells door.old) (tells door.new) }
+    ensures lines { D.fresh door.old →
+        AreHandedBack result.ends.items (D.closed door.old) (D.closed door.new) }
 {
     let mut written = 0;
     if let Err(status) = open_up(spec.addr.as_slice(), sink, door, &mut written) {
@@ -356,6 +367,7 @@ fn open_up<W: Sink, D: Door>(
         Prints (W.taken sink.old) (W.taken sink.new) [] written.new) }
     ensures no_line { D.lines door.new ≡ D.lines door.old }
     ensures keeps_closed { D.closed door.new ≡ D.closed door.old }
+    ensures stays_fresh { D.fresh door.old → D.fresh door.new }
     ensures ok_writes { OnOk result (W.faults sink.new ≡ W.faults sink.old) }
     ensures ok_doors { OnOk result (D.faults door.new ≡ D.faults door.old) }
     ensures writes { IfErr result (λ status.

@@ -209,7 +209,7 @@ fn run_plans<
     requires store { IsNamedStore H.opening H.cap H.told H.start store }
     requires parts { MakeHub H.terms H.name H.parts shards.items ledger.name ledger.parts }
     requires plans { All (λ list. All IsPlan list.items) plans.now }
-    requires few_workers { length plans.now ≤ 64 }
+    requires few_workers { length plans.now ≤ 1024 }
     ensures ran { IfOk result.transcripts (λ transcripts.
         HaveRun (map (λ list. list.items) plans.now) transcripts.items) }
     ensures store { IsNamedStore H.opening H.cap H.told H.start result.store }
@@ -251,7 +251,7 @@ fn run_over<
     gate: &G,
 ) -> Result<Vec<Transcript>, Memory>
     requires plans { All (λ list. All IsPlan list.items) plans.now }
-    requires few { length plans.now ≤ 64 }
+    requires few { length plans.now ≤ 1024 }
     ensures { IfOk result (λ transcripts.
         HaveRun (map (λ list. list.items) plans.now) transcripts.items) }
 {

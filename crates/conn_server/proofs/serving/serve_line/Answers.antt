@@ -1,5 +1,5 @@
 use Rattle.conn_server.specs.Course.{Start}
-use Rattle.conn_server.proofs.CourseLemmas.{never_served, finished, served_as}
+use Rattle.conn_server.proofs.CourseLemmas.{never_served, finished}
 use Rattle.conn_server.proofs.serving.serve_line.Goals as goal
 
 pub returns-in-Ok-clause-served : goal.returns-in-Ok-clause-served
@@ -13,10 +13,8 @@ returns-in-Ok-clause-served g c =
     (g.L.Source.write_side c.serve-end.new.line) (g.L.Source.write_side c.finish.new.line) (g.D.Desk.record_of c.serve-end.new.desk)
     (g.D.Desk.record_of c.finish.new.desk) c.serve-end.new.self c.serve-end.ensures c.finish.ensures.finishes c.finish.ensures.keeps_reading
     c.finish.ensures.given_up in
-    served_as (g.L.Sink.read_side c.args.line.now) (g.L.Sink.read_side c.finish.new.line) (g.L.Source.write_side c.args.line.now)
-    (g.L.Source.write_side c.finish.new.line) _ _ _ _ _ _ _ _ _ _ _ _ _ (g.met.L.Line.reading c.args.line.now)
-    (g.met.L.Line.reading c.finish.new.line) (g.met.L.Line.writing c.args.line.now) (g.met.L.Line.writing c.finish.new.line) f.served
+    f.served
 
 pub returns-in-Err-clause-served : goal.returns-in-Err-clause-served
 returns-in-Err-clause-served g c =
-    never_served (g.L.Source.left c.args.line.now) (g.L.Sink.taken c.args.line.now) (g.D.Desk.record_of c.args.desk.now)
+    never_served (g.L.Sink.read_side c.args.line.now) (g.L.Source.write_side c.args.line.now) (g.D.Desk.record_of c.args.desk.now)

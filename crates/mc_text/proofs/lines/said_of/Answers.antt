@@ -1,6 +1,6 @@
 use Rattle.std.proofs.Common.{refl}
 use Rattle.mc_text.specs.Words.{words_in}
-use Rattle.case_tables.specs.Verbs.{seen}
+use Rattle.mc_text.specs.Verbs.{seen}
 use Rattle.mc_text.proofs.VerbLemmas.{line_told, body_line, unknown_line}
 use Rattle.mc_text.proofs.lines.said_of.Goals as goal
 

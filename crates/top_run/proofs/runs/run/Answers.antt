@@ -6,6 +6,7 @@ use Rattle.top_run.specs.Commands.{IsTextPart}
 use Rattle.top_run.specs.Runs.{told_by, RoseWhere}
 use Rattle.top_run.proofs.PrintLemmas.{print_none}
 use Rattle.top_run.proofs.CommandLemmas.{command_ok, command_err, load_not_failed, load_no_door, load_no_replay, no_command, server_not_failed, server_no_replay}
+use Rattle.top_run.proofs.ServeLemmas.{none_ended}
 use Rattle.top_run.proofs.runs.run.Goals as goal
 
 pub returns-in-Ok-Replay-clause-ended : goal.returns-in-Ok-Replay-clause-ended
@@ -118,3 +119,18 @@ returns-in-Err-Memory-clause-ended g c =
         unserved = record { no_ends = refl; door = refl };
       },
     ))
+
+pub returns-in-Ok-Replay-clause-lines : goal.returns-in-Ok-Replay-clause-lines
+returns-in-Ok-Replay-clause-lines g c = λ fresh. none_ended _ _ _ c.replay.ensures.no_ends refl
+
+pub returns-in-Ok-Work-clause-lines : goal.returns-in-Ok-Work-clause-lines
+returns-in-Ok-Work-clause-lines g c = λ fresh. none_ended _ _ _ c.work.ensures.no_ends refl
+
+pub returns-in-Ok-Told-clause-lines : goal.returns-in-Ok-Told-clause-lines
+returns-in-Ok-Told-clause-lines g c = λ fresh. none_ended _ _ _ c.tell.ensures.no_ends refl
+
+pub returns-in-Err-Usage-clause-lines : goal.returns-in-Err-Usage-clause-lines
+returns-in-Err-Usage-clause-lines g c = λ fresh. none_ended _ _ _ c.not_started.ensures.ends refl
+
+pub returns-in-Err-Memory-clause-lines : goal.returns-in-Err-Memory-clause-lines
+returns-in-Err-Memory-clause-lines g c = λ fresh. none_ended _ _ _ c.not_started-in-Err-Memory.ensures.ends refl

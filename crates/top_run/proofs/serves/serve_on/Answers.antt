@@ -80,3 +80,6 @@ returns-clause-no_read_fault g c =
 pub returns-clause-keeper_never_falls : goal.returns-clause-keeper_never_falls
 returns-clause-keeper_never_falls g c =
     rw c.ended_hub.ensures.faults (c.serve_hub-store.ensures.store.never_fell c.args.store.faults c.requires.named.start_is)
+
+pub returns-clause-lines : goal.returns-clause-lines
+returns-clause-lines g c = λ fresh. rw c.ended_hub.ensures.ends (c.serve_hub-store.ensures.lines fresh)

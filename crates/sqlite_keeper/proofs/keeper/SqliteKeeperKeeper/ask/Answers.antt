@@ -2,7 +2,7 @@ use Rattle.std.proofs.Common.{◌≡◌, Some, rules}
 use Rattle.sqlite_keeper.proofs.keeper.SqliteKeeperKeeper.ask.Goals as goal
 
 pub returns-clause-tells : goal.returns-clause-tells
-returns-clause-tells g c told e =
+returns-clause-tells c told e =
     let h = c.ask-outcome.ensures.tells told e in
-    let some : c.args.self.now.lies ≡ Some c.unwrap.result.now = search rules in
+    let some : c.args.self.now.base ≡ Some c.unwrap.result.now = search rules in
     (rw some h.0, h.1)

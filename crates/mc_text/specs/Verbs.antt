@@ -1,9 +1,9 @@
 -- The verbs of commands, and the row that a table has for each.
 use Rattle.std.specs.Prelude.{ℕ, Bool, true, false, ◌≡◌, List, [], ◌∷◌, Contains, codes}
-use Rattle.case_tables.specs.declared.words.Word.{Word}
-use Rattle.case_tables.specs.declared.words.Word.TheVariants as word
-use Rattle.case_tables.specs.declared.verbs.Row.{Row}
-use Rattle.case_tables.specs.declared.verbs.VerbRow.{VerbRow}
+use Rattle.mc_text.specs.declared.verb_words.Word.{Word}
+use Rattle.mc_text.specs.declared.verb_words.Word.TheVariants as word
+use Rattle.mc_text.specs.declared.verbs.Row.{Row}
+use Rattle.mc_text.specs.declared.verbs.VerbRow.{VerbRow}
 
 -- what a row says of its verb
 pub record Verb : Type 0 where

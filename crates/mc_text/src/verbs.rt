@@ -1,7 +1,7 @@
 ghost use Rattle.std.specs.Prelude.{◌≡◌, IfSome, IfNone};
-ghost use Rattle.case_tables.specs.Verbs.{seen, IsRowOf, IsNoVerb, lease_rows};
+ghost use Rattle.mc_text.specs.Verbs.{seen, IsRowOf, IsNoVerb, lease_rows};
 
-use crate::words::Word;
+use crate::verb_words::Word;
 use std::marker::Model;
 
 /// What a table says of one verb.
@@ -35,7 +35,7 @@ struct Row {
 
 impl<const N: usize> Model for Verbs<N> {
     ghost use Rattle.std.specs.Prelude.{List, map};
-    ghost use Rattle.case_tables.specs.Verbs.{Verb, told};
+    ghost use Rattle.mc_text.specs.Verbs.{Verb, told};
 
     ghost Value = { List Verb };
 

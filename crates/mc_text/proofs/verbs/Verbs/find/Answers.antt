@@ -1,6 +1,6 @@
 use Rattle.std.proofs.Common.{arith}
-use Rattle.case_tables.proofs.VerbLemmas.{no_verb}
-use Rattle.case_tables.proofs.verbs.Verbs.find.Goals as goal
+use Rattle.mc_text.proofs.TableLemmas.{no_verb}
+use Rattle.mc_text.proofs.verbs.Verbs.find.Goals as goal
 
 pub returns-clause-none : goal.returns-clause-none
 returns-clause-none g c =

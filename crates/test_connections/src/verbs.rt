@@ -1,5 +1,5 @@
 //! The verbs of the lease commands.
-use case_tables::{VerbRow, lease_verbs};
+use mc_text::{VerbRow, lease_verbs};
 
 const NO_VERBS: [&str; 6] = ["SAR", "sa", "sart", "", "get", "sar\r"];
 

@@ -1,9 +1,9 @@
 -- That no row of a table has a word, by its rows one after another.
 use Rattle.std.proofs.Common.{ℕ, ◌<◌, ◌≡◌, false, List, length, map, slice_index_or, arith, ap, sym, ◌∙◌}
 use Rattle.std.proofs.lemmas.List.{get_or-map, length-map}
-use Rattle.case_tables.specs.declared.words.Word.TheVariants as word
-use Rattle.case_tables.specs.declared.verbs.Row.{Row}
-use Rattle.case_tables.specs.Verbs.{Verb, text_of, told, IsNoVerb}
+use Rattle.mc_text.specs.declared.verb_words.Word.TheVariants as word
+use Rattle.mc_text.specs.declared.verbs.Row.{Row}
+use Rattle.mc_text.specs.Verbs.{Verb, text_of, told, IsNoVerb}
 
 -- some row, for places behind the last
 abbrev some_row : Row

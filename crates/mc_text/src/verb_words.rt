@@ -1,6 +1,6 @@
 // The words that a command may begin with.
 ghost use Rattle.std.specs.Prelude.{◌≡◌};
-ghost use Rattle.case_tables.specs.Verbs.{text_of};
+ghost use Rattle.mc_text.specs.Verbs.{text_of};
 
 /// A verb of a command.
 #[derive(Clone, Copy)]

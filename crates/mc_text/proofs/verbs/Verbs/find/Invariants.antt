@@ -1,7 +1,7 @@
 use Rattle.std.proofs.Common.{◌≡◌, ℕ, ◌<◌, slice_index_or}
-use Rattle.case_tables.specs.declared.verbs.Row.{Row}
-use Rattle.case_tables.specs.Verbs.{text_of}
-use Rattle.case_tables.proofs.verbs.Verbs.find.Given as goal
+use Rattle.mc_text.specs.declared.verbs.Row.{Row}
+use Rattle.mc_text.specs.Verbs.{text_of}
+use Rattle.mc_text.proofs.verbs.Verbs.find.Given as goal
 
 -- no row so far has the word
 abbrev pub invariant-loop-row : goal.invariant-loop-row

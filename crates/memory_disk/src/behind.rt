@@ -1,0 +1,81 @@
+// The file behind a copy in memory, where there is one.
+ghost use Rattle.std.specs.Prelude.{◌≡◌, ◌+◌, IsTrue, is_ok, OnOk};
+ghost use Rattle.sqlite_disk.specs.Disk.{CountsFault};
+ghost use Rattle.sqlite_disk.specs.Refusal.{finds_no_room};
+ghost use Rattle.memory_disk.specs.Copies.{usable_in, faults_in, refused_in, mixing_in, Reaches, IsLong, IsDurable, CountsFull};
+
+use sqlite_disk::Disk;
+use std::io;
+
+// Whether no sync of it has failed.
+pub(crate) fn is_usable<D: Disk>(file: &Option<D>) -> bool
+    ensures { result ≡ usable_in D.Disk file.now }
+{
+    match file {
+        Some(file) => file.may_be_used(),
+        None => true,
+    }
+}
+
+// How many of its calls a full disk refused.
+pub(crate) fn refused<D: Disk>(file: &Option<D>) -> u64
+    ensures { result ≡ refused_in D.Disk file.now }
+{
+    match file {
+        Some(file) => file.tally().refused,
+        None => 0,
+    }
+}
+
+// Whether a crash leaves each byte of a torn write in it old or new.
+pub(crate) fn mixes<D: Disk>(file: &Option<D>) -> bool
+    ensures { result ≡ mixing_in D.Disk file.now }
+{
+    match file {
+        Some(file) => file.mixes(),
+        None => false,
+    }
+}
+
+// Writes the bytes at this place.
+pub(crate) fn write_at<D: Disk>(file: &mut Option<D>, at: usize, bytes: &[u8]) -> io::Result<()>
+    requires { IsTrue (usable_in D.Disk file.old) }
+    ensures reaches { OnOk result (Reaches D.Disk at bytes.now file.new) }
+    ensures faults { CountsFault result (faults_in D.Disk file.old) (faults_in D.Disk file.new) }
+    ensures full { CountsFull result (refused_in D.Disk file.old) (refused_in D.Disk file.new) }
+    ensures usable { IsTrue (usable_in D.Disk file.new) }
+    ensures mixing { mixing_in D.Disk file.new ≡ mixing_in D.Disk file.old }
+{
+    match file {
+        Some(file) => file.write_at(at, bytes),
+        None => Ok(()),
+    }
+}
+
+// Gives it this length.
+pub(crate) fn set_len<D: Disk>(file: &mut Option<D>, len: usize) -> io::Result<()>
+    requires { IsTrue (usable_in D.Disk file.old) }
+    ensures reaches { OnOk result (IsLong D.Disk len file.new) }
+    ensures faults { CountsFault result (faults_in D.Disk file.old) (faults_in D.Disk file.new) }
+    ensures full { CountsFull result (refused_in D.Disk file.old) (refused_in D.Disk file.new) }
+    ensures usable { IsTrue (usable_in D.Disk file.new) }
+{
+    match file {
+        Some(file) => file.set_len(len),
+        None => Ok(()),
+    }
+}
+
+// A crash leaves no more of it than it shows.
+pub(crate) fn sync<D: Disk>(file: &mut Option<D>) -> io::Result<()>
+    requires { IsTrue (usable_in D.Disk file.old) }
+    ensures reaches { OnOk result (IsDurable D.Disk file.old file.new) }
+    ensures faults { CountsFault result (faults_in D.Disk file.old) (faults_in D.Disk file.new) }
+    ensures full { CountsFull result (refused_in D.Disk file.old) (refused_in D.Disk file.new) }
+    ensures usable { usable_in D.Disk file.new ≡ is_ok result }
+{
+    match file {
+        Some(file) => file.sync(),
+        None => Ok(()),
+    }
+}
