@@ -47,6 +47,6 @@ module _ {D : Type 0} (g : Ghosts D) where
   IsDurable None new = Unit {0}
   IsDurable (Some old) None = ⊥
 
-  -- so many tested reads failed, and so many of its calls a full disk refused
-  abbrev pub tally_in : Option D → ℕ → Tally
-  tally_in file caught = record { caught = caught; refused = refused_in file }
+  -- no tested read failed, and so many of its calls a full disk refused
+  abbrev pub tally_in : Option D → Tally
+  tally_in file = record { caught = 0; refused = refused_in file }

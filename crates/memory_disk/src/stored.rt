@@ -79,7 +79,7 @@ impl Disk for StoreDisk {
 
     ghost is_clean = { λ _. true };
 
-    ghost tally_of = { λ disk. tally_in ⟦<File as Disk>⟧ disk.file disk.copy.caught };
+    ghost tally_of = { λ disk. tally_in ⟦<File as Disk>⟧ disk.file };
 
     ghost key_of = { λ _. 0 };
 
@@ -101,7 +101,7 @@ impl Disk for StoreDisk {
 
     fn tally(&self) -> Tally {
         Tally {
-            caught: self.copy.caught,
+            caught: 0,
             refused: behind::refused(&self.file),
         }
     }
@@ -134,8 +134,8 @@ impl Disk for StoreDisk {
         ensures others { Torn at (length bytes.now)
             self.old.copy.bytes.items self.new.copy.bytes.items }
         ensures tally { CountsRefusal result
-            (tally_in ⟦<File as Disk>⟧ self.old.file self.old.copy.caught)
-            (tally_in ⟦<File as Disk>⟧ self.new.file self.new.copy.caught) }
+            (tally_in ⟦<File as Disk>⟧ self.old.file)
+            (tally_in ⟦<File as Disk>⟧ self.new.file) }
         ensures usable { IsTrue (usable_in ⟦<File as Disk>⟧ self.new.file) }
         ensures mixing { mixing_in ⟦<File as Disk>⟧ self.new.file
             ≡ mixing_in ⟦<File as Disk>⟧ self.old.file }
@@ -159,8 +159,8 @@ impl Disk for StoreDisk {
             (faults_in ⟦<File as Disk>⟧ self.new.file + self.new.copy.faults) }
         ensures others { Cut len self.old.copy.bytes.items self.new.copy.bytes.items }
         ensures tally { CountsRefusal result
-            (tally_in ⟦<File as Disk>⟧ self.old.file self.old.copy.caught)
-            (tally_in ⟦<File as Disk>⟧ self.new.file self.new.copy.caught) }
+            (tally_in ⟦<File as Disk>⟧ self.old.file)
+            (tally_in ⟦<File as Disk>⟧ self.new.file) }
         ensures usable { IsTrue (usable_in ⟦<File as Disk>⟧ self.new.file) }
     {
         behind::set_len(&mut self.file, len)?;
@@ -176,8 +176,8 @@ impl Disk for StoreDisk {
             (faults_in ⟦<File as Disk>⟧ self.new.file + self.new.copy.faults) }
         ensures seen { self.new.copy.bytes.items ≡ self.old.copy.bytes.items }
         ensures tally { CountsRefusal result
-            (tally_in ⟦<File as Disk>⟧ self.old.file self.old.copy.caught)
-            (tally_in ⟦<File as Disk>⟧ self.new.file self.new.copy.caught) }
+            (tally_in ⟦<File as Disk>⟧ self.old.file)
+            (tally_in ⟦<File as Disk>⟧ self.new.file) }
         ensures usable { usable_in ⟦<File as Disk>⟧ self.new.file ≡ is_ok result }
     {
         behind::sync(&mut self.file)
