@@ -1,6 +1,6 @@
 """Changes and transactions, the keys that they touch, and what they make of the values of these.
 
-What a change does to each member stands once, in its `effects`. All else follows from these: which keys a
+What a change does to each member is said once, in its `effects`. All else follows from these: which keys a
 writer has to quarantine, by how much a count is shifted, and what a cached value becomes.
 """
 
@@ -29,7 +29,7 @@ class Listed:
 
     Attributes:
         member: whose list it is.
-        kind: which list, `Kind.FRIENDS` or `Kind.PENDING`.
+        kind: which list, `Kind.FRIENDS`, `Kind.PENDING` or `Kind.BLOCKED`.
         other: the id.
         by: 1 where it comes, -1 where it goes.
     """
@@ -40,26 +40,9 @@ class Listed:
     by: int
 
     def keys(self) -> Tuple[Key, ...]:
-        """The keys whose answers this may alter."""
-        kinds = (Kind.PROFILE, self.kind, _COUNTS[self.kind])
-        return tuple(Key(kind, self.member) for kind in kinds)
-
-
-@dataclass(frozen=True)
-class Blocked:
-    """A member has blocked another. Her profile and counts say nothing of it.
-
-    Attributes:
-        member: who has blocked.
-        other: whom.
-    """
-
-    member: int
-    other: int
-
-    def keys(self) -> Tuple[Key, ...]:
-        """The keys whose answers this may alter."""
-        return (Key(Kind.BLOCKED, self.member),)
+        """The keys whose answers this may alter. A profile and the counts say nothing of blocks."""
+        counted = (Kind.PROFILE, _COUNTS[self.kind]) if self.kind in _COUNTS else ()
+        return tuple(Key(kind, self.member) for kind in (self.kind, *counted))
 
 
 @dataclass(frozen=True)
@@ -74,7 +57,7 @@ class Named:
         return (Key(Kind.PROFILE, self.member),)
 
 
-Effect = Union[Listed, Blocked, Named]
+Effect = Union[Listed, Named]
 
 
 class Change(ABC):
@@ -140,7 +123,7 @@ class Block(_OfTwo):
     """Member a blocks member b. Applies where no link is between them and a hasn't blocked b."""
 
     def effects(self) -> Tuple[Effect, ...]:
-        return (Blocked(self.a, self.b),)
+        return (Listed(self.a, Kind.BLOCKED, self.b, 1),)
 
 
 @dataclass(frozen=True)
@@ -193,7 +176,7 @@ class Txn:
         return " + ".join(map(str, self.changes))
 
     @classmethod
-    def of(cls, txn: Union[Txn, Change, str, Iterable[Change]]) -> Txn:
+    def of(cls, txn: AnyTxn) -> Txn:
         """The transaction, or that of one change, of some changes, or of a text.
 
         Raises:
@@ -229,7 +212,7 @@ class Txn:
             for effect in self.effects()
             if isinstance(effect, Listed)
             and effect.member == key.member
-            and _COUNTS[effect.kind] == key.kind
+            and _COUNTS.get(effect.kind) == key.kind
         )
 
     def value_after(self, key: Key, old: bytes) -> Optional[bytes]:
@@ -241,11 +224,13 @@ class Txn:
             if key.kind.is_count:
                 count = parse_count(old) + self.shift_of(key)
                 return str(count).encode("ascii") if count >= 0 else None
-            if key.kind is Kind.BLOCKED:
-                return _blocked_after(effects, old)
             return _ids_after(effects, key.kind, old)
         except InvalidInputError:
             return None
+
+
+AnyTxn = Union[Txn, Change, str, Iterable[Change]]
+"""What a transaction may be given as: itself, one change, some changes, or a text."""
 
 
 def _profile_after(effects: Iterable[Effect], old: bytes) -> Optional[bytes]:
@@ -257,19 +242,9 @@ def _profile_after(effects: Iterable[Effect], old: bytes) -> Optional[bytes]:
             profile = replace(profile, name=effect.name)
         elif isinstance(effect, Listed) and effect.kind is Kind.FRIENDS:
             profile = replace(profile, friends=profile.friends + effect.by)
-        elif isinstance(effect, Listed):
+        elif isinstance(effect, Listed) and effect.kind is Kind.PENDING:
             profile = replace(profile, pending=profile.pending + effect.by)
     return profile.encode() if profile.friends >= 0 and profile.pending >= 0 else None
-
-
-def _blocked_after(effects: Iterable[Effect], old: bytes) -> Optional[bytes]:
-    ids = set(parse_ids(old))
-    for effect in effects:
-        if isinstance(effect, Blocked):
-            if effect.other in ids:
-                return None
-            ids.add(effect.other)
-    return encode_ids(ids)
 
 
 def _ids_after(effects: Iterable[Effect], kind: Kind, old: bytes) -> Optional[bytes]:

@@ -34,6 +34,9 @@ from .replies import (
 BIGGEST_BLOCK = 1_048_576
 """So many bytes a value has at most that a client sends."""
 
+Quarantined = Union[Granted, Held, Refused]
+"""What a request for a quarantine is answered."""
+
 _R = TypeVar("_R", covariant=True)
 
 
@@ -74,10 +77,19 @@ def _line(*words: object) -> bytes:
     return " ".join(map(str, words)).encode("ascii") + b"\r\n"
 
 
-def _block(data: bytes) -> bytes:
-    if len(data) > BIGGEST_BLOCK:
+def fits(data: bytes) -> bool:
+    """Whether a client may send this value."""
+    return len(data) <= BIGGEST_BLOCK
+
+
+def _with_block(verb: str, key: Key, data: bytes, *words: object) -> bytes:
+    if not fits(data):
         raise InvalidInputError(f"a value of {len(data)} bytes, above {BIGGEST_BLOCK}")
-    return data + b"\r\n"
+    return _line(verb, key, 0, 0, len(data), *words) + data + b"\r\n"
+
+
+def _quarantine(*words: object, old_of: Optional[Key] = None) -> Command[Quarantined]:
+    return Command(_line(*words), (Granted, Held, Refused), old_of, with_old=old_of is not None)
 
 
 def begin(role: Role) -> Command[Begun]:
@@ -97,23 +109,22 @@ def ask(key: Key, sid: int) -> Command[Value]:
 
 def iqset(key: Key, data: bytes, token: int, stamp: int) -> Command[Union[Stored, NotStored]]:
     """Stores under a lease what the store answered, with the stamp that it told."""
-    line = _line("iqset", key, 0, 0, len(data), token, stamp)
-    return Command(line + _block(data), (Stored, NotStored))
+    return Command(_with_block("iqset", key, data, token, stamp), (Stored, NotStored))
 
 
-def qareg(key: Key, sid: int) -> Command[Union[Granted, Held, Refused]]:
+def qareg(key: Key, sid: int) -> Command[Quarantined]:
     """Quarantines a key, to drop its value."""
-    return Command(_line("qareg", key, sid), (Granted, Held, Refused))
+    return _quarantine("qareg", key, sid)
 
 
-def qaread(key: Key, sid: int) -> Command[Union[Granted, Held, Refused]]:
+def qaread(key: Key, sid: int) -> Command[Quarantined]:
     """Quarantines a key and reads what the cache has, to put a new value in its place."""
-    return Command(_line("qaread", key, sid), (Granted, Held, Refused), key, with_old=True)
+    return _quarantine("qaread", key, sid, old_of=key)
 
 
-def iqdelta(key: Key, sid: int, by: int) -> Command[Union[Granted, Held, Refused]]:
+def iqdelta(key: Key, sid: int, by: int) -> Command[Quarantined]:
     """Quarantines a count, to shift it."""
-    return Command(_line("iqdelta", key, sid, by), (Granted, Held, Refused))
+    return _quarantine("iqdelta", key, sid, by)
 
 
 def stage(key: Key, sid: int, txn: Txn) -> Command[Union[Staged, Rejected]]:
@@ -133,8 +144,7 @@ def dar(key: Key, sid: int) -> Command[Union[Deleted, NotFound]]:
 
 def sar(key: Key, data: bytes, sid: int) -> Command[Union[Stored, NotFound]]:
     """Puts a new value in place of the old one, and ends its quarantine."""
-    line = _line("sar", key, 0, 0, len(data), sid)
-    return Command(line + _block(data), (Stored, NotFound))
+    return Command(_with_block("sar", key, data, sid), (Stored, NotFound))
 
 
 def iqcommit(key: Key, sid: int) -> Command[Union[Stored, NotFound]]:

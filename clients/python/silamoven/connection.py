@@ -18,6 +18,7 @@ from .errors import (
     SilamovenError,
     reply_error,
 )
+from .keys import is_decimal
 from .replies import Begun, Failure, Reply, read_reply
 
 _R = TypeVar("_R")
@@ -54,7 +55,7 @@ def split_address(address: Address) -> Tuple[str, int]:
     if not isinstance(address, str):
         return address
     host, colon, port = address.rpartition(":")
-    if not host or not port.isascii() or not port.isdigit() or int(port) > 65535:
+    if not host or not is_decimal(port) or int(port) > 65535:
         raise InvalidInputError(f"no address: {address!r}")
     return host.strip("[]"), int(port)
 

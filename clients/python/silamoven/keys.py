@@ -42,13 +42,18 @@ class Kind(Enum):
 _PLACES = {kind: place for place, kind in enumerate(Kind)}
 
 
+def is_decimal(text: str) -> bool:
+    """Whether the text is decimal digits, one at least."""
+    return text.isascii() and text.isdigit()
+
+
 def id_of(text: str) -> int:
     """The id of a member that the text is: from 1 to `MOST_ID`, without sign or leading zero.
 
     Raises:
         InvalidInputError: the text is no id.
     """
-    if text.isascii() and text.isdigit() and text[0] != "0" and int(text) <= MOST_ID:
+    if is_decimal(text) and text[0] != "0" and int(text) <= MOST_ID:
         return int(text)
     raise InvalidInputError(f"no id of a member: {text!r}")
 

@@ -18,4 +18,4 @@ class Mode(Enum):
     """Read the old value, and put the new one in its place. It refuses all other writers of the key."""
 
     DELTA = "delta"
-    """Shift a count where it stands, without reading it. All other keys are invalidated."""
+    """Shift a count in its place, without reading it. All other keys are invalidated."""

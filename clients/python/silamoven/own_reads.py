@@ -3,9 +3,9 @@
 from __future__ import annotations
 
 import threading
-from typing import TYPE_CHECKING, Iterable, Optional, Union
+from typing import TYPE_CHECKING, Optional, Union
 
-from .changes import Change, Txn
+from .changes import AnyTxn
 from .keys import Key
 from .modes import Mode
 from .reading import Answer
@@ -49,11 +49,7 @@ class OwnReads:
             self._begin_anew(own, answer.stamp)
         return answer
 
-    def write(
-        self,
-        txn: Union[Txn, Change, str, Iterable[Change]],
-        mode: Union[Mode, str] = Mode.INVALIDATE,
-    ) -> int:
+    def write(self, txn: AnyTxn, mode: Union[Mode, str] = Mode.INVALIDATE) -> int:
         """Writes as `Pool.write` does, and remembers the number."""
         number = self._pool.write(txn, mode)
         self.saw(number)

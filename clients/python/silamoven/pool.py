@@ -4,11 +4,10 @@ from __future__ import annotations
 
 import threading
 from contextlib import contextmanager
-from time import sleep
-from typing import Callable, Iterable, Iterator, List, Optional, TypeVar, Union
+from typing import Callable, Iterator, List, Optional, TypeVar, Union
 
 from . import reading, writing
-from .changes import Change, Txn
+from .changes import AnyTxn, Txn
 from .connection import Address, Connection, Timeouts, split_address
 from .errors import (
     CommandError,
@@ -21,7 +20,7 @@ from .keys import Key, check_number
 from .modes import Mode
 from .own_reads import OwnReads
 from .reading import Answer
-from .waits import Backoff, ReadTries, WriteTries
+from .waits import Backoff, ReadTries, WriteTries, again
 
 _T = TypeVar("_T")
 
@@ -113,11 +112,7 @@ class Pool:
         of = Key.of(key)
         return self._try(lambda it: reading.ask(it, of))
 
-    def write(
-        self,
-        txn: Union[Txn, Change, str, Iterable[Change]],
-        mode: Union[Mode, str] = Mode.INVALIDATE,
-    ) -> int:
+    def write(self, txn: AnyTxn, mode: Union[Mode, str] = Mode.INVALIDATE) -> int:
         """Commits a transaction, and returns its number: use it as a floor to read what was written.
 
         Where the connection breaks before the commit is sent, it writes again on another one.
@@ -181,15 +176,7 @@ class Pool:
         return self._backing_off(once)
 
     def _backing_off(self, once: Callable[[], _T]) -> _T:
-        waits = self._backoff.waits()
-        while True:
-            try:
-                return once()
-            except (ConnectError, ConnectionLostError):
-                wait = next(waits, None)
-                if wait is None:
-                    raise
-            sleep(wait)
+        return again(once, self._backoff.waits(), (ConnectError, ConnectionLostError))
 
     def _take(self) -> Connection:
         if not self._free.acquire(timeout=self._timeouts.pool):

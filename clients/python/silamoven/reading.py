@@ -2,7 +2,7 @@
 
 from __future__ import annotations
 
-from dataclasses import dataclass
+from dataclasses import dataclass, replace
 from enum import Enum
 from time import sleep
 from typing import Optional
@@ -67,7 +67,7 @@ def read(connection: Connection, key: Key, floor: int, tries: ReadTries) -> Answ
         connection: where to read it. Its present session is replaced if it isn't one that reads.
         key: what to read.
         floor: the least stamp that a hit may have.
-        tries: how often to try where another one's lease or quarantine stands in the way.
+        tries: how often to try where another one's lease or quarantine is in the way.
     """
     sid = connection.reading_session()
     waits = tries.waits()
@@ -76,21 +76,21 @@ def read(connection: Connection, key: Key, floor: int, tries: ReadTries) -> Answ
         if isinstance(reply, Value):
             return Answer(key, reply.data, reply.stamp, Origin.HIT)
         if isinstance(reply, Lease):
-            return _fill(connection, key, sid, reply.token)
+            return _fill(connection, key, reply.token)
         wait: Optional[float] = next(waits, None)
         if wait is None or not isinstance(reply, Again):
             return ask(connection, key)
         sleep(wait)
 
 
-def _fill(connection: Connection, key: Key, sid: int, token: int) -> Answer:
+def _fill(connection: Connection, key: Key, token: int) -> Answer:
     # Only what was asked for behind the lease may be stored, with the stamp that came with it.
-    value = connection.call(commands.ask(key, sid))
+    answer = ask(connection, key)
     stored = False
-    if len(value.data) <= commands.BIGGEST_BLOCK:
+    if commands.fits(answer.data):
         try:
-            reply = connection.call(commands.iqset(key, value.data, token, value.stamp))
+            reply = connection.call(commands.iqset(key, answer.data, token, answer.stamp))
             stored = isinstance(reply, Stored)
         except (NetworkError, ServerError):
             pass  # It is the store's answer, whatever became of the cache.
-    return Answer(key, value.data, value.stamp, Origin.STORED if stored else Origin.NOT_STORED)
+    return replace(answer, origin=Origin.STORED if stored else Origin.NOT_STORED)

@@ -4,15 +4,16 @@ from __future__ import annotations
 
 from dataclasses import dataclass
 from enum import Enum
-from typing import Callable, Dict, List, Optional, Protocol, Union
+from typing import Callable, Dict, List, Optional, Protocol, TypeVar, Union
 
 from .errors import ProtocolError
+from .keys import check_number, is_decimal
 from .modes import Mode
 
 BIGGEST_VALUE = 1 << 26
 """A reply that tells more bytes of a value than this is taken for garbage."""
 
-_BELOW = 1 << 64
+_T = TypeVar("_T")
 
 
 class Source(Protocol):
@@ -26,7 +27,7 @@ class Source(Protocol):
 
 
 class Standing(Enum):
-    """What stands in the way of a reader."""
+    """What is in the way of a reader."""
 
     LEASE = "I"
     """Another reader's lease."""
@@ -68,7 +69,7 @@ class Lease:
 
 @dataclass(frozen=True)
 class Again:
-    """`AGAIN`: something stands in the way, so wait and get again."""
+    """`AGAIN`: something is in the way, so wait and get again."""
 
     standing: Standing
 
@@ -85,7 +86,7 @@ class Stored:
 
 @dataclass(frozen=True)
 class NotStored:
-    """`NOT_STORED`: the lease stands no longer, and nothing was stored."""
+    """`NOT_STORED`: the lease has ended, and nothing was stored."""
 
 
 @dataclass(frozen=True)
@@ -103,7 +104,7 @@ class Held:
 
 @dataclass(frozen=True)
 class Refused:
-    """`REFUSED`: the quarantine of another session stands in the way."""
+    """`REFUSED`: the quarantine of another session is in the way."""
 
     holder: int
     mode: Mode
@@ -183,9 +184,9 @@ Reply = Union[
 
 
 def _number(word: str) -> int:
-    if not word.isascii() or not word.isdigit() or int(word) >= _BELOW:
+    if not is_decimal(word):
         raise ValueError(word)
-    return int(word)
+    return check_number(int(word))
 
 
 # What the words behind the first word of a line say. A wrong count of words is a ValueError as a wrong word is.
@@ -197,17 +198,12 @@ def _alone(reply: Reply) -> Callable[[List[str]], Reply]:
     return read
 
 
-def _of_number(make: Callable[[int], Reply]) -> Callable[[List[str]], Reply]:
+def _of_one(make: Callable[[_T], Reply], meaning: Callable[[str], _T]) -> Callable[[List[str]], Reply]:
     def read(words: List[str]) -> Reply:
         (word,) = words
-        return make(_number(word))
+        return make(meaning(word))
 
     return read
-
-
-def _again(words: List[str]) -> Reply:
-    (word,) = words
-    return Again(Standing(word))
 
 
 def _refused(words: List[str]) -> Reply:
@@ -215,28 +211,23 @@ def _refused(words: List[str]) -> Reply:
     return Refused(_number(holder), Mode(mode))
 
 
-def _uncovered(words: List[str]) -> Reply:
-    (key,) = words
-    return Uncovered(key)
-
-
 _BY_WORD: Dict[str, Callable[[List[str]], Reply]] = {
-    "SESSION": _of_number(Begun),
-    "LEASE": _of_number(Lease),
-    "AGAIN": _again,
+    "SESSION": _of_one(Begun, _number),
+    "LEASE": _of_one(Lease, _number),
+    "AGAIN": _of_one(Again, Standing),
     "OWN": _alone(Own()),
     "STORED": _alone(Stored()),
     "NOT_STORED": _alone(NotStored()),
-    "GRANTED": _of_number(Granted),
+    "GRANTED": _of_one(Granted, _number),
     "HELD": _alone(Held()),
     "REFUSED": _refused,
-    "COMMITTED": _of_number(Committed),
+    "COMMITTED": _of_one(Committed, _number),
     "ENDED": _alone(Ended()),
-    "UNCOVERED": _uncovered,
-    "REJECTED": _of_number(Rejected),
+    "UNCOVERED": _of_one(Uncovered, str),
+    "REJECTED": _of_one(Rejected, _number),
     "DELETED": _alone(Deleted()),
     "NOT_FOUND": _alone(NotFound()),
-    "RELEASED": _of_number(Released),
+    "RELEASED": _of_one(Released, _number),
 }
 
 _FAILURES = ("ERROR", "CLIENT_ERROR", "SERVER_ERROR")

@@ -4,7 +4,22 @@ from __future__ import annotations
 
 import random
 from dataclasses import dataclass
-from typing import Iterator
+from time import sleep
+from typing import Callable, Iterator, Tuple, Type, TypeVar
+
+_T = TypeVar("_T")
+
+
+def again(once: Callable[[], _T], waits: Iterator[float], causes: Tuple[Type[Exception], ...]) -> _T:
+    """Does it, and again behind each wait where it failed by one of these. The last failure is raised."""
+    while True:
+        try:
+            return once()
+        except causes:
+            wait = next(waits, None)
+            if wait is None:
+                raise
+        sleep(wait)
 
 
 @dataclass(frozen=True)
@@ -36,34 +51,42 @@ class Backoff:
 
 
 @dataclass(frozen=True)
-class ReadTries:
+class _Tries:
+    """How often something is tried, and limits of the waits between. They double from `first` up to `most`."""
+
+    tries: int
+    first: float = 0.001
+    most: float = 0.1
+
+    def _limits(self) -> Iterator[float]:
+        """One fewer than tries."""
+        for number in range(self.tries - 1):
+            yield min(self.first * 2**number, self.most)
+
+
+@dataclass(frozen=True)
+class ReadTries(_Tries):
     """How often a reader gets a key whose lease another one has, and its waits between.
 
     The waits are 1, 2, 4 .. milliseconds, up to 100. After the last try it asks the store.
     """
 
     tries: int = 16
-    first: float = 0.001
-    most: float = 0.1
 
     def waits(self) -> Iterator[float]:
         """The waits between the tries: one fewer than tries."""
-        for number in range(self.tries - 1):
-            yield min(self.first * 2**number, self.most)
+        return self._limits()
 
 
 @dataclass(frozen=True)
-class WriteTries:
+class WriteTries(_Tries):
     """How often a writer begins anew that is refused or ended, and its waits between.
 
     Each wait is drawn between 0 and a limit, which doubles from `first` up to `most` seconds.
     """
 
     tries: int = 64
-    first: float = 0.001
-    most: float = 0.1
 
     def waits(self) -> Iterator[float]:
         """The waits between the tries: one fewer than tries."""
-        for number in range(self.tries - 1):
-            yield random.uniform(0.0, min(self.first * 2**number, self.most))
+        return (random.uniform(0.0, limit) for limit in self._limits())

@@ -3,12 +3,11 @@
 from __future__ import annotations
 
 from dataclasses import dataclass
-from time import sleep
 from typing import Dict, Iterable, Optional, Union
 
 from . import commands
 from .changes import Txn
-from .commands import Command, Role
+from .commands import Command, Quarantined, Role
 from .connection import Connection
 from .errors import (
     EndedError,
@@ -28,15 +27,13 @@ from .replies import (
     Ended,
     Failure,
     Granted,
-    Held,
     NotFound,
     Refused,
     Stored,
     Uncovered,
 )
-from .waits import WriteTries
+from .waits import WriteTries, again
 
-_Quarantine = Command[Union[Granted, Held, Refused]]
 _Release = Command[Union[Deleted, Stored, NotFound]]
 
 
@@ -56,15 +53,7 @@ def write(connection: Connection, txn: Txn, mode: Mode, tries: WriteTries) -> in
         UnknownOutcomeError: the connection broke after the commit was sent.
         NetworkError: it broke before. Nothing was committed.
     """
-    waits = tries.waits()
-    while True:
-        try:
-            return _Attempt(connection, txn, mode).run()
-        except (RefusedError, EndedError):
-            wait: Optional[float] = next(waits, None)
-            if wait is None:
-                raise
-            sleep(wait)
+    return again(lambda: _Attempt(connection, txn, mode).run(), tries.waits(), (RefusedError, EndedError))
 
 
 @dataclass(frozen=True)
@@ -102,7 +91,7 @@ class _Attempt:
             return Mode.INVALIDATE
         return self._mode
 
-    def _quarantine_of(self, key: Key) -> _Quarantine:
+    def _quarantine_of(self, key: Key) -> Command[Quarantined]:
         mode = self._mode_of(key)
         if mode is Mode.REFRESH:
             return commands.qaread(key, self._sid)
@@ -154,12 +143,12 @@ class _Attempt:
         if hold.mode is Mode.DELTA:
             return commands.iqcommit(key, self._sid)
         new = None if hold.old is None else self._txn.value_after(key, hold.old)
-        if new is None or len(new) > commands.BIGGEST_BLOCK:
+        if new is None or not commands.fits(new):
             return commands.dar(key, self._sid)
         return commands.sar(key, new, self._sid)
 
     def _release(self) -> None:
-        # The commit stands whatever happens here. Where the connection breaks the server drops what is left.
+        # The commit is made whatever happens here. Where the connection breaks the server drops what is left.
         releases = [self._release_of(key, hold) for key, hold in self._holds.items()]
         try:
             if any(isinstance(it, Failure) for it in self._connection.exchange(releases)):

@@ -126,7 +126,7 @@ class ComingBack(unittest.TestCase):
                 for connection in (first, second):
                     connection.begin(Role.READ)
             time.sleep(0.05)
-            with mock.patch("silamoven.pool.sleep") as sleep:
+            with mock.patch("silamoven.waits.sleep") as sleep:
                 pool.read("profile:2")
             sleep.assert_not_called()
 

@@ -374,7 +374,7 @@ class Races(WithServer):
             if len(tries) == 3:
                 other.call(commands.iqabort(sid))
 
-        with mock.patch("silamoven.writing.sleep", sleep):
+        with mock.patch("silamoven.waits.sleep", sleep):
             number = self.pool(1).write(f"rename {a} bob", "refresh")
         self.assertGreater(number, 0)
         self.assertEqual(len(tries), 3)
