@@ -18,6 +18,8 @@ mod plan_texts;
 #[cfg(test)]
 mod runs;
 #[cfg(test)]
+mod sweep_tests;
+#[cfg(test)]
 mod telling_desks;
 #[cfg(test)]
 mod telling_tests;
