@@ -12,14 +12,16 @@ mod hub_tests;
 #[cfg(test)]
 mod kept_desks;
 #[cfg(test)]
+mod line_tests;
+#[cfg(test)]
 mod load_tests;
 #[cfg(test)]
 mod plan_texts;
 #[cfg(test)]
 mod runs;
 #[cfg(test)]
-mod sweep_tests;
-#[cfg(test)]
 mod telling_desks;
 #[cfg(test)]
 mod telling_tests;
+#[cfg(test)]
+mod watched_lines;
