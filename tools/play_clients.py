@@ -4,7 +4,7 @@
     python3 tools/play_clients.py PROGRAM PAGE CHECK
 
 PROGRAM is the proved `iq`, PAGE is docs/protocol.md, and CHECK is one of the names that `--list` in its place
-prints, or `soak`, which takes minutes. The status is 0 where the server does what it must; else a line on standard error says what it did.
+prints, or `soak`, which takes minutes, or `beside`, which measures. The status is 0 where the server does what it must; else a line on standard error says what it did.
 """
 import os
 import re
@@ -83,11 +83,16 @@ def receive(stream, count):
     return got
 
 
-def play(stream, turns):
-    """Plays a whole conversation, which the server ends."""
+def say(stream, turns):
+    """Plays turns of what is sent and what comes back."""
     for sent, told in turns:
         stream.sendall(sent)
         expect(receive(stream, len(told)), told)
+
+
+def play(stream, turns):
+    """Plays a whole conversation, which the server ends."""
+    say(stream, turns)
     expect(stream.recv(1), b"")
     stream.close()
 
@@ -202,6 +207,19 @@ def thousand(program, _path):
     server.served(1000)
 
 
+def gone(program, _path):
+    """The key of a writer that says nothing more is served to the fourth get behind its deadline, of 64 shards."""
+    server = Server(program, [2, 2, 64, 3])
+    writer, reader = server.connect(), server.connect()
+    say(writer, [(b"begin write\r\n", b"SESSION 1\r\n"), (b"qareg profile:2 1\r\n", b"GRANTED 1\r\n")])
+    say(reader, [(b"begin read\r\n", b"SESSION 2\r\n"), (b"iqget profile:2 2 0\r\n", b"AGAIN Q\r\n")])
+    time.sleep(10.1)
+    say(reader, [(b"iqget profile:2 2 0\r\n", told) for told in (b"AGAIN Q\r\n", b"AGAIN Q\r\n", b"AGAIN Q\r\n", b"LEASE 2\r\n")])
+    for client in (writer, reader):
+        client.close()
+    server.served(2)
+
+
 def reset(program, path):
     """Clients that reset their connections, before they are served or while they are, end nothing but those."""
     _, turns = next(conversations(path))
@@ -245,8 +263,45 @@ def soak(program, _path):
     server.served(200000)
 
 
-CHECKS = {it.__name__: it for it in (page, silent, queued, unread, broken, crowded, thousand, reset, taken)}
-SLOW = {it.__name__: it for it in (soak,)}
+def hits(clients, times):
+    """How many seconds these clients take until each was served so many hits, at most 64 of them on the way."""
+    began = time.monotonic()
+    for _ in range(times // 64):
+        for number, client in enumerate(clients, 1):
+            client.sendall(b"iqget profile:2 %d 0\r\n" % number * 64)
+        for client in clients:
+            receive(client, 64 * len(b"VALUE profile:2 0 6 0\r\nm2 0 0\r\nEND\r\n"))
+    return time.monotonic() - began
+
+
+def beside(program, _path):
+    """A hundred clients beside nine hundred silent ones are served at no less than half their speed alone."""
+    most = resource.getrlimit(resource.RLIMIT_NOFILE)[1]
+    resource.setrlimit(resource.RLIMIT_NOFILE, (min(most, 4096), most))
+    servers = [Server(program, [count, 1000, 1, 3]) for count in (100, 1000)]
+    groups, others = [], []
+    for server, silent_ones in zip(servers, (0, 900)):
+        others += [server.connect() for _ in range(silent_ones)]
+        groups.append([server.connect() for _ in range(100)])
+        for number, client in enumerate(groups[-1], 1):
+            client.sendall(b"begin read\r\n")
+            expect(receive(client, len(b"SESSION %d\r\n" % number)), b"SESSION %d\r\n" % number)
+    for clients in groups:
+        clients[0].sendall(b"iqget profile:2 1 0\r\niqset profile:2 0 0 6 1 0\r\nm2 0 0\r\n")
+        expect(receive(clients[0], 17), b"LEASE 1\r\nSTORED\r\n")
+    times = [[hits(clients, 1024) for clients in groups] for _ in range(9)]
+    alone, crowd = (sorted(it[place] for it in times)[4] for place in (0, 1))
+    print(f"100 clients: {102400 / alone:.0f} hits a second alone, {102400 / crowd:.0f} beside 900 silent ones")
+    for client in sum(groups, others):
+        client.close()
+    for server, count in zip(servers, (100, 1000)):
+        server.served(count)
+    if alone < crowd / 2:
+        raise AssertionError("less than half the speed")
+
+
+CHECKS = {it.__name__: it for it in (page, silent, queued, unread, broken, crowded, thousand, gone, reset, taken)}
+SLOW = {it.__name__: it for it in (soak, beside)}
 
 
 def main():

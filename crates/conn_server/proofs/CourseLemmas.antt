@@ -16,15 +16,15 @@ use Rattle.mc_text.specs.declared.faults.FrameFault.TheVariants as frame
 use Rattle.mc_text.specs.declared.replies.LineReply.{LineReply}
 use Rattle.mc_text.specs.declared.replies.LineReply.TheVariants as reply
 use Rattle.mc_text.proofs.StreamLemmas.{streams_tell}
-use Rattle.session_client.specs.Desks.{Call}
+use Rattle.session_client.specs.Desks.{Call, one_more}
 use Rattle.conn_server.specs.declared.clients.Client.{Client}
 use Rattle.conn_server.specs.declared.ends.LineEnd.{LineEnd}
 use Rattle.conn_server.specs.declared.ends.LineEnd.TheVariants as ends
 use Rattle.conn_server.specs.declared.serving.Serving.{Serving}
 use Rattle.conn_server.specs.Clients.{newcomer}
 use Rattle.conn_server.specs.Answers.{ItemAnswers, AllAnswer, GivenUp, with_calls}
-use Rattle.conn_server.specs.Service.{budget, texts, IsWithin, Lasts, place_of, TookSome, TookToFault, EndsSo, NoneLeft, IsServed, CountsReads, CountsWrites}
-use Rattle.conn_server.specs.Course.{most_reads, IsUnserved, Start, Done, Course, CountsAt, Ending, Tells, Flushes, Shuts, Finishes}
+use Rattle.conn_server.specs.Service.{budget, texts, IsWithin, Lasts, place_of, TookSome, TookToFault, EndsSo, NoneLeft, IsServed, CountsReads, CountsWrites, tended_by}
+use Rattle.conn_server.specs.Course.{most_reads, DeskSide, IsUnserved, WaitsFew, Start, Done, Course, CountsAt, Ending, Tells, Flushes, Shuts, Finishes}
 use Rattle.conn_server.proofs.ClosingLemmas.{with_calls-append}
 use Rattle.conn_server.proofs.BoundLemmas.{first_bound, open_bound}
 
@@ -97,11 +97,22 @@ place_more size taken place end is = by (cases_lt size end)
     by (inl l) = let same : place ≡ size = omega (arith, is) in ap (λ (n : ℕ). min (n + taken) end) same
     by (inr l) = let same : place ≡ end = omega (arith, is) in omega arith
 
-abbrev done_one : (start : Start) (reads : ReadSide) (writes : WriteSide) (before after : Option (List Call)) (client new : Client)
+-- a desk's sweep took as many steps as items were answered, and one for one item more
+tended_one : (items : List Item) (item : Item) (tends : Option ℕ)
+    → one_more (tended_by (length items) tends) ≡ tended_by (length (items ++ item ∷ [])) tends
+tended_one items item None = refl
+tended_one items item (Some count) = ap Some (omega (arith, length-append items (item ∷ [])))
+
+tended_none : (tends : Option ℕ) → tends ≡ tended_by 0 tends
+tended_none None = refl
+tended_none (Some count) = ap Some (sym (add-zero count))
+
+abbrev done_one : (start : Start) (reads : ReadSide) (writes : WriteSide) (before after : DeskSide) (client new : Client)
     (done : Done start reads writes before client) (item : Item) (taken : ℕ) (calls : List Call) (reply : LineReply)
-    → Stands (drop done.size done.given) item taken → after ≡ with_calls calls before → ItemAnswers client item calls reply new
+    → Stands (drop done.size done.given) item taken → after.calls ≡ with_calls calls before.calls → after.tends ≡ one_more before.tends
+    → ItemAnswers client item calls reply new
     → Done start reads writes after new
-done_one start reads writes before after client new done item taken calls reply stands asks answers = record {
+done_one start reads writes before after client new done item taken calls reply stands asks tended answers = record {
   given = done.given;
   items = done.items ++ item ∷ [];
   size = done.size + taken;
@@ -111,7 +122,8 @@ done_one start reads writes before after client new done item taken calls reply 
   gives = done.gives;
   adds = done.adds;
   takes = done.takes;
-  asks = asks ∙ (ap (with_calls calls) done.asks ∙ sym (with_calls-append done.asked calls start.calls));
+  asks = asks ∙ (ap (with_calls calls) done.asks ∙ sym (with_calls-append done.asked calls start.desk.calls));
+  tended = tended ∙ (ap one_more done.tended ∙ tended_one done.items item start.desk.tends);
   first = first_one done.given done.items item done.size taken done.first stands;
   answers = all_one newcomer done.items done.asked done.told client item calls reply new done.answers answers;
   read_faults = done.read_faults;
@@ -119,23 +131,24 @@ done_one start reads writes before after client new done item taken calls reply 
 }
 
 -- an item that stood first was taken and answered
-pub record Answered (before after : Option (List Call)) (old new : Serving) (reply : LineReply) : Type 0 where
+pub record Answered (before after : DeskSide) (old new : Serving) (reply : LineReply) : Type 0 where
   pub item : Item
   pub taken : ℕ
   pub calls : List Call
   pub stands : Stands old.framer.rest item taken
   pub framer : new.framer ≡ past old.framer taken
-  pub asks : after ≡ with_calls calls before
+  pub asks : after.calls ≡ with_calls calls before.calls
+  pub tended : after.tends ≡ one_more before.tends
   pub answers : ItemAnswers old.client item calls reply new.client
   pub count : new.count ≡ old.count + 1
 
-course_one : (start : Start) (rounds : ℕ) (reads : ReadSide) (writes : WriteSide) (before after : Option (List Call)) (old new : Serving) (reply : LineReply)
+course_one : (start : Start) (rounds : ℕ) (reads : ReadSide) (writes : WriteSide) (before after : DeskSide) (old new : Serving) (reply : LineReply)
     → Answered before after old new reply → new.count < budget → new.out.items ≡ old.out.items ++ text_of reply
     → Course start rounds reads writes before old → Course start rounds reads writes after new
 course_one start rounds reads writes before after old new reply a few out c =
     let stands = subst (λ (bytes : List ℕ). Stands bytes a.item a.taken) c.rest a.stands in
     record {
-      done = done_one start reads writes before after old.client new.client c.done a.item a.taken a.calls reply stands a.asks a.answers;
+      done = done_one start reads writes before after old.client new.client c.done a.item a.taken a.calls reply stands a.asks a.tended a.answers;
       within = omega (arith, length-append c.done.items (a.item ∷ []), a.count, c.count);
       count = omega (arith, length-append c.done.items (a.item ∷ []), a.count, c.count);
       due = due_one c.done.told c.done.sent old.out.items new.out.items reply c.due out;
@@ -148,14 +161,14 @@ course_one start rounds reads writes before after old new reply a few out c =
     }
 
 -- behind its last item a connection ends
-ending_one : (end : LineEnd) (start : Start) (rounds : ℕ) (reads : ReadSide) (writes : WriteSide) (before after : Option (List Call))
+ending_one : (end : LineEnd) (start : Start) (rounds : ℕ) (reads : ReadSide) (writes : WriteSide) (before after : DeskSide)
     (old new : Serving) (reply : LineReply)
     → Answered before after old new reply → Tells (Err end) reply old new
     → Course start rounds reads writes before old → Ending end start reads writes after new
 ending_one ends.Budget start rounds reads writes before after old new reply a told c =
     let stands = subst (λ (bytes : List ℕ). Stands bytes a.item a.taken) c.rest a.stands in
     record {
-      done = done_one start reads writes before after old.client new.client c.done a.item a.taken a.calls reply stands a.asks a.answers;
+      done = done_one start reads writes before after old.client new.client c.done a.item a.taken a.calls reply stands a.asks a.tended a.answers;
       ends = (
         omega (arith, length-append c.done.items (a.item ∷ []), a.count, c.count, told.0),
         sym (due_one c.done.told c.done.sent old.out.items new.out.items reply c.due told.1),
@@ -168,7 +181,7 @@ ending_one ends.Memory start rounds reads writes before after old new reply a to
     let within = c.within in
     let all : texts c.done.told ≡ c.done.sent ++ new.out.items = c.due ∙ ap (λ (xs : List ℕ). c.done.sent ++ xs) (sym told) in
     record {
-      done = done_one start reads writes before after old.client new.client c.done a.item a.taken a.calls reply stands a.asks a.answers;
+      done = done_one start reads writes before after old.client new.client c.done a.item a.taken a.calls reply stands a.asks a.tended a.answers;
       ends = (
         omega (arith, length-append c.done.items (a.item ∷ [])),
         inl (text_of reply, texts_one c.done.told reply ∙ ap (λ (xs : List ℕ). xs ++ text_of reply) all),
@@ -194,7 +207,7 @@ pub tells_more : (result : Result Bool LineEnd) (reply : LineReply) (old new : S
 tells_more (Ok more) reply old new t e = let is = t.0 in absurd cc
 tells_more (Err end) reply old new t e = absurd cc
 
-pub answered_goes_on : (result : Result Bool LineEnd) (before after : Option (List Call)) (old mid new : Serving) (reply : LineReply)
+pub answered_goes_on : (result : Result Bool LineEnd) (before after : DeskSide) (old mid new : Serving) (reply : LineReply)
     → mid.out.items ≡ old.out.items → Tells result reply mid new → Answered before after old new reply
     → OnOk result ((start : Start) (rounds : ℕ) (reads : ReadSide) (writes : WriteSide)
     → Course start rounds reads writes before old → Course start rounds reads writes after new)
@@ -203,7 +216,7 @@ answered_goes_on (Ok more) before after old mid new reply same t a =
     λ start rounds reads writes c. course_one start rounds reads writes before after old new reply a told.1 told.2 c
 answered_goes_on (Err end) before after old mid new reply same t a = tt
 
-pub answered_ends : (result : Result Bool LineEnd) (before after : Option (List Call)) (old mid new : Serving) (reply : LineReply)
+pub answered_ends : (result : Result Bool LineEnd) (before after : DeskSide) (old mid new : Serving) (reply : LineReply)
     → mid.out.items ≡ old.out.items → Tells result reply mid new → Answered before after old new reply
     → IfErr result (λ end. (start : Start) (rounds : ℕ) (reads : ReadSide) (writes : WriteSide)
     → Course start rounds reads writes before old → Ending end start reads writes after new)
@@ -226,16 +239,18 @@ next_fault old new r found fault a is same =
     subst (λ (x : FrameFault). Faults old x new) same (subst (λ (x : Result (Option Command) FrameFault). Answers old x new) is a)
 
 -- a bad line is answered
-pub bad_line_answered : (before after : Option (List Call)) (old new : Serving) (place : ℕ) (frames : Frames)
-    → Faults old.framer (frame.BadLine place) frames → new.framer ≡ frames → after ≡ before → new.client ≡ old.client → new.count ≡ old.count + 1
+pub bad_line_answered : (before after : DeskSide) (old new : Serving) (place : ℕ) (frames : Frames)
+    → Faults old.framer (frame.BadLine place) frames → new.framer ≡ frames → after.calls ≡ before.calls → after.tends ≡ one_more before.tends
+    → new.client ≡ old.client → new.count ≡ old.count + 1
     → Answered before after old new reply.BadLine
-bad_line_answered before after old new place frames f framer asks client count = record {
+bad_line_answered before after old new place frames f framer asks tended client count = record {
   item = bad_line;
   taken = f.1.taken;
   calls = [];
   stands = f.1.stands;
   framer = framer ∙ f.1.goes_on;
   asks = asks;
+  tended = tended;
   answers = (refl, refl, client);
   count = count;
 }
@@ -245,15 +260,15 @@ abbrev with_client : Serving → Client → Serving
 with_client serving client = record { framer = serving.framer; out = serving.out; client = client; count = serving.count }
 
 -- what a connection goes on with where its client and what it was fed are as before
-course_same : (start : Start) (rounds : ℕ) (reads : ReadSide) (writes new_writes : WriteSide) (calls : Option (List Call)) (old new : Serving)
-    (done : Done start reads new_writes calls old.client)
+course_same : (start : Start) (rounds : ℕ) (reads : ReadSide) (writes new_writes : WriteSide) (desk : DeskSide) (old new : Serving)
+    (done : Done start reads new_writes desk old.client)
     → new_writes.faults ≡ writes.faults → new.framer ≡ old.framer → new.client ≡ old.client → new.count ≡ old.count
-    → (course : Course start rounds reads writes calls old)
+    → (course : Course start rounds reads writes desk old)
     → done.given ≡ course.done.given → done.items ≡ course.done.items → done.size ≡ course.done.size
     → texts done.told ≡ done.sent ++ new.out.items
-    → Course start rounds reads new_writes calls new
-course_same start rounds reads writes new_writes calls old new done same framer client count c given items size due =
-    subst (λ (x : Client). Course start rounds reads new_writes calls (with_client new x)) (sym client) (record {
+    → Course start rounds reads new_writes desk new
+course_same start rounds reads writes new_writes desk old new done same framer client count c given items size due =
+    subst (λ (x : Client). Course start rounds reads new_writes desk (with_client new x)) (sym client) (record {
       done = done;
       within = subst (λ (xs : List Item). IsWithin xs) (sym items) c.within;
       count = count ∙ (c.count ∙ ap (λ (xs : List Item). length xs) (sym items));
@@ -268,18 +283,18 @@ course_same start rounds reads writes new_writes calls old new done same framer 
     })
 
 -- nothing whole stands next
-pub course_open : (start : Start) (rounds : ℕ) (reads : ReadSide) (writes : WriteSide) (calls : Option (List Call)) (old new : Serving)
+pub course_open : (start : Start) (rounds : ℕ) (reads : ReadSide) (writes : WriteSide) (desk : DeskSide) (old new : Serving)
     → new.framer ≡ old.framer → new.out.items ≡ old.out.items → new.client ≡ old.client → new.count ≡ old.count
-    → Course start rounds reads writes calls old → Course start rounds reads writes calls new
-course_open start rounds reads writes calls old new framer out client count c =
-    course_same start rounds reads writes writes calls old new c.done refl framer client count c refl refl refl
+    → Course start rounds reads writes desk old → Course start rounds reads writes desk new
+course_open start rounds reads writes desk old new framer out client count c =
+    course_same start rounds reads writes writes desk old new c.done refl framer client count c refl refl refl
     (c.due ∙ ap (λ (xs : List ℕ). c.done.sent ++ xs) (sym out))
 
 -- what stands to be written was taken
-abbrev done_sent : (start : Start) (reads : ReadSide) (old new : WriteSide) (calls : Option (List Call)) (client : Client) (bytes : List ℕ)
+abbrev done_sent : (start : Start) (reads : ReadSide) (old new : WriteSide) (desk : DeskSide) (client : Client) (bytes : List ℕ)
     → Gains old.taken new.taken bytes → old.faults ≤ new.faults
-    → Done start reads old calls client → Done start reads new calls client
-done_sent start reads old new calls client bytes gains up done = record {
+    → Done start reads old desk client → Done start reads new desk client
+done_sent start reads old new desk client bytes gains up done = record {
   given = done.given;
   items = done.items;
   size = done.size;
@@ -290,19 +305,20 @@ done_sent start reads old new calls client bytes gains up done = record {
   adds = done.adds;
   takes = Gains-append start.writes.taken old.taken new.taken done.sent bytes done.takes gains;
   asks = done.asks;
+  tended = done.tended;
   first = done.first;
   answers = done.answers;
   read_faults = done.read_faults;
   write_faults = let before = done.write_faults in omega arith;
 }
 
-course_flushed : (start : Start) (rounds : ℕ) (reads : ReadSide) (writes new_writes : WriteSide) (calls : Option (List Call)) (old new : Serving)
+course_flushed : (start : Start) (rounds : ℕ) (reads : ReadSide) (writes new_writes : WriteSide) (desk : DeskSide) (old new : Serving)
     → Gains writes.taken new_writes.taken old.out.items → new_writes.faults ≡ writes.faults
     → new.out.items ≡ [] → new.framer ≡ old.framer → new.client ≡ old.client → new.count ≡ old.count
-    → Course start rounds reads writes calls old → Course start rounds reads new_writes calls new
-course_flushed start rounds reads writes new_writes calls old new gains same none framer client count c =
-    course_same start rounds reads writes new_writes calls old new
-    (done_sent start reads writes new_writes calls old.client old.out.items gains (omega (arith, same)) c.done)
+    → Course start rounds reads writes desk old → Course start rounds reads new_writes desk new
+course_flushed start rounds reads writes new_writes desk old new gains same none framer client count c =
+    course_same start rounds reads writes new_writes desk old new
+    (done_sent start reads writes new_writes desk old.client old.out.items gains (omega (arith, same)) c.done)
     same framer client count c refl refl refl
     (c.due ∙ (sym (append-nil (c.done.sent ++ old.out.items)) ∙ ap (λ (xs : List ℕ). (c.done.sent ++ old.out.items) ++ xs) (sym none)))
 
@@ -315,14 +331,14 @@ some_of told sent out written due = (
       ∙ ap (λ (xs : List ℕ). xs ++ drop written out) (sym (append-nil (sent ++ take written out))))),
 )
 
-ending_write : (start : Start) (rounds : ℕ) (reads : ReadSide) (writes new_writes : WriteSide) (calls : Option (List Call)) (old new : Serving) (written : ℕ)
+ending_write : (start : Start) (rounds : ℕ) (reads : ReadSide) (writes new_writes : WriteSide) (desk : DeskSide) (old new : Serving) (written : ℕ)
     → Gains writes.taken new_writes.taken (take written old.out.items) → Rose writes.faults new_writes.faults → writes.faults ≤ new_writes.faults
     → new.out.items ≡ [] → new.client ≡ old.client
-    → Course start rounds reads writes calls old → Ending ends.WriteFault start reads new_writes calls new
-ending_write start rounds reads writes new_writes calls old new written gains rose up none client c =
+    → Course start rounds reads writes desk old → Ending ends.WriteFault start reads new_writes desk new
+ending_write start rounds reads writes new_writes desk old new written gains rose up none client c =
     let within = c.within in
-    subst (λ (x : Client). Ending ends.WriteFault start reads new_writes calls (with_client new x)) (sym client) (record {
-      done = done_sent start reads writes new_writes calls old.client (take written old.out.items) gains up c.done;
+    subst (λ (x : Client). Ending ends.WriteFault start reads new_writes desk (with_client new x)) (sym client) (record {
+      done = done_sent start reads writes new_writes desk old.client (take written old.out.items) gains up c.done;
       ends = (
         omega arith,
         inl (subst (λ (xs : List ℕ). TookSome ((c.done.sent ++ take written old.out.items) ++ xs) c.done.told) (sym none)
@@ -335,68 +351,68 @@ ending_write start rounds reads writes new_writes calls old new written gains ro
 pub flushed_goes_on : {X : Type 0} (result : Result X LineEnd) (reads new_reads : ReadSide) (writes new_writes : WriteSide) (old new : Serving)
     → Flushes result writes new_writes old.out.items → new_reads ≡ reads → new.out.items ≡ []
     → new.framer ≡ old.framer → new.client ≡ old.client → new.count ≡ old.count
-    → OnOk result ((start : Start) (rounds : ℕ) (calls : Option (List Call))
-    → Course start rounds reads writes calls old → Course start rounds new_reads new_writes calls new)
+    → OnOk result ((start : Start) (rounds : ℕ) (desk : DeskSide)
+    → Course start rounds reads writes desk old → Course start rounds new_reads new_writes desk new)
 flushed_goes_on (Ok x) reads new_reads writes new_writes old new f apart none framer client count =
-    λ start rounds calls c. subst (λ (r : ReadSide). Course start rounds r new_writes calls new) (sym apart)
-    (course_flushed start rounds reads writes new_writes calls old new f.0 f.1 none framer client count c)
+    λ start rounds desk c. subst (λ (r : ReadSide). Course start rounds r new_writes desk new) (sym apart)
+    (course_flushed start rounds reads writes new_writes desk old new f.0 f.1 none framer client count c)
 flushed_goes_on (Err end) reads new_reads writes new_writes old new f apart none framer client count = tt
 
-flush_ends : (end : LineEnd) (reads : ReadSide) (writes new_writes : WriteSide) (old new : Serving) (start : Start) (rounds : ℕ) (calls : Option (List Call))
+flush_ends : (end : LineEnd) (reads : ReadSide) (writes new_writes : WriteSide) (old new : Serving) (start : Start) (rounds : ℕ) (desk : DeskSide)
     → Flushes {X = Bool} (Err end) writes new_writes old.out.items → new.out.items ≡ [] → new.client ≡ old.client
-    → Course start rounds reads writes calls old → Ending end start reads new_writes calls new
-flush_ends ends.WriteFault reads writes new_writes old new start rounds calls f none client c =
-    ending_write start rounds reads writes new_writes calls old new f.0.0 f.0.1 f.1 f.2 none client c
-flush_ends other reads writes new_writes old new start rounds calls f none client c = absurd f
+    → Course start rounds reads writes desk old → Ending end start reads new_writes desk new
+flush_ends ends.WriteFault reads writes new_writes old new start rounds desk f none client c =
+    ending_write start rounds reads writes new_writes desk old new f.0.0 f.0.1 f.1 f.2 none client c
+flush_ends other reads writes new_writes old new start rounds desk f none client c = absurd f
 
 pub flushed_ends : {X : Type 0} (result : Result X LineEnd) (reads new_reads : ReadSide) (writes new_writes : WriteSide) (old new : Serving)
     → Flushes result writes new_writes old.out.items → new_reads ≡ reads → new.out.items ≡ [] → new.client ≡ old.client
-    → IfErr result (λ end. (start : Start) (rounds : ℕ) (calls : Option (List Call))
-    → Course start rounds reads writes calls old → Ending end start new_reads new_writes calls new)
+    → IfErr result (λ end. (start : Start) (rounds : ℕ) (desk : DeskSide)
+    → Course start rounds reads writes desk old → Ending end start new_reads new_writes desk new)
 flushed_ends (Ok x) reads new_reads writes new_writes old new f apart none client = tt
 flushed_ends (Err end) reads new_reads writes new_writes old new f apart none client =
-    λ start rounds calls c. subst (λ (r : ReadSide). Ending end start r new_writes calls new) (sym apart)
-    (flush_ends end reads writes new_writes old new start rounds calls f none client c)
+    λ start rounds desk c. subst (λ (r : ReadSide). Ending end start r new_writes desk new) (sym apart)
+    (flush_ends end reads writes new_writes old new start rounds desk f none client c)
 
 -- a connection ends without a further reply
-ending_here : (end : LineEnd) (start : Start) (rounds : ℕ) (reads : ReadSide) (writes : WriteSide) (calls : Option (List Call)) (old new : Serving)
-    → new.out.items ≡ old.out.items → new.client ≡ old.client → (c : Course start rounds reads writes calls old)
+ending_here : (end : LineEnd) (start : Start) (rounds : ℕ) (reads : ReadSide) (writes : WriteSide) (desk : DeskSide) (old new : Serving)
+    → new.out.items ≡ old.out.items → new.client ≡ old.client → (c : Course start rounds reads writes desk old)
     → EndsSo end c.done.items c.done.size (drop c.done.size c.done.given) (c.done.sent ++ old.out.items) c.done.told
     → CountsAt end start reads writes → NoneLeft end reads.left
-    → Ending end start reads writes calls new
-ending_here end start rounds reads writes calls old new out client c e counts none =
-    subst (λ (x : Client). Ending end start reads writes calls (with_client new x)) (sym client) (record {
+    → Ending end start reads writes desk new
+ending_here end start rounds reads writes desk old new out client c e counts none =
+    subst (λ (x : Client). Ending end start reads writes desk (with_client new x)) (sym client) (record {
       done = c.done;
       ends = subst (λ (xs : List ℕ). EndsSo end c.done.items c.done.size (drop c.done.size c.done.given) (c.done.sent ++ xs) c.done.told) (sym out) e;
       counts = counts;
       none_left = none;
     })
 
-pub ending_quit : (start : Start) (rounds : ℕ) (reads : ReadSide) (writes : WriteSide) (calls : Option (List Call)) (old new : Serving) (taken : ℕ)
+pub ending_quit : (start : Start) (rounds : ℕ) (reads : ReadSide) (writes : WriteSide) (desk : DeskSide) (old new : Serving) (taken : ℕ)
     → Stands old.framer.rest (command Quit) taken → new.out.items ≡ old.out.items → new.client ≡ old.client
-    → Course start rounds reads writes calls old → Ending ends.Quit start reads writes calls new
-ending_quit start rounds reads writes calls old new taken stands out client c =
-    ending_here ends.Quit start rounds reads writes calls old new out client c
+    → Course start rounds reads writes desk old → Ending ends.Quit start reads writes desk new
+ending_quit start rounds reads writes desk old new taken stands out client c =
+    ending_here ends.Quit start rounds reads writes desk old new out client c
     (c.within, (taken, subst (λ (bytes : List ℕ). Stands bytes (command Quit) taken) c.rest stands), sym c.due) (c.no_read_fault, c.no_write_fault) tt
 
 -- a beginning of the replies stands to be written
 all_due : (told : List LineReply) (taken : List ℕ) → texts told ≡ taken → TookSome taken told
 all_due told taken due = ([], due ∙ sym (append-nil taken))
 
-pub ending_memory : (start : Start) (rounds : ℕ) (reads : ReadSide) (writes : WriteSide) (calls : Option (List Call)) (old new : Serving)
+pub ending_memory : (start : Start) (rounds : ℕ) (reads : ReadSide) (writes : WriteSide) (desk : DeskSide) (old new : Serving)
     → new.out.items ≡ old.out.items → new.client ≡ old.client
-    → Course start rounds reads writes calls old → Ending ends.Memory start reads writes calls new
-ending_memory start rounds reads writes calls old new out client c =
+    → Course start rounds reads writes desk old → Ending ends.Memory start reads writes desk new
+ending_memory start rounds reads writes desk old new out client c =
     let within = c.within in
-    ending_here ends.Memory start rounds reads writes calls old new out client c
+    ending_here ends.Memory start rounds reads writes desk old new out client c
     (omega arith, inl (all_due c.done.told (c.done.sent ++ old.out.items) c.due)) (c.no_read_fault, c.no_write_fault) tt
 
 ending_shut : (fault : FrameFault) (last : LineReply) (start : Start) (rounds : ℕ) (reads : ReadSide) (writes : WriteSide)
-    (calls : Option (List Call)) (old new : Serving)
+    (desk : DeskSide) (old new : Serving)
     → Lasts old.framer.rest fault last → place_of fault ≡ old.framer.place → new.out.items ≡ old.out.items ++ text_of last → new.client ≡ old.client
-    → Course start rounds reads writes calls old → Ending (ends.Shut fault) start reads writes calls new
-ending_shut fault last start rounds reads writes calls old new lasts place out client c =
-    subst (λ (x : Client). Ending (ends.Shut fault) start reads writes calls (with_client new x)) (sym client) (record {
+    → Course start rounds reads writes desk old → Ending (ends.Shut fault) start reads writes desk new
+ending_shut fault last start rounds reads writes desk old new lasts place out client c =
+    subst (λ (x : Client). Ending (ends.Shut fault) start reads writes desk (with_client new x)) (sym client) (record {
       done = c.done;
       ends = (
         c.within,
@@ -412,29 +428,29 @@ ending_shut fault last start rounds reads writes calls old new lasts place out c
     })
 
 pub shut_ends : (end : LineEnd) (fault : FrameFault) (last : LineReply) (start : Start) (rounds : ℕ) (reads : ReadSide) (writes : WriteSide)
-    (calls : Option (List Call)) (old new : Serving)
+    (desk : DeskSide) (old new : Serving)
     → Lasts old.framer.rest fault last → place_of fault ≡ old.framer.place → Shuts end fault last old.out.items new.out.items → new.client ≡ old.client
-    → Course start rounds reads writes calls old → Ending end start reads writes calls new
-shut_ends (ends.Shut found) fault last start rounds reads writes calls old new lasts place s client c =
-    subst (λ (f : FrameFault). Ending (ends.Shut f) start reads writes calls new) (sym s.0)
-    (ending_shut fault last start rounds reads writes calls old new lasts place s.1 client c)
-shut_ends ends.Memory fault last start rounds reads writes calls old new lasts place s client c =
-    ending_memory start rounds reads writes calls old new s client c
-shut_ends other fault last start rounds reads writes calls old new lasts place s client c = absurd s
+    → Course start rounds reads writes desk old → Ending end start reads writes desk new
+shut_ends (ends.Shut found) fault last start rounds reads writes desk old new lasts place s client c =
+    subst (λ (f : FrameFault). Ending (ends.Shut f) start reads writes desk new) (sym s.0)
+    (ending_shut fault last start rounds reads writes desk old new lasts place s.1 client c)
+shut_ends ends.Memory fault last start rounds reads writes desk old new lasts place s client c =
+    ending_memory start rounds reads writes desk old new s client c
+shut_ends other fault last start rounds reads writes desk old new lasts place s client c = absurd s
 
 pub shut_by : (end : LineEnd) (fault found : FrameFault) (last : LineReply) (start : Start) (rounds : ℕ) (reads : ReadSide) (writes : WriteSide)
-    (calls : Option (List Call)) (old new : Serving)
+    (desk : DeskSide) (old new : Serving)
     → fault ≡ found → Lasts old.framer.rest found last → place_of found ≡ old.framer.place → Shuts end fault last old.out.items new.out.items
-    → new.client ≡ old.client → Course start rounds reads writes calls old → Ending end start reads writes calls new
-shut_by end fault found last start rounds reads writes calls old new is lasts place s client c =
-    shut_ends end fault last start rounds reads writes calls old new
+    → new.client ≡ old.client → Course start rounds reads writes desk old → Ending end start reads writes desk new
+shut_by end fault found last start rounds reads writes desk old new is lasts place s client c =
+    shut_ends end fault last start rounds reads writes desk old new
     (subst (λ (f : FrameFault). Lasts old.framer.rest f last) (sym is) lasts) (ap place_of is ∙ place) s client c
 
 -- more bytes were given
-abbrev done_fed : (start : Start) (old new : ReadSide) (writes : WriteSide) (calls : Option (List Call)) (client : Client) (bytes : List ℕ)
+abbrev done_fed : (start : Start) (old new : ReadSide) (writes : WriteSide) (desk : DeskSide) (client : Client) (bytes : List ℕ)
     → Takes old.left new.left bytes → Gains old.given new.given bytes → new.faults ≡ old.faults
-    → Done start old writes calls client → Done start new writes calls client
-done_fed start old new writes calls client bytes gives adds same done = record {
+    → Done start old writes desk client → Done start new writes desk client
+done_fed start old new writes desk client bytes gives adds same done = record {
   given = done.given ++ bytes;
   items = done.items;
   size = done.size;
@@ -445,6 +461,7 @@ done_fed start old new writes calls client bytes gives adds same done = record {
   adds = Gains-append start.reads.given old.given new.given done.given bytes done.adds adds;
   takes = done.takes;
   asks = done.asks;
+  tended = done.tended;
   first = first_more done.given bytes done.items done.size done.first;
   answers = done.answers;
   read_faults = let before = done.read_faults in omega (arith, same);
@@ -474,17 +491,17 @@ rounds_few given items size rounds first within is_open fed =
     let rest = open_bound (drop size given) is_open in
     omega (arith, length-drop size given)
 
-pub course_fed : (start : Start) (rounds : ℕ) (reads new_reads : ReadSide) (writes : WriteSide) (calls : Option (List Call)) (old new : Serving)
+pub course_fed : (start : Start) (rounds : ℕ) (reads new_reads : ReadSide) (writes : WriteSide) (desk : DeskSide) (old new : Serving)
     (bytes : List ℕ)
     → Reads reads new_reads bytes → 1 ≤ length bytes → IsOpen old.framer.rest
     → new.framer ≡ fed old.framer bytes → new.out.items ≡ old.out.items → new.client ≡ old.client → new.count ≡ old.count
-    → Course start rounds reads writes calls old → Course start (rounds + 1) new_reads writes calls new
-course_fed start rounds reads new_reads writes calls old new bytes r some is_open framer out client count c =
+    → Course start rounds reads writes desk old → Course start (rounds + 1) new_reads writes desk new
+course_fed start rounds reads new_reads writes desk old new bytes r some is_open framer out client count c =
     let here : IsOpen (drop c.done.size c.done.given) = subst (λ (xs : List ℕ). IsOpen xs) c.rest is_open in
     let fit = size_fits c.done.given c.done.items c.done.size c.done.first in
     let fed_before = c.fed in
-    subst (λ (x : Client). Course start (rounds + 1) new_reads writes calls (with_client new x)) (sym client) (record {
-      done = done_fed start reads new_reads writes calls old.client bytes r.gives r.adds r.same c.done;
+    subst (λ (x : Client). Course start (rounds + 1) new_reads writes desk (with_client new x)) (sym client) (record {
+      done = done_fed start reads new_reads writes desk old.client bytes r.gives r.adds r.same c.done;
       within = c.within;
       count = count ∙ c.count;
       due = c.due ∙ ap (λ (xs : List ℕ). c.done.sent ++ xs) (sym out);
@@ -498,14 +515,14 @@ course_fed start rounds reads new_reads writes calls old new bytes r some is_ope
     })
 
 -- what was read was lost for want of memory, and nothing stood to be written
-pub ending_unfed : (start : Start) (rounds : ℕ) (reads new_reads : ReadSide) (writes : WriteSide) (calls : Option (List Call)) (old new : Serving)
+pub ending_unfed : (start : Start) (rounds : ℕ) (reads new_reads : ReadSide) (writes : WriteSide) (desk : DeskSide) (old new : Serving)
     (bytes : List ℕ)
     → Reads reads new_reads bytes → new.out.items ≡ old.out.items → new.client ≡ old.client
-    → Course start rounds reads writes calls old → Ending ends.Memory start new_reads writes calls new
-ending_unfed start rounds reads new_reads writes calls old new bytes r out client c =
+    → Course start rounds reads writes desk old → Ending ends.Memory start new_reads writes desk new
+ending_unfed start rounds reads new_reads writes desk old new bytes r out client c =
     let within = c.within in
-    subst (λ (x : Client). Ending ends.Memory start new_reads writes calls (with_client new x)) (sym client) (record {
-      done = done_fed start reads new_reads writes calls old.client bytes r.gives r.adds r.same c.done;
+    subst (λ (x : Client). Ending ends.Memory start new_reads writes desk (with_client new x)) (sym client) (record {
+      done = done_fed start reads new_reads writes desk old.client bytes r.gives r.adds r.same c.done;
       ends = (
         omega arith,
         inl (all_due c.done.told (c.done.sent ++ new.out.items) (c.due ∙ ap (λ (xs : List ℕ). c.done.sent ++ xs) (sym out))),
@@ -515,10 +532,10 @@ ending_unfed start rounds reads new_reads writes calls old new bytes r out clien
     })
 
 -- a read that changed nothing that was given
-abbrev done_stays : (start : Start) (old new : ReadSide) (writes : WriteSide) (calls : Option (List Call)) (client : Client)
+abbrev done_stays : (start : Start) (old new : ReadSide) (writes : WriteSide) (desk : DeskSide) (client : Client)
     → new.left ≡ old.left → new.given ≡ old.given → old.faults ≤ new.faults
-    → Done start old writes calls client → Done start new writes calls client
-done_stays start old new writes calls client same given up done = record {
+    → Done start old writes desk client → Done start new writes desk client
+done_stays start old new writes desk client same given up done = record {
   given = done.given;
   items = done.items;
   size = done.size;
@@ -529,19 +546,20 @@ done_stays start old new writes calls client same given up done = record {
   adds = subst (λ (given : Option (List ℕ)). Gains start.reads.given given done.given) (sym given) done.adds;
   takes = done.takes;
   asks = done.asks;
+  tended = done.tended;
   first = done.first;
   answers = done.answers;
   read_faults = let before = done.read_faults in omega arith;
   write_faults = done.write_faults;
 }
 
-pub ending_closed : (left : ℕ) (start : Start) (rounds : ℕ) (reads new_reads : ReadSide) (writes : WriteSide) (calls : Option (List Call)) (old new : Serving)
+pub ending_closed : (left : ℕ) (start : Start) (rounds : ℕ) (reads new_reads : ReadSide) (writes : WriteSide) (desk : DeskSide) (old new : Serving)
     → new_reads.left ≡ reads.left → new_reads.given ≡ reads.given → new_reads.faults ≡ reads.faults → AtEnd new_reads.left → IsOpen old.framer.rest → left ≡ length old.framer.rest
     → old.out.items ≡ [] → new.out.items ≡ old.out.items → new.client ≡ old.client
-    → Course start rounds reads writes calls old → Ending (ends.Closed left) start new_reads writes calls new
-ending_closed left start rounds reads new_reads writes calls old new same given faults at_end is_open left_is none out client c =
-    subst (λ (x : Client). Ending (ends.Closed left) start new_reads writes calls (with_client new x)) (sym client) (record {
-      done = done_stays start reads new_reads writes calls old.client same given (omega (arith, faults)) c.done;
+    → Course start rounds reads writes desk old → Ending (ends.Closed left) start new_reads writes desk new
+ending_closed left start rounds reads new_reads writes desk old new same given faults at_end is_open left_is none out client c =
+    subst (λ (x : Client). Ending (ends.Closed left) start new_reads writes desk (with_client new x)) (sym client) (record {
+      done = done_stays start reads new_reads writes desk old.client same given (omega (arith, faults)) c.done;
       ends = (
         c.within,
         subst (λ (xs : List ℕ). IsOpen xs) c.rest is_open,
@@ -552,13 +570,13 @@ ending_closed left start rounds reads new_reads writes calls old new same given 
       none_left = at_end;
     })
 
-pub ending_read : (start : Start) (rounds : ℕ) (reads new_reads : ReadSide) (writes : WriteSide) (calls : Option (List Call)) (old new : Serving)
+pub ending_read : (start : Start) (rounds : ℕ) (reads new_reads : ReadSide) (writes : WriteSide) (desk : DeskSide) (old new : Serving)
     → new_reads.left ≡ reads.left → new_reads.given ≡ reads.given → reads.faults ≤ new_reads.faults → Rose reads.faults new_reads.faults → IsOpen old.framer.rest
     → new.out.items ≡ old.out.items → new.client ≡ old.client
-    → Course start rounds reads writes calls old → Ending ends.ReadFault start new_reads writes calls new
-ending_read start rounds reads new_reads writes calls old new same given up rose is_open out client c =
-    subst (λ (x : Client). Ending ends.ReadFault start new_reads writes calls (with_client new x)) (sym client) (record {
-      done = done_stays start reads new_reads writes calls old.client same given up c.done;
+    → Course start rounds reads writes desk old → Ending ends.ReadFault start new_reads writes desk new
+ending_read start rounds reads new_reads writes desk old new same given up rose is_open out client c =
+    subst (λ (x : Client). Ending ends.ReadFault start new_reads writes desk (with_client new x)) (sym client) (record {
+      done = done_stays start reads new_reads writes desk old.client same given up c.done;
       ends = (
         c.within,
         subst (λ (xs : List ℕ). IsOpen xs) c.rest is_open,
@@ -569,11 +587,11 @@ ending_read start rounds reads new_reads writes calls old new same given up rose
     })
 
 -- the beginning of a connection
-pub course_begins : (reads : ReadSide) (writes : WriteSide) (calls : Option (List Call)) (serving : Serving)
-    → IsUnserved serving → Course (record { reads = reads; writes = writes; calls = calls }) 0 reads writes calls serving
-course_begins reads writes calls serving fresh =
-    let start : Start = record { reads = reads; writes = writes; calls = calls } in
-    subst (λ (x : Client). Course start 0 reads writes calls (with_client serving x)) (sym fresh.client) (record {
+pub course_begins : (reads : ReadSide) (writes : WriteSide) (desk : DeskSide) (serving : Serving)
+    → IsUnserved serving → Course (record { reads = reads; writes = writes; desk = desk }) 0 reads writes desk serving
+course_begins reads writes desk serving fresh =
+    let start : Start = record { reads = reads; writes = writes; desk = desk } in
+    subst (λ (x : Client). Course start 0 reads writes desk (with_client serving x)) (sym fresh.client) (record {
       done = record {
         given = [];
         items = [];
@@ -585,6 +603,7 @@ course_begins reads writes calls serving fresh =
         adds = Gains-none reads.given;
         takes = Gains-none writes.taken;
         asks = refl;
+        tended = tended_none desk.tends;
         first = refl;
         answers = (refl, refl, refl);
         read_faults = omega arith;
@@ -602,9 +621,9 @@ course_begins reads writes calls serving fresh =
     })
 
 -- more rounds than that there aren't
-pub rounds_end : (start : Start) (rounds : ℕ) (reads : ReadSide) (writes : WriteSide) (calls : Option (List Call)) (serving : Serving)
-    → Course start rounds reads writes calls serving → most_reads < rounds → ⊥
-rounds_end start rounds reads writes calls serving c many = let few = c.few in absurd (omega arith)
+pub rounds_end : (start : Start) (rounds : ℕ) (reads : ReadSide) (writes : WriteSide) (desk : DeskSide) (serving : Serving)
+    → Course start rounds reads writes desk serving → most_reads < rounds → ⊥
+rounds_end start rounds reads writes desk serving c many = let few = c.few in absurd (omega arith)
 
 -- at every end the line took a beginning of what is due
 ends_some : (end : LineEnd) (items : List Item) (size : ℕ) (rest taken : List ℕ) (told : List LineReply)
@@ -640,21 +659,21 @@ ends_less items size rest sent out told written e = (e.0, by e.1)
     by (inr t) = inr (record { fault = t.fault; last = t.last; lasts = t.lasts; some = some_less (told ++ t.last ∷ []) sent out written t.some })
 
 -- what stands of a connection at its end, by what its line and its desk tell
-pub record Finished (start : Start) (reads : ReadSide) (writes : WriteSide) (calls : Option (List Call)) (end : LineEnd) : Type 0 where
-  pub served : IsServed start.reads reads start.writes writes start.calls calls end
+pub record Finished (start : Start) (reads : ReadSide) (writes : WriteSide) (desk : DeskSide) (end : LineEnd) : Type 0 where
+  pub served : IsServed start.reads reads start.writes writes start.desk.calls desk.calls start.desk.tends desk.tends end
   pub counts : CountsAt end start reads writes
   pub read_faults : start.reads.faults ≤ reads.faults
   pub write_faults : start.writes.faults ≤ writes.faults
 
-finished_by : (end : LineEnd) (start : Start) (reads : ReadSide) (writes new_writes : WriteSide) (calls new_calls : Option (List Call))
+finished_by : (end : LineEnd) (start : Start) (reads : ReadSide) (writes new_writes : WriteSide) (desk new_desk : DeskSide)
     (serving : Serving) (bytes : List ℕ)
-    → (done : Done start reads writes calls serving.client)
+    → (done : Done start reads writes desk serving.client)
     → Gains writes.taken new_writes.taken bytes → writes.faults ≤ new_writes.faults
     → EndsSo end done.items done.size (drop done.size done.given) (done.sent ++ bytes) done.told
     → CountsAt end start reads new_writes → NoneLeft end reads.left
-    → GivenUp calls new_calls serving.client
-    → Finished start reads new_writes new_calls end
-finished_by end start reads writes new_writes calls new_calls serving bytes done gains up e counts none up_given = record {
+    → GivenUp desk.calls new_desk.calls serving.client → new_desk.tends ≡ desk.tends
+    → Finished start reads new_writes new_desk end
+finished_by end start reads writes new_writes desk new_desk serving bytes done gains up e counts none up_given untended = record {
   served = record {
     given = done.given;
     taken = done.sent ++ bytes;
@@ -663,7 +682,9 @@ finished_by end start reads writes new_writes calls new_calls serving bytes done
     adds = done.adds;
     takes = Gains-append start.writes.taken writes.taken new_writes.taken done.sent bytes done.takes gains;
     asks = up_given.record_is
-        ∙ (ap (λ (calls : Option (List Call)). with_calls up_given.calls calls) done.asks ∙ sym (with_calls-append done.asked up_given.calls start.calls));
+        ∙ (ap (λ (calls : Option (List Call)). with_calls up_given.calls calls) done.asks
+        ∙ sym (with_calls-append done.asked up_given.calls start.desk.calls));
+    tended = untended ∙ done.tended;
     served = record {
       items = done.items;
       size = done.size;
@@ -691,26 +712,27 @@ counts_on : (end : LineEnd) (start : Start) (reads : ReadSide) (old new : WriteS
 counts_on end start reads old new same c = (c.0, subst (λ (n : ℕ). CountsWrites end start.writes.faults n) (sym same) c.1)
 
 pub finished : (due end : LineEnd) (start : Start) (reads new_reads : ReadSide) (writes new_writes : WriteSide)
-    (calls new_calls : Option (List Call)) (serving : Serving)
-    → Ending due start reads writes calls serving → Finishes due end writes new_writes serving.out.items → new_reads ≡ reads
-    → GivenUp calls new_calls serving.client → Finished start new_reads new_writes new_calls end
-finished due end start reads new_reads writes new_writes calls new_calls serving e (inl f) apart up =
-    subst (λ (r : ReadSide). Finished start r new_writes new_calls end) (sym apart)
-    (subst (λ (x : LineEnd). Finished start reads new_writes new_calls x) (sym f.2)
-    (finished_by due start reads writes new_writes calls new_calls serving serving.out.items e.done f.0 (omega (arith, f.1)) e.ends
-    (counts_on due start reads writes new_writes f.1 e.counts) e.none_left up))
-finished due end start reads new_reads writes new_writes calls new_calls serving e (inr f) apart up =
+    (desk new_desk : DeskSide) (serving : Serving)
+    → Ending due start reads writes desk serving → Finishes due end writes new_writes serving.out.items → new_reads ≡ reads
+    → GivenUp desk.calls new_desk.calls serving.client → new_desk.tends ≡ desk.tends → Finished start new_reads new_writes new_desk end
+finished due end start reads new_reads writes new_writes desk new_desk serving e (inl f) apart up untended =
+    subst (λ (r : ReadSide). Finished start r new_writes new_desk end) (sym apart)
+    (subst (λ (x : LineEnd). Finished start reads new_writes new_desk x) (sym f.2)
+    (finished_by due start reads writes new_writes desk new_desk serving serving.out.items e.done f.0 (omega (arith, f.1)) e.ends
+    (counts_on due start reads writes new_writes f.1 e.counts) e.none_left up untended))
+finished due end start reads new_reads writes new_writes desk new_desk serving e (inr f) apart up untended =
     let bytes = take f.0.0 serving.out.items in
     let less = ends_less e.done.items e.done.size (drop e.done.size e.done.given) e.done.sent serving.out.items e.done.told f.0.0
     (ends_some due e.done.items e.done.size (drop e.done.size e.done.given) (e.done.sent ++ serving.out.items) e.done.told e.ends) in
-    subst (λ (r : ReadSide). Finished start r new_writes new_calls end) (sym apart)
-    (subst (λ (x : LineEnd). Finished start reads new_writes new_calls x) (sym f.3)
-    (finished_by ends.WriteFault start reads writes new_writes calls new_calls serving bytes e.done f.0.1 f.2 less
-    (e.done.read_faults, Rose-later start.writes.faults writes.faults new_writes.faults e.done.write_faults f.1) tt up))
+    subst (λ (r : ReadSide). Finished start r new_writes new_desk end) (sym apart)
+    (subst (λ (x : LineEnd). Finished start reads new_writes new_desk x) (sym f.3)
+    (finished_by ends.WriteFault start reads writes new_writes desk new_desk serving bytes e.done f.0.1 f.2 less
+    (e.done.read_faults, Rose-later start.writes.faults writes.faults new_writes.faults e.done.write_faults f.1) tt up untended))
 
 -- a connection for which memory ran out at once
-pub never_served : (reads : ReadSide) (writes : WriteSide) (calls : Option (List Call)) → IsServed reads reads writes writes calls calls ends.Memory
-never_served reads writes calls = record {
+pub never_served : (reads : ReadSide) (writes : WriteSide) (desk : DeskSide)
+    → IsServed reads reads writes writes desk.calls desk.calls desk.tends desk.tends ends.Memory
+never_served reads writes desk = record {
   given = [];
   taken = [];
   calls = [];
@@ -718,6 +740,7 @@ never_served reads writes calls = record {
   adds = Gains-none reads.given;
   takes = Gains-none writes.taken;
   asks = refl;
+  tended = tended_none desk.tends;
   served = record {
     items = [];
     size = 0;
@@ -736,15 +759,17 @@ never_served reads writes calls = record {
 }
 
 -- wherever a connection was on its course, it still is
-pub record StillOn (old_reads new_reads : ReadSide) (old_writes new_writes : WriteSide) (old_calls new_calls : Option (List Call))
+pub record StillOn (old_reads new_reads : ReadSide) (old_writes new_writes : WriteSide) (old_desk new_desk : DeskSide)
     (old new : Serving) : Type 0 where
   pub within : new.count < 1000000
-  pub goes : (start : Start) (rounds : ℕ) → Course start rounds old_reads old_writes old_calls old → Course start rounds new_reads new_writes new_calls new
+  pub few : length new.out.items < 65536
+  pub goes : (start : Start) (rounds : ℕ) → Course start rounds old_reads old_writes old_desk old → Course start rounds new_reads new_writes new_desk new
 
 -- a connection is on its course, after so many rounds
-pub record OnCourse (start : Start) (rounds : ℕ) (reads : ReadSide) (writes : WriteSide) (calls : Option (List Call)) (serving : Serving) : Type 0 where
+pub record OnCourse (start : Start) (rounds : ℕ) (reads : ReadSide) (writes : WriteSide) (desk : DeskSide) (serving : Serving) : Type 0 where
   pub within : serving.count < 1000000
-  pub course : Course start rounds reads writes calls serving
+  pub few : length serving.out.items < 65536
+  pub course : Course start rounds reads writes desk serving
 
 -- what a line tells of its reading, in parts
 pub record IsSide (reads : ReadSide) (left given : Option (List ℕ)) (faults : ℕ) : Type 0 where
@@ -789,16 +814,16 @@ pub closed_by : (left : ℕ) (old_reads new_reads : ReadSide) (old_writes new_wr
     (old new : Serving)
     → IsSide old_reads a g e → IsSide new_reads b h f → Takes a b (take n room) → Gains g h (take n room) → ZeroAtEnd a n → n ≡ 0 → f ≡ e → new_writes ≡ old_writes
     → IsOpen old.framer.rest → left ≡ length old.framer.rest → old.out.items ≡ [] → new.out.items ≡ old.out.items → new.client ≡ old.client
-    → (start : Start) (rounds : ℕ) (calls : Option (List Call))
-    → Course start rounds old_reads old_writes calls old → Ending (ends.Closed left) start new_reads new_writes calls new
+    → (start : Start) (rounds : ℕ) (desk : DeskSide)
+    → Course start rounds old_reads old_writes desk old → Ending (ends.Closed left) start new_reads new_writes desk new
 closed_by left old_reads new_reads old_writes new_writes a b g h e f n room old new o p gives adds zero is same apart stops left_is none out client start
-    rounds calls c =
+    rounds desk c =
     let nothing : Takes a b [] = rw is at gives in
     let none_more : Gains g h [] = rw is at adds in
     let at_end : AtEnd new_reads.left =
     subst (λ (x : Option (List ℕ)). AtEnd x) (sym p.left_is) (AtEnd-zero a b n room is zero gives) in
-    subst (λ (w : WriteSide). Ending (ends.Closed left) start new_reads w calls new) (sym apart)
-    (ending_closed left start rounds old_reads new_reads old_writes calls old new
+    subst (λ (w : WriteSide). Ending (ends.Closed left) start new_reads w desk new) (sym apart)
+    (ending_closed left start rounds old_reads new_reads old_writes desk old new
     (left_same old_reads new_reads a b g h e f o p (takes_nothing a b nothing))
     (given_same old_reads new_reads a b g h e f o p (gains_nothing g h none_more))
     (p.faults_is ∙ (same ∙ sym o.faults_is)) at_end stops left_is none out client c)
@@ -807,13 +832,13 @@ closed_by left old_reads new_reads old_writes new_writes a b g h e f n room old 
 pub read_failed : (old_reads new_reads : ReadSide) (old_writes new_writes : WriteSide) (a b g h : Option (List ℕ)) (e f : ℕ) (old new : Serving)
     → IsSide old_reads a g e → IsSide new_reads b h f → b ≡ a → h ≡ g → Rose e f → e ≤ f → new_writes ≡ old_writes
     → IsOpen old.framer.rest → new.out.items ≡ old.out.items → new.client ≡ old.client
-    → (start : Start) (rounds : ℕ) (calls : Option (List Call))
-    → Course start rounds old_reads old_writes calls old → Ending ends.ReadFault start new_reads new_writes calls new
-read_failed old_reads new_reads old_writes new_writes a b g h e f old new o p same given rose up apart stops out client start rounds calls c =
+    → (start : Start) (rounds : ℕ) (desk : DeskSide)
+    → Course start rounds old_reads old_writes desk old → Ending ends.ReadFault start new_reads new_writes desk new
+read_failed old_reads new_reads old_writes new_writes a b g h e f old new o p same given rose up apart stops out client start rounds desk c =
     let risen : Rose old_reads.faults new_reads.faults =
     subst (λ (x : ℕ). Rose x new_reads.faults) (sym o.faults_is) (subst (λ (x : ℕ). Rose e x) (sym p.faults_is) rose) in
-    subst (λ (w : WriteSide). Ending ends.ReadFault start new_reads w calls new) (sym apart)
-    (ending_read start rounds old_reads new_reads old_writes calls old new
+    subst (λ (w : WriteSide). Ending ends.ReadFault start new_reads w desk new) (sym apart)
+    (ending_read start rounds old_reads new_reads old_writes desk old new
     (left_same old_reads new_reads a b g h e f o p same) (given_same old_reads new_reads a b g h e f o p given)
     (omega (arith, o.faults_is, p.faults_is)) risen stops out client c)
 
@@ -823,12 +848,12 @@ pub fed_by : (old_reads new_reads : ReadSide) (old_writes new_writes : WriteSide
     → IsSide old_reads a g e → IsSide new_reads b h f → Takes a b bytes → Gains g h bytes → f ≡ e → new_writes ≡ old_writes
     → 1 ≤ length bytes → IsOpen old.framer.rest → new.framer ≡ fed old.framer bytes → new.out.items ≡ old.out.items → new.client ≡ old.client
     → new.count ≡ old.count
-    → (start : Start) (rounds : ℕ) (calls : Option (List Call))
-    → Course start rounds old_reads old_writes calls old → Course start (rounds + 1) new_reads new_writes calls new
+    → (start : Start) (rounds : ℕ) (desk : DeskSide)
+    → Course start rounds old_reads old_writes desk old → Course start (rounds + 1) new_reads new_writes desk new
 fed_by old_reads new_reads old_writes new_writes a b g h e f bytes old new o p gives adds same apart some stops framer out client count start
-    rounds calls c =
-    subst (λ (w : WriteSide). Course start (rounds + 1) new_reads w calls new) (sym apart)
-    (course_fed start rounds old_reads new_reads old_writes calls old new bytes
+    rounds desk c =
+    subst (λ (w : WriteSide). Course start (rounds + 1) new_reads w desk new) (sym apart)
+    (course_fed start rounds old_reads new_reads old_writes desk old new bytes
     (reads_by old_reads new_reads a b g h e f bytes o p gives adds same) some stops framer out client count c)
 
 -- bytes were read, and lost for want of memory
@@ -836,9 +861,34 @@ pub unfed_by : (old_reads new_reads : ReadSide) (old_writes new_writes : WriteSi
     (old new : Serving)
     → IsSide old_reads a g e → IsSide new_reads b h f → Takes a b bytes → Gains g h bytes → f ≡ e → new_writes ≡ old_writes
     → new.out.items ≡ old.out.items → new.client ≡ old.client
-    → (start : Start) (rounds : ℕ) (calls : Option (List Call))
-    → Course start rounds old_reads old_writes calls old → Ending ends.Memory start new_reads new_writes calls new
-unfed_by old_reads new_reads old_writes new_writes a b g h e f bytes old new o p gives adds same apart out client start rounds calls c =
-    subst (λ (w : WriteSide). Ending ends.Memory start new_reads w calls new) (sym apart)
-    (ending_unfed start rounds old_reads new_reads old_writes calls old new bytes
+    → (start : Start) (rounds : ℕ) (desk : DeskSide)
+    → Course start rounds old_reads old_writes desk old → Ending ends.Memory start new_reads new_writes desk new
+unfed_by old_reads new_reads old_writes new_writes a b g h e f bytes old new o p gives adds same apart out client start rounds desk c =
+    subst (λ (w : WriteSide). Ending ends.Memory start new_reads w desk new) (sym apart)
+    (ending_unfed start rounds old_reads new_reads old_writes desk old new bytes
     (reads_by old_reads new_reads a b g h e f bytes o p gives adds same) out client c)
+
+-- what waits to be written at first and behind a write
+pub waits_none : (bytes : List ℕ) → bytes ≡ [] → WaitsFew bytes
+waits_none bytes none = (bytes, omega (arith, ap (λ (xs : List ℕ). length xs) none), inl refl)
+
+pub waits_short : (bytes : List ℕ) → length bytes < 65536 → WaitsFew bytes
+waits_short bytes short = (bytes, short, inl refl)
+
+pub waits_same : (old new : List ℕ) → length old < 65536 → new ≡ old → WaitsFew new
+waits_same old new short same = (old, short, inl same)
+
+-- and where one reply was put behind it
+pub tells_waits : (result : Result Bool LineEnd) (reply : LineReply) (mid old new : Serving)
+    → length old.out.items < 65536 → mid.out.items ≡ old.out.items → Tells result reply mid new → WaitsFew new.out.items
+tells_waits (Ok more) reply mid old new short same t =
+    (old.out.items, short, inr (reply, t.2 ∙ ap (λ (xs : List ℕ). xs ++ text_of reply) same))
+tells_waits (Err ends.Budget) reply mid old new short same t =
+    (old.out.items, short, inr (reply, t.1 ∙ ap (λ (xs : List ℕ). xs ++ text_of reply) same))
+tells_waits (Err ends.Memory) reply mid old new short same t = (old.out.items, short, inl (t ∙ same))
+tells_waits (Err other) reply mid old new short same t = absurd t
+
+pub shuts_waits : (end : LineEnd) (fault : FrameFault) (last : LineReply) (old new : List ℕ) → length old < 65536 → Shuts end fault last old new → WaitsFew new
+shuts_waits (ends.Shut found) fault last old new short s = (old, short, inr (last, s.1))
+shuts_waits ends.Memory fault last old new short s = (old, short, inl s)
+shuts_waits other fault last old new short s = absurd s

@@ -13,7 +13,7 @@ use Rattle.conn_server.specs.declared.ends.LineEnd.TheVariants as ends
 use Rattle.conn_server.specs.declared.serving.Serving.{Serving}
 use Rattle.conn_server.specs.Clients.{newcomer}
 use Rattle.conn_server.specs.Answers.{AllAnswer, with_calls}
-use Rattle.conn_server.specs.Service.{budget, texts, IsWithin, EndsSo, NoneLeft, CountsReads, CountsWrites}
+use Rattle.conn_server.specs.Service.{budget, texts, IsWithin, EndsSo, NoneLeft, CountsReads, CountsWrites, tended_by}
 
 -- as many reads as the bytes of all commands that one connection is answered: a command has 1,050,628 bytes at most
 abbrev pub most_reads : ℕ
@@ -26,14 +26,31 @@ pub record IsUnserved (serving : Serving) : Type 0 where
   pub client : serving.client ≡ newcomer
   pub count : serving.count ≡ 0
 
+-- replies are written once they have so many bytes
+abbrev pub full : ℕ
+full = 65536
+
+-- fewer bytes than that wait to be written, and then one reply at most
+abbrev pub WaitsFew : List ℕ → Type 0
+WaitsFew bytes = (front : List ℕ) × (length front < full) × ((bytes ≡ front) ⊎ ((last : LineReply) × (bytes ≡ front ++ text_of last)))
+
+-- what a desk tells: the calls that it records, and how many steps its sweep took
+pub record DeskSide : Type 0 where
+  pub calls : Option (List Call)
+  pub tends : Option ℕ
+
+abbrev pub desk_side : {Desk : Type 0} → (Desk → Option (List Call)) → (Desk → Option ℕ) → Desk → DeskSide
+desk_side calls tends told = record { calls = calls told; tends = tends told }
+
 -- what a line and a desk told when a connection began
 pub record Start : Type 0 where
   pub reads : ReadSide
   pub writes : WriteSide
-  pub calls : Option (List Call)
+  pub desk : DeskSide
 
--- the items that stand first in what the line gave were answered, beginning with a newcomer; and what the line took since then
-pub record Done (start : Start) (reads : ReadSide) (writes : WriteSide) (calls : Option (List Call)) (client : Client) : Type 0 where
+-- the items that stand first in what the line gave were answered, beginning with a newcomer, with a step of the sweep behind each;
+-- and what the line took since then
+pub record Done (start : Start) (reads : ReadSide) (writes : WriteSide) (desk : DeskSide) (client : Client) : Type 0 where
   pub given : List ℕ
   pub items : List Item
   pub size : ℕ
@@ -43,15 +60,16 @@ pub record Done (start : Start) (reads : ReadSide) (writes : WriteSide) (calls :
   pub gives : Takes start.reads.left reads.left given
   pub adds : Gains start.reads.given reads.given given
   pub takes : Gains start.writes.taken writes.taken sent
-  pub asks : calls ≡ with_calls asked start.calls
+  pub asks : desk.calls ≡ with_calls asked start.desk.calls
+  pub tended : desk.tends ≡ tended_by (length items) start.desk.tends
   pub first : AreFirst given items size
   pub answers : AllAnswer newcomer items asked told client
   pub read_faults : start.reads.faults ≤ reads.faults
   pub write_faults : start.writes.faults ≤ writes.faults
 
 -- a connection goes on: its framer has what is left of the bytes that so many reads gave, and what was told and not yet taken stands to be written
-pub record Course (start : Start) (rounds : ℕ) (reads : ReadSide) (writes : WriteSide) (calls : Option (List Call)) (serving : Serving) : Type 0 where
-  pub done : Done start reads writes calls serving.client
+pub record Course (start : Start) (rounds : ℕ) (reads : ReadSide) (writes : WriteSide) (desk : DeskSide) (serving : Serving) : Type 0 where
+  pub done : Done start reads writes desk serving.client
   pub within : IsWithin done.items
   pub count : serving.count ≡ length done.items
   pub due : texts done.told ≡ done.sent ++ serving.out.items
@@ -67,39 +85,41 @@ abbrev pub CountsAt : LineEnd → Start → ReadSide → WriteSide → Type 0
 CountsAt end start reads writes = CountsReads end start.reads.faults reads.faults × CountsWrites end start.writes.faults writes.faults
 
 -- a connection ends so, once what stands to be written is written
-pub record Ending (end : LineEnd) (start : Start) (reads : ReadSide) (writes : WriteSide) (calls : Option (List Call)) (serving : Serving) : Type 0 where
-  pub done : Done start reads writes calls serving.client
+pub record Ending (end : LineEnd) (start : Start) (reads : ReadSide) (writes : WriteSide) (desk : DeskSide) (serving : Serving) : Type 0 where
+  pub done : Done start reads writes desk serving.client
   pub ends : EndsSo end done.items done.size (drop done.size done.given) (done.sent ++ serving.out.items) done.told
   pub counts : CountsAt end start reads writes
   pub none_left : NoneLeft end reads.left
 
--- a connection at a moment: what its line tells of reads and writes, the calls that the desk records, and what is served
+-- a connection at a moment: what its line tells of reads and writes, what its desk tells, and what is served
 pub record Moment : Type 0 where
   pub reads : ReadSide
   pub writes : WriteSide
-  pub calls : Option (List Call)
+  pub desk : DeskSide
   pub serving : Serving
 
-abbrev pub moment : {Line Desk : Type 0} → (Line → ReadSide) → (Line → WriteSide) → (Desk → Option (List Call)) → Line → Desk → Serving → Moment
-moment reads writes calls line desk serving = record { reads = reads line; writes = writes line; calls = calls desk; serving = serving }
+abbrev pub moment : {Line Desk : Type 0} → (Line → ReadSide) → (Line → WriteSide) → (Desk → Option (List Call)) → (Desk → Option ℕ)
+    → Line → Desk → Serving → Moment
+moment reads writes calls tends line desk serving =
+    record { reads = reads line; writes = writes line; desk = desk_side calls tends desk; serving = serving }
 
 -- a connection that went on until the one moment goes on until the other, without a read
 abbrev pub GoesOn : Moment → Moment → Type 0
 GoesOn old new = (start : Start) (rounds : ℕ) →
-    Course start rounds old.reads old.writes old.calls old.serving →
-    Course start rounds new.reads new.writes new.calls new.serving
+    Course start rounds old.reads old.writes old.desk old.serving →
+    Course start rounds new.reads new.writes new.desk new.serving
 
 -- the same with one read
 abbrev pub ReadsOn : Moment → Moment → Type 0
 ReadsOn old new = (start : Start) (rounds : ℕ) →
-    Course start rounds old.reads old.writes old.calls old.serving →
-    Course start (rounds + 1) new.reads new.writes new.calls new.serving
+    Course start rounds old.reads old.writes old.desk old.serving →
+    Course start (rounds + 1) new.reads new.writes new.desk new.serving
 
 -- a connection that went on until the one moment ends so at the other
 abbrev pub EndsFrom : Moment → Moment → LineEnd → Type 0
 EndsFrom old new end = (start : Start) (rounds : ℕ) →
-    Course start rounds old.reads old.writes old.calls old.serving →
-    Ending end start new.reads new.writes new.calls new.serving
+    Course start rounds old.reads old.writes old.desk old.serving →
+    Ending end start new.reads new.writes new.desk new.serving
 
 -- a reply was counted and stands behind what is to be written, unless memory ran out for it; more is answered while the budget lasts
 abbrev pub Tells : Result Bool LineEnd → LineReply → Serving → Serving → Type 0

@@ -1,5 +1,5 @@
 -- What a connection was given, what it took, what it asked of the desk, and how it ended.
-use Rattle.std.specs.Prelude.{ℕ, ◌-◌, ◌^◌, ◌≡◌, ◌<◌, ◌≤◌, ◌⊎◌, ⊤, min, List, [], ◌∷◌, ◌++◌, length, drop, Option}
+use Rattle.std.specs.Prelude.{ℕ, ◌+◌, ◌-◌, ◌^◌, ◌≡◌, ◌<◌, ◌≤◌, ◌⊎◌, ⊤, min, List, [], ◌∷◌, ◌++◌, length, drop, Option, Some, None}
 use Rattle.iq_outside.specs.Outside.{Takes, Gains, Rose, AtEnd, ReadSide, WriteSide}
 use Rattle.mc_text.specs.Replies.{text_of}
 use Rattle.mc_text.specs.Streams.{Item, command, long_line, bad_block, big_block, Stands, IsOpen, AreFirst}
@@ -96,9 +96,15 @@ abbrev pub NoneLeft : LineEnd → Option (List ℕ) → Type 0
 NoneLeft (ends.Closed left) left_new = AtEnd left_new
 NoneLeft other left_new = ⊤
 
--- a line was served at a desk: what it told of its reading and its writing, and what the desk records, each where it is
--- told, before and after
-pub record IsServed (reads reads_new : ReadSide) (writes writes_new : WriteSide) (record_old record_new : Option (List Call)) (end : LineEnd) : Type 0 where
+-- a count with so many more; one that isn't told stays untold
+abbrev pub tended_by : ℕ → Option ℕ → Option ℕ
+tended_by more (Some count) = Some (count + more)
+tended_by more None = None
+
+-- a line was served at a desk: what it told of its reading and its writing, what the desk records, and how many steps its
+-- sweep took, each where it is told, before and after: one step behind each command and bad line that was answered
+pub record IsServed (reads reads_new : ReadSide) (writes writes_new : WriteSide) (record_old record_new : Option (List Call))
+    (tends tends_new : Option ℕ) (end : LineEnd) : Type 0 where
   pub given : List ℕ
   pub taken : List ℕ
   pub calls : List Call
@@ -107,6 +113,7 @@ pub record IsServed (reads reads_new : ReadSide) (writes writes_new : WriteSide)
   pub takes : Gains writes.taken writes_new.taken taken
   pub asks : record_new ≡ with_calls calls record_old
   pub served : Served given taken calls end
+  pub tended : tends_new ≡ tended_by (length served.items) tends
   pub none_left : NoneLeft end reads_new.left
 
 -- how often reads failed, before and after: the count rose where a read failed, and is as before where the connection

@@ -30,7 +30,8 @@ impl Client {
     /// that the command makes.
     pub(crate) fn answer<D: Desk>(&mut self, desk: &mut D, said: Command) -> LineReply
         requires { said ≢ commands.Quit }
-        ensures { Asks (D.record_of desk.old) (D.record_of desk.new) self.old said result self.new }
+        ensures answers { Asks (D.record_of desk.old) (D.record_of desk.new) self.old said result self.new }
+        ensures untended { D.tends desk.new ≡ D.tends desk.old }
     {
         match self.refusal(&said) {
             Some(error) => error,
@@ -42,7 +43,8 @@ impl Client {
     fn carry_out<D: Desk>(&mut self, desk: &mut D, said: Command) -> LineReply
         requires goes_on { said ≢ commands.Quit }
         requires passes { refused self.old said ≡ None }
-        ensures { Asks (D.record_of desk.old) (D.record_of desk.new) self.old said result self.new }
+        ensures answers { Asks (D.record_of desk.old) (D.record_of desk.new) self.old said result self.new }
+        ensures untended { D.tends desk.new ≡ D.tends desk.old }
     {
         match said {
             Command::Begin { role } => self.begin(desk, role),
@@ -79,9 +81,10 @@ impl Client {
 
     /// Begins a session, in place of the present one.
     fn begin<D: Desk>(&mut self, desk: &mut D, role: Role) -> LineReply
-        ensures { (calls : List Call)
+        ensures answers { (calls : List Call)
             × (D.record_of desk.new ≡ with_calls calls (D.record_of desk.old))
             × Begins self.old role calls result self.new }
+        ensures untended { D.tends desk.new ≡ D.tends desk.old }
     {
         match desk.begin(is_writer(role)) {
             Ok(sid) => {
@@ -95,24 +98,27 @@ impl Client {
 
     /// Looks a key up in the cache.
     fn get<D: Desk>(&self, desk: &mut D, key: QKey, floor: u64) -> LineReply
-        ensures { (sid : Sid) → Makes (D.record_of desk.old) (D.record_of desk.new) self.now
+        ensures answers { (sid : Sid) → Makes (D.record_of desk.old) (D.record_of desk.new) self.now
             (wanted.Get key floor) (commands.IqGet (Some key) sid floor) result self.now }
+        ensures untended { D.tends desk.new ≡ D.tends desk.old }
     {
         tell_lookup(key, desk.call(self.asker(), Wanted::Get { key, floor }))
     }
 
     /// Asks the store for the answer to a key.
     fn ask<D: Desk>(&self, desk: &mut D, key: QKey) -> LineReply
-        ensures { (sid : Sid) → Makes (D.record_of desk.old) (D.record_of desk.new) self.now
+        ensures answers { (sid : Sid) → Makes (D.record_of desk.old) (D.record_of desk.new) self.now
             (wanted.Ask key) (commands.Ask (Some key) sid) result self.now }
+        ensures untended { D.tends desk.new ≡ D.tends desk.old }
     {
         tell_answer(desk.call(self.asker(), Wanted::Ask { key }))
     }
 
     /// Asks the store for the answer to a key after a transaction.
     fn stage<D: Desk>(&self, desk: &mut D, key: QKey, txn: Txn) -> LineReply
-        ensures { (sid : Sid) → Makes (D.record_of desk.old) (D.record_of desk.new) self.now
+        ensures answers { (sid : Sid) → Makes (D.record_of desk.old) (D.record_of desk.new) self.now
             (wanted.Staged key txn) (commands.Stage (Some key) sid txn) result self.now }
+        ensures untended { D.tends desk.new ≡ D.tends desk.old }
     {
         tell_staged(key, desk.call(self.asker(), Wanted::Staged { key, txn }))
     }
@@ -126,10 +132,11 @@ impl Client {
         stamp: u64,
         block: Value,
     ) -> LineReply
-        ensures { (flags exptime bytes : ℕ) →
+        ensures answers { (flags exptime bytes : ℕ) →
             Makes (D.record_of desk.old) (D.record_of desk.new) self.now
             (wanted.Set key token block stamp)
             (commands.IqSet (Some key) flags exptime bytes token stamp block) result self.now }
+        ensures untended { D.tends desk.new ≡ D.tends desk.old }
     {
         let wanted = Wanted::Set {
             key,
@@ -143,8 +150,9 @@ impl Client {
     /// Quarantines a key, to drop its value.
     fn invalidate<D: Desk>(&mut self, desk: &mut D, key: QKey) -> LineReply
         requires { length self.old.grants.items < 64 }
-        ensures { (sid : Sid) → Makes (D.record_of desk.old) (D.record_of desk.new) self.old
+        ensures answers { (sid : Sid) → Makes (D.record_of desk.old) (D.record_of desk.new) self.old
             (wanted.QaReg key) (commands.QaReg (Some key) sid) result self.new }
+        ensures untended { D.tends desk.new ≡ D.tends desk.old }
     {
         let heard = desk.call(self.asker(), Wanted::QaReg { key });
         tell_quarantine(&mut self.grants, false, heard)
@@ -153,8 +161,9 @@ impl Client {
     /// Quarantines a key, to put a new value in place of the old one.
     fn refresh<D: Desk>(&mut self, desk: &mut D, key: QKey) -> LineReply
         requires { length self.old.grants.items < 64 }
-        ensures { (sid : Sid) → Makes (D.record_of desk.old) (D.record_of desk.new) self.old
+        ensures answers { (sid : Sid) → Makes (D.record_of desk.old) (D.record_of desk.new) self.old
             (wanted.QaRead key) (commands.QaRead (Some key) sid) result self.new }
+        ensures untended { D.tends desk.new ≡ D.tends desk.old }
     {
         let heard = desk.call(self.asker(), Wanted::QaRead { key });
         tell_quarantine(&mut self.grants, true, heard)
@@ -164,8 +173,9 @@ impl Client {
     fn shift<D: Desk>(&mut self, desk: &mut D, key: QKey, by: i32) -> LineReply
         requires room { length self.old.grants.items < 64 }
         requires count { is_count key ≡ true }
-        ensures { (sid : Sid) → Makes (D.record_of desk.old) (D.record_of desk.new) self.old
+        ensures answers { (sid : Sid) → Makes (D.record_of desk.old) (D.record_of desk.new) self.old
             (wanted.Delta key by) (commands.IqDelta (Some key) sid by) result self.new }
+        ensures untended { D.tends desk.new ≡ D.tends desk.old }
     {
         let heard = desk.call(self.asker(), Wanted::Delta { key, by });
         tell_quarantine(&mut self.grants, false, heard)
@@ -173,8 +183,9 @@ impl Client {
 
     /// Commits a transaction at the store, with the grants of the session.
     fn commit<D: Desk>(&mut self, desk: &mut D, txn: Txn) -> LineReply
-        ensures { (sid : Sid) → Makes (D.record_of desk.old) (D.record_of desk.new) self.old
+        ensures answers { (sid : Sid) → Makes (D.record_of desk.old) (D.record_of desk.new) self.old
             (wanted.Commit txn self.old.grants) (commands.Sql sid txn) result self.new }
+        ensures untended { D.tends desk.new ≡ D.tends desk.old }
     {
         let who = self.asker();
         let grants = self.grants.lend();
@@ -220,9 +231,10 @@ impl Client {
     /// Releases the quarantine of a key, and drops the value.
     fn drop_value<D: Desk>(&mut self, desk: &mut D, key: QKey) -> LineReply
         requires { HasFirst key self.old.grants.items }
-        ensures { (grant : Permit) × (grant_on key self.old.grants.items ≡ Some grant)
+        ensures answers { (grant : Permit) × (grant_on key self.old.grants.items ≡ Some grant)
             × ((sid : Sid) → Makes (D.record_of desk.old) (D.record_of desk.new) self.old
             (wanted.Dar grant) (commands.Dar (Some key) sid) result self.new) }
+        ensures untended { D.tends desk.new ≡ D.tends desk.old }
     {
         let who = self.asker();
         let (_, grant) = self.take_on(&key);
@@ -233,11 +245,12 @@ impl Client {
     /// in its place.
     fn put<D: Desk>(&mut self, desk: &mut D, key: QKey, block: Value) -> LineReply
         requires { HasFirstIn Refresh key self.old.grants.items }
-        ensures { (grant : Permit) × (grant_on key self.old.grants.items ≡ Some grant)
+        ensures answers { (grant : Permit) × (grant_on key self.old.grants.items ≡ Some grant)
             × ((flags exptime bytes : ℕ) (sid : Sid) →
             Makes (D.record_of desk.old) (D.record_of desk.new) self.old
             (wanted.Sar grant (Some block) (stamp_of self.old.present))
             (commands.Sar (Some key) flags exptime bytes sid block) result self.new) }
+        ensures untended { D.tends desk.new ≡ D.tends desk.old }
     {
         let who = self.asker();
         let stamp = self.stamp();
@@ -262,10 +275,11 @@ impl Client {
     /// Releases the quarantine of a key, and adds the number of the quarantine to the count.
     fn apply<D: Desk>(&mut self, desk: &mut D, key: QKey) -> LineReply
         requires { HasFirstIn Delta key self.old.grants.items }
-        ensures { (grant : Permit) × (grant_on key self.old.grants.items ≡ Some grant)
+        ensures answers { (grant : Permit) × (grant_on key self.old.grants.items ≡ Some grant)
             × ((sid : Sid) → Makes (D.record_of desk.old) (D.record_of desk.new) self.old
             (wanted.Apply grant (stamp_of self.old.present))
             (commands.IqCommit (Some key) sid) result self.new) }
+        ensures untended { D.tends desk.new ≡ D.tends desk.old }
     {
         let who = self.asker();
         let stamp = self.stamp();
@@ -279,9 +293,10 @@ impl Client {
     /// Ends the session and releases its grants. It stays the present one.
     fn abort<D: Desk>(&mut self, desk: &mut D) -> LineReply
         requires { MayAbort self.old.present }
-        ensures { (calls : List Call)
+        ensures answers { (calls : List Call)
             × (D.record_of desk.new ≡ with_calls calls (D.record_of desk.old))
             × Aborts self.old calls result self.new }
+        ensures untended { D.tends desk.new ≡ D.tends desk.old }
     {
         let count = self.give_up(desk);
         self.present = aborted(self.present);

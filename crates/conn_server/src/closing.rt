@@ -13,7 +13,8 @@ use session_client::{Desk, Grants, Reply, Wanted};
 impl Client {
     /// Gives the client's session up, and releases the grants that it holds. It takes no memory.
     pub(crate) fn leave<D: Desk>(self, desk: &mut D)
-        ensures { GivenUp (D.record_of desk.old) (D.record_of desk.new) self }
+        ensures given_up { GivenUp (D.record_of desk.old) (D.record_of desk.new) self }
+        ensures untended { D.tends desk.new ≡ D.tends desk.old }
     {
         let mut client = self;
         let _ = client.give_up(desk);
@@ -27,6 +28,7 @@ impl Client {
         ensures leaves { (calls : List Call)
             × (D.record_of desk.new ≡ with_calls calls (D.record_of desk.old))
             × Leaves self.old.present self.old.grants.items calls result }
+        ensures untended { D.tends desk.new ≡ D.tends desk.old }
         ensures present { self.new.present ≡ self.old.present }
         ensures released { MayAbort self.old.present → self.new.grants.items ≡ [] }
         ensures room { self.new.grants.room ≡ self.old.grants.room }
@@ -52,6 +54,7 @@ fn release_all<D: Desk>(grants: &mut Grants, desk: &mut D, who: Sid, committed: 
     ensures releases { (calls : List Call)
         × (D.record_of desk.new ≡ with_calls calls (D.record_of desk.old))
         × Releases who (release_way committed) grants.old.items calls result }
+    ensures untended { D.tends desk.new ≡ D.tends desk.old }
     ensures none { grants.new.items ≡ [] }
     ensures room { grants.new.room ≡ grants.old.room }
 {

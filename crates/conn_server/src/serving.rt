@@ -1,9 +1,9 @@
-ghost use Rattle.std.specs.Prelude.{◌≡◌, ◌+◌, ◌<◌, ◌≤◌, ℕ, true, false, [], List, Option, length, IfOk, IfErr, OnOk};
+ghost use Rattle.std.specs.Prelude.{◌≡◌, ◌+◌, ◌<◌, ◌≤◌, ℕ, true, false, [], length, IfOk, IfErr, OnOk};
 ghost use Rattle.iq_outside.specs.Outside.{Rose, ReadSide, WriteSide};
 ghost use Rattle.mc_text.specs.Streams.{IsOpen};
-ghost use Rattle.session_client.specs.Desks.{Call};
+ghost use Rattle.session_client.specs.Desks.{one_more};
 ghost use Rattle.conn_server.specs.Answers.{GivenUp};
-ghost use Rattle.conn_server.specs.Course.{Start, Course, Ending, moment, GoesOn, ReadsOn, EndsFrom, IsUnserved, Finishes, Flushes, Tells, Shuts};
+ghost use Rattle.conn_server.specs.Course.{Start, Course, Ending, DeskSide, WaitsFew, desk_side, moment, GoesOn, ReadsOn, EndsFrom, IsUnserved, Finishes, Flushes, Tells, Shuts};
 ghost use Rattle.conn_server.specs.Service.{IsServed, CountsReads, CountsWrites};
 ghost use Rattle.conn_server.specs.declared.ends.LineEnd.TheVariants as ends;
 
@@ -39,8 +39,9 @@ struct Serving {
 }
 
 /// Serves one connection to its end. Its bytes are read as commands, each is answered by the desk or
-/// by an error, the desk takes a step of its sweep, and the replies are written in their order. What
-/// is due is written before each read, so no reply waits for further input.
+/// by an error, the desk takes a step of its sweep behind each, and the replies are written in their
+/// order. What is due is written before each read, so no reply waits for further input. Never more than
+/// 64 KiB and one reply wait to be written.
 ///
 /// At every end the client's session is given up: one that writes and hasn't committed is ended at the
 /// store, and then its grants are released, which takes no memory. Only then are the last replies
@@ -50,7 +51,8 @@ struct Serving {
 /// told nothing. A lasting fault of the input is told the client.
 pub fn serve_line<L: Line, D: Desk>(alloc: Global, line: &mut L, desk: &mut D) -> LineEnd
     ensures served { IsServed (L.read_side line.old) (L.read_side line.new) (L.write_side line.old)
-        (L.write_side line.new) (D.record_of desk.old) (D.record_of desk.new) result }
+        (L.write_side line.new) (D.record_of desk.old) (D.record_of desk.new) (D.tends desk.old)
+        (D.tends desk.new) result }
     ensures reads { CountsReads result (L.Source.faults line.old) (L.Source.faults line.new) }
     ensures writes { CountsWrites result (L.Sink.faults line.old) (L.Sink.faults line.new) }
     ensures reads_never_fall { L.Source.faults line.old ≤ L.Source.faults line.new }
@@ -79,14 +81,16 @@ impl Serving {
     }
 
     /// Reads and answers until the connection ends, and tells how. Some replies may still stand to be
-    /// written.
+    /// written: fewer bytes than those at which replies are written, and then one reply at most.
     fn serve<L: Line, D: Desk>(&mut self, line: &mut L, desk: &mut D) -> LineEnd
         requires { IsUnserved self.old }
-        ensures { Ending result (record {
+        ensures ends { Ending result (record {
           reads = L.read_side line.old;
           writes = L.write_side line.old;
-          calls = D.record_of desk.old;
-        }) (L.read_side line.new) (L.write_side line.new) (D.record_of desk.new) self.new }
+          desk = desk_side D.record_of D.tends desk.old;
+        }) (L.read_side line.new) (L.write_side line.new)
+            (desk_side D.record_of D.tends desk.new) self.new }
+        ensures waits { WaitsFew self.new.out.items }
     {
         let mut room = [0u8; PIECE];
         for _ in 0..MORE_READS {
@@ -107,13 +111,16 @@ impl Serving {
     ) -> Result<(), LineEnd>
         requires within { self.old.count < 1000000 }
         requires room { 0 < length room.old }
+        requires few { length self.old.out.items < 65536 }
         ensures within { OnOk result (self.new.count < 1000000) }
+        ensures few { OnOk result (length self.new.out.items < 65536) }
+        ensures waits { WaitsFew self.new.out.items }
         ensures goes_on { OnOk result (ReadsOn
-            (moment L.read_side L.write_side D.record_of line.old desk.old self.old)
-            (moment L.read_side L.write_side D.record_of line.new desk.new self.new)) }
+            (moment L.read_side L.write_side D.record_of D.tends line.old desk.old self.old)
+            (moment L.read_side L.write_side D.record_of D.tends line.new desk.new self.new)) }
         ensures ends { IfErr result (EndsFrom
-            (moment L.read_side L.write_side D.record_of line.old desk.old self.old)
-            (moment L.read_side L.write_side D.record_of line.new desk.new self.new)) }
+            (moment L.read_side L.write_side D.record_of D.tends line.old desk.old self.old)
+            (moment L.read_side L.write_side D.record_of D.tends line.new desk.new self.new)) }
     {
         self.answer_all(line, desk)?;
         self.flush(line)?;
@@ -122,15 +129,17 @@ impl Serving {
 
     /// Answers the whole commands that were read, as far as the budget lasts.
     fn answer_all<L: Line, D: Desk>(&mut self, line: &mut L, desk: &mut D) -> Result<(), LineEnd>
-        requires { self.old.count < 1000000 }
+        requires within { self.old.count < 1000000 }
+        requires few { length self.old.out.items < 65536 }
+        ensures waits { WaitsFew self.new.out.items }
         ensures within { OnOk result (self.new.count < 1000000) }
         ensures stops { OnOk result (IsOpen self.new.framer.rest) }
         ensures goes_on { OnOk result (GoesOn
-            (moment L.read_side L.write_side D.record_of line.old desk.old self.old)
-            (moment L.read_side L.write_side D.record_of line.new desk.new self.new)) }
+            (moment L.read_side L.write_side D.record_of D.tends line.old desk.old self.old)
+            (moment L.read_side L.write_side D.record_of D.tends line.new desk.new self.new)) }
         ensures ends { IfErr result (EndsFrom
-            (moment L.read_side L.write_side D.record_of line.old desk.old self.old)
-            (moment L.read_side L.write_side D.record_of line.new desk.new self.new)) }
+            (moment L.read_side L.write_side D.record_of D.tends line.old desk.old self.old)
+            (moment L.read_side L.write_side D.record_of D.tends line.new desk.new self.new)) }
     {
         loop {
             if !self.answer_next(desk)? {
@@ -144,18 +153,20 @@ impl Serving {
 
     /// Answers the command that stands next, and tells whether a whole one did.
     fn answer_next<D: Desk>(&mut self, desk: &mut D) -> Result<bool, LineEnd>
-        requires { self.old.count < 1000000 }
+        requires within { self.old.count < 1000000 }
+        requires few { length self.old.out.items < 65536 }
+        ensures waits { WaitsFew self.new.out.items }
         ensures within { OnOk result (self.new.count < 1000000) }
         ensures counts { result ≡ Ok true → self.new.count ≡ self.old.count + 1 }
         ensures stops { result ≡ Ok false → IsOpen self.new.framer.rest }
         ensures goes_on { OnOk result ((start : Start) (rounds : ℕ) (reads : ReadSide)
             (writes : WriteSide) →
-            Course start rounds reads writes (D.record_of desk.old) self.old →
-            Course start rounds reads writes (D.record_of desk.new) self.new) }
+            Course start rounds reads writes (desk_side D.record_of D.tends desk.old) self.old →
+            Course start rounds reads writes (desk_side D.record_of D.tends desk.new) self.new) }
         ensures ends { IfErr result (λ end. (start : Start) (rounds : ℕ) (reads : ReadSide)
             (writes : WriteSide) →
-            Course start rounds reads writes (D.record_of desk.old) self.old →
-            Ending end start reads writes (D.record_of desk.new) self.new) }
+            Course start rounds reads writes (desk_side D.record_of D.tends desk.old) self.old →
+            Ending end start reads writes (desk_side D.record_of D.tends desk.new) self.new) }
     {
         let next = self.framer.next_command();
         match next {
@@ -184,6 +195,7 @@ impl Serving {
         ensures client { self.new.client ≡ self.old.client }
         ensures counts { self.new.count ≡ self.old.count + 1 }
         ensures asks_nothing { D.record_of desk.new ≡ D.record_of desk.old }
+        ensures tended { D.tends desk.new ≡ one_more (D.tends desk.old) }
     {
         desk.tend();
         self.count += 1;
@@ -232,14 +244,14 @@ impl Serving {
         requires stops { IsOpen self.old.framer.rest }
         requires written { self.old.out.items ≡ [] }
         ensures count { OnOk result (self.new.count ≡ self.old.count) }
-        ensures goes_on { OnOk result ((start : Start) (rounds : ℕ) (calls : Option (List Call)) →
-            Course start rounds (L.read_side line.old) (L.write_side line.old) calls self.old →
-            Course start (rounds + 1) (L.read_side line.new) (L.write_side line.new) calls
+        ensures none { self.new.out.items ≡ [] }
+        ensures goes_on { OnOk result ((start : Start) (rounds : ℕ) (desk : DeskSide) →
+            Course start rounds (L.read_side line.old) (L.write_side line.old) desk self.old →
+            Course start (rounds + 1) (L.read_side line.new) (L.write_side line.new) desk
             self.new) }
-        ensures ends { IfErr result (λ end. (start : Start) (rounds : ℕ)
-            (calls : Option (List Call)) →
-            Course start rounds (L.read_side line.old) (L.write_side line.old) calls self.old →
-            Ending end start (L.read_side line.new) (L.write_side line.new) calls self.new) }
+        ensures ends { IfErr result (λ end. (start : Start) (rounds : ℕ) (desk : DeskSide) →
+            Course start rounds (L.read_side line.old) (L.write_side line.old) desk self.old →
+            Ending end start (L.read_side line.new) (L.write_side line.new) desk self.new) }
     {
         match line.read(room) {
             Ok(0) => Err(LineEnd::Closed {
@@ -260,6 +272,7 @@ impl Serving {
         ensures finishes { Finishes end result (L.write_side line.old) (L.write_side line.new)
             self.out.items }
         ensures given_up { GivenUp (D.record_of desk.old) (D.record_of desk.new) self.client }
+        ensures untended { D.tends desk.new ≡ D.tends desk.old }
     {
         let Serving {
             framer: _,

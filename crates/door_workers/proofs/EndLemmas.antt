@@ -57,10 +57,11 @@ both given taken all all_taken calls end g t served = λ bytes is took are.
     (calls, subst (λ (b : List ℕ). Served b took calls end) (sym (g bytes is)) (subst (λ (b : List ℕ). Served all b calls end) (sym (t took are)) served))
 
 -- a line that had given and taken nothing was served to its end
-pub ended-fresh : (reads reads_new : ReadSide) (writes writes_new : WriteSide) (old new : Option (List Call)) (end : LineEnd)
-    → IsServed reads reads_new writes writes_new old new end → IsFresh reads.given writes.taken
+pub ended-fresh : (reads reads_new : ReadSide) (writes writes_new : WriteSide) (old new : Option (List Call))
+    (tends tends_new : Option ℕ) (end : LineEnd)
+    → IsServed reads reads_new writes writes_new old new tends tends_new end → IsFresh reads.given writes.taken
     → IsEnded (record { reads = reads_new; writes = writes_new }) end
-ended-fresh reads reads_new writes writes_new old new end served fresh = record {
+ended-fresh reads reads_new writes writes_new old new tends tends_new end served fresh = record {
   served = both reads_new.given writes_new.taken served.given served.taken served.calls end
       (given-all reads.given reads_new.given served.given served.adds fresh.0)
       (given-all writes.taken writes_new.taken served.taken served.takes fresh.1) served.served;
@@ -97,11 +98,12 @@ fresh-sides reads writes left given taken reads_failed writes_failed r w fresh =
     subst (λ (x : ReadSide). IsFresh x.given writes.taken) (sym r) (subst (λ (x : WriteSide). IsFresh given x.taken) (sym w) fresh)
 
 -- a line that had given and taken nothing, was served and then finished
-pub line-ended : (reads reads_new reads_end : ReadSide) (writes writes_new writes_end : WriteSide) (old new : Option (List Call)) (end : LineEnd)
-    → IsServed reads reads_new writes writes_new old new end → IsFresh reads.given writes.taken → reads_end ≡ reads_new → writes_end ≡ writes_new
+pub line-ended : (reads reads_new reads_end : ReadSide) (writes writes_new writes_end : WriteSide) (old new : Option (List Call))
+    (tends tends_new : Option ℕ) (end : LineEnd)
+    → IsServed reads reads_new writes writes_new old new tends tends_new end → IsFresh reads.given writes.taken → reads_end ≡ reads_new → writes_end ≡ writes_new
     → IsEnded (record { reads = reads_end; writes = writes_end }) end
-line-ended reads reads_new reads_end writes writes_new writes_end old new end served fresh r w =
-    ended-same reads_new reads_end writes_new writes_end end r w (ended-fresh reads reads_new writes writes_new old new end served fresh)
+line-ended reads reads_new reads_end writes writes_new writes_end old new tends tends_new end served fresh r w =
+    ended-same reads_new reads_end writes_new writes_end end r w (ended-fresh reads reads_new writes writes_new old new tends tends_new end served fresh)
 
 -- what was handed back stays so, where ends and door tell the same
 pub handed-same : (ends ends_new : List LineEnd) (before closed closed_new : Option (List LineRecord)) → ends_new ≡ ends → closed_new ≡ closed

@@ -1,14 +1,17 @@
 -- What stands first in a stream whose first line announces a block.
-use Rattle.std.proofs.Common.{ℕ, ◌+◌, ◌≡◌, ◌<◌, ◌≤◌, ◌⊎◌, inl, inr, List, [], length, take, drop, Option, Some, None, arith, sym, ◌∙◌, subst}
+use Rattle.std.proofs.Common.{ℕ, ◌+◌, ◌≡◌, ◌<◌, ◌≤◌, ◌⊎◌, inl, inr, List, [], length, take, drop, Option, Some, None, arith, refl, sym, ◌∙◌, subst}
+use Rattle.std.specs.Prelude.{true, Result, Ok, Err, OnErr}
 use Rattle.std.proofs.lemmas.Bool.{cases_order}
 use Rattle.mc_text.specs.declared.commands.Command.{Command}
+use Rattle.mc_text.specs.declared.commands.Command.TheVariants.{Stage, Sql}
 use Rattle.mc_text.specs.declared.commands.Head.{Head}
 use Rattle.mc_text.specs.declared.commands.Head.TheVariants as head
 use Rattle.mc_text.specs.Words.{words_in}
-use Rattle.mc_text.specs.Commands.{AreWords, announced, block_of}
-use Rattle.mc_text.specs.Streams.{EndsAt, IsLine, IsBlock, IsCommand, command, bad_line, long_line, bad_block, big_block, IsOpen}
+use Rattle.mc_text.specs.Commands.{AreWords, announced, block_of, has_txn}
+use Rattle.mc_text.specs.Streams.{EndsAt, IsLine, IsBlock, IsCommand, command, bad_line, long_line, bad_block, big_block, IsOpen, WantsMemory}
+use Rattle.mc_text.specs.Telling.{SayTxn}
 use Rattle.mc_text.specs.Parsing.{with_block}
-use Rattle.mc_text.proofs.OnceLemmas.{announced_once, any_block}
+use Rattle.mc_text.proofs.OnceLemmas.{announced_once, any_block, block_body}
 
 -- a stream has one first line
 pub line_once : (stream : List ℕ) (a b : ℕ) → IsLine stream a → IsLine stream b → a ≡ b
@@ -85,3 +88,38 @@ block_command stream long bytes (head.Sar key flags exptime many sid) block line
       block = rw same (small, ends, is);
       taken_is = omega arith;
     }
+
+-- where memory is wanted for the block of a line, the block is whole
+pub block_wants : {A B : Type 0} (stream : List ℕ) (long bytes : ℕ) (front : Head) (read : Result A B)
+    → IsLine stream long → AreWords (with_block front []) (words_in (take long stream))
+    → announced (with_block front []) ≡ Some bytes → bytes ≤ 1048576 → EndsAt stream (long + 2 + bytes) → OnErr read (WantsMemory stream)
+block_wants stream long bytes front (Ok value) line says e small ends = tt
+block_wants stream long bytes front (Err fault) line says e small ends =
+    let block = take bytes (drop (long + 2) stream) in
+    record {
+      said = with_block front block;
+      taken = long + 2 + bytes + 2;
+      stands = block_command stream long bytes front block line says e small ends refl;
+      body = block_body front block;
+    }
+
+-- a line with a transaction is a whole command
+pub line_wants : {A B : Type 0} (stream : List ℕ) (long : ℕ) (read : Result A B)
+    → IsLine stream long → SayTxn (words_in (take long stream)) → OnErr read (WantsMemory stream)
+line_wants stream long (Ok value) line s = tt
+line_wants stream long (Err fault) line s = by s.said s.says s.txn
+  where
+    by : (said : Command) → AreWords said (words_in (take long stream)) → has_txn said ≡ true → WantsMemory stream
+    by (Stage key sid txn) says is = record {
+      said = Stage key sid txn;
+      taken = long + 2;
+      stands = record { long = long; line = line; says = says; block = refl; taken_is = omega arith };
+      body = refl;
+    }
+    by (Sql sid txn) says is = record {
+      said = Sql sid txn;
+      taken = long + 2;
+      stands = record { long = long; line = line; says = says; block = refl; taken_is = omega arith };
+      body = refl;
+    }
+    by other says is = absurd cc

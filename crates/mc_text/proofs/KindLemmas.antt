@@ -13,7 +13,7 @@ use Rattle.rows_model.specs.Key.{word_of}
 use Rattle.rows_model.proofs.KeyLemmas.{key_text_is}
 use Rattle.rows_model.specs.Shift.{is_digit, number_from, is_number, number_in}
 use Rattle.rows_model.proofs.ShiftLemmas.{number_in_is, number_in-decimal, number_in-written, some_parts, decimal_digits}
-use Rattle.mc_text.specs.Words.{is_numeral, is_key_byte, is_key, IsNumber, IsMember, IsServed}
+use Rattle.mc_text.specs.Words.{is_key_byte, is_key, IsNumber, IsMember, IsServed}
 use Rattle.mc_text.proofs.NumberLemmas.{numeral_parts}
 
 -- digits that begin with none of 0 are written as a number is

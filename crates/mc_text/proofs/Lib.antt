@@ -6,6 +6,7 @@ pub mod FirstLemmas
 pub mod RowLemmas
 pub mod TableLemmas
 pub mod VerbLemmas
+pub mod TxnLemmas
 pub mod OnceLemmas
 pub mod FrontLemmas
 pub mod LineLemmas

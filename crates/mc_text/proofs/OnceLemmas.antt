@@ -1,6 +1,6 @@
 -- What words say they say once: the row of a command, and how many bytes its block has.
-use Rattle.std.proofs.Common.{ℕ, ◌==◌, ◌≡◌, ◌≤◌, ◌⊎◌, ◌||◌, inl, inr, List, [], ◌∷◌, take, get_or, Option, Some, None, arith, refl, sym, ap, ◌∙◌}
-use Rattle.std.specs.Prelude.{if◌then◌else◌, codes, Result, Ok, Err, OnErr}
+use Rattle.std.proofs.Common.{ℕ, ◌==◌, ◌≡◌, ◌≤◌, ◌⊎◌, ◌||◌, inl, inr, List, [], ◌∷◌, get_or, Option, Some, None, arith, refl, sym, ap, ◌∙◌}
+use Rattle.std.specs.Prelude.{true, if◌then◌else◌, codes}
 use Rattle.mc_text.specs.Verbs.{Verb, IsRowOf, lease_rows, line_row, block_row}
 use Rattle.rows_model.specs.declared.keys.QKey.{QKey}
 use Rattle.rows_model.specs.declared.keys.Sid.{Sid}
@@ -10,9 +10,7 @@ use Rattle.mc_text.specs.declared.commands.Command.TheVariants.{Begin, IqGet, As
 use Rattle.mc_text.specs.declared.commands.Command.TheVariants.{IqCommit, IqAbort, Quit, Unknown}
 use Rattle.mc_text.specs.declared.commands.Head.{Head}
 use Rattle.mc_text.specs.declared.commands.Head.TheVariants as head
-use Rattle.mc_text.specs.Commands.{verb_of, AreArgs, AreWords, AreUnknown, announced}
-use Rattle.mc_text.specs.Streams.{IsLine, HaveBody, WantsMemory}
-use Rattle.mc_text.specs.Words.{words_in}
+use Rattle.mc_text.specs.Commands.{verb_of, AreArgs, AreWords, AreUnknown, announced, has_body}
 use Rattle.mc_text.specs.Parsing.{number_of, with_block}
 use Rattle.mc_text.proofs.VerbLemmas.{number_with, letters, number_back}
 
@@ -132,17 +130,7 @@ any_block (head.Set key flags exptime bytes token stamp) block (word ∷ words) 
 any_block (head.Sar key flags exptime bytes sid) block [] h = h
 any_block (head.Sar key flags exptime bytes sid) block (word ∷ words) h = h
 
--- a command with a block has a line whose row has one
-pub block_body : (front : Head) (words : List (List ℕ)) → AreWords (with_block front []) words → HaveBody words
-block_body (head.Set key flags exptime bytes token stamp) [] h = h
-block_body (head.Set key flags exptime bytes token stamp) (word ∷ words) h =
-    (row_of (IqSet key flags exptime bytes token stamp []), rw h.0 (in_table (IqSet key flags exptime bytes token stamp []) (omega arith)), refl)
-block_body (head.Sar key flags exptime bytes sid) [] h = h
-block_body (head.Sar key flags exptime bytes sid) (word ∷ words) h =
-    (row_of (Sar key flags exptime bytes sid []), rw h.0 (in_table (Sar key flags exptime bytes sid []) (omega arith)), refl)
-
--- a stream whose first line has a block behind it
-pub block_wants : {A B : Type 0} (stream : List ℕ) (long : ℕ) (front : Head) (read : Result A B)
-    → IsLine stream long → AreWords (with_block front []) (words_in (take long stream)) → OnErr read (WantsMemory stream)
-block_wants stream long front (Ok value) line says = tt
-block_wants stream long front (Err fault) line says = record { long = long; line = line; body = block_body front (words_in (take long stream)) says }
+-- a head makes a command with a block
+pub block_body : (front : Head) (block : List ℕ) → has_body (with_block front block) ≡ true
+block_body (head.Set key flags exptime bytes token stamp) block = refl
+block_body (head.Sar key flags exptime bytes sid) block = refl

@@ -14,9 +14,8 @@ use Rattle.mc_text.specs.declared.commands.Command.TheVariants.{IqCommit, IqAbor
 use Rattle.mc_text.specs.declared.lines.Said.{Said}
 use Rattle.mc_text.specs.declared.lines.Said.TheVariants.{Whole, Headed, Bad}
 use Rattle.mc_text.specs.Commands.{verb_of, AreArgs, AreWords, AreUnknown}
-use Rattle.mc_text.specs.Streams.{has_body, HaveBody}
 use Rattle.mc_text.specs.Parsing.{number_of, with_block}
-use Rattle.mc_text.specs.Telling.{Tells, Told}
+use Rattle.mc_text.specs.Telling.{Tells, TellsTxn, Told, SayTxn}
 
 -- the first five letters of a word, as one number
 abbrev pub letters : List ℕ → ℕ
@@ -171,9 +170,16 @@ pub unknown_line : (words args : List (List ℕ)) (word : List ℕ) (table : Lis
     → words ≡ word ∷ args → table ≡ lease_rows → IsNoVerb table word → AreUnknown words
 unknown_line words args word table e t none = rw e (rw t at none)
 
--- a line whose row has a transaction or a block
-pub body_line : (words args : List (List ℕ)) (word : List ℕ) (row : Verb) (table : List Verb) (read : Result Said Memory)
+-- a line whose row has a transaction
+pub txn_line : (words args : List (List ℕ)) (word : List ℕ) (row : Verb) (table : List Verb) (read : Result Said Memory)
     → words ≡ word ∷ args → table ≡ lease_rows → IsRowOf table word row
-    → OnErr read (has_body row.number ≡ true) → OnErr read (HaveBody words)
-body_line words args word row table (Ok said) e t r h = h
-body_line words args word row table (Err fault) e t r h = rw e (row, rw t at r, h)
+    → OnErr read (TellsTxn row.number args) → OnErr read (SayTxn words)
+txn_line words args word row table (Ok said) e t r h = h
+txn_line words args word row table (Err fault) e t r h =
+    let listed = rw t at r in
+    let some = row_from word row listed in
+    record {
+      said = h.said;
+      says = rw e (says h.said word args (omega (arith, h.is.row, some)) (row_verb word row h.said listed h.is.row) h.is.args);
+      txn = h.txn;
+    }

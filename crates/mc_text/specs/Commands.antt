@@ -1,5 +1,5 @@
 -- The commands: which words say which.
-use Rattle.std.specs.Prelude.{ℕ, ◌≡◌, List, [], ◌∷◌, Option, Some, None, codes, ⊤}
+use Rattle.std.specs.Prelude.{ℕ, ◌≡◌, ◌||◌, Bool, true, false, List, [], ◌∷◌, Option, Some, None, is_some, codes, ⊤}
 use Rattle.mc_text.specs.Verbs.{IsNoVerb, lease_rows}
 use Rattle.mc_text.specs.declared.commands.Role.{Role}
 use Rattle.mc_text.specs.declared.commands.Role.TheVariants.{Read, Write}
@@ -80,6 +80,16 @@ abbrev pub announced : Command → Option ℕ
 announced (IqSet key flags exptime bytes token stamp block) = Some bytes
 announced (Sar key flags exptime bytes sid block) = Some bytes
 announced command = None
+
+-- whether a command has a transaction in its line
+abbrev pub has_txn : Command → Bool
+has_txn (Stage key sid txn) = true
+has_txn (Sql sid txn) = true
+has_txn command = false
+
+-- whether a command is read with memory: it has a transaction or a block
+abbrev pub has_body : Command → Bool
+has_body command = has_txn command || is_some (announced command)
 
 -- the block of a command that has one
 abbrev pub block_of : Command → List ℕ

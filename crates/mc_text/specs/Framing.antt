@@ -29,7 +29,7 @@ pub record Takes (old : Frames) (item : Item) (new : Frames) : Type 0 where
   pub goes_on : new ≡ past old taken
 
 -- what a fault says of the bytes: it stands first, at the place where they begin, and a bad
--- line is taken; memory is wanted for a line with a transaction or a block alone, and all stays
+-- line is taken; memory is wanted for a whole command with a transaction or a block alone, and all stays
 abbrev pub Faults : Frames → FrameFault → Frames → Type 0
 Faults old (BadLine place) new = (place ≡ old.place) × Takes old bad_line new
 Faults old (LongLine place) new = (place ≡ old.place) × Takes old long_line new

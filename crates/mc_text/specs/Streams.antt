@@ -1,9 +1,9 @@
 -- What stands first in a stream of bytes: which command or fault, and how many bytes it takes.
-use Rattle.std.specs.Prelude.{ℕ, ◌+◌, ◌==◌, ◌||◌, Bool, true, ◌≡◌, ◌<◌, ◌≤◌, List, [], ◌∷◌, length, take, drop, slice_index, Option, Some, None}
+use Rattle.std.specs.Prelude.{ℕ, ◌+◌, true, ◌≡◌, ◌<◌, ◌≤◌, List, [], ◌∷◌, length, take, drop, slice_index, Option, Some, None}
 use Rattle.mc_text.specs.Verbs.{Verb, IsRowOf, lease_rows}
 use Rattle.mc_text.specs.declared.commands.Command.{Command}
 use Rattle.mc_text.specs.Words.{words_in}
-use Rattle.mc_text.specs.Commands.{AreWords, announced, block_of}
+use Rattle.mc_text.specs.Commands.{AreWords, announced, block_of, has_body}
 
 -- a CR LF begins at this place
 pub record EndsAt (stream : List ℕ) (place : ℕ) : Type 0 where
@@ -89,20 +89,12 @@ pub data Item : Type 0 where
   bad_block : Item
   big_block : Item
 
--- whether the command of a row has a transaction or a block: `stage`, `iqset`, `sql` and `sar`
-abbrev pub has_body : ℕ → Bool
-has_body number = (number == 4) || (number == 5) || (number == 9) || (number == 11)
-
--- the first word is the verb of such a command
-abbrev pub HaveBody : List (List ℕ) → Type 0
-HaveBody [] = ⊥
-HaveBody (word ∷ words) = (row : Verb) × IsRowOf lease_rows word row × (has_body row.number ≡ true)
-
--- the line that stands first begins with such a verb: no other is read with memory
+-- a whole command with a transaction or a block stands first: nothing else is read with memory
 pub record WantsMemory (stream : List ℕ) : Type 0 where
-  pub long : ℕ
-  pub line : IsLine stream long
-  pub body : HaveBody (words_in (take long stream))
+  pub said : Command
+  pub taken : ℕ
+  pub stands : IsCommand stream said taken
+  pub body : has_body said ≡ true
 
 -- this stands first in the stream, and takes so many bytes; the faults that last take none
 abbrev pub Stands : List ℕ → Item → ℕ → Type 0

@@ -1,10 +1,11 @@
 -- What a line and the front of a stream are told to be.
-use Rattle.std.specs.Prelude.{ℕ, ◌≡◌, ◌<◌, List, [], None}
+use Rattle.std.specs.Prelude.{ℕ, ◌≡◌, ◌<◌, true, List, [], None}
 use Rattle.mc_text.specs.declared.lines.Said.{Said}
 use Rattle.mc_text.specs.declared.lines.Said.TheVariants.{Whole, Headed, Bad}
 use Rattle.mc_text.specs.declared.items.Front.{Front}
 use Rattle.mc_text.specs.declared.items.Front.TheVariants as front
-use Rattle.mc_text.specs.Commands.{AreWords, announced}
+use Rattle.mc_text.specs.Commands.{AreWords, announced, has_txn}
+use Rattle.mc_text.specs.declared.commands.Command.{Command}
 use Rattle.mc_text.specs.Streams.{AreBad, EndsAt, Stands, command, bad_line, long_line, bad_block, big_block, IsOpen}
 use Rattle.mc_text.specs.Parsing.{IsSaid, IsUnsaid, with_block}
 
@@ -13,6 +14,18 @@ abbrev pub Tells : ℕ → List (List ℕ) → Said → Type 0
 Tells number words (Whole said) = IsSaid number words said × (announced said ≡ None)
 Tells number words (Headed head) = IsSaid number words (with_block head [])
 Tells number words Bad = IsUnsaid number words
+
+-- the words behind the verb of a row say a command with a transaction
+pub record TellsTxn (number : ℕ) (words : List (List ℕ)) : Type 0 where
+  pub said : Command
+  pub is : IsSaid number words said
+  pub txn : has_txn said ≡ true
+
+-- the words of a line say such a command
+pub record SayTxn (words : List (List ℕ)) : Type 0 where
+  pub said : Command
+  pub says : AreWords said words
+  pub txn : has_txn said ≡ true
 
 -- what the words of a line say
 abbrev pub Told : List (List ℕ) → Said → Type 0

@@ -57,8 +57,8 @@ impl Framer {
     /// The command that stands next in the bytes, which is taken; `None` exactly where no whole
     /// command and no fault stands there, and then all is as before. A line that isn't of its verb's
     /// form is a fault and is taken. The other faults of the bytes last: nothing is taken, and the
-    /// same is told again. Only a transaction or a block is read with memory, and after want of it
-    /// all is as before.
+    /// same is told again. Memory is asked for only where a whole command with a transaction or a
+    /// block stands next, and after want of it all is as before.
     pub fn next_command(&mut self) -> Result<Option<Command>, FrameFault>
         ensures { Answers self.old result self.new }
     {

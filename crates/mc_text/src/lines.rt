@@ -1,14 +1,13 @@
 // What a line says, by its words.
-ghost use Rattle.std.specs.Prelude.{◌≡◌, ◌≤◌, true, [], Option, IfSome, IfNone, IfOk, OnErr, MatchOption};
+ghost use Rattle.std.specs.Prelude.{◌≡◌, ◌≤◌, [], Option, IfSome, IfNone, IfOk, OnErr, MatchOption};
 ghost use Rattle.rows_model.specs.declared.keys.QKey.{QKey};
 ghost use Rattle.rows_model.specs.declared.keys.Sid.{Sid};
 ghost use Rattle.mc_text.specs.Words.{words_in, IsKey, IsSid};
 ghost use Rattle.mc_text.specs.declared.commands.Role.{Role};
 ghost use Rattle.mc_text.specs.declared.lines.Said.TheVariants.{Whole, Headed, Bad};
 ghost use Rattle.mc_text.specs.Commands.{Then, NoMore, role_word};
-ghost use Rattle.mc_text.specs.Streams.{has_body, HaveBody};
 ghost use Rattle.mc_text.specs.Parsing.{IsSaid, IsUnsaid, with_block};
-ghost use Rattle.mc_text.specs.Telling.{Tells, Told};
+ghost use Rattle.mc_text.specs.Telling.{Tells, TellsTxn, Told, SayTxn};
 
 use crate::commands::{Command, Head, Role};
 use crate::txns::txn_of;
@@ -31,7 +30,7 @@ pub enum Said {
 /// What the line says, without the CR LF that ends it.
 pub(crate) fn said_of(alloc: Global, line: &[u8]) -> Result<Said, Memory>
     ensures told { IfOk result (λ said. Told (words_in line.now) said) }
-    ensures memory { OnErr result (HaveBody (words_in line.now)) }
+    ensures memory { OnErr result (SayTxn (words_in line.now)) }
 {
     let Some((word, args)) = next_word(line) else {
         return Ok(Said::Whole {
@@ -51,7 +50,7 @@ fn with_verb(alloc: Global, number: u8, args: &[u8]) -> Result<Said, Memory>
     requires from { 1 ≤ number }
     requires to { number ≤ 14 }
     ensures tells { IfOk result (λ said. Tells number (words_in args.now) said) }
-    ensures memory { OnErr result (has_body number ≡ true) }
+    ensures memory { OnErr result (TellsTxn number (words_in args.now)) }
 {
     match number {
         1 => Ok(whole(begin_of(args))),
@@ -154,6 +153,7 @@ fn stage_of(alloc: Global, args: &[u8]) -> Result<Option<Command>, Memory>
     ensures found { IfOk result (λ read. IfSome read
         (λ command. IsSaid 4 (words_in args.now) command)) }
     ensures none { IfOk result (λ read. IfNone read (IsUnsaid 4 (words_in args.now))) }
+    ensures memory { OnErr result (TellsTxn 4 (words_in args.now)) }
 {
     let Some((key, rest)) = take_key(args) else {
         return Ok(None);
@@ -223,6 +223,7 @@ fn sql_of(alloc: Global, args: &[u8]) -> Result<Option<Command>, Memory>
     ensures found { IfOk result (λ read. IfSome read
         (λ command. IsSaid 9 (words_in args.now) command)) }
     ensures none { IfOk result (λ read. IfNone read (IsUnsaid 9 (words_in args.now))) }
+    ensures memory { OnErr result (TellsTxn 9 (words_in args.now)) }
 {
     let Some((sid, rest)) = take_sid(args) else {
         return Ok(None);

@@ -6,6 +6,7 @@ use crate::names::HubName;
 use executor::key_of;
 use expiry_sweeper::{SweepReply, SweepWanted, Sweeper};
 use iq_outside::{Clock, Gate, Point};
+use key_shard::{Got, Stands};
 use rows_model::{Memory, Sid};
 use session_client::{Desk, Reply, Wanted};
 use sql_keeper::Keeper;
@@ -71,6 +72,35 @@ fn is_timed(request: &Wanted) -> bool {
     )
 }
 
+/// Whether a reader was told that a quarantine stands on its key.
+fn is_held_up(reply: &Reply) -> bool {
+    matches!(
+        reply,
+        Reply::Got {
+            got: Got::Again {
+                standing: Stands::Q
+            }
+        }
+    )
+}
+
+/// The sweeper, gone on to this shard where it is looking for a quarantine. The shards between are passed
+/// over in this round.
+fn turned(sweeper: Sweeper, shard: u32) -> Sweeper
+    ensures { shards_of result ≡ shards_of sweeper }
+{
+    let mut turned = sweeper;
+    for _ in 0..sweeper.shards() {
+        match turned.wants() {
+            SweepWanted::Scan { shard: place } if place != shard => {
+                turned.told(SweepReply::NoneFound { shard: place });
+            }
+            _ => return turned,
+        }
+    }
+    turned
+}
+
 impl<'a, K: Keeper, H: HubName, C: Clock, G: Gate, R: Wait> Desk for HubDesk<'a, K, H, C, G, R> {
     ghost use Rattle.std.specs.Prelude.{None};
 
@@ -84,6 +114,8 @@ impl<'a, K: Keeper, H: HubName, C: Clock, G: Gate, R: Wait> Desk for HubDesk<'a,
         kept.begin(writes)
     }
 
+    /// Where a reader is told that a quarantine stands, and one is due on that shard, the worker's sweeper
+    /// looks there next. So the key of a writer that is gone is swept by those who ask for it.
     fn call(&mut self, who: Sid, request: Wanted) -> Reply {
         if matches!(&request, Wanted::Nothing) {
             request.let_go();
@@ -100,7 +132,11 @@ impl<'a, K: Keeper, H: HubName, C: Clock, G: Gate, R: Wait> Desk for HubDesk<'a,
                     0
                 };
                 let reply = kept.make(who, request, now);
-                self.hub.note_due(shard, kept.next_due());
+                let due = kept.next_due();
+                self.hub.note_due(shard, due);
+                if is_held_up(&reply) && due <= now {
+                    self.sweeper = turned(self.sweeper, shard);
+                }
                 reply
             }
             None => {

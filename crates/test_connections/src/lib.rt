@@ -7,6 +7,8 @@ mod commands;
 #[cfg(test)]
 mod doors;
 #[cfg(test)]
+mod failing_calls;
+#[cfg(test)]
 mod lines;
 #[cfg(test)]
 mod outside;

@@ -8,11 +8,11 @@ use std::alloc::{AllocError, Global};
 use std::process::Abort;
 use std::test::Fail;
 
-const TALK: &[u8] = b"begin read\r\niqget npending:2 1 0\r\niqset npending:2 0 0 1 1 7\r\n5\r\n\
+pub const TALK: &[u8] = b"begin read\r\niqget npending:2 1 0\r\niqset npending:2 0 0 1 1 7\r\n5\r\n\
     iqget npending:2 1 x\r\nwhat is this\r\nbegin write\r\nqaread npending:2 2\r\nsql 2 invite 1 2\r\n\
     sar npending:2 0 0 1 2\r\n6\r\nquit\r\nbegin read\r\n";
 
-const REPLIES: &str = "SESSION 1\r\nLEASE 1\r\nSTORED\r\nCLIENT_ERROR bad line\r\nERROR\r\n\
+pub const REPLIES: &str = "SESSION 1\r\nLEASE 1\r\nSTORED\r\nCLIENT_ERROR bad line\r\nERROR\r\n\
     SESSION 2\r\nGRANTED 2\r\nVALUE npending:2 0 1 7\r\n5\r\nEND\r\nCOMMITTED 1\r\nSTORED\r\n";
 
 /// A line of which this is said, and that gives and takes at most so many bytes at a time.
@@ -24,7 +24,7 @@ pub fn line_of(alloc: Global, said: &[u8], pieces: (usize, usize)) -> Result<Mem
 }
 
 /// Such a line, of which these reads and these writes fail, counted from 1.
-fn failing_line(
+pub fn failing_line(
     alloc: Global,
     said: &[u8],
     pieces: (usize, usize),

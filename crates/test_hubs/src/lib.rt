@@ -12,6 +12,8 @@ mod hub_tests;
 #[cfg(test)]
 mod kept_desks;
 #[cfg(test)]
+mod line_tests;
+#[cfg(test)]
 mod load_tests;
 #[cfg(test)]
 mod plan_texts;
@@ -21,3 +23,5 @@ mod runs;
 mod telling_desks;
 #[cfg(test)]
 mod telling_tests;
+#[cfg(test)]
+mod watched_lines;

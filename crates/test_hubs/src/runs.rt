@@ -77,7 +77,7 @@ pub fn run_plans<G: Gate, R: Threads + Wait + Abort + Sync>(
 }
 
 /// A store of so many members in memory.
-fn store_of(rt: &impl Abort, alloc: Global, members: u32) -> Store<MapKeeper>
+pub fn store_of(rt: &impl Abort, alloc: Global, members: u32) -> Store<MapKeeper>
     requires some { 1 ≤ members }
     requires few { members ≤ 100000 }
     ensures { result.ledger.failed ≡ 0 }

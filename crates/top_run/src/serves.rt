@@ -311,7 +311,8 @@ fn serve_over<
     }
 }
 
-/// Opens the door, lets the workers serve, each on its desk, and tells how many lines were served.
+/// Opens the door, lets the workers serve, of whom there is one for each desk, and tells how many lines were
+/// served.
 fn serve_with<W: Sink, K: Desk + Send, D: Door, R: Threads + Wait + Sync>(
     rt: &R,
     alloc: Global,
@@ -321,7 +322,8 @@ fn serve_with<W: Sink, K: Desk + Send, D: Door, R: Threads + Wait + Sync>(
     door: &mut D,
     ends: Vec<LineEnd>,
 ) -> Served
-    requires some { 1 ≤ length desks.old }
+    requires some { 1 ≤ spec.now.workers }
+    requires as_many { length desks.old ≡ spec.now.workers }
     requires none { ends.items ≡ [] }
     requires room { spec.now.conns ≤ vec_capacity ends }
     ensures served { let tells = told D.lines D.faults D.ended D.closed in

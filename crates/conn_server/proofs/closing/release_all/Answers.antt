@@ -9,6 +9,7 @@ loop-init g c = record {
   releasing = releasing_none c.args.who (release_way c.args.committed) c.args.grants.now.items (g.D.Desk.record_of c.args.desk.now);
   left = omega arith;
   few = omega arith;
+  untended = refl;
   room = refl;
 }
 
@@ -23,6 +24,7 @@ loop-preserved g c =
           c.release_of-wanted.ensures.way c.call.ensures.belongs c.call.ensures.recorded c.ended_by-count.ensures.told;
       left = omega (arith, less, before.left);
       few = omega (arith, before.few, c.ended_by-count.ensures.most);
+      untended = c.call.ensures.tends ∙ before.untended;
       room = c.take.ensures.room ∙ before.room;
     }
 

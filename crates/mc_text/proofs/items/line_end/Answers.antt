@@ -1,4 +1,4 @@
-use Rattle.std.proofs.Common.{ℕ, ◌+◌, ◌-◌, ◌≡◌, ◌≤◌, length, take, get_or, length-take, arith, sym, ◌∙◌}
+use Rattle.std.proofs.Common.{ℕ, ◌+◌, ◌-◌, ◌≡◌, length, take, get_or, length-take, arith, sym, ◌∙◌}
 use Rattle.mc_text.proofs.LineLemmas.{searched, feed_byte, searched_byte, searched_long, no_end_before, no_end_yet, first_end}
 use Rattle.mc_text.proofs.items.line_end.Goals as goal
 

@@ -1,6 +1,5 @@
 use Rattle.std.proofs.Common.{◌+◌, ◌-◌, ◌≡◌, [], arith}
-use Rattle.mc_text.proofs.OnceLemmas.{block_wants}
-use Rattle.mc_text.proofs.FrontLemmas.{open_block, block_command}
+use Rattle.mc_text.proofs.FrontLemmas.{open_block, block_command, block_wants}
 use Rattle.mc_text.specs.Parsing.{with_block}
 use Rattle.mc_text.proofs.items.with_block.Goals as goal
 
@@ -16,4 +15,6 @@ returns-clause-front c =
     c.requires.line c.requires.says c.bytes-bytes.ensures c.if-bytes-gt-BIGGEST_BLOCK.false c.if-not-ends_at.ensures (rw size at c.in_ok-block.ensures))
 
 pub returns-in_err-block-clause-memory : goal.returns-in_err-block-clause-memory
-returns-in_err-block-clause-memory c = block_wants c.args.stream.now c.args.long c.args.head c.from_residual.result c.requires.line c.requires.says
+returns-in_err-block-clause-memory c =
+    block_wants c.args.stream.now c.args.long c.bytes-bytes.result c.args.head c.from_residual.result c.requires.line c.requires.says
+    c.bytes-bytes.ensures c.if-bytes-gt-BIGGEST_BLOCK.false c.if-not-ends_at.ensures

@@ -1,4 +1,4 @@
-use Rattle.std.proofs.Common.{arith, sym, ◌∙◌}
+use Rattle.std.proofs.Common.{arith}
 use Rattle.mc_text.proofs.KindLemmas.{number_written, not_zero, member_number}
 use Rattle.mc_text.proofs.NumberLemmas.{numeral_parts}
 use Rattle.mc_text.proofs.numbers.id_of.Goals as goal

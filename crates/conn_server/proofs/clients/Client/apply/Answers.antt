@@ -16,8 +16,8 @@ call-requires g c =
     subst (λ (grant : Permit). grant.mode ≡ modes.Delta)
     (same_Some c.requires.grant c.take_on-grant.result.1 (sym c.requires.is_first ∙ c.take_on-grant.ensures.grant)) c.requires.in_mode
 
-pub returns : goal.returns
-returns g c = (
+pub returns-clause-answers : goal.returns-clause-answers
+returns-clause-answers g c = (
   c.take_on-grant.result.1,
   c.take_on-grant.ensures.grant,
   λ sid. subst (λ (stamp : ℕ). Makes (g.D.Desk.record_of c.args.desk.now) (g.D.Desk.record_of c.call.new.self) c.args.self.now

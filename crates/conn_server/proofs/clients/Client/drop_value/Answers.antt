@@ -1,8 +1,8 @@
 use Rattle.conn_server.proofs.AnswerLemmas.{made_drop}
 use Rattle.conn_server.proofs.clients.Client.drop_value.Goals as goal
 
-pub returns : goal.returns
-returns g c = (
+pub returns-clause-answers : goal.returns-clause-answers
+returns-clause-answers g c = (
   c.take_on-grant.result.1,
   c.take_on-grant.ensures.grant,
   λ sid. made_drop _ _ c.args.self.now c.take_on-grant.new.self c.asker-who.result c.args.key sid c.take_on-grant.result.1 c.call.result _

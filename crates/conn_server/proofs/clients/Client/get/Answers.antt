@@ -4,8 +4,8 @@ use Rattle.session_client.specs.declared.replies.Wanted.TheVariants as wanted
 use Rattle.conn_server.proofs.AnswerLemmas.{looks, made_question}
 use Rattle.conn_server.proofs.clients.Client.get.Goals as goal
 
-pub returns : goal.returns
-returns g c = λ sid.
+pub returns-clause-answers : goal.returns-clause-answers
+returns-clause-answers g c = λ sid.
     made_question _ _ c.args.self.now c.asker.result (wanted.Get c.args.key c.args.floor) (commands.IqGet (Some c.args.key) sid c.args.floor)
     c.call.result _ c.asker.ensures c.call.ensures.belongs c.call.ensures.recorded
     (c.tell_lookup.ensures c.asker.result sid c.args.floor c.call.ensures.belongs)

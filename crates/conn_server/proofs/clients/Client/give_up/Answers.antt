@@ -26,3 +26,11 @@ returns-clause-leaves g c =
     rw (← c.self.view_is, c.in-Some.is)
     (gives_up c.match-present.committed stage who c.self.inside.grants.items before mid (g.D.Desk.record_of c.release_all.new.desk)
     c.release_all.result starts c.release_all.ensures.releases)
+
+pub returns-clause-untended : goal.returns-clause-untended
+returns-clause-untended g c =
+    c.release_all.ensures.untended
+    ∙ elim c.match-present.branch [
+      | in-Committed w ↦ ap g.D.Desk.tends w.desk-is
+      | in-Open w ↦ ap g.D.Desk.tends w.desk-is ∙ w.call.ensures.tends
+    ]

@@ -18,8 +18,8 @@ call-requires g c =
     subst (λ (grant : Permit). grant.mode ≡ modes.Refresh)
     (same_Some c.requires.grant c.take_on-place.result.1 (sym c.requires.is_first ∙ c.take_on-place.ensures.grant)) c.requires.in_mode
 
-pub returns-in-SarBack : goal.returns-in-SarBack
-returns-in-SarBack g c = (
+pub returns-in-SarBack-clause-answers : goal.returns-in-SarBack-clause-answers
+returns-in-SarBack-clause-answers g c = (
   c.take_on-place.result.1,
   c.take_on-place.ensures.grant,
   λ flags exptime bytes sid.
@@ -35,8 +35,8 @@ returns-in-SarBack g c = (
       c.stamp-stamp.result c.asker-who.ensures belongs c.in-SarBack.ensures.recorded same),
 )
 
-pub returns-in_default : goal.returns-in_default
-returns-in_default g c = (
+pub returns-in_default-clause-answers : goal.returns-in_default-clause-answers
+returns-in_default-clause-answers g c = (
   c.take_on-place.result.1,
   c.take_on-place.ensures.grant,
   λ flags exptime bytes sid. subst (λ (stamp : ℕ). Makes (g.D.Desk.record_of c.args.desk.now) (g.D.Desk.record_of c.call.new.self) c.args.self.now

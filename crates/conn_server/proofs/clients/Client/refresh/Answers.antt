@@ -4,8 +4,8 @@ use Rattle.session_client.specs.declared.replies.Wanted.TheVariants as wanted
 use Rattle.conn_server.proofs.AnswerLemmas.{refreshes, made_quarantine, told_refresh}
 use Rattle.conn_server.proofs.clients.Client.refresh.Goals as goal
 
-pub returns : goal.returns
-returns g c = λ sid.
+pub returns-clause-answers : goal.returns-clause-answers
+returns-clause-answers g c = λ sid.
     let who = rw (← c.self.view_is) at c.asker.ensures in
     let belongs = c.call-heard.ensures.belongs in
     let answers = refreshes c.asker.result c.args.key c.call-heard.result belongs in

@@ -6,8 +6,8 @@ use Rattle.conn_server.specs.Answers.{Makes}
 use Rattle.conn_server.proofs.AnswerLemmas.{made_quarantine, shifts, told_shift}
 use Rattle.conn_server.proofs.clients.Client.shift.Goals as goal
 
-pub returns : goal.returns
-returns g c = λ sid.
+pub returns-clause-answers : goal.returns-clause-answers
+returns-clause-answers g c = λ sid.
     let who = rw (← c.self.view_is) at c.asker.ensures in
     let belongs = c.call-heard.ensures.belongs in
     let by = to_z w32 (of_z w32 c.args.by) in

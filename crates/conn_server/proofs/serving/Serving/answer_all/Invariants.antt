@@ -1,11 +1,12 @@
 use Rattle.std.proofs.Common.{◌-◌}
 use Rattle.conn_server.proofs.CourseLemmas.{StillOn}
+use Rattle.conn_server.specs.Course.{desk_side}
 use Rattle.conn_server.proofs.serving.Serving.answer_all.Given as goal
 
 abbrev pub invariant-loop-self : goal.invariant-loop-self
 invariant-loop-self g l =
     StillOn (g.L.Sink.read_side l.initial.line) (g.L.Sink.read_side l.line) (g.L.Source.write_side l.initial.line) (g.L.Source.write_side l.line)
-    (g.D.Desk.record_of l.initial.desk) (g.D.Desk.record_of l.desk) l.initial.self l.self
+    (desk_side g.D.Desk.record_of g.D.Desk.tends l.initial.desk) (desk_side g.D.Desk.record_of g.D.Desk.tends l.desk) l.initial.self l.self
 
 abbrev pub decreases-loop-self : goal.decreases-loop-self
 decreases-loop-self g l = 1000000 - l.self.count

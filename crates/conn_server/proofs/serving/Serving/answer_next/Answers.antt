@@ -1,5 +1,6 @@
-use Rattle.std.proofs.Common.{◌≡◌, ◌∙◌, refl, sym, subst, Some, None}
+use Rattle.std.proofs.Common.{◌≡◌, ◌∙◌, refl, sym, ap, subst, Some, None}
 use Rattle.std.specs.Prelude.{Ok}
+use Rattle.session_client.specs.Desks.{one_more}
 use Rattle.mc_text.specs.Streams.{command}
 use Rattle.mc_text.specs.declared.commands.Command.TheVariants.{Quit}
 use Rattle.mc_text.specs.declared.faults.FrameFault.TheVariants as frame
@@ -7,7 +8,9 @@ use Rattle.mc_text.specs.declared.replies.LineReply.TheVariants as reply
 use Rattle.conn_server.specs.declared.clients.Client.{Client}
 use Rattle.conn_server.specs.Answers.{ItemAnswers}
 use Rattle.conn_server.proofs.CourseLemmas.{Answered, answered_goes_on, answered_ends, tells_within, tells_more, next_said, next_none, next_fault}
+use Rattle.conn_server.proofs.CourseLemmas.{waits_short, tells_waits, shuts_waits}
 use Rattle.conn_server.proofs.CourseLemmas.{bad_line_answered, course_open, ending_quit, ending_memory, shut_by}
+use Rattle.conn_server.specs.Course.{desk_side}
 use Rattle.conn_server.proofs.serving.Serving.answer_next.Goals as goal
 
 pub returns-in-Ok-Some-Quit-clause-ends : goal.returns-in-Ok-Some-Quit-clause-ends
@@ -15,27 +18,29 @@ returns-in-Ok-Some-Quit-clause-ends g c =
     let is : c.next_command-next.result ≡ Ok (Some Quit) = cc in
     let t = next_said c.args.self.now.framer c.next_command-next.new.self c.next_command-next.result Quit c.next_command-next.ensures is in
     λ start rounds reads writes course.
-    ending_quit start rounds reads writes (g.D.Desk.record_of c.args.desk.now) c.args.self.now _ t.taken t.stands refl refl course
+    ending_quit start rounds reads writes (desk_side g.D.Desk.record_of g.D.Desk.tends c.args.desk.now) c.args.self.now _ t.taken t.stands refl refl course
 
 pub returns-in-Ok-Some : goal.returns-in-Ok-Some
 returns-in-Ok-Some g c =
     let is : c.next_command-next.result ≡ Ok (Some c.in-Ok-Some.said) = cc in
     let t = next_said c.args.self.now.framer c.next_command-next.new.self c.next_command-next.result c.in-Ok-Some.said c.next_command-next.ensures is in
-    let a : Answered (g.D.Desk.record_of c.args.desk.now) (g.D.Desk.record_of c.tell.new.desk) c.args.self.now c.tell.new.self c.answer-reply.result =
+    let a : Answered (desk_side g.D.Desk.record_of g.D.Desk.tends c.args.desk.now) (desk_side g.D.Desk.record_of g.D.Desk.tends c.tell.new.desk) c.args.self.now c.tell.new.self c.answer-reply.result =
     record {
       item = command c.in-Ok-Some.said;
       taken = t.taken;
-      calls = c.answer-reply.ensures.calls;
+      calls = c.answer-reply.ensures.answers.calls;
       stands = t.stands;
       framer = c.tell.ensures.framer ∙ t.goes_on;
-      asks = c.tell.ensures.asks_nothing ∙ c.answer-reply.ensures.record_is;
-      answers = subst (λ (x : Client). ItemAnswers c.args.self.now.client (command c.in-Ok-Some.said) c.answer-reply.ensures.calls c.answer-reply.result x)
-          (sym c.tell.ensures.client) c.answer-reply.ensures.answers;
+      tended = c.tell.ensures.tended ∙ ap one_more c.answer-reply.ensures.untended;
+      asks = c.tell.ensures.asks_nothing ∙ c.answer-reply.ensures.answers.record_is;
+      answers = subst (λ (x : Client). ItemAnswers c.args.self.now.client (command c.in-Ok-Some.said) c.answer-reply.ensures.answers.calls c.answer-reply.result x)
+          (sym c.tell.ensures.client) c.answer-reply.ensures.answers.answers;
       count = c.tell.ensures.counts;
     } in
     record {
       within = tells_within c.tell.result c.answer-reply.result _ c.tell.new.self c.tell.ensures.tells;
       counts = λ e. c.tell.ensures.counts;
+      waits = tells_waits c.tell.result c.answer-reply.result _ c.args.self.now c.tell.new.self c.requires.few refl c.tell.ensures.tells;
       stops = λ e. absurd (tells_more c.tell.result c.answer-reply.result _ c.tell.new.self c.tell.ensures.tells e);
       goes_on = answered_goes_on c.tell.result _ _ c.args.self.now _ c.tell.new.self c.answer-reply.result refl c.tell.ensures.tells a;
       ends = answered_ends c.tell.result _ _ c.args.self.now _ c.tell.new.self c.answer-reply.result refl c.tell.ensures.tells a;
@@ -46,15 +51,15 @@ returns-in-Ok-None-clause-goes_on g c =
     let is : c.next_command-next.result ≡ Ok None = cc in
     let same = next_none c.args.self.now.framer c.next_command-next.new.self c.next_command-next.result c.next_command-next.ensures is in
     λ start rounds reads writes course.
-    course_open start rounds reads writes (g.D.Desk.record_of c.args.desk.now) c.args.self.now _ same refl refl refl course
+    course_open start rounds reads writes (desk_side g.D.Desk.record_of g.D.Desk.tends c.args.desk.now) c.args.self.now _ same refl refl refl course
 
 pub returns-in-BadLine-clause-goes_on : goal.returns-in-BadLine-clause-goes_on
 returns-in-BadLine-clause-goes_on g c =
     let f = next_fault c.args.self.now.framer c.next_command-next.new.self c.next_command-next.result c.in-Err.fault _ c.next_command-next.ensures
     c.in-Err.is c.in-BadLine.is in
     let t = c.tell-in-BadLine.ensures in
-    let a = bad_line_answered (g.D.Desk.record_of c.args.desk.now) (g.D.Desk.record_of c.tell-in-BadLine.new.desk) c.args.self.now
-    c.tell-in-BadLine.new.self _ c.next_command-next.new.self f t.framer t.asks_nothing t.client t.counts in
+    let a = bad_line_answered (desk_side g.D.Desk.record_of g.D.Desk.tends c.args.desk.now) (desk_side g.D.Desk.record_of g.D.Desk.tends c.tell-in-BadLine.new.desk) c.args.self.now
+    c.tell-in-BadLine.new.self _ c.next_command-next.new.self f t.framer t.asks_nothing t.tended t.client t.counts in
     answered_goes_on c.tell-in-BadLine.result _ _ c.args.self.now _ c.tell-in-BadLine.new.self reply.BadLine refl t.tells a
 
 pub returns-in-BadLine-clause-ends : goal.returns-in-BadLine-clause-ends
@@ -62,14 +67,14 @@ returns-in-BadLine-clause-ends g c =
     let f = next_fault c.args.self.now.framer c.next_command-next.new.self c.next_command-next.result c.in-Err.fault _ c.next_command-next.ensures
     c.in-Err.is c.in-BadLine.is in
     let t = c.tell-in-BadLine.ensures in
-    let a = bad_line_answered (g.D.Desk.record_of c.args.desk.now) (g.D.Desk.record_of c.tell-in-BadLine.new.desk) c.args.self.now
-    c.tell-in-BadLine.new.self _ c.next_command-next.new.self f t.framer t.asks_nothing t.client t.counts in
+    let a = bad_line_answered (desk_side g.D.Desk.record_of g.D.Desk.tends c.args.desk.now) (desk_side g.D.Desk.record_of g.D.Desk.tends c.tell-in-BadLine.new.desk) c.args.self.now
+    c.tell-in-BadLine.new.self _ c.next_command-next.new.self f t.framer t.asks_nothing t.tended t.client t.counts in
     answered_ends c.tell-in-BadLine.result _ _ c.args.self.now _ c.tell-in-BadLine.new.self reply.BadLine refl t.tells a
 
 pub returns-in-Memory-clause-ends : goal.returns-in-Memory-clause-ends
 returns-in-Memory-clause-ends g c =
     λ start rounds reads writes course.
-    ending_memory start rounds reads writes (g.D.Desk.record_of c.args.desk.now) c.args.self.now _ refl refl course
+    ending_memory start rounds reads writes (desk_side g.D.Desk.record_of g.D.Desk.tends c.args.desk.now) c.args.self.now _ refl refl course
 
 pub returns-in-LongLine-clause-ends : goal.returns-in-LongLine-clause-ends
 returns-in-LongLine-clause-ends g c =
@@ -77,7 +82,7 @@ returns-in-LongLine-clause-ends g c =
     c.in-Err.is c.in-LongLine.is in
     λ start rounds reads writes course.
     shut_by c.shut.result c.in-Err.fault (frame.LongLine c.in-LongLine.place) reply.LongLine start rounds reads writes
-    (g.D.Desk.record_of c.args.desk.now)
+    (desk_side g.D.Desk.record_of g.D.Desk.tends c.args.desk.now)
     c.args.self.now c.shut.new.self c.in-LongLine.is ((f.1.stands.0, refl), refl) f.0 c.shut.ensures.shuts
     c.shut.ensures.client course
 
@@ -87,7 +92,7 @@ returns-in-BadBlock-clause-ends g c =
     c.in-Err.is c.in-BadBlock.is in
     λ start rounds reads writes course.
     shut_by c.shut-in-BadBlock.result c.in-Err.fault (frame.BadBlock c.in-BadBlock.place) reply.BadBlock start rounds reads writes
-    (g.D.Desk.record_of c.args.desk.now)
+    (desk_side g.D.Desk.record_of g.D.Desk.tends c.args.desk.now)
     c.args.self.now c.shut-in-BadBlock.new.self c.in-BadBlock.is ((f.1.stands.0, refl), refl) f.0 c.shut-in-BadBlock.ensures.shuts
     c.shut-in-BadBlock.ensures.client course
 
@@ -97,6 +102,33 @@ returns-in-BigBlock-clause-ends g c =
     c.in-Err.is c.in-BigBlock.is in
     λ start rounds reads writes course.
     shut_by c.shut-in-BigBlock.result c.in-Err.fault (frame.BigBlock c.in-BigBlock.place) reply.BigBlock start rounds reads writes
-    (g.D.Desk.record_of c.args.desk.now)
+    (desk_side g.D.Desk.record_of g.D.Desk.tends c.args.desk.now)
     c.args.self.now c.shut-in-BigBlock.new.self c.in-BigBlock.is ((f.1.stands.0, refl), refl) f.0 c.shut-in-BigBlock.ensures.shuts
     c.shut-in-BigBlock.ensures.client course
+
+pub returns-in-Ok-Some-Quit-clause-waits : goal.returns-in-Ok-Some-Quit-clause-waits
+returns-in-Ok-Some-Quit-clause-waits g c = waits_short c.args.self.now.out.items c.requires.few
+
+pub returns-in-Ok-None-clause-waits : goal.returns-in-Ok-None-clause-waits
+returns-in-Ok-None-clause-waits g c = waits_short c.args.self.now.out.items c.requires.few
+
+pub returns-in-Memory-clause-waits : goal.returns-in-Memory-clause-waits
+returns-in-Memory-clause-waits g c = waits_short c.args.self.now.out.items c.requires.few
+
+pub returns-in-BadLine-clause-waits : goal.returns-in-BadLine-clause-waits
+returns-in-BadLine-clause-waits g c =
+    tells_waits c.tell-in-BadLine.result reply.BadLine _ c.args.self.now c.tell-in-BadLine.new.self c.requires.few refl c.tell-in-BadLine.ensures.tells
+
+pub returns-in-LongLine-clause-waits : goal.returns-in-LongLine-clause-waits
+returns-in-LongLine-clause-waits g c =
+    shuts_waits c.shut.result c.in-Err.fault reply.LongLine c.args.self.now.out.items c.shut.new.self.out.items c.requires.few c.shut.ensures.shuts
+
+pub returns-in-BadBlock-clause-waits : goal.returns-in-BadBlock-clause-waits
+returns-in-BadBlock-clause-waits g c =
+    shuts_waits c.shut-in-BadBlock.result c.in-Err.fault reply.BadBlock c.args.self.now.out.items c.shut-in-BadBlock.new.self.out.items c.requires.few
+    c.shut-in-BadBlock.ensures.shuts
+
+pub returns-in-BigBlock-clause-waits : goal.returns-in-BigBlock-clause-waits
+returns-in-BigBlock-clause-waits g c =
+    shuts_waits c.shut-in-BigBlock.result c.in-Err.fault reply.BigBlock c.args.self.now.out.items c.shut-in-BigBlock.new.self.out.items c.requires.few
+    c.shut-in-BigBlock.ensures.shuts

@@ -1,7 +1,7 @@
 use Rattle.std.proofs.Common.{◌≡◌, length}
 use Rattle.mc_text.specs.Words.{words_in}
 use Rattle.change_words.proofs.TakenLemmas.{HasTaken}
-use Rattle.mc_text.proofs.txns.txn_of.Given as goal
+use Rattle.mc_text.proofs.txns.read_txn.Given as goal
 
 abbrev pub invariant-loop : goal.invariant-loop
 invariant-loop l = record {

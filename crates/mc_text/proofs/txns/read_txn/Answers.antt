@@ -1,7 +1,7 @@
 use Rattle.std.proofs.Common.{arith, ap, ◌∙◌, ◌∷◌, List, ℕ}
 use Rattle.change_words.proofs.TakenLemmas.{taken_on, taken_all, no_change, no_more, no_plus}
 use Rattle.mc_text.specs.Words.{words_in}
-use Rattle.mc_text.proofs.txns.txn_of.Goals as goal
+use Rattle.mc_text.proofs.txns.read_txn.Goals as goal
 
 pub returns-in_default-clause-none : goal.returns-in_default-clause-none
 returns-in_default-clause-none c =

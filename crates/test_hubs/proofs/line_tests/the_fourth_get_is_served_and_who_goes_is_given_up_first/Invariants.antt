@@ -1,0 +1,16 @@
+use Rattle.std.proofs.Common.{Some, None}
+use Rattle.shard_lock.specs.Names.{terms_at}
+use Rattle.test_hubs.proofs.line_tests.the_fourth_get_is_served_and_who_goes_is_given_up_first.Given as goal
+
+-- what the shards are made with, and the store as it is handed in
+abbrev pub ghosts-goes_well-H-HubName : goal.ghosts-goes_well-H-HubName
+ghosts-goes_well-H-HubName a = record {
+  terms = terms_at 64 16 100 None;
+  opening = a.store.ledger.opening;
+  cap = a.store.ledger.cap;
+  told = a.store.told;
+  start = Some a.store.faults;
+}
+
+abbrev pub ghosts-goes_well-H-Ledger : goal.ghosts-goes_well-H-Ledger
+ghosts-goes_well-H-Ledger a = record { name = a.ledger.name; parts = a.ledger.parts }
