@@ -23,7 +23,7 @@ use Rattle.conn_server.specs.declared.ends.LineEnd.TheVariants as ends
 use Rattle.conn_server.specs.declared.serving.Serving.{Serving}
 use Rattle.conn_server.specs.Clients.{newcomer}
 use Rattle.conn_server.specs.Answers.{ItemAnswers, AllAnswer, GivenUp, with_calls}
-use Rattle.conn_server.specs.Service.{budget, texts, IsWithin, Lasts, place_of, TookSome, TookToFault, EndsSo, NoneLeft, IsServed, CountsReads, CountsWrites, tended_by}
+use Rattle.conn_server.specs.Service.{budget, texts, IsWithin, Lasts, place_of, TookSome, TookToFault, EndsSo, NoneLeft, IsServed, CountsWrites, tended_by}
 use Rattle.conn_server.specs.Course.{most_reads, DeskSide, IsUnserved, WaitsFew, Start, Done, Course, CountsAt, Ending, Tells, Flushes, Shuts, Finishes}
 use Rattle.conn_server.proofs.ClosingLemmas.{with_calls-append}
 use Rattle.conn_server.proofs.BoundLemmas.{first_bound, open_bound}

@@ -1,5 +1,5 @@
 -- What was done so far on a connection that is served.
-use Rattle.std.specs.Prelude.{ℕ, ◌+◌, ◌-◌, ◌^◌, ◌≡◌, ◌<◌, ◌≤◌, ◌⊎◌, ⊤, min, Bool, true, List, [], ◌++◌, length, take, drop, Option, Result, Ok, Err}
+use Rattle.std.specs.Prelude.{ℕ, ◌+◌, ◌-◌, ◌^◌, ◌≡◌, ◌<◌, ◌≤◌, ◌⊎◌, min, Bool, true, List, [], ◌++◌, length, take, drop, Option, Result, Ok, Err}
 use Rattle.iq_outside.specs.Outside.{Takes, Gains, Rose, ReadSide, WriteSide}
 use Rattle.mc_text.specs.Framing.{begun}
 use Rattle.mc_text.specs.Replies.{text_of}

@@ -1,6 +1,5 @@
 -- How the lines ended that were handed back, one line further.
 use Rattle.std.proofs.Common.{ℕ, ◌≡◌, ◌++◌, List, [], ◌∷◌, Option, Some, None, refl, sym, ap, subst, ◌∙◌, append_assoc, append-nil, inl, inr}
-use Rattle.std.specs.Prelude.{◌⊎◌}
 use Rattle.std.specs.Option.{option_map, ForSome}
 use Rattle.iq_outside.specs.Outside.{Gains, HandedBack, IsFresh, LineRecord, ReadSide, WriteSide}
 use Rattle.session_client.specs.Desks.{Call}

@@ -1,5 +1,5 @@
 -- How the lines ended that were handed back to a door.
-use Rattle.std.specs.Prelude.{ℕ, ◌≡◌, ◌⊎◌, List, [], ◌∷◌, ◌++◌, Option, None}
+use Rattle.std.specs.Prelude.{◌≡◌, ◌⊎◌, List, [], ◌∷◌, ◌++◌, Option, None}
 use Rattle.std.specs.Option.{option_map, ForSome}
 use Rattle.iq_outside.specs.Outside.{LineRecord}
 use Rattle.session_client.specs.Desks.{Call}

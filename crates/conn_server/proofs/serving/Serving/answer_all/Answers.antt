@@ -33,7 +33,7 @@ loop-self-preserved-in_ok-flush g c = record {
 pub loop-self-preserved : goal.loop-self-preserved
 loop-self-preserved g c = record {
   within = c.in_ok-answer_next.ensures.within;
-  few = omega (arith, c.if-FULL.false);
+  few = omega (arith, c.if-len-ge-FULL.false);
   goes = λ start rounds course.
       c.in_ok-answer_next.ensures.goes_on start rounds (g.L.Sink.read_side c.loop-self.line) (g.L.Source.write_side c.loop-self.line)
       (c.loop-self.invariant.goes start rounds course);
