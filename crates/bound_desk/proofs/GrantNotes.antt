@@ -21,23 +21,23 @@ use Rattle.key_shard.specs.Answers.{quarantine_step}
 use Rattle.key_shard.specs.Permit.{Permit, same_permit}
 use Rattle.key_shard.specs.Replies.{old_value, ShowsQuarantine}
 use Rattle.key_shard.proofs.CaseLemmas.{quarantine_cases}
-use Rattle.session_client.specs.declared.replies.Wanted.TheVariants as wanted
 use Rattle.log_word.specs.declared.events.Short.{Short}
 use Rattle.log_word.specs.declared.seen.Seen.{Seen}
 use Rattle.log_word.specs.Events.{may_write, is_over}
 use Rattle.log_word.specs.Lists.{steps_of}
-use Rattle.log_word.specs.Steps.{grants}
+use Rattle.log_word.specs.Steps.{grants, IsSound}
 use Rattle.key_freshness.proofs.MarkLemmas.{by_test}
 use Rattle.bound_hub.specs.Gets.{IsLastStep}
 use Rattle.bound_hub.specs.Shorts.{granted_short}
-use Rattle.bound_hub.specs.Stores.{IsGrantSeen, ShowsCommit}
+use Rattle.bound_hub.specs.Stores.{IsGrantSeen, ShowsCommit, ShowsEnd}
 use Rattle.bound_hub.specs.Told.{quarantine_short}
+use Rattle.bound_hub.proofs.SessionLemmas.{closed_is_over}
 use Rattle.desk_book.specs.Books.{Book, Held, is_of, is_present, all_but, with_commit, with_end, with_grant, without_grant}
 use Rattle.desk_book.specs.Books as books
-use Rattle.desk_book.specs.Borne.{IsBorne, Holds}
+use Rattle.desk_book.specs.Borne.{Holds}
 use Rattle.desk_book.specs.declared.facts.Committed.{Committed}
 use Rattle.desk_book.specs.declared.facts.Present.{Present}
-use Rattle.bound_desk.specs.Bound.{IsPresentSeen, IsBoundBook}
+use Rattle.bound_desk.specs.Bound.{HasCommitted, IsPresentSeen, IsBoundBook}
 use Rattle.bound_desk.specs.Grants.{IsGrantFor}
 use Rattle.bound_desk.proofs.BoundLemmas.{at_any}
 
@@ -88,12 +88,11 @@ committed_over seen None commit who h is did = absurd (false≢true is)
 committed_over seen (Some one) None who h is did = absurd (false≢true did)
 
 -- and so is that of a grant that may be dropped
-pub borne_is_over : (opening : Tables) (shards : ℕ) (book : Book) (seen : Seen) (who : Sid) (grant : Permit) → IsBoundBook opening shards book seen
-    → IsBorne book who (wanted.Dar grant) ⊎ (is_over grant.sid.number seen.events ≡ true) → is_over grant.sid.number seen.events ≡ true
-borne_is_over opening shards book seen who grant h may =
+pub may_be_dropped : (opening : Tables) (shards : ℕ) (book : Book) (seen : Seen) (who : Sid) → IsBoundBook opening shards book seen
+    → HasCommitted book who ⊎ (is_over who.number seen.events ≡ true) → is_over who.number seen.events ≡ true
+may_be_dropped opening shards book seen who h may =
     ⊎_elim
-    (λ (borne : IsBorne book who (wanted.Dar grant)). subst (λ (s : Sid). is_over s.number seen.events ≡ true) (sym borne.0.1)
-    (committed_over seen book.present book.commit who h.commit borne.0.0 borne.1))
+    (λ (done : HasCommitted book who). committed_over seen book.present book.commit who h.commit done.0 done.1)
     (λ over. over)
     may
 
@@ -143,3 +142,12 @@ pub held_are_seen : (opening : Tables) (shards : ℕ) (book : Book) (seen : Seen
 held_are_seen opening shards book seen permits h all = λ k d less.
     let found = at_any (λ (one : Held). one.permit ≡ get_or permits k d) (λ (one : Held). IsGrantSeen shards seen one.permit) book.held h.held (all k d less) in
     subst (IsGrantSeen shards seen) found.1 found.2
+
+-- a session whose end was answered is over: it was open, or it is the present one, which was begun for writing
+pub close_is_over : (shards : ℕ) (seen : Seen) (who : Sid) (present : Option Present) (was writing : Bool) → IsSound shards seen → ShowsEnd who seen was → ForSome present (IsPresentSeen seen)
+    → (writing ≡ true → (is_of present who ≡ true) × (books.may_write present ≡ true)) → (was || writing) ≡ true → is_over who.number seen.events ≡ true
+close_is_over shards seen who present true writing sound shows h is e =
+    subst (λ l. is_over who.number l ≡ true) (sym shows.1) (or_left (who.number == who.number) (is_over who.number shows.0) (eq-eqb who.number who.number refl))
+close_is_over shards seen who present false writing sound shows h is e =
+    let both = is e in
+    closed_is_over who.number seen.events sound.in_order (present_writes seen present who h both.0 both.1) shows

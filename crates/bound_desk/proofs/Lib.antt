@@ -1,2 +1,3 @@
 pub mod BoundLemmas
 pub mod GrantNotes
+pub mod SafeLemmas

@@ -1,5 +1,5 @@
 -- What ties a desk's book to the pass beside it: the pass has seen what the book says.
-use Rattle.std.specs.Prelude.{ℕ, ◌≡◌, ◌≤◌, true, false, List, length, All}
+use Rattle.std.specs.Prelude.{ℕ, ◌≡◌, ◌≤◌, true, false, IsTrue, is_some, List, length, All}
 use Rattle.std.specs.Option.{ForSome}
 use Rattle.rows_model.specs.declared.keys.QKey.{QKey}
 use Rattle.rows_model.specs.declared.keys.Sid.{Sid}
@@ -19,7 +19,7 @@ use Rattle.bound_hub.specs.Gets.{IsLastStep}
 use Rattle.bound_hub.specs.Knowns.{commits_of}
 use Rattle.bound_hub.specs.Stores.{IsGrantSeen}
 use Rattle.desk_book.specs.Books.{Book, BookView, Held, with_lease}
-use Rattle.desk_book.specs.declared.facts.Committed.{Committed}
+use Rattle.desk_book.specs.Borne.{IsPresent}
 use Rattle.desk_book.specs.declared.facts.Leased.{Leased}
 use Rattle.desk_book.specs.declared.facts.Present.{Present}
 
@@ -62,6 +62,10 @@ pub record IsBoundBook (opening : Tables) (shards : ℕ) (book : Book) (seen : S
   pub lease : ForSome book.lease (IsLeaseSeen opening shards book.answers seen)
   pub held : All (λ (one : Held). IsGrantSeen shards seen one.permit) book.held
   pub commit : IsCommitSeen book seen
+
+-- The session is the present one, and has committed.
+abbrev pub HasCommitted : Book → Sid → Type 0
+HasCommitted book who = IsPresent book who × IsTrue (is_some book.commit)
 
 -- What the answer to a get adds to a book.
 abbrev pub with_got : QKey → Got → Book → Book

@@ -76,7 +76,11 @@ impl<H: BoundName> BoundBook<H> {
         ensures word { result.word ≡ H.word }
         ensures seen { result.seen ≡ self.seen }
     {
-        let BoundBook { book: _, pass, of: _ } = self;
+        let BoundBook {
+            book: _,
+            pass,
+            of: _,
+        } = self;
         pass
     }
 }

@@ -9,6 +9,8 @@ pub mod bound_books;
 pub mod commits;
 mod copies;
 pub mod drops;
+pub mod ends;
 pub mod gets;
 pub mod quarantines;
+pub mod requests;
 pub mod sets;

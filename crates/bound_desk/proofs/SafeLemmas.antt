@@ -1,0 +1,93 @@
+-- What is made in place of a request, by its form, is safe.
+use Rattle.std.proofs.Common.{ℕ, ◌≡◌, ◌⊎◌, ◌&&◌, Bool, true, false, cond, Option, Some, None, is_some, refl, sym, ap, subst, ◌∙◌, inl, inr, ⊎_elim}
+use Rattle.std.proofs.lemmas.Bool.{and_parts}
+use Rattle.rows_model.specs.declared.keys.Sid.{Sid}
+use Rattle.key_shard.specs.Permit.{Permit}
+use Rattle.session_client.specs.declared.replies.Wanted.{Wanted}
+use Rattle.session_client.specs.declared.replies.Wanted.TheVariants as wanted
+use Rattle.key_freshness.proofs.MarkLemmas.{by_test}
+use Rattle.desk_book.specs.Books.{Book, is_present}
+use Rattle.desk_book.specs.Borne.{IsBorne, IsForm, IsPresent, safe_form}
+use Rattle.desk_book.specs.Made.{made_in}
+use Rattle.desk_book.specs.declared.forms.Form.{Form}
+use Rattle.desk_book.specs.declared.forms.Form.TheVariants as form
+use Rattle.bound_desk.specs.Bound.{HasCommitted}
+use Rattle.bound_desk.specs.Safe.{IsSafe, IsSafelyMade}
+
+-- a request is made as it is asked for, since the book bears it out, or in its safe form
+which : (book : Book) (who : Sid) (request : Wanted) (found : Form) → IsForm book who request found
+    → ((found ≡ form.AsAsked) × IsBorne book who request) ⊎ (found ≡ safe_form book who request)
+which book who request form.AsAsked h = inl (refl, h.borne.0 refl)
+which book who request form.VoidSet h = inr (h.odd (λ b. let e = h.borne.1 b in absurd cc))
+which book who request form.NoValue h = inr (h.odd (λ b. let e = h.borne.1 b in absurd cc))
+which book who request form.DropOnly h = inr (h.odd (λ b. let e = h.borne.1 b in absurd cc))
+which book who request (form.EndDrop session) h = inr (h.odd (λ b. let e = h.borne.1 b in absurd cc))
+which book who request form.Shared h = inr (h.odd (λ b. let e = h.borne.1 b in absurd cc))
+which book who request (form.Refused mode) h = inr (h.odd (λ b. let e = h.borne.1 b in absurd cc))
+which book who request form.NotCommitted h = inr (h.odd (λ b. let e = h.borne.1 b in absurd cc))
+which book who request form.HeldAlone h = inr (h.odd (λ b. let e = h.borne.1 b in absurd cc))
+
+own_done : (book : Book) (who : Sid) (grant : Permit) → IsPresent book who → grant.sid ≡ who → is_some book.commit ≡ true → HasCommitted book grant.sid
+own_done book who grant now own did = (subst (λ (s : Sid). IsPresent book s) (sym own) now, did)
+
+-- what the book bears out is safe
+borne_is_safe : (book : Book) (who : Sid) (request : Wanted) → IsBorne book who request → IsSafe book who request
+borne_is_safe book who (wanted.Set key token value stamp) h = inr h
+borne_is_safe book who (wanted.Sar grant (Some value) stamp) h = h
+borne_is_safe book who (wanted.Sar grant None stamp) h = own_done book who grant h.0.0 h.0.1 h.1
+borne_is_safe book who (wanted.Apply grant stamp) h = h
+borne_is_safe book who (wanted.Dar grant) h = own_done book who grant h.0.0 h.0.1 h.1
+borne_is_safe book who (wanted.Raise grant) h = h
+borne_is_safe book who (wanted.QaReg key) h = h
+borne_is_safe book who (wanted.QaRead key) h = h
+borne_is_safe book who (wanted.Delta key by) h = h
+borne_is_safe book who (wanted.Commit txn grants) h = h.0
+borne_is_safe book who (wanted.Abort grant) h = h
+borne_is_safe book who (wanted.Get key floor) h = tt
+borne_is_safe book who (wanted.Ask key) h = tt
+borne_is_safe book who (wanted.Staged key txn) h = tt
+borne_is_safe book who (wanted.Renew grant) h = tt
+borne_is_safe book who wanted.End h = tt
+borne_is_safe book who wanted.Nothing h = tt
+
+as_asked : (book : Book) (who : Sid) (request : Wanted) → IsBorne book who request → IsSafelyMade book who (made_in form.AsAsked who request)
+as_asked book who request h = borne_is_safe book who request h
+
+-- and so is the safe form
+safe_is_safe : (book : Book) (who : Sid) (request : Wanted) → IsSafelyMade book who (made_in (safe_form book who request) who request)
+safe_is_safe book who (wanted.Set key token value stamp) = inl refl
+safe_is_safe book who (wanted.Sar grant (Some value) stamp) =
+    by_test (λ b. IsSafelyMade book who (made_in (cond b form.NoValue (form.EndDrop grant.sid)) who (wanted.Sar grant (Some value) stamp)))
+    (is_present book grant.sid && is_some book.commit)
+    (λ is. and_parts (is_present book grant.sid) (is_some book.commit) is)
+    (λ _. refl)
+safe_is_safe book who (wanted.Sar grant None stamp) = refl
+safe_is_safe book who (wanted.Apply grant stamp) =
+    by_test (λ b. IsSafelyMade book who (made_in (cond b form.DropOnly (form.EndDrop grant.sid)) who (wanted.Apply grant stamp)))
+    (is_present book grant.sid && is_some book.commit)
+    (λ is. and_parts (is_present book grant.sid) (is_some book.commit) is)
+    (λ _. refl)
+safe_is_safe book who (wanted.Dar grant) = refl
+safe_is_safe book who (wanted.Raise grant) =
+    by_test (λ b. IsSafelyMade book who (made_in (cond b form.Shared (form.EndDrop grant.sid)) who (wanted.Raise grant)))
+    (is_present book grant.sid) (λ _. tt) (λ _. refl)
+safe_is_safe book who (wanted.QaReg key) = tt
+safe_is_safe book who (wanted.QaRead key) = tt
+safe_is_safe book who (wanted.Delta key by) = tt
+safe_is_safe book who (wanted.Commit txn grants) =
+    by_test (λ b. (is_present book who ≡ b) → IsSafelyMade book who (made_in (cond b form.HeldAlone form.NotCommitted) who (wanted.Commit txn grants)))
+    (is_present book who) (λ is e. e) (λ _ _. tt) refl
+safe_is_safe book who (wanted.Abort grant) = refl
+safe_is_safe book who (wanted.Get key floor) = tt
+safe_is_safe book who (wanted.Ask key) = tt
+safe_is_safe book who (wanted.Staged key txn) = tt
+safe_is_safe book who (wanted.Renew grant) = tt
+safe_is_safe book who wanted.End = tt
+safe_is_safe book who wanted.Nothing = tt
+
+pub made_is_safe : (book : Book) (who : Sid) (request : Wanted) (found : Form) → IsForm book who request found → IsSafelyMade book who (made_in found who request)
+made_is_safe book who request found h =
+    ⊎_elim
+    (λ asked. subst (λ f. IsSafelyMade book who (made_in f who request)) (sym asked.0) (as_asked book who request asked.1))
+    (λ safe. subst (λ f. IsSafelyMade book who (made_in f who request)) (sym safe) (safe_is_safe book who request))
+    (which book who request found h)
