@@ -1,3 +1,4 @@
 pub mod Bound
 pub mod Grants
 pub mod Safe
+pub mod Shown

@@ -1,6 +1,7 @@
 //! A get for a desk: the book notes a lease.
 ghost use Rattle.std.specs.Prelude.{◌≡◌, ◌≢◌, ℕ, Bool, Err, IfOk, OnErr};
 ghost use Rattle.rows_model.specs.Placement.{shard_of};
+ghost use Rattle.key_shard.specs.Answers.{IsAtHome};
 ghost use Rattle.key_shard.specs.declared.replies.ShardFault.TheVariants as faults;
 ghost use Rattle.session_client.specs.Belongs.{IsGotOf};
 ghost use Rattle.log_word.specs.Steps.{IsBeginning};
@@ -30,7 +31,7 @@ impl<H: BoundName> BoundBook<H> {
     ) -> Result<Got, ShardFault>
         requires word { word.now ≡ H.word }
         requires place { shard.old.shard.terms.no ≡ shard_of key H.word.shards }
-        requires count { shard.old.shard.terms.count ≡ H.word.shards }
+        requires home { IsAtHome shard.old.shard.terms key }
         ensures seen { IsBeginning self.old.seen self.new.seen }
         ensures last { IfOk result (λ got. (has : Bool)
             × IsLastStep (shard_of key H.word.shards) (got_short key who got has) self.new.seen) }
@@ -59,7 +60,7 @@ impl<H: BoundName> BoundBook<H> {
     ) -> Result<Got, ShardFault>
         requires word { word.now ≡ H.word }
         requires place { shard.old.shard.terms.no ≡ shard_of key H.word.shards }
-        requires count { shard.old.shard.terms.count ≡ H.word.shards }
+        requires home { IsAtHome shard.old.shard.terms key }
         ensures seen { IsBeginning self.old.seen self.new.seen }
         ensures last { IfOk result (λ got. (has : Bool)
             × IsLastStep (shard_of key H.word.shards) (got_short key who got has) self.new.seen) }

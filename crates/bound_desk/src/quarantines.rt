@@ -1,10 +1,12 @@
 //! A quarantine for a desk: the book notes the grant.
-ghost use Rattle.std.specs.Prelude.{◌≡◌, ◌<◌, ℤ, Bool, IfOk, OnErr, length};
+ghost use Rattle.std.specs.Prelude.{◌≡◌, ◌≢◌, ◌<◌, ℕ, Bool, Err, IfOk, OnErr, length};
 ghost use Rattle.rows_model.specs.Placement.{shard_of};
-ghost use Rattle.key_shard.specs.Answers.{FitsShift};
+ghost use Rattle.key_shard.specs.Answers.{FitsShift, IsAtHome};
 ghost use Rattle.key_shard.specs.Past.{entry};
 ghost use Rattle.key_shard.specs.Replies.{old_value};
 ghost use Rattle.key_shard.specs.Shards.{past_of};
+ghost use Rattle.key_shard.specs.declared.replies.ShardFault.TheVariants as faults;
+ghost use Rattle.session_client.specs.Belongs.{IsQuarantineOf};
 ghost use Rattle.log_word.specs.Steps.{IsBeginning};
 ghost use Rattle.desk_book.specs.Books.{noted_for, with_grant};
 ghost use Rattle.desk_book.specs.Borne.{MayQuarantine};
@@ -42,6 +44,7 @@ impl<H: BoundName> BoundBook<H> {
     ) -> Result<QAnswer, ShardFault>
         requires word { word.now ≡ H.word }
         requires place { shard.old.shard.terms.no ≡ shard_of key H.word.shards }
+        requires home { IsAtHome shard.old.shard.terms key }
         requires fits { FitsShift mode by }
         requires borne { MayQuarantine self.old.book.book who }
         ensures seen { IsBeginning self.old.seen self.new.seen }
@@ -52,7 +55,9 @@ impl<H: BoundName> BoundBook<H> {
             IsGrantHeld H.opening (H.before no) no self.new.seen key told) }
         ensures book { IfOk result (λ told.
             self.new.book.book ≡ noted_for who (with_granted by told) self.old.book.book) }
+        ensures belongs { IfOk result (IsQuarantineOf who key mode) }
         ensures err { OnErr result (self.new.book.book ≡ self.old.book.book) }
+        ensures no_stranger { (place : ℕ) → result ≢ Err (faults.Stranger place) }
     {
         self.book.room_for_grant()?;
         let old = old_copy(shard, &key, mode)?;
@@ -76,6 +81,7 @@ impl<H: BoundName> BoundBook<H> {
     ) -> Result<QAnswer, ShardFault>
         requires word { word.now ≡ H.word }
         requires place { shard.old.shard.terms.no ≡ shard_of key H.word.shards }
+        requires home { IsAtHome shard.old.shard.terms key }
         requires fits { FitsShift mode by }
         requires borne { MayQuarantine self.old.book.book who }
         ensures seen { IsBeginning self.old.seen self.new.seen }
@@ -86,7 +92,9 @@ impl<H: BoundName> BoundBook<H> {
             IsGrantHeld H.opening (H.before no) no self.new.seen key told) }
         ensures grant { IfOk result (IsGrantFor H.word.shards self.new.seen
             (old_value mode (entry key (past_of shard.old.shard)))) }
+        ensures belongs { IfOk result (IsQuarantineOf who key mode) }
         ensures book { self.new.book ≡ self.old.book }
+        ensures no_stranger { (place : ℕ) → result ≢ Err (faults.Stranger place) }
     {
         shard.quarantine(word, &mut self.pass, key, who, mode, by, now)
     }

@@ -4,7 +4,7 @@ ghost use Rattle.std.specs.Prelude.{◌≡◌, IfErr, IfOk, OnErr};
 ghost use Rattle.desk_book.specs.Borne.{IsForm, IsPut};
 ghost use Rattle.desk_book.specs.Made.{made_in};
 ghost use Rattle.desk_book.specs.declared.forms.Form.{Form};
-ghost use Rattle.bound_desk.specs.Safe.{IsSafelyMade};
+ghost use Rattle.bound_desk.specs.Safe.{is_raise, IsSafelyMade, MadeBelongs};
 
 use crate::bound_books::BoundBook;
 use bound_hub::BoundName;
@@ -19,6 +19,7 @@ impl<H: BoundName> BoundBook<H> {
         ensures form { IfOk result (λ made. (found : Form)
             × IsForm self.now.book.book who request found × (made ≡ made_in found who request)) }
         ensures safe { IfOk result (IsSafelyMade self.now.book.book who) }
+        ensures belongs { IfOk result (MadeBelongs who request) }
         ensures memory { OnErr result (IsPut request) }
         ensures back { IfErr result (λ back. back ≡ request) }
     {
@@ -27,4 +28,11 @@ impl<H: BoundName> BoundBook<H> {
             Err(_) => Err(request),
         }
     }
+}
+
+/// Whether the request is to raise a quarantine.
+pub(crate) fn is_raise(request: &Wanted) -> bool
+    ensures { result ≡ is_raise request.now }
+{
+    matches!(request, Wanted::Raise { .. })
 }

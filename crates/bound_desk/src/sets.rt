@@ -1,5 +1,5 @@
 //! A set for a desk: of what its book bears out.
-ghost use Rattle.std.specs.Prelude.{◌≡◌, ◌⊎◌, ◌≢◌, ℕ, Bool, IfOk};
+ghost use Rattle.std.specs.Prelude.{◌≡◌, ◌⊎◌, Bool, IfOk};
 ghost use Rattle.rows_model.specs.Placement.{shard_of};
 ghost use Rattle.session_client.specs.declared.replies.Wanted.TheVariants as wanted;
 ghost use Rattle.log_word.specs.Steps.{IsBeginning};
