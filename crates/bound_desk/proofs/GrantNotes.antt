@@ -1,6 +1,6 @@
 -- The pass has seen what the book says of grants, of a commit and of an end.
-use Rattle.std.proofs.Common.{ℕ, ℤ, ◌≡◌, ◌≢◌, ◌⊎◌, ◌<◌, ◌==◌, ◌||◌, Bool, true, false, cond, List, [], ◌∷◌, ◌++◌, length, All, get_or, Option, Some, None, is_some, refl, sym, ap, subst, ◌∙◌, inl, inr, ⊎_elim}
-use Rattle.std.specs.List.{list_any}
+use Rattle.std.proofs.Common.{ℕ, ℤ, ◌≡◌, ◌≢◌, ◌⊎◌, ◌<◌, ◌==◌, ◌||◌, Bool, true, false, cond, List, [], ◌∷◌, ◌++◌, length, filter, All, get_or, Option, Some, None, is_some, refl, sym, ap, subst, ◌∙◌, inl, inr, ⊎_elim}
+use Rattle.std.specs.List.{list_all, list_any}
 use Rattle.std.specs.Option.{ForSome}
 use Rattle.std.proofs.lemmas.Bool.{false≢true, and_from, eq-eqb, eqb-true, or_left}
 use Rattle.std.proofs.lemmas.List.Elements.{All-head, All-tail, All-cons, All-push}
@@ -33,10 +33,12 @@ use Rattle.bound_hub.specs.Stores.{IsGrantSeen, ShowsCommit, ShowsEnd}
 use Rattle.bound_hub.specs.Told.{quarantine_short}
 use Rattle.bound_hub.proofs.SessionLemmas.{closed_is_over}
 use Rattle.desk_book.specs.Books.{Book, Held, is_of, is_present, all_but, with_commit, with_end, with_grant, without_grant}
+use Rattle.desk_book.specs.Apart.{is_held}
 use Rattle.desk_book.specs.Books as books
 use Rattle.desk_book.specs.Borne.{Holds}
 use Rattle.desk_book.specs.declared.facts.Committed.{Committed}
 use Rattle.desk_book.specs.declared.facts.Present.{Present}
+use Rattle.desk_book.proofs.HeldLemmas.{all_tested}
 use Rattle.bound_desk.specs.Bound.{HasCommitted, IsPresentSeen, IsBoundBook}
 use Rattle.bound_desk.specs.Grants.{IsGrantFor}
 use Rattle.bound_desk.proofs.BoundLemmas.{at_any}
@@ -151,3 +153,13 @@ close_is_over shards seen who present true writing sound shows h is e =
 close_is_over shards seen who present false writing sound shows h is e =
     let both = is e in
     closed_is_over who.number seen.events sound.in_order (present_writes seen present who h both.0 both.1) shows
+
+filter_all : {X : Type 0} (p : X → Bool) (xs : List X) → list_all p (filter p xs) ≡ true
+filter_all p [] = refl
+filter_all p (x ∷ xs) =
+    by_test (λ b. (p x ≡ b) → list_all p (cond b (x ∷ filter p xs) (filter p xs)) ≡ true) (p x)
+    (λ is e. and_from (p x) (list_all p (filter p xs)) e (filter_all p xs)) (λ _ _. filter_all p xs) refl
+
+-- what is left of a commit's grants once the others are set apart is held
+pub left_are_held : (book : Book) (grants : List Permit) → All (Holds book) (filter (is_held book) grants)
+left_are_held book grants = (all_tested book.held (filter (is_held book) grants)).0 (filter_all (is_held book) grants)

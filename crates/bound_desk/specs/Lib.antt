@@ -2,3 +2,4 @@ pub mod Bound
 pub mod Grants
 pub mod Safe
 pub mod Shown
+pub mod Swept

@@ -2,18 +2,34 @@
 ghost use Rattle.std.specs.Prelude.{◌≡◌, ◌⊎◌, All, IfErr, IfOk, OnErr};
 ghost use Rattle.sql_keeper.specs.Faults.{is_failure};
 ghost use Rattle.log_word.specs.Steps.{IsBeginning};
+ghost use Rattle.desk_book.specs.Apart.{put_back, AreLeft};
 ghost use Rattle.desk_book.specs.Books.{noted_for, with_commit, with_end};
 ghost use Rattle.desk_book.specs.Borne.{Holds, IsPresent};
 ghost use Rattle.bound_hub.specs.Stores.{SeesFailure, ShowsCommit, ShowsEnd, ShowsRefusal};
 
 use crate::bound_books::BoundBook;
 use bound_hub::{BoundName, BoundStore};
+use desk_book::Apart;
 use key_shard::Grant;
 use log_word::LogWord;
 use rows_model::{Sid, Txn};
+use session_client::Grants;
 use sql_keeper::{Closed, CommitFault, Keeper};
+use std::alloc::Global;
 
 impl<H: BoundName> BoundBook<H> {
+    /// Sets apart those of a commit's grants that the book doesn't hold. For want of memory all come back
+    /// as they were.
+    pub fn set_apart(&self, alloc: Global, grants: Grants) -> Result<(Grants, Apart), Grants>
+        ensures held { IfOk result (λ parts. All (Holds self.now.book.book) parts.0.items) }
+        ensures room { IfOk result (λ parts. parts.0.room ≡ grants.room) }
+        ensures back { IfOk result (λ parts. put_back parts.1 parts.0.items ≡ grants.items) }
+        ensures left { IfOk result (λ parts. AreLeft parts.1 parts.0) }
+        ensures err { IfErr result (λ back. back ≡ grants) }
+    {
+        self.book.set_apart(alloc, grants)
+    }
+
     /// Commits the present session's transaction at the store that is lent, under grants that the book
     /// holds. Its Commit is the last event that the desk has seen then, and is noted, with a copy of the
     /// transaction, which is taken first. Refused, or for want of memory for that, the book stays. The

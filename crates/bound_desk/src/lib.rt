@@ -14,3 +14,5 @@ pub mod gets;
 pub mod quarantines;
 pub mod requests;
 pub mod sets;
+pub mod stages;
+pub mod sweeps;
