@@ -12,7 +12,9 @@ ghost use Rattle.bound_desk.specs.Safe.{IsSafe};
 ghost use Rattle.bound_desk.specs.Shown.{ShowsDrop, ShowsReply};
 
 use crate::bound_books::BoundBook;
+use crate::sweeps::BoundSweep;
 use bound_hub::{BoundHub, BoundName};
+use expiry_sweeper::Sweeper;
 use iq_outside::{Clock, Gate, Point};
 use key_shard::{Grant, Rel};
 use log_word::Pass;
@@ -34,15 +36,21 @@ pub struct BoundDesk<'a, K: Keeper, H: BoundName, C: Clock, G: Gate, R: Wait> {
     pub(crate) clock: &'a C,
     pub(crate) gate: &'a G,
     pub(crate) told: BoundBook<H>,
+    pub(crate) sweeper: Sweeper,
+    pub(crate) sweep: BoundSweep<H>,
 }
 
 impl<'a, K: Keeper, H: BoundName, C: Clock, G: Gate, R: Wait> Model
     for BoundDesk<'a, K, H, C, G, R> {
+    ghost use Rattle.std.specs.Prelude.{◌≡◌};
+    ghost use Rattle.expiry_sweeper.specs.Follows.{shards_of};
     ghost use Rattle.bound_desk.specs.Bound.{BoundBookView};
 
     ghost Value = { BoundBookView };
 
     ghost view = { λ desk. desk.told };
+
+    ghost invariant = { λ desk. shards_of desk.sweeper ≡ desk.hub.now };
 }
 
 impl<'a, K: Keeper, H: BoundName, C: Clock, G: Gate, R: Wait> BoundDesk<'a, K, H, C, G, R> {
@@ -61,6 +69,8 @@ impl<'a, K: Keeper, H: BoundName, C: Clock, G: Gate, R: Wait> BoundDesk<'a, K, H
         ensures book { result.book.book ≡ empty_book }
         ensures seen { result.seen ≡ pass.seen }
     {
+        let mut pass = pass;
+        let other = hub.pass(&mut pass);
         BoundDesk {
             rt,
             alloc,
@@ -69,6 +79,8 @@ impl<'a, K: Keeper, H: BoundName, C: Clock, G: Gate, R: Wait> BoundDesk<'a, K, H
             clock,
             gate,
             told: BoundBook::new(alloc, pass),
+            sweeper: Sweeper::new(hub.shards()),
+            sweep: BoundSweep::new(other),
         }
     }
 
@@ -104,7 +116,7 @@ impl<'a, K: Keeper, H: BoundName, C: Clock, G: Gate, R: Wait> BoundDesk<'a, K, H
 
     /// Makes a set that is safe by the book. Its own step is the last of that shard that the desk has seen
     /// then. For want of memory there is none.
-    fn set(&mut self, who: Sid, key: QKey, token: u64, value: Value, stamp: u64) -> Reply
+    pub(crate) fn set(&mut self, who: Sid, key: QKey, token: u64, value: Value, stamp: u64) -> Reply
         requires { IsSafe self.old.book.book who (wanted.Set key token value stamp) }
         ensures belongs { Belongs who (wanted.Set key token value stamp) result }
         ensures seen { IsBeginning self.old.seen self.new.seen }
@@ -128,7 +140,7 @@ impl<'a, K: Keeper, H: BoundName, C: Clock, G: Gate, R: Wait> BoundDesk<'a, K, H
     }
 
     /// Makes a quarantine to invalidate that the book bears out.
-    fn register(&mut self, who: Sid, key: QKey) -> Reply
+    pub(crate) fn register(&mut self, who: Sid, key: QKey) -> Reply
         requires { MayQuarantine self.old.book.book who }
         ensures belongs { Belongs who (wanted.QaReg key) result }
         ensures seen { IsBeginning self.old.seen self.new.seen }
@@ -145,7 +157,7 @@ impl<'a, K: Keeper, H: BoundName, C: Clock, G: Gate, R: Wait> BoundDesk<'a, K, H
     }
 
     /// Makes a quarantine to refresh that the book bears out.
-    fn read(&mut self, who: Sid, key: QKey) -> Reply
+    pub(crate) fn read(&mut self, who: Sid, key: QKey) -> Reply
         requires { MayQuarantine self.old.book.book who }
         ensures belongs { Belongs who (wanted.QaRead key) result }
         ensures seen { IsBeginning self.old.seen self.new.seen }
@@ -161,7 +173,7 @@ impl<'a, K: Keeper, H: BoundName, C: Clock, G: Gate, R: Wait> BoundDesk<'a, K, H
     }
 
     /// Makes a quarantine to shift that the book bears out.
-    fn delta(&mut self, who: Sid, key: QKey, by: i32) -> Reply
+    pub(crate) fn delta(&mut self, who: Sid, key: QKey, by: i32) -> Reply
         requires { MayQuarantine self.old.book.book who }
         ensures belongs { Belongs who (wanted.Delta key by) result }
         ensures seen { IsBeginning self.old.seen self.new.seen }
@@ -178,7 +190,7 @@ impl<'a, K: Keeper, H: BoundName, C: Clock, G: Gate, R: Wait> BoundDesk<'a, K, H
     }
 
     /// Releases a grant of a session that is over, and drops the key's value.
-    fn drop_value(&mut self, who: Sid, grant: Grant) -> Rel
+    pub(crate) fn drop_value(&mut self, who: Sid, grant: Grant) -> Rel
         requires { HasCommitted self.old.book.book grant.sid
             ⊎ (is_over grant.sid.number self.old.seen.events ≡ true) }
         ensures seen { IsBeginning self.old.seen self.new.seen }
@@ -194,7 +206,7 @@ impl<'a, K: Keeper, H: BoundName, C: Clock, G: Gate, R: Wait> BoundDesk<'a, K, H
     /// Ends the session of a grant at the store, and then releases the grant and drops the key's value,
     /// under one lock after the other. Where it can't be told that the session is over then, the grant is
     /// let go of and the answer is Gone: its quarantine stands until it is swept.
-    fn end_drop(&mut self, who: Sid, grant: Grant) -> Rel
+    pub(crate) fn end_drop(&mut self, who: Sid, grant: Grant) -> Rel
         ensures seen { IsBeginning self.old.seen self.new.seen }
         ensures shows { ShowsDrop H.word.shards grant result self.new.seen }
     {
@@ -204,6 +216,20 @@ impl<'a, K: Keeper, H: BoundName, C: Clock, G: Gate, R: Wait> BoundDesk<'a, K, H
             grant.let_go();
             Rel::Gone
         }
+    }
+
+    /// Gives the quarantine of a grant a new deadline. The grant comes back.
+    pub(crate) fn renew(&mut self, grant: Grant) -> Reply
+        ensures belongs { (who : Sid) → Belongs who (wanted.Renew grant) result }
+        ensures seen { IsBeginning self.old.seen self.new.seen }
+    {
+        let word = self.hub.word();
+        let mut shard = self.hub.lock_of(self.rt, &grant.key());
+        self.gate
+            .at(self.worker, Point::Inside { shard: shard.no() });
+        let now = self.clock.now();
+        let told = self.told.renew(word, &mut *shard, &grant, now).ok();
+        Reply::Renew { grant, told }
     }
 
     /// Ends a session at the store, and tells whether the desk has seen then that it is over.
