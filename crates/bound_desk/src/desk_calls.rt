@@ -73,8 +73,7 @@ fn share(grant: Grant) -> Reply
 }
 
 impl<'a, K: Keeper, H: BoundName, C: Clock, G: Gate, R: Wait> Desk
-    for BoundDesk<'a, K, H, C, G, R>
-{
+    for BoundDesk<'a, K, H, C, G, R> {
     ghost use Rattle.std.specs.Prelude.{None};
 
     ghost begun = { λ desk. None };
