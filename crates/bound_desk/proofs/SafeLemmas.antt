@@ -146,18 +146,14 @@ made_belongs book who request found h =
     (λ safe. subst (λ f. MadeBelongs who request (made_in f who request)) (sym safe) (safe_belongs book who request))
     (which book who request found h)
 
+some_done : (o : Option Committed) (P : Committed → Type 0) → IsSomeAnd o P → is_some o ≡ true
+some_done (Some done) P h = refl
+some_done None P h = absurd h
+
 -- a release with a new value, or one that shifts, that is safe is of a session that has committed
 pub put_is_done : (book : Book) (who : Sid) (grant : Permit) (value : Option (List ℕ)) (stamp : ℕ) → IsSafe book who (wanted.Sar grant value stamp) → HasCommitted book grant.sid
 put_is_done book who grant None stamp h = h
-put_is_done book who grant (Some value) stamp h = own_done book who grant h.0.0 h.0.1 (some_done book.commit h.1)
-  where
-    some_done : (o : Option Committed) {P : Committed → Type 0} → IsSomeAnd o P → is_some o ≡ true
-    some_done (Some done) h = refl
-    some_done None h = absurd h
+put_is_done book who grant (Some value) stamp h = own_done book who grant h.0.0 h.0.1 (some_done book.commit _ h.1)
 
 pub shift_is_done : (book : Book) (who : Sid) (grant : Permit) (stamp : ℕ) → IsSafe book who (wanted.Apply grant stamp) → HasCommitted book grant.sid
-shift_is_done book who grant stamp h = own_done book who grant h.0.0 h.0.1 (some_done book.commit h.1)
-  where
-    some_done : (o : Option Committed) {P : Committed → Type 0} → IsSomeAnd o P → is_some o ≡ true
-    some_done (Some done) h = refl
-    some_done None h = absurd h
+shift_is_done book who grant stamp h = own_done book who grant h.0.0 h.0.1 (some_done book.commit _ h.1)
