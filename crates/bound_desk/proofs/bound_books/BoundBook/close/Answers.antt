@@ -25,8 +25,8 @@ returns-clause-over g c = λ told.
     elim c.if-was.branch [
       | then-was w ↦
           close_is_over shards seen who book.present was false sound c.end-closed.ensures.shows still.present (λ e. absurd (false≢true e))
-          (ap (λ b. b || false) (sym c.was.ensures ∙ w.if-was))
+          (ap (λ b. b || false) (sym c.was.ensures ∙ w.if-was.true))
       | else-was w ↦
           close_is_over shards seen who book.present was w.is_writing.result sound c.end-closed.ensures.shows still.present w.is_writing.ensures.0
-          (ap (λ b. b || w.is_writing.result) (sym c.was.ensures ∙ w.if-was) ∙ sym w.result-is ∙ told)
+          (ap (λ b. b || w.is_writing.result) (sym c.was.ensures ∙ w.if-was.false) ∙ sym w.result-is ∙ told)
     ]
