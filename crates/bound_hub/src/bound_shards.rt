@@ -1,5 +1,5 @@
 //! What lies under the lock of a shard: the shard, its token, and its pass.
-ghost use Rattle.std.specs.Prelude.{◌≡◌, ◌+◌, [], IfOk, OnOk, OnErr, is_some, length};
+ghost use Rattle.std.specs.Prelude.{◌≡◌, ◌+◌, [], IfOk, OnOk, OnErr, is_some, option_map, length};
 ghost use Rattle.key_shard.specs.Answers.{Legal, get_step};
 ghost use Rattle.key_shard.specs.Past.{entry};
 ghost use Rattle.key_shard.specs.Replies.{ShowsGot};
@@ -16,7 +16,7 @@ use crate::names::BoundName;
 use crate::shorts::got_short;
 use key_shard::{Got, Shard, ShardFault};
 use log_word::{LogWord, Note, Pass, ShardPass};
-use rows_model::{QKey, Sid};
+use rows_model::{QKey, Sid, Value};
 use std::marker::Model;
 use std::sync::ledger::Share;
 
@@ -69,6 +69,15 @@ impl<H: BoundName> BoundShard<H> {
         ensures named { IsNamed H.terms self.now.shard }
     {
         self.shard.no()
+    }
+
+    /// The value and the stamp of the key's entry, if it has one, as the shard tells them. It takes no
+    /// memory.
+    pub fn peek(&self, key: &QKey) -> Option<(&Value, u64)>
+        ensures { option_map (λ found. (found.0.now, found.1)) result
+            ≡ entry key.now (past_of self.now.shard) }
+    {
+        self.shard.peek(key)
     }
 
     /// Gets a key for a session, as the shard does, for a caller with this pass. The caller has then seen all

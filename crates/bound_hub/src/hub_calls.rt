@@ -19,7 +19,7 @@ use crate::bound_stores::BoundStore;
 use crate::hubs::BoundHub;
 use crate::names::BoundName;
 use key_shard::{Got, Grant, ShardFault};
-use log_word::Pass;
+use log_word::{LogWord, Pass};
 use rows_model::{Memory, QKey, Sid, Txn, Value, shard_number};
 use sql_keeper::{AfterFault, Answer, Closed, CommitFault, KeepFault, Keeper};
 use std::hint::spin_loop;
@@ -150,14 +150,22 @@ impl<K: Keeper, H: BoundName> BoundHub<K, H> {
             .get(&self.word, pass, key, who, floor, now)
     }
 
+    /// The word that all passes of the hub are of. It takes no lock and no memory.
+    pub fn word(&self) -> &LogWord
+        ensures word { result.now ≡ H.word }
+        ensures shards { H.word.shards ≡ self.now }
+    {
+        &self.word
+    }
+
     /// The lock of the store.
-    pub(crate) fn lock_store<R: Wait>(&self, rt: &R) -> MutexGuard<'_, BoundStore<K, H>> {
+    pub fn lock_store<R: Wait>(&self, rt: &R) -> MutexGuard<'_, BoundStore<K, H>> {
         locked_soon(rt, &self.store)
     }
 
     /// The lock of the shard of this number. No type says that this lock has it: where another shard lies
     /// under it, the call waits for ever.
-    pub(crate) fn lock_at<R: Wait>(&self, rt: &R, place: u32) -> MutexGuard<'_, BoundShard<H>>
+    pub fn lock_at<R: Wait>(&self, rt: &R, place: u32) -> MutexGuard<'_, BoundShard<H>>
         requires { place < self.now }
         ensures number { (mutex_guard_value result).shard.terms.no ≡ place }
         ensures named { IsNamed H.terms (mutex_guard_value result).shard }
@@ -170,7 +178,7 @@ impl<K: Keeper, H: BoundName> BoundHub<K, H> {
     }
 
     /// The lock of the key's shard.
-    pub(crate) fn lock_of<R: Wait>(&self, rt: &R, key: &QKey) -> MutexGuard<'_, BoundShard<H>>
+    pub fn lock_of<R: Wait>(&self, rt: &R, key: &QKey) -> MutexGuard<'_, BoundShard<H>>
         ensures number { (mutex_guard_value result).shard.terms.no ≡ shard_of key.now self.now }
         ensures home { IsAtHome (mutex_guard_value result).shard.terms key.now }
     {

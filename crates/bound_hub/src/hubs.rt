@@ -100,9 +100,10 @@ impl<K: Keeper, H: BoundName> BoundHub<K, H> {
         Ok((hub, caller))
     }
 
-    /// How many shards there are. It takes no lock and no memory.
+    /// How many shards there are: at least one. It takes no lock and no memory.
     pub fn shards(&self) -> u32
-        ensures { result ≡ self.now }
+        ensures count { result ≡ self.now }
+        ensures some { 1 ≤ result }
     {
         self.count
     }

@@ -5,7 +5,7 @@ ghost use Rattle.rows_model.specs.declared.changes.Change.{Change};
 ghost use Rattle.key_shard.specs.Permit.{Permit, same_permit};
 ghost use Rattle.session_client.specs.declared.replies.Wanted.TheVariants as wanted;
 ghost use Rattle.sql_keeper.specs.declared.stores.Answer.{Answer};
-ghost use Rattle.desk_book.specs.Borne.{IsForm, IsBorne, IsOwn, Holds, MayQuarantine, Refreshes, IsPut, release_form};
+ghost use Rattle.desk_book.specs.Borne.{IsForm, IsBorne, IsOwn, IsPresent, Holds, MayQuarantine, Refreshes, IsPut, release_form};
 ghost use Rattle.desk_book.specs.Books.{Held, may_write};
 
 use crate::books::Book;
@@ -223,6 +223,14 @@ impl Book {
         ensures { IsTrue result ↔ IsOwn self.now.book who grant.now }
     {
         self.is_present(who) && grant.sid() == who
+    }
+
+    /// Whether the session is the present one, and was begun for writing. It takes no memory.
+    pub fn is_writing(&self, who: Sid) -> bool
+        ensures { IsTrue result
+            ↔ (IsPresent self.now.book who × IsTrue (may_write self.now.book.present)) }
+    {
+        self.is_present(who) && self.is_writer()
     }
 
     /// Whether the present session was begun for writing.

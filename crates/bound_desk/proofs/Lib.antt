@@ -1,0 +1,4 @@
+pub mod BoundLemmas
+pub mod GrantNotes
+pub mod SafeLemmas
+pub mod SweepLemmas

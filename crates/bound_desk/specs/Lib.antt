@@ -1,0 +1,5 @@
+pub mod Bound
+pub mod Grants
+pub mod Safe
+pub mod Shown
+pub mod Swept

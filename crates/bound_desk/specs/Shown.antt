@@ -1,0 +1,48 @@
+-- What a reply to a request on a shard tells the desk that made it.
+use Rattle.std.specs.Prelude.{ℕ, ◌≡◌, ◌≢◌, pos, Bool, List}
+use Rattle.rows_model.specs.declared.keys.QKey.{QKey}
+use Rattle.rows_model.specs.declared.keys.Sid.{Sid}
+use Rattle.rows_model.specs.Placement.{shard_of}
+use Rattle.rows_model.specs.Rows.{Tables}
+use Rattle.lease_table.specs.declared.records.Mode.TheVariants.{Invalidate, Refresh, Delta}
+use Rattle.key_shard.specs.declared.replies.How.TheVariants as hows
+use Rattle.key_shard.specs.declared.replies.Rel.{Rel}
+use Rattle.key_shard.specs.declared.replies.Rel.TheVariants as rel
+use Rattle.key_shard.specs.declared.steps.Step.{Step}
+use Rattle.key_shard.specs.Permit.{Permit}
+use Rattle.session_client.specs.declared.replies.Reply.{Reply}
+use Rattle.session_client.specs.declared.replies.Reply.TheVariants as reply
+use Rattle.session_client.specs.declared.replies.Wanted.{Wanted}
+use Rattle.session_client.specs.declared.replies.Wanted.TheVariants as wanted
+use Rattle.log_word.specs.declared.events.Short.{Short}
+use Rattle.log_word.specs.declared.seen.Seen.{Seen}
+use Rattle.bound_hub.specs.Gets.{got_short, IsGotFresh, IsLastStep}
+use Rattle.bound_hub.specs.Olds.{IsGrantHeld}
+use Rattle.bound_hub.specs.Told.{quarantine_short, release_short, set_short}
+
+-- The step of this short form, after which the key has an entry or has none, is the last of the key's shard that is seen.
+abbrev pub IsLastOf : ℕ → QKey → (Bool → Short) → Seen → Type 0
+IsLastOf shards key step seen = (has : Bool) × IsLastStep (shard_of key shards) (step has) seen
+
+-- So is the step of a release that drops the key's value, unless it is Gone.
+abbrev pub ShowsDrop : ℕ → Permit → Rel → Seen → Type 0
+ShowsDrop shards grant told seen =
+    told ≢ rel.Gone → IsLastOf shards grant.key (release_short grant.key grant.sid grant.token hows.Drop told) seen
+
+-- What a reply tells: the request's own step is the last that is seen of its shard, a hit is fresh, and an old value is held
+-- and right, both unless it is seen that the store has stopped telling its rows.
+abbrev pub ShowsReply : Tables → (ℕ → List Step) → ℕ → Sid → Wanted → Reply → Seen → Type 0
+ShowsReply opening before shards who (wanted.Get key floor) (reply.Got got) seen =
+    IsLastOf shards key (got_short key who got) seen
+    × IsGotFresh opening (before (shard_of key shards)) (shard_of key shards) seen key got
+ShowsReply opening before shards who (wanted.Set key token value stamp) (reply.Set told) seen =
+    IsLastOf shards key (set_short key token stamp told) seen
+ShowsReply opening before shards who (wanted.QaReg key) (reply.Quar told) seen =
+    IsLastOf shards key (quarantine_short key who Invalidate (pos 0) told) seen
+ShowsReply opening before shards who (wanted.QaRead key) (reply.Quar told) seen =
+    IsLastOf shards key (quarantine_short key who Refresh (pos 0) told) seen
+    × IsGrantHeld opening (before (shard_of key shards)) (shard_of key shards) seen key told
+ShowsReply opening before shards who (wanted.Delta key by) (reply.Quar told) seen =
+    IsLastOf shards key (quarantine_short key who Delta by told) seen
+ShowsReply opening before shards who (wanted.Dar grant) (reply.Rel told) seen = ShowsDrop shards grant told seen
+ShowsReply opening before shards who other told seen = Unit {0}

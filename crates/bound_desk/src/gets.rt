@@ -1,0 +1,88 @@
+//! A get for a desk: the book notes a lease.
+ghost use Rattle.std.specs.Prelude.{◌≡◌, ◌≢◌, ℕ, Bool, Err, IfOk, OnErr};
+ghost use Rattle.rows_model.specs.Placement.{shard_of};
+ghost use Rattle.key_shard.specs.Answers.{IsAtHome};
+ghost use Rattle.key_shard.specs.declared.replies.ShardFault.TheVariants as faults;
+ghost use Rattle.session_client.specs.Belongs.{IsGotOf};
+ghost use Rattle.log_word.specs.Steps.{IsBeginning};
+ghost use Rattle.desk_book.specs.Books.{noted_for};
+ghost use Rattle.bound_hub.specs.Gets.{got_short, IsGotFresh, IsLastStep};
+ghost use Rattle.bound_desk.specs.Bound.{with_got};
+
+use crate::bound_books::BoundBook;
+use bound_hub::{BoundName, BoundShard};
+use key_shard::{Got, ShardFault};
+use log_word::LogWord;
+use rows_model::{QKey, Sid};
+
+impl<H: BoundName> BoundBook<H> {
+    /// Gets a key for a session on its shard, which is lent. The get's own step is the last of that shard
+    /// that the desk has seen then. A hit is fresh against what the desk has seen then, unless that tells
+    /// that the store has stopped telling its rows, and its stamp is at least the floor. A lease is
+    /// noted. Refused, for want of memory or of tokens alone, the book stays.
+    pub fn get(
+        &mut self,
+        word: &LogWord,
+        shard: &mut BoundShard<H>,
+        key: QKey,
+        who: Sid,
+        floor: u64,
+        now: u64,
+    ) -> Result<Got, ShardFault>
+        requires word { word.now ≡ H.word }
+        requires place { shard.old.shard.terms.no ≡ shard_of key H.word.shards }
+        requires home { IsAtHome shard.old.shard.terms key }
+        ensures seen { IsBeginning self.old.seen self.new.seen }
+        ensures last { IfOk result (λ got. (has : Bool)
+            × IsLastStep (shard_of key H.word.shards) (got_short key who got has) self.new.seen) }
+        ensures fresh { IfOk result (λ got. let no = shard_of key H.word.shards in
+            IsGotFresh H.opening (H.before no) no self.new.seen key got) }
+        ensures floor { IfOk result (IsGotOf floor) }
+        ensures book { IfOk result (λ got.
+            self.new.book.book ≡ noted_for who (with_got key got) self.old.book.book) }
+        ensures err { OnErr result (self.new.book ≡ self.old.book) }
+        ensures no_stranger { (place : ℕ) → result ≢ Err (faults.Stranger place) }
+    {
+        let got = self.make_get(word, shard, key, who, floor, now)?;
+        self.note_got(who, key, &got);
+        Ok(got)
+    }
+
+    // The get alone: the book stays.
+    fn make_get(
+        &mut self,
+        word: &LogWord,
+        shard: &mut BoundShard<H>,
+        key: QKey,
+        who: Sid,
+        floor: u64,
+        now: u64,
+    ) -> Result<Got, ShardFault>
+        requires word { word.now ≡ H.word }
+        requires place { shard.old.shard.terms.no ≡ shard_of key H.word.shards }
+        requires home { IsAtHome shard.old.shard.terms key }
+        ensures seen { IsBeginning self.old.seen self.new.seen }
+        ensures last { IfOk result (λ got. (has : Bool)
+            × IsLastStep (shard_of key H.word.shards) (got_short key who got has) self.new.seen) }
+        ensures fresh { IfOk result (λ got. let no = shard_of key H.word.shards in
+            IsGotFresh H.opening (H.before no) no self.new.seen key got) }
+        ensures floor { IfOk result (IsGotOf floor) }
+        ensures book { self.new.book ≡ self.old.book }
+        ensures no_stranger { (place : ℕ) → result ≢ Err (faults.Stranger place) }
+    {
+        shard.get(word, &mut self.pass, key, who, floor, now)
+    }
+
+    // Notes what a get was answered, where its step is the last that was seen of the key's shard.
+    fn note_got(&mut self, who: Sid, key: QKey, got: &Got)
+        requires { (has : Bool) × IsLastStep (shard_of key H.word.shards)
+            (got_short key who got.now has) self.old.seen }
+        ensures seen { self.new.seen ≡ self.old.seen }
+        ensures book { self.new.book.book ≡ noted_for who (with_got key got.now) self.old.book.book }
+    {
+        if let Got::Lease { token } = got {
+            self.pass.sound();
+            self.book.note_lease(who, key, *token);
+        }
+    }
+}

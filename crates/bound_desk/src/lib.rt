@@ -1,0 +1,18 @@
+//! The desk over a hub whose locks know what happened: it keeps a book of what it told, and makes a
+//! request that the book doesn't bear out in its safe form.
+#![tactic(auto)]
+
+pub use bound_books::BoundBook;
+
+pub mod asks;
+pub mod bound_books;
+pub mod commits;
+mod copies;
+pub mod drops;
+pub mod ends;
+pub mod gets;
+pub mod quarantines;
+pub mod requests;
+pub mod sets;
+pub mod stages;
+pub mod sweeps;
