@@ -1,5 +1,5 @@
 -- The commits that are seen stay a log of which each transaction applied, and by such a log answers follow the laws of rows.
-use Rattle.std.proofs.Common.{ℕ, zero, suc, ◌≡◌, ◌+◌, ◌≤◌, Bool, true, false, ◌||◌, List, [], ◌∷◌, ◌++◌, length, take, All, Some, Ok, add-one, refl, sym, ap, subst, ◌∙◌, ⊎_elim, arith}
+use Rattle.std.proofs.Common.{ℕ, zero, suc, ◌≡◌, ◌+◌, ◌≤◌, Bool, true, false, ◌||◌, ◌<◌, List, [], ◌∷◌, ◌++◌, length, take, All, Some, Result, Ok, Err, IfOk, MatchResult, add-one, refl, sym, ap, subst, ◌∙◌, ⊎_elim, arith}
 use Rattle.std.proofs.lemmas.Bool.{false≢true}
 use Rattle.rows_model.specs.declared.keys.QKey.{QKey}
 use Rattle.rows_model.specs.declared.keys.Sid.{Sid}
@@ -13,20 +13,23 @@ use Rattle.rows_model.proofs.RefreshLawLemmas.{refreshed_is}
 use Rattle.rows_model.proofs.StayFitLemmas.{rows_stay}
 use Rattle.rows_model.proofs.UntouchedLemmas.{untouched_keeps}
 use Rattle.sql_keeper.specs.declared.stores.Commit.{Commit}
+use Rattle.sql_keeper.specs.declared.faults.CommitFault.{CommitFault}
 use Rattle.sql_keeper.specs.Log.{led_to, after_commit, state, rows_after}
 use Rattle.log_word.specs.declared.events.StoreEvent.{StoreEvent}
 use Rattle.log_word.specs.declared.events.StoreEvent.TheVariants as event
 use Rattle.log_word.specs.declared.seen.Seen.{Seen}
+use Rattle.log_word.specs.Steps.{IsBeginning}
 use Rattle.log_word.specs.Views.{with_event}
 use Rattle.key_freshness.specs.Held.{LeavesUntouched, MakesNext}
 use Rattle.key_freshness.specs.Known.{StandsAt}
-use Rattle.key_freshness.proofs.KnownLemmas.{stands-pushed, stands-within, take-front, take-whole}
+use Rattle.key_freshness.proofs.KnownLemmas.{more-length, stands-pushed, stands-within, take-front, take-whole}
 use Rattle.key_shard.specs.Permit.{Permit}
 use Rattle.bound_hub.specs.Knowns.{commits_of}
 use Rattle.bound_hub.specs.Facts.{answer_after}
 use Rattle.bound_hub.specs.Stores.{rows_by, with_end_of, with_keeper_call, ShowsCommit}
 use Rattle.bound_hub.specs.TrueLogs.{Applies, IsTrueLog, IsTrueSoFar}
 use Rattle.bound_hub.specs.Writes.{IsLawful, refreshed_by, shifted_by}
+use Rattle.bound_hub.proofs.RuledLemmas.{more_is_known}
 
 -- no commit is seen at first
 pub true_first : (opening : Tables) (seen : Seen) → Fit opening → seen.events ≡ [] → IsTrueSoFar opening seen
@@ -100,6 +103,19 @@ true_with_commit opening cap sid txn permits number old new stopped is ids shows
           }))
           (stands-pushed log one commit place at);
     })
+
+-- whoever saw less before had seen fewer commits than the commit's number
+pub commit_is_late : (opening : Tables) (cap : ℕ) (sid : Sid) (txn : List Change) (permits : List Permit) (old middle new : Seen) (stopped : Bool) (made : Result ℕ CommitFault)
+    (Q : CommitFault → Type 0) → IsBeginning old middle
+    → MatchResult made (λ _. new ≡ with_event (event.Commit sid txn) (with_keeper_call false stopped middle)) Q
+    → IfOk made (ShowsCommit opening cap sid txn permits new) → IfOk made (λ number. length (commits_of old.events) < number)
+commit_is_late opening cap sid txn permits old middle new stopped (Ok number) Q begins is shows =
+    let same : shows.earlier ≡ middle.events = ap behind (sym shows.last ∙ ap (λ (s : Seen). s.events) is) in
+    let least = more-length (more_is_known old middle begins) in
+    let many = ap (λ e. length (commits_of e)) same in
+    let number_is = shows.number_is in
+    omega (arith, least, many, number_is)
+commit_is_late opening cap sid txn permits old middle new stopped (Err fault) Q begins is shows = tt
 
 take_none : {X : Type 0} (xs : List X) → take zero xs ≡ []
 take_none [] = refl

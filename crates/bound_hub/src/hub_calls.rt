@@ -119,7 +119,7 @@ impl<K: Keeper, H: BoundName> BoundHub<K, H> {
         ensures back { result.1 ≡ txn }
         ensures word { pass.new.word ≡ H.word }
         ensures seen { IsBeginning pass.old.seen pass.new.seen }
-        ensures applied { IsTrueSoFar H.opening pass.new.seen }
+        ensures true_so_far { IsTrueSoFar H.opening pass.new.seen }
         ensures ok { IfOk result.0 (ShowsCommit H.opening H.cap sid txn grants.now pass.new.seen) }
         ensures err { IfErr result.0 (ShowsRefusal H.opening H.cap sid txn grants.now pass.new.seen) }
         ensures fault { IfErr result.0 (λ fault.

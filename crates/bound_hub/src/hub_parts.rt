@@ -84,7 +84,7 @@ impl<K: Keeper, H: BoundName> BoundStore<K, H> {
         ensures tied { IsBoundStore H.word H.begun H.failed self.now.store
             (record { word = H.word; seen = self.now.seen }) }
         ensures sound { IsSound H.word.shards self.now.seen }
-        ensures applied { IsTrueSoFar H.opening self.now.seen }
+        ensures true_so_far { IsTrueSoFar H.opening self.now.seen }
     {
         self.pass.sound();
     }
