@@ -1,5 +1,6 @@
 -- What the book bears out may be written: a new value, a shift. And a value may stay.
-use Rattle.std.proofs.Common.{ℕ, ◌≡◌, ◌+◌, ◌≤◌, ◌==◌, Bool, true, false, not, List, length, take, Option, Some, None, IsSomeAnd, refl, sym, ap, subst, ◌∙◌, ⊎_elim, arith}
+use Rattle.std.proofs.Common.{ℕ, ◌≡◌, ◌+◌, ◌≤◌, ◌==◌, Bool, true, false, not, List, length, take, Option, Some, None, IsSomeAnd, refl, sym, ap, subst, ◌∙◌, inl, ⊎_elim, arith}
+use Rattle.std.specs.Option.{ForSome}
 use Rattle.std.proofs.lemmas.Bool.{false≢true, eqb-true}
 use Rattle.std.proofs.lemmas.Option.{none-some}
 use Rattle.rows_model.specs.declared.changes.Change.{Change}
@@ -15,20 +16,27 @@ use Rattle.session_client.specs.Wants.{new_value}
 use Rattle.session_client.specs.declared.replies.Wanted.TheVariants as wanted
 use Rattle.log_word.specs.declared.seen.Seen.{Seen}
 use Rattle.log_word.specs.Events.{is_over}
+use Rattle.log_word.specs.Steps.{IsBeginning, IsSound}
 use Rattle.key_freshness.specs.Known.{IsAmong, IsLogged}
 use Rattle.bound_hub.specs.Knowns.{commits_of, ended_of}
 use Rattle.bound_hub.specs.Olds.{IsOldHeld}
 use Rattle.bound_hub.specs.Shorts.{is_alone}
+use Rattle.bound_hub.specs.Stores.{ShowsEnd}
 use Rattle.bound_hub.specs.TrueLogs.{IsTrueLog}
 use Rattle.bound_hub.specs.Writes.{refreshed_by, MayPut, MayShift, WasAlone}
 use Rattle.bound_hub.proofs.EventLemmas.{over_is_known}
+use Rattle.bound_hub.proofs.QuarantineLemmas.{still_over}
+use Rattle.bound_hub.proofs.SessionLemmas.{closed_is_over}
 use Rattle.bound_hub.proofs.TrueLogLemmas.{lawful_to_refresh, lawful_to_shift}
 use Rattle.desk_book.specs.Books.{Book, Held, is_of}
+use Rattle.desk_book.specs.Books as books
 use Rattle.desk_book.specs.Borne.{IsBorne, Refreshes, Shifts}
 use Rattle.desk_book.specs.declared.facts.Committed.{Committed}
 use Rattle.desk_book.specs.declared.facts.Present.{Present}
+use Rattle.bound_desk.specs.Bound.{IsPresentSeen}
 use Rattle.bound_desk.specs.Writing.{IsAloneSeen, IsHeldSeen, IsPlaced, IsReadyToWrite}
 use Rattle.bound_desk.proofs.BoundLemmas.{at_any}
+use Rattle.bound_desk.proofs.GrantNotes.{present_writes}
 
 present_is : (present : Option Present) (who : Sid) → is_of present who ≡ true → (one : Present) × (present ≡ Some one) × (one.sid.number ≡ who.number)
 present_is (Some one) who is = (one, refl, eqb-true one.sid.number who.number is)
@@ -124,3 +132,17 @@ borne_may_shift opening before shards book seen who grant stamp h delta counts b
 -- a session that is over and hasn't committed was ended without a commit
 pub over_was_ended : (seen : Seen) (who : ℕ) → is_over who seen.events ≡ true → (IsLogged (commits_of seen.events) who → ⊥) → IsAmong who (ended_of seen.events)
 over_was_ended seen who over never = ⊎_elim (λ logged. absurd (never logged)) (λ among. among) (over_is_known seen.events who over)
+
+-- a session that was open when it was ended was ended without a commit
+pub end_is_among : (seen : Seen) (who : Sid) → ShowsEnd who seen true → IsAmong who.number (ended_of seen.events)
+end_is_among seen who shows = subst (λ l. IsAmong who.number (ended_of l)) (sym shows.1) (inl refl)
+
+-- so was the present one, begun for writing, that wasn't open and hasn't committed
+pub quit_is_among : (shards : ℕ) (early late : Seen) (who : Sid) (present : Option Present) → IsSound shards early → ShowsEnd who early false → ForSome present (IsPresentSeen early)
+    → is_of present who ≡ true → books.may_write present ≡ true → IsBeginning early late → (IsLogged (commits_of late.events) who.number → ⊥)
+    → IsAmong who.number (ended_of late.events)
+quit_is_among shards early late who present sound shows h is writes begins never =
+    over_was_ended late who.number
+    (still_over who.number early.events late.events begins.events
+    (closed_is_over who.number early.events sound.in_order (present_writes early present who h is writes) shows))
+    never

@@ -1,6 +1,5 @@
 -- The commits that are seen stay a log of which each transaction applied, and by such a log answers follow the laws of rows.
 use Rattle.std.proofs.Common.{ℕ, zero, suc, ◌≡◌, ◌+◌, ◌≤◌, Bool, true, false, ◌||◌, ◌<◌, List, [], ◌∷◌, ◌++◌, length, take, All, Some, Result, Ok, Err, IfOk, MatchResult, add-one, refl, sym, ap, subst, ◌∙◌, ⊎_elim, arith}
-use Rattle.std.proofs.lemmas.Bool.{false≢true}
 use Rattle.rows_model.specs.declared.keys.QKey.{QKey}
 use Rattle.rows_model.specs.declared.keys.Sid.{Sid}
 use Rattle.rows_model.specs.declared.changes.Change.{Change}
@@ -61,7 +60,7 @@ true_with_call opening old new true stopped is =
 true_with_call opening old new false stopped is =
     true_still opening old new (λ told. neither old.stopped stopped (sym (ap (λ (s : Seen). s.stopped) is) ∙ told)) (ap (λ (s : Seen). commits_of s.events) is)
 
-behind : List StoreEvent → List StoreEvent
+abbrev behind : List StoreEvent → List StoreEvent
 behind [] = []
 behind (e ∷ events) = events
 

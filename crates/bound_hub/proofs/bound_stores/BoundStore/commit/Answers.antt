@@ -1,7 +1,5 @@
-use Rattle.std.proofs.Common.{◌≡◌, is_none, sym, ap, subst, ◌∙◌}
-use Rattle.log_word.specs.declared.seen.Seen.{Seen}
+use Rattle.std.proofs.Common.{is_none, ap, subst, ◌∙◌}
 use Rattle.log_word.specs.Passes.{PassView}
-use Rattle.bound_hub.specs.Stores.{ShowsCommit, ShowsRefusal}
 use Rattle.log_word.specs.Steps.{IsBeginning}
 use Rattle.bound_hub.proofs.GrantLemmas.{all_go_on}
 use Rattle.bound_hub.proofs.ShowLemmas.{caller_goes_on}
