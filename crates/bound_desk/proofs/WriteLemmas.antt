@@ -1,5 +1,5 @@
 -- What the book bears out may be written: a new value, a shift. And a value may stay.
-use Rattle.std.proofs.Common.{ℕ, ◌≡◌, ◌+◌, ◌≤◌, ◌==◌, Bool, true, false, not, List, length, take, Option, Some, None, IsSomeAnd, refl, sym, ap, subst, ◌∙◌, inl, ⊎_elim, arith}
+use Rattle.std.proofs.Common.{ℕ, ◌≡◌, true, false, List, take, Option, Some, None, IsSomeAnd, refl, sym, ap, subst, ◌∙◌, inl, ⊎_elim, arith}
 use Rattle.std.specs.Option.{ForSome}
 use Rattle.std.proofs.lemmas.Bool.{false≢true, eqb-true}
 use Rattle.std.proofs.lemmas.Option.{none-some}
@@ -8,7 +8,6 @@ use Rattle.rows_model.specs.declared.keys.Sid.{Sid}
 use Rattle.rows_model.specs.Delta.{delta_of, is_count}
 use Rattle.rows_model.specs.Placement.{shard_of}
 use Rattle.rows_model.specs.Rows.{Tables}
-use Rattle.lease_table.specs.declared.records.Mode.{Mode}
 use Rattle.lease_table.specs.declared.records.Mode.TheVariants as mode
 use Rattle.key_shard.specs.declared.steps.Step.{Step}
 use Rattle.key_shard.specs.Permit.{Permit}

@@ -1,7 +1,7 @@
 -- What a release that writes a value rests on is still seen when more is seen, and when something is noted.
-use Rattle.std.proofs.Common.{ℕ, zero, suc, ℤ, ◌≡◌, ◌+◌, ◌<◌, ◌==◌, Bool, true, cond, nat_lt, List, [], ◌∷◌, ◌++◌, length, take, drop, All, Option, Some, None, slice_get, refl, sym, ap, subst, ◌∙◌, arith}
+use Rattle.std.proofs.Common.{ℕ, suc, ℤ, pos, ◌≡◌, ◌+◌, ◌<◌, Bool, true, cond, List, [], ◌∷◌, ◌++◌, length, take, All, Option, Some, None, slice_get, refl, sym, ap, subst, ◌∙◌, arith}
 use Rattle.std.proofs.lemmas.Bool.{eqb-true}
-use Rattle.std.proofs.lemmas.List.Elements.{All-nil, All-push, All-weaker}
+use Rattle.std.proofs.lemmas.List.Elements.{All-nil, All-cons, All-head, All-tail, All-push, All-weaker}
 use Rattle.std.proofs.lemmas.Option.{same_Some, none-some, slice_get_within}
 use Rattle.rows_model.specs.declared.changes.Change.{Change}
 use Rattle.rows_model.specs.declared.keys.QKey.{QKey}
@@ -9,13 +9,14 @@ use Rattle.rows_model.specs.declared.keys.Sid.{Sid}
 use Rattle.rows_model.specs.Placement.{shard_of}
 use Rattle.rows_model.specs.Rows.{Tables}
 use Rattle.lease_table.specs.declared.records.Mode.{Mode}
+use Rattle.lease_table.specs.declared.records.Mode.TheVariants as mode
 use Rattle.key_shard.specs.declared.replies.Got.{Got}
 use Rattle.key_shard.specs.declared.replies.Got.TheVariants as got
 use Rattle.key_shard.specs.declared.replies.QAnswer.{QAnswer}
 use Rattle.key_shard.specs.declared.steps.Step.{Step}
 use Rattle.key_shard.specs.Answers.{quarantine_step}
 use Rattle.key_shard.specs.Past.{Terms}
-use Rattle.key_shard.specs.Permit.{Permit}
+use Rattle.key_shard.specs.Permit.{Permit, same_permit}
 use Rattle.key_shard.specs.Replies.{ShowsQuarantine}
 use Rattle.key_shard.proofs.CaseLemmas.{quarantine_cases}
 use Rattle.sql_keeper.specs.declared.stores.Answer.{Answer}
@@ -29,17 +30,16 @@ use Rattle.key_freshness.proofs.MarkLemmas.{by_test}
 use Rattle.bound_hub.specs.Gets.{IsLastStep}
 use Rattle.bound_hub.specs.Knowns.{commits_of}
 use Rattle.bound_hub.specs.Olds.{IsGrantHeld, IsOldHeld}
-use Rattle.bound_hub.specs.Shorts.{granted_short, is_alone}
+use Rattle.bound_hub.specs.Shorts.{granted_short, is_alone, raised_short}
 use Rattle.bound_hub.specs.Stores.{ShowsCommit}
 use Rattle.bound_hub.specs.Told.{quarantine_short}
 use Rattle.bound_hub.specs.TrueLogs.{IsTrueLog, IsTrueSoFar}
 use Rattle.bound_hub.proofs.FactLemmas.{was_not}
 use Rattle.bound_hub.proofs.RuledLemmas.{more_is_known}
-use Rattle.desk_book.specs.Books.{Book, Held, is_of, is_on, is_present, begun, noted_for, with_answer, with_commit, with_end, with_grant, with_lease, with_place, without_grant}
+use Rattle.desk_book.specs.Books.{Book, Held, all_raised, is_of, is_on, is_present, noted_for, raised, with_answer, with_commit, with_end, with_grant, with_lease, with_place, with_raised, without_grant}
 use Rattle.desk_book.specs.declared.facts.Committed.{Committed}
-use Rattle.desk_book.specs.declared.facts.Present.{Present}
 use Rattle.bound_desk.specs.Bound.{with_got}
-use Rattle.bound_desk.specs.Writing.{IsAloneSeen, IsGrantAlone, IsHeldSeen, IsPlaced, IsReadyToWrite, StoodAlone}
+use Rattle.bound_desk.specs.Writing.{IsGrantAlone, IsHeldSeen, IsPlaced, IsReadyToWrite, StoodAlone}
 use Rattle.bound_desk.proofs.GrantNotes.{each_but}
 
 stands_last : (log : List Commit) (last : Commit) → slice_get (log ++ last ∷ []) (length log) ≡ Some last
@@ -49,6 +49,19 @@ stands_last (first ∷ log) last = stands_last log last
 one_more : (log : List Commit) (last : Commit) → length (log ++ last ∷ []) ≡ length log + 1
 one_more [] last = refl
 one_more (first ∷ log) last = ap (λ n. suc n) (one_more log last)
+
+refresh_or_delta : mode.Refresh ≡ mode.Delta → ⊥
+refresh_or_delta e = cc
+
+-- what holds of each grant, and of one that was raised, holds of each afterwards
+each_raised : (P : Held → Type 0) (permit : Permit) (old : Option (List ℕ × ℕ)) (held : List Held) → P (record { permit = permit; old = old; by = pos 0 }) → All P held
+    → All P (all_raised permit old held)
+each_raised P permit old [] new all = all
+each_raised P permit old (one ∷ held) new all =
+    let now : Held = record { permit = permit; old = old; by = pos 0 } in
+    by_test (λ b. All P (cond b (now ∷ held) (one ∷ all_raised permit old held))) (same_permit (raised one.permit) permit)
+    (λ _. All-cons P now held new (All-tail P one held all))
+    (λ _. All-cons P one (all_raised permit old held) (All-head P one held all) (each_raised P permit old held new (All-tail P one held all)))
 
 module _ (opening : Tables) (before : ℕ → List Step) (shards : ℕ) where
   held_goes_on : (commit : Option Committed) (old new : Seen) → IsBeginning old new → (one : Held)
@@ -177,13 +190,13 @@ module _ (opening : Tables) (before : ℕ → List Step) (shards : ℕ) where
                   subst (λ (d : Committed). length (commits_of it.earlier.events) < d.number) (same_Some done other did) (omega (arith, fewer, late));
             })
             book.held h.held;
-        commit = λ present at other did.
+        commit = λ present here other did.
             subst (IsPlaced opening new present.sid) (same_Some done other did)
             (record {
               own = own;
               place = length log;
               at = subst (λ l. slice_get l (length log) ≡ Some own) (sym events) (stands_last log own);
-              its_own = sym (eqb-true present.sid.number who.number (sym (ap (λ o. is_of o who) at) ∙ is));
+              its_own = sym (eqb-true present.sid.number who.number (sym (ap (λ o. is_of o who) here) ∙ is));
               txn_is = refl;
               number_is = shows.number_is;
               applied = λ told.
@@ -193,12 +206,12 @@ module _ (opening : Tables) (before : ℕ → List Step) (shards : ℕ) where
       }
 
   -- a grant that the last step gave stood alone in a mode in which it does
-  stood_granted : (key : QKey) (who : Sid) (mode : Mode) (shift : ℤ) (token : ℕ) (has : Bool) (number : ℕ) (seen : Seen) (old : Option (List ℕ × ℕ))
-      → IsLastStep (shard_of key shards) (granted_short key who mode shift token has) seen
-      → IsOldHeld opening (before (shard_of key shards)) (shard_of key shards) seen key old → is_alone mode ≡ true
-      → StoodAlone opening before shards seen (record { permit = record { shard = number; key = key; sid = who; mode = mode; token = token }; old = old; by = shift })
-  stood_granted key who mode shift token has number seen old last held alone = record {
-    step = granted_short key who mode shift token has;
+  stood_granted : (key : QKey) (who : Sid) (quarantine : Mode) (shift : ℤ) (token : ℕ) (has : Bool) (number : ℕ) (seen : Seen) (old : Option (List ℕ × ℕ))
+      → IsLastStep (shard_of key shards) (granted_short key who quarantine shift token has) seen
+      → IsOldHeld opening (before (shard_of key shards)) (shard_of key shards) seen key old → is_alone quarantine ≡ true
+      → StoodAlone opening before shards seen (record { permit = record { shard = number; key = key; sid = who; mode = quarantine; token = token }; old = old; by = shift })
+  stood_granted key who quarantine shift token has number seen old last held alone = record {
+    step = granted_short key who quarantine shift token has;
     last = last;
     alone = record { alone = alone; on = refl; mine = refl; under = refl };
     shifts = λ _. (refl, refl);
@@ -206,15 +219,46 @@ module _ (opening : Tables) (before : ℕ → List Step) (shards : ℕ) where
   }
 
   -- so does what a quarantine brings, by its step
-  pub quarantine_stood : (terms : Terms) (past : List Step) (key : QKey) (who : Sid) (mode : Mode) (shift : ℤ) (now : ℕ) (seen : Seen) (answer : QAnswer) (has : Bool)
-      → ShowsQuarantine terms past (quarantine_step terms past key who mode shift now) answer
-      → IsLastStep (shard_of key shards) (quarantine_short key who mode shift answer has) seen
+  pub quarantine_stood : (terms : Terms) (past : List Step) (key : QKey) (who : Sid) (quarantine : Mode) (shift : ℤ) (now : ℕ) (seen : Seen) (answer : QAnswer) (has : Bool)
+      → ShowsQuarantine terms past (quarantine_step terms past key who quarantine shift now) answer
+      → IsLastStep (shard_of key shards) (quarantine_short key who quarantine shift answer has) seen
       → IsGrantHeld opening (before (shard_of key shards)) (shard_of key shards) seen key answer
       → IsGrantAlone opening before shards shift seen answer
-  quarantine_stood terms past key who mode shift now seen answer has =
-      let F : QAnswer → Type 0 = λ a. IsLastStep (shard_of key shards) (quarantine_short key who mode shift a has) seen
+  quarantine_stood terms past key who quarantine shift now seen answer has =
+      let F : QAnswer → Type 0 = λ a. IsLastStep (shard_of key shards) (quarantine_short key who quarantine shift a has) seen
       → IsGrantHeld opening (before (shard_of key shards)) (shard_of key shards) seen key a → IsGrantAlone opening before shards shift seen a in
-      quarantine_cases (λ s. ShowsQuarantine terms past s answer → F answer) terms past key who mode shift now
-      (λ none shows. subst F (sym shows) (λ last held. stood_granted key who mode shift _ has terms.no seen _ last held))
+      quarantine_cases (λ s. ShowsQuarantine terms past s answer → F answer) terms past key who quarantine shift now
+      (λ none shows. subst F (sym shows) (λ last held. stood_granted key who quarantine shift _ has terms.no seen _ last held))
       (λ shows. subst F (sym shows) (λ last held. tt))
       (λ quar at shows. subst F (sym shows) (λ last held. tt))
+
+  -- a raised grant stands alone by the step that raised it
+  pub stood_raised : (permit : Permit) (has : Bool) (seen : Seen) (old : Option (List ℕ × ℕ)) → permit.mode ≡ mode.Refresh
+      → IsLastStep (shard_of permit.key shards) (raised_short permit.key permit.sid permit.token has) seen
+      → IsOldHeld opening (before (shard_of permit.key shards)) (shard_of permit.key shards) seen permit.key old
+      → StoodAlone opening before shards seen (record { permit = permit; old = old; by = pos 0 })
+  stood_raised permit has seen old refreshes last held = record {
+    step = raised_short permit.key permit.sid permit.token has;
+    last = last;
+    alone = record { alone = refl; on = refl; mine = refl; under = refl };
+    shifts = λ delta. absurd (refresh_or_delta (sym refreshes ∙ delta));
+    old = held;
+  }
+
+  -- a quarantine was raised before the session committed
+  pub raised_is_ready : (book : Book) (seen : Seen) (permit : Permit) (old : Option (List ℕ × ℕ)) → IsSound shards seen → book.commit ≡ None
+      → StoodAlone opening before shards seen (record { permit = permit; old = old; by = pos 0 })
+      → IsReadyToWrite opening before shards book seen → IsReadyToWrite opening before shards (with_raised permit old book) seen
+  raised_is_ready book seen permit old sound none stood h = record {
+    held =
+        each_raised (IsHeldSeen opening before shards book.commit seen) permit old book.held
+        (λ alone. record {
+          earlier = seen;
+          sound = sound;
+          begins = beginning_same seen;
+          stood = stood;
+          late = λ done did. absurd (none-some done (sym none ∙ did));
+        })
+        h.held;
+    commit = h.commit;
+  }
