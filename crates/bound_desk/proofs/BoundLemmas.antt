@@ -32,7 +32,7 @@ use Rattle.bound_hub.proofs.FactLemmas.{was_not}
 use Rattle.bound_hub.proofs.GrantLemmas.{grant_goes_on}
 use Rattle.bound_hub.proofs.QuarantineLemmas.{still_may_write, still_over}
 use Rattle.bound_hub.proofs.RuledLemmas.{more_is_known}
-use Rattle.desk_book.specs.Books.{Book, Held, is_on, is_present, begun, most_answers, noted_for, with_place, with_answer, with_lease}
+use Rattle.desk_book.specs.Books.{Book, Held, empty_book, is_on, is_present, begun, most_answers, noted_for, with_place, with_answer, with_lease}
 use Rattle.desk_book.specs.Borne.{IsBorne}
 use Rattle.desk_book.specs.declared.facts.Leased.{Leased}
 use Rattle.bound_desk.specs.Bound.{IsGivenSince, IsLeaseSeen, IsPresentSeen, IsBoundBook, with_got}
@@ -84,6 +84,17 @@ pub noted_is_bound : (opening : Tables) (shards : ℕ) (who : Sid) (note : Book 
     → (is_present book who ≡ true → IsBoundBook opening shards (note book) seen) → IsBoundBook opening shards (noted_for who note book) seen
 noted_is_bound opening shards who note book seen old new =
     by_test (λ b. IsBoundBook opening shards (cond b (note book) book) seen) (is_present book who) new (λ _. old)
+
+-- a book in which nothing was told
+pub empty_is_bound : (opening : Tables) (shards : ℕ) (book : Book) (seen : Seen) → book ≡ empty_book → IsBoundBook opening shards book seen
+empty_is_bound opening shards book seen is =
+    subst (λ b. IsBoundBook opening shards b seen) (sym is)
+    (record {
+      present = λ present at. absurd (none-some present at);
+      lease = λ lease at. absurd (none-some lease at);
+      held = All-nil (λ (one : Held). IsGrantSeen shards seen one.permit);
+      commit = λ present at done did. absurd (none-some done did);
+    })
 
 -- a session began
 pub begun_is_bound : (opening : Tables) (shards : ℕ) (seen : Seen) (from worker : ℕ) (writes : Bool) (who : Sid) → ShowsBegin from worker writes seen who

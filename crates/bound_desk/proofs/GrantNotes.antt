@@ -1,5 +1,5 @@
 -- The pass has seen what the book says of grants, of a commit and of an end.
-use Rattle.std.proofs.Common.{ℕ, ℤ, ◌≡◌, ◌≢◌, ◌⊎◌, ◌<◌, ◌==◌, ◌||◌, Bool, true, false, cond, List, [], ◌∷◌, ◌++◌, length, filter, All, get_or, Option, Some, None, is_some, refl, sym, ap, subst, ◌∙◌, inl, inr, ⊎_elim}
+use Rattle.std.proofs.Common.{ℕ, ℤ, ◌≡◌, ◌≢◌, ◌⊎◌, ◌<◌, ◌==◌, ◌||◌, Bool, true, false, cond, List, [], ◌∷◌, ◌++◌, length, filter, All, get_or, Option, Some, None, Result, Ok, Err, IfOk, is_some, refl, sym, ap, subst, ◌∙◌, inl, inr, ⊎_elim}
 use Rattle.std.specs.List.{list_all, list_any}
 use Rattle.std.specs.Option.{ForSome}
 use Rattle.std.proofs.lemmas.Bool.{false≢true, and_from, eq-eqb, eqb-true, or_left}
@@ -163,3 +163,19 @@ filter_all p (x ∷ xs) =
 -- what is left of a commit's grants once the others are set apart is held
 pub left_are_held : (book : Book) (grants : List Permit) → All (Holds book) (filter (is_held book) grants)
 left_are_held book grants = (all_tested book.held (filter (is_held book) grants)).0 (filter_all (is_held book) grants)
+
+-- what is known of an answer in two ways, where there is one, gives more
+pub both_give : {T E : Type 0} (P Q R : T → Type 0) (r : Result T E) → ((x : T) → P x → Q x → R x) → IfOk r P → IfOk r Q → IfOk r R
+both_give P Q R (Ok x) f p q = f x p q
+both_give P Q R (Err e) f p q = tt
+
+-- so it is with what an answer to a quarantine brings, if there is one
+pub answer_brings : {E : Type 0} (terms : Terms) (past : List Step) (key : QKey) (who : Sid) (mode : Mode) (shift : ℤ) (now : ℕ) (shards place : ℕ) (seen : Seen) (has : Bool) (result : Result QAnswer E)
+    → place ≡ shard_of key shards → IfOk result (ShowsQuarantine terms past (quarantine_step terms past key who mode shift now))
+    → IfOk result (λ told. IsLastStep place (quarantine_short key who mode shift told has) seen)
+    → IfOk result (IsGrantFor shards seen (old_value mode (entry key past)))
+answer_brings terms past key who mode shift now shards place seen has result at =
+    both_give (ShowsQuarantine terms past (quarantine_step terms past key who mode shift now)) (λ told. IsLastStep place (quarantine_short key who mode shift told has) seen)
+    (IsGrantFor shards seen (old_value mode (entry key past))) result
+    (λ told shows last. quarantine_brings terms past key who mode shift now shards seen told has shows
+    (subst (λ n. IsLastStep n (quarantine_short key who mode shift told has) seen) at last))

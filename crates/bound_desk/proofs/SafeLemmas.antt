@@ -1,5 +1,6 @@
 -- What is made in place of a request, by its form, is safe.
-use Rattle.std.proofs.Common.{ℕ, ◌≡◌, ◌⊎◌, ◌&&◌, Bool, true, false, cond, Option, Some, None, is_some, refl, sym, ap, subst, ◌∙◌, inl, inr, ⊎_elim, arith}
+use Rattle.std.proofs.Common.{ℕ, ◌≡◌, ◌⊎◌, ◌&&◌, Bool, true, false, cond, List, Option, Some, None, is_some, refl, sym, ap, subst, ◌∙◌, inl, inr, ⊎_elim, arith}
+use Rattle.std.specs.Prelude.{IsSomeAnd}
 use Rattle.std.proofs.lemmas.Bool.{and_parts}
 use Rattle.rows_model.specs.declared.keys.Sid.{Sid}
 use Rattle.key_shard.specs.Permit.{Permit}
@@ -13,6 +14,7 @@ use Rattle.key_freshness.proofs.MarkLemmas.{by_test}
 use Rattle.desk_book.specs.Books.{Book, is_present}
 use Rattle.desk_book.specs.Borne.{IsBorne, IsForm, IsPresent, safe_form}
 use Rattle.desk_book.specs.Made.{made_in}
+use Rattle.desk_book.specs.declared.facts.Committed.{Committed}
 use Rattle.desk_book.specs.declared.forms.Form.{Form}
 use Rattle.desk_book.specs.declared.forms.Form.TheVariants as form
 use Rattle.bound_desk.specs.Bound.{HasCommitted}
@@ -143,3 +145,15 @@ made_belongs book who request found h =
     (λ asked. subst (λ f. MadeBelongs who request (made_in f who request)) (sym asked.0) (λ told b. b))
     (λ safe. subst (λ f. MadeBelongs who request (made_in f who request)) (sym safe) (safe_belongs book who request))
     (which book who request found h)
+
+some_done : (o : Option Committed) (P : Committed → Type 0) → IsSomeAnd o P → is_some o ≡ true
+some_done (Some done) P h = refl
+some_done None P h = absurd h
+
+-- a release with a new value, or one that shifts, that is safe is of a session that has committed
+pub put_is_done : (book : Book) (who : Sid) (grant : Permit) (value : Option (List ℕ)) (stamp : ℕ) → IsSafe book who (wanted.Sar grant value stamp) → HasCommitted book grant.sid
+put_is_done book who grant None stamp h = h
+put_is_done book who grant (Some value) stamp h = own_done book who grant h.0.0 h.0.1 (some_done book.commit _ h.1)
+
+pub shift_is_done : (book : Book) (who : Sid) (grant : Permit) (stamp : ℕ) → IsSafe book who (wanted.Apply grant stamp) → HasCommitted book grant.sid
+shift_is_done book who grant stamp h = own_done book who grant h.0.0 h.0.1 (some_done book.commit _ h.1)

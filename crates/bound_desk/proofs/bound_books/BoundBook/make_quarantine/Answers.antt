@@ -1,0 +1,30 @@
+use Rattle.std.proofs.Common.{is_some}
+use Rattle.key_shard.specs.Past.{entry}
+use Rattle.key_shard.specs.Shards.{past_of}
+use Rattle.session_client.specs.Belongs.{IsQuarantineOf}
+use Rattle.session_client.proofs.QuarantineLemmas.{quarantine_belongs}
+use Rattle.desk_book.proofs.ListLemmas.{ok_gives}
+use Rattle.bound_desk.proofs.BoundLemmas.{book_goes_on}
+use Rattle.bound_desk.proofs.GrantNotes.{answer_brings}
+use Rattle.bound_desk.proofs.bound_books.BoundBook.make_quarantine.Goals as goal
+
+pub invariant_of-self : goal.invariant_of-self
+invariant_of-self g c = (
+  c.quarantine.ensures.word,
+  book_goes_on g.H.HubName.opening g.H.BoundName.word.shards c.self.inside.book.book c.self.inside.pass.seen c.quarantine.new.pass.seen c.quarantine.ensures.seen c.self.invariant.1,
+)
+
+pub returns-clause-grant : goal.returns-clause-grant
+returns-clause-grant g c =
+    let a = c.args in
+    let shard = a.shard.now.shard in
+    answer_brings shard.terms (past_of shard) a.key a.who a.mode _ a.now g.H.BoundName.word.shards shard.terms.no c.quarantine.new.pass.seen
+    (is_some (entry a.key (past_of c.quarantine.new.self.shard))) c.quarantine.result c.requires.place c.quarantine.ensures.shows c.quarantine.ensures.last
+
+pub returns-clause-belongs : goal.returns-clause-belongs
+returns-clause-belongs g c =
+    let a = c.args in
+    let shard = a.shard.now.shard in
+    let past = past_of shard in
+    ok_gives _ (IsQuarantineOf a.who a.key a.mode) c.quarantine.result
+    (λ told shows. quarantine_belongs shard.terms past a.key a.who a.mode _ a.now told shows) c.quarantine.ensures.shows
