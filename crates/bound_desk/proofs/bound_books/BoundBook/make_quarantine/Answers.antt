@@ -6,12 +6,14 @@ use Rattle.session_client.proofs.QuarantineLemmas.{quarantine_belongs}
 use Rattle.desk_book.proofs.ListLemmas.{ok_gives}
 use Rattle.bound_desk.proofs.BoundLemmas.{book_goes_on}
 use Rattle.bound_desk.proofs.GrantNotes.{answer_brings}
+use Rattle.bound_desk.proofs.WritingLemmas.{ready_goes_on}
 use Rattle.bound_desk.proofs.bound_books.BoundBook.make_quarantine.Goals as goal
 
 pub invariant_of-self : goal.invariant_of-self
 invariant_of-self g c = (
   c.quarantine.ensures.word,
   book_goes_on g.H.HubName.opening g.H.BoundName.word.shards c.self.inside.book.book c.self.inside.pass.seen c.quarantine.new.pass.seen c.quarantine.ensures.seen c.self.invariant.1,
+  ready_goes_on g.H.HubName.opening g.H.BoundName.before g.H.BoundName.word.shards c.self.inside.book.book c.self.inside.pass.seen c.quarantine.new.pass.seen c.quarantine.ensures.seen c.self.invariant.2,
 )
 
 pub returns-clause-grant : goal.returns-clause-grant
