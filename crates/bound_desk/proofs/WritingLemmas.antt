@@ -1,5 +1,5 @@
 -- What a release that writes a value rests on is still seen when more is seen, and when something is noted.
-use Rattle.std.proofs.Common.{ℕ, suc, ℤ, pos, ◌≡◌, ◌+◌, ◌<◌, Bool, true, cond, List, [], ◌∷◌, ◌++◌, length, take, All, Option, Some, None, slice_get, refl, sym, ap, subst, ◌∙◌, arith}
+use Rattle.std.proofs.Common.{ℕ, suc, ℤ, pos, ◌≡◌, ◌+◌, ◌<◌, Bool, true, cond, List, [], ◌∷◌, ◌++◌, length, take, All, Option, Some, None, Result, Ok, Err, IfOk, slice_get, refl, sym, ap, subst, ◌∙◌, arith}
 use Rattle.std.proofs.lemmas.Bool.{eqb-true}
 use Rattle.std.proofs.lemmas.List.Elements.{All-nil, All-cons, All-head, All-tail, All-push, All-weaker}
 use Rattle.std.proofs.lemmas.Option.{same_Some, none-some, slice_get_within}
@@ -231,6 +231,18 @@ module _ (opening : Tables) (before : ℕ → List Step) (shards : ℕ) where
       (λ none shows. subst F (sym shows) (λ last held. stood_granted key who quarantine shift _ has terms.no seen _ last held))
       (λ shows. subst F (sym shows) (λ last held. tt))
       (λ quar at shows. subst F (sym shows) (λ last held. tt))
+
+  -- and so it is with an answer, if there is one
+  pub answer_stood : {E : Type 0} (terms : Terms) (past : List Step) (key : QKey) (who : Sid) (quarantine : Mode) (shift : ℤ) (now place : ℕ) (seen : Seen) (has : Bool) (result : Result QAnswer E)
+      → place ≡ shard_of key shards → IfOk result (ShowsQuarantine terms past (quarantine_step terms past key who quarantine shift now))
+      → IfOk result (λ told. IsLastStep place (quarantine_short key who quarantine shift told has) seen)
+      → IfOk result (λ told. IsGrantHeld opening (before place) place seen key told)
+      → IfOk result (IsGrantAlone opening before shards shift seen)
+  answer_stood terms past key who quarantine shift now place seen has (Ok told) at shows last held =
+      quarantine_stood terms past key who quarantine shift now seen told has shows
+      (subst (λ n. IsLastStep n (quarantine_short key who quarantine shift told has) seen) at last)
+      (subst (λ n. IsGrantHeld opening (before n) n seen key told) at held)
+  answer_stood terms past key who quarantine shift now place seen has (Err fault) at shows last held = tt
 
   -- a raised grant stands alone by the step that raised it
   pub stood_raised : (permit : Permit) (has : Bool) (seen : Seen) (old : Option (List ℕ × ℕ)) → permit.mode ≡ mode.Refresh
