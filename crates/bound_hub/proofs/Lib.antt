@@ -7,6 +7,7 @@ pub mod SessionLemmas
 pub mod StoreTies
 pub mod GrantLemmas
 pub mod ShowLemmas
+pub mod TrueLogLemmas
 pub mod FirstEntry
 pub mod MadeLemmas
 pub mod StepFacts

@@ -13,3 +13,4 @@ pub mod Olds
 pub mod Releases
 pub mod Sweeps
 pub mod Writes
+pub mod TrueLogs

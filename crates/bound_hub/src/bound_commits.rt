@@ -1,6 +1,7 @@
 //! Commits at the store under its lock.
 ghost use Rattle.std.specs.Prelude.{◌≡◌, false, All, List, MatchResult, is_none, IfErr, IfOk};
 ghost use Rattle.key_shard.specs.Permit.{Permit};
+ghost use Rattle.rows_model.specs.Changes.{HasIds};
 ghost use Rattle.rows_model.specs.Rows.{Tables};
 ghost use Rattle.sql_keeper.specs.Faults.{is_failure};
 ghost use Rattle.sql_keeper.specs.Stores.{first_fault, IsRefusal, IsTrueFault};
@@ -77,13 +78,17 @@ fn copied<K: Keeper, H: BoundName>(
     txn: &Txn,
 ) -> Result<Txn, CommitFault>
     ensures copy { IfOk result (λ copy. copy ≡ txn.now) }
+    ensures ids { IfOk result (λ copy. All HasIds copy) }
     ensures unasked { IfErr result (λ fault. is_failure fault ≡ false) }
     ensures refusal { IfErr result (λ fault. (grants : List Permit)
         → IsRefusal (first_fault store.now.ledger sid grants txn.now) fault) }
     ensures any_rows { IfErr result (λ fault. (rows : Tables) → IsTrueFault txn.now rows fault) }
 {
     match txn.copy() {
-        Ok(copy) => Ok(copy),
+        Ok(copy) => {
+            let _ids = copy.changes();
+            Ok(copy)
+        }
         Err(_) if store.is_open(sid) => Err(CommitFault::Memory),
         Err(_) => Err(CommitFault::Ended),
     }

@@ -25,7 +25,7 @@ use std::marker::{Brand, Model};
 /// since the hub was made. Contracts see the store and what the pass has seen.
 ///
 /// The log and the sessions are those of the events, and the pass has seen each call that the keeper
-/// failed, and whether the store tells its rows.
+/// failed, and whether the store tells its rows. Where it does, each transaction of the log applied.
 #[derive(Drop)]
 pub struct BoundStore<K: Keeper, H: BoundName> {
     pub(crate) store: Store<K, StartOf<H>>,
@@ -35,13 +35,15 @@ pub struct BoundStore<K: Keeper, H: BoundName> {
 impl<K: Keeper, H: BoundName> Model for BoundStore<K, H> {
     ghost use Rattle.shard_lock.specs.Names.{IsNamedStore};
     ghost use Rattle.bound_hub.specs.Ties.{BoundStoreView, IsBoundStore};
+    ghost use Rattle.bound_hub.specs.TrueLogs.{IsTrueSoFar};
 
     ghost Value = { BoundStoreView };
 
     ghost view = { λ bound. record { store = bound.store; seen = bound.pass.seen } };
 
     ghost invariant = { λ bound. IsNamedStore H.opening H.cap H.told H.start bound.store
-        × IsBoundStore H.word H.begun H.failed bound.store bound.pass };
+        × IsBoundStore H.word H.begun H.failed bound.store bound.pass
+        × IsTrueSoFar H.opening bound.pass.seen };
 }
 
 impl<K: Keeper, H: BoundName> BoundStore<K, H> {
@@ -56,6 +58,7 @@ impl<K: Keeper, H: BoundName> BoundStore<K, H> {
         ensures only { HasSeenOnly (is_none store.told) result.seen }
     {
         let mut pass = pass;
+        let _fit = store.opening().members();
         hear(word, &store, &mut pass, false);
         BoundStore { store, pass }
     }

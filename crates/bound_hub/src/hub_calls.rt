@@ -13,6 +13,7 @@ ghost use Rattle.key_freshness.specs.Known.{IsLogged};
 ghost use Rattle.bound_hub.specs.Knowns.{commits_of};
 ghost use Rattle.bound_hub.specs.Gets.{got_short, IsGotFresh, IsLastStep};
 ghost use Rattle.bound_hub.specs.Stores.{IsGrantSeen, SeesFailure, ShowsAnswer, ShowsBegin, ShowsCommit, ShowsEnd, ShowsRefusal, ShowsStaged};
+ghost use Rattle.bound_hub.specs.TrueLogs.{IsTrueSoFar};
 
 use crate::bound_shards::BoundShard;
 use crate::bound_stores::BoundStore;
@@ -102,7 +103,9 @@ impl<K: Keeper, H: BoundName> BoundHub<K, H> {
     }
 
     /// Commits the transaction, under grants of which the caller has seen the steps. Its Commit is the
-    /// last event that the caller has seen then. Refused, there is none. The transaction comes back.
+    /// last event that the caller has seen then. Refused, there is none. The transaction comes back. Each
+    /// transaction that was committed applied, unless the caller has seen that the store has stopped telling
+    /// its rows.
     pub fn commit<R: Wait>(
         &self,
         rt: &R,
@@ -116,6 +119,7 @@ impl<K: Keeper, H: BoundName> BoundHub<K, H> {
         ensures back { result.1 ≡ txn }
         ensures word { pass.new.word ≡ H.word }
         ensures seen { IsBeginning pass.old.seen pass.new.seen }
+        ensures true_so_far { IsTrueSoFar H.opening pass.new.seen }
         ensures ok { IfOk result.0 (ShowsCommit H.opening H.cap sid txn grants.now pass.new.seen) }
         ensures err { IfErr result.0 (ShowsRefusal H.opening H.cap sid txn grants.now pass.new.seen) }
         ensures fault { IfErr result.0 (λ fault.

@@ -6,6 +6,7 @@ ghost use Rattle.log_word.specs.Steps.{IsSound, IsBeginning};
 ghost use Rattle.shard_lock.specs.Names.{AreAll, AreLegal, ArePlaced, AreTokens, IsNamed, IsNamedStore, IsTokenOf};
 ghost use Rattle.bound_hub.specs.Ties.{IsBoundShard, IsBoundStore};
 ghost use Rattle.bound_hub.specs.Parts.{IsGathered, IsLeft};
+ghost use Rattle.bound_hub.specs.TrueLogs.{IsTrueSoFar};
 
 use crate::bound_shards::BoundShard;
 use crate::bound_stores::BoundStore;
@@ -77,11 +78,13 @@ impl<H: BoundName> BoundShard<H> {
 }
 
 impl<K: Keeper, H: BoundName> BoundStore<K, H> {
-    /// The store and what its pass has seen belong together, and that is sound.
+    /// The store and what its pass has seen belong together, and that is sound. Where the store tells its
+    /// rows, each transaction of the log applied.
     pub(crate) fn tied(&self)
         ensures tied { IsBoundStore H.word H.begun H.failed self.now.store
             (record { word = H.word; seen = self.now.seen }) }
         ensures sound { IsSound H.word.shards self.now.seen }
+        ensures true_so_far { IsTrueSoFar H.opening self.now.seen }
     {
         self.pass.sound();
     }

@@ -1,5 +1,5 @@
 //! The calls of the store under its lock, for a caller with a pass.
-ghost use Rattle.std.specs.Prelude.{◌≡◌, false, All, MatchResult, IfErr, IfOk, OnOk, OnErr};
+ghost use Rattle.std.specs.Prelude.{◌≡◌, ◌<◌, false, length, All, MatchResult, IfErr, IfOk, OnOk, OnErr};
 ghost use Rattle.std.specs.Bool.{IsFalse};
 ghost use Rattle.sql_keeper.specs.Faults.{is_failure, keep_failed, staged_failed};
 ghost use Rattle.sql_keeper.specs.Sessions.{has_committed, is_open};
@@ -9,6 +9,7 @@ ghost use Rattle.log_word.specs.Steps.{IsBeginning};
 ghost use Rattle.key_freshness.specs.Known.{IsLogged};
 ghost use Rattle.bound_hub.specs.Knowns.{commits_of};
 ghost use Rattle.bound_hub.specs.Stores.{IsGrantSeen, SeesFailure, ShowsAnswer, ShowsBegin, ShowsCommit, ShowsEnd, ShowsRefusal, ShowsStaged};
+ghost use Rattle.bound_hub.specs.TrueLogs.{IsTrueSoFar};
 
 use crate::bound_stores::BoundStore;
 use crate::names::BoundName;
@@ -129,9 +130,10 @@ impl<K: Keeper, H: BoundName> BoundStore<K, H> {
     }
 
     /// Commits the transaction, as the store does, under grants of which the caller has seen the steps.
-    /// Its Commit is the last event that the caller has seen then. Refused, there is none. The
-    /// transaction comes back. A keeper that failed is told only where the caller sees one more failed
-    /// call.
+    /// Its Commit is the last event that the caller has seen then, and is new to it. Refused, there is
+    /// none. The transaction comes back. A keeper that failed is told only where the caller sees one more
+    /// failed call. Each transaction that was committed applied, unless the caller has seen that the store has stopped
+    /// telling its rows.
     pub fn commit(
         &mut self,
         word: &LogWord,
@@ -150,6 +152,8 @@ impl<K: Keeper, H: BoundName> BoundStore<K, H> {
         ensures word { pass.new.word ≡ H.word }
         ensures seen { IsBeginning pass.old.seen pass.new.seen }
         ensures all { pass.new.seen ≡ self.new.seen }
+        ensures true_so_far { IsTrueSoFar H.opening pass.new.seen }
+        ensures late { IfOk result.0 (λ number. length (commits_of pass.old.seen.events) < number) }
         ensures ok { IfOk result.0 (ShowsCommit H.opening H.cap sid txn grants.now pass.new.seen) }
         ensures err { IfErr result.0 (ShowsRefusal H.opening H.cap sid txn grants.now pass.new.seen) }
         ensures fault { IfErr result.0 (λ fault.
@@ -157,6 +161,7 @@ impl<K: Keeper, H: BoundName> BoundStore<K, H> {
     {
         self.join(word, pass.note(word));
         let made = self.make_commit(word, sid, txn, grants);
+        self.tied();
         *pass = self.note(word).into_pass();
         made
     }

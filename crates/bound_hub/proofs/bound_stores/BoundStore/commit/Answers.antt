@@ -1,10 +1,9 @@
-use Rattle.std.proofs.Common.{sym, ap, subst, ◌∙◌}
-use Rattle.log_word.specs.declared.seen.Seen.{Seen}
+use Rattle.std.proofs.Common.{is_none, ap, subst, ◌∙◌}
 use Rattle.log_word.specs.Passes.{PassView}
-use Rattle.bound_hub.specs.Stores.{ShowsCommit, ShowsRefusal}
 use Rattle.log_word.specs.Steps.{IsBeginning}
 use Rattle.bound_hub.proofs.GrantLemmas.{all_go_on}
 use Rattle.bound_hub.proofs.ShowLemmas.{caller_goes_on}
+use Rattle.bound_hub.proofs.TrueLogLemmas.{commit_is_late}
 use Rattle.bound_hub.proofs.bound_stores.BoundStore.commit.Goals as goal
 
 pub returns-clause-seen : goal.returns-clause-seen
@@ -16,3 +15,9 @@ pub make_commit-made-requires-clause-granted : goal.make_commit-made-requires-cl
 make_commit-made-requires-clause-granted g c =
     all_go_on g.H.BoundName.word.shards c.args.pass.now.seen c.join.new.self.seen c.args.grants.now
     (subst (λ (p : PassView). IsBeginning p.seen c.join.new.self.seen) c.note.ensures.note c.join.ensures.theirs) c.requires.granted
+
+pub returns-clause-late : goal.returns-clause-late
+returns-clause-late g c =
+    let made = c.make_commit-made in
+    commit_is_late g.H.HubName.opening g.H.HubName.cap c.args.sid c.args.txn c.args.grants.now c.args.pass.now.seen c.join.new.self.seen made.new.self.seen (is_none made.new.self.store.told)
+    made.result.0 _ (subst (λ (p : PassView). IsBeginning p.seen c.join.new.self.seen) c.note.ensures.note c.join.ensures.theirs) made.ensures.seen made.ensures.ok

@@ -7,6 +7,7 @@ use Rattle.bound_hub.specs.Ties.{BoundStoreView}
 use Rattle.bound_hub.specs.Stores.{with_keeper_call}
 use Rattle.bound_hub.proofs.StoreTies.{bound_with_call, named_with_call}
 use Rattle.bound_hub.proofs.ShowLemmas.{answers, ask_goes, ask_shows, call_goes_on}
+use Rattle.bound_hub.proofs.TrueLogLemmas.{true_with_call}
 use Rattle.bound_hub.proofs.bound_stores.BoundStore.make_ask.Goals as goal
 
 pub invariant_of-self : goal.invariant_of-self
@@ -20,6 +21,7 @@ invariant_of-self g c =
     let seen = c.hear.ensures.seen ∙ ap (λ b. with_keeper_call b (is_none new.told) pass.seen) c.has_failed.ensures in (
       named_with_call g.H.HubName.opening g.H.HubName.cap g.H.HubName.told g.H.HubName.start old new (keep_failed asked) c.self.invariant.0 goes made.never_falls,
       bound_with_call g.H.BoundName.word g.H.BoundName.begun g.H.BoundName.failed old new pass c.self.invariant.1 (keep_failed asked) c.hear.new.pass goes c.hear.ensures.word seen,
+      true_with_call g.H.HubName.opening pass.seen c.hear.new.pass.seen (keep_failed asked) (is_none new.told) seen c.self.invariant.2,
     )
 
 pub returns-clause-goes_on : goal.returns-clause-goes_on

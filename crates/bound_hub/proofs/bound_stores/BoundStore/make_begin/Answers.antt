@@ -6,6 +6,7 @@ use Rattle.log_word.proofs.ViewLemmas.{event_goes_on}
 use Rattle.bound_hub.specs.Ties.{BoundStoreView}
 use Rattle.bound_hub.proofs.StoreTies.{begin_may_follow, bound_with_begin, named_with_begin}
 use Rattle.bound_hub.proofs.ShowLemmas.{begin_shows}
+use Rattle.bound_hub.proofs.TrueLogLemmas.{true_with_begin}
 use Rattle.bound_hub.proofs.bound_stores.BoundStore.make_begin.Goals as goal
 
 pub add-requires-clause-follows : goal.add-requires-clause-follows
@@ -21,6 +22,7 @@ invariant_of-self-2 g c =
           c.self.invariant.0 made.ledger made.keeper.0 made.keeper.1,
       bound_with_begin g.H.BoundName.word g.H.BoundName.begun g.H.BoundName.failed c.self.inside.store c.begin.new.self c.self.inside.pass c.add.new.self c.in_ok-sid.sid c.args.worker c.args.writes
           c.self.invariant.1 made.ledger made.keeper.0 made.number c.add.ensures.word c.add.ensures.seen,
+      true_with_begin g.H.HubName.opening c.self.inside.pass.seen c.add.new.self.seen c.in_ok-sid.sid c.args.worker c.args.writes c.add.ensures.seen c.self.invariant.2,
     )
 
 pub returns-clause-goes_on : goal.returns-clause-goes_on

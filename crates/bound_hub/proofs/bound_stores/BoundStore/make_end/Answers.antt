@@ -6,6 +6,7 @@ use Rattle.log_word.specs.Steps.{IsBeginning}
 use Rattle.bound_hub.proofs.SessionLemmas.{open_by, open_by_events}
 use Rattle.bound_hub.proofs.StoreTies.{bound_with_end, named_with_end}
 use Rattle.bound_hub.proofs.ShowLemmas.{end_goes_on}
+use Rattle.bound_hub.proofs.TrueLogLemmas.{true_with_end}
 use Rattle.bound_hub.proofs.bound_stores.BoundStore.make_end.Goals as goal
 
 pub add-requires-clause-follows : goal.add-requires-clause-follows
@@ -22,6 +23,7 @@ invariant_of-self-2 g c =
           c.self.invariant.0 made.ledger made.keeper.0 made.keeper.1,
       bound_with_end g.H.BoundName.word g.H.BoundName.begun g.H.BoundName.failed c.self.inside.store c.end-closed.new.self c.self.inside.pass c.self.invariant.1
           c.args.sid true c.add.new.self may made.ledger made.keeper.0 c.add.ensures.word c.add.ensures.seen,
+      true_with_end g.H.HubName.opening c.self.inside.pass.seen c.add.new.self.seen c.args.sid true c.add.ensures.seen c.self.invariant.2,
     )
 
 pub returns-clause-goes_on : goal.returns-clause-goes_on
