@@ -2,6 +2,7 @@ pub mod SplitLemmas
 pub mod NumberLemmas
 pub mod DecimalLemmas
 pub mod KindLemmas
+pub mod PlainNumberLemmas
 pub mod FirstLemmas
 pub mod RowLemmas
 pub mod TableLemmas

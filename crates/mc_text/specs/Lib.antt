@@ -1,4 +1,6 @@
 pub mod Words
+pub mod PlainKeys
+pub mod PlainNumbers
 pub mod Verbs
 pub mod Commands
 pub mod Streams
