@@ -38,12 +38,20 @@ impl PlainKey {
         ensures none { IfOk result (λ read. IfNone read (IsPlainKey bytes.now → ⊥)) }
     {
         match key_of(bytes) {
-            Some(None) => Ok(Some(PlainKey {
-                bytes: Value::of(alloc, bytes)?,
-            })),
+            Some(None) => Ok(Some(PlainKey::of_plain(alloc, bytes)?)),
             Some(Some(_)) => Ok(None),
             None => Ok(None),
         }
+    }
+
+    // The key of bytes that are one of a plain command.
+    pub(crate) fn of_plain(alloc: Global, bytes: &[u8]) -> Result<PlainKey, Memory>
+        requires { IsPlainKey bytes.now }
+        ensures { IfOk result (λ key. key ≡ bytes.now) }
+    {
+        Ok(PlainKey {
+            bytes: Value::of(alloc, bytes)?,
+        })
     }
 
     /// The same key once more. No byte is copied.

@@ -1,0 +1,37 @@
+// The verbs of plain commands.
+ghost use Rattle.std.specs.Prelude.{◌≡◌, IfSome, IfNone};
+ghost use Rattle.mc_text.specs.declared.plain_verbs.PlainVerb.{PlainVerb};
+ghost use Rattle.mc_text.specs.PlainVerbs.{text_of};
+
+/// A verb of a plain command.
+#[derive(Clone, Copy)]
+pub enum PlainVerb {
+    Get,
+    Gets,
+    Set,
+    Add,
+    Replace,
+    Cas,
+    Delete,
+    Incr,
+    Decr,
+}
+
+/// The verb that the word is.
+pub fn plain_verb(word: &[u8]) -> Option<PlainVerb>
+    ensures found { IfSome result (λ verb. word.now ≡ text_of verb) }
+    ensures none { IfNone result ((verb : PlainVerb) → word.now ≡ text_of verb → ⊥) }
+{
+    match word {
+        b"get" => Some(PlainVerb::Get),
+        b"gets" => Some(PlainVerb::Gets),
+        b"set" => Some(PlainVerb::Set),
+        b"add" => Some(PlainVerb::Add),
+        b"replace" => Some(PlainVerb::Replace),
+        b"cas" => Some(PlainVerb::Cas),
+        b"delete" => Some(PlainVerb::Delete),
+        b"incr" => Some(PlainVerb::Incr),
+        b"decr" => Some(PlainVerb::Decr),
+        _ => None,
+    }
+}
