@@ -102,3 +102,131 @@ impl<'a> PlainHead<'a> {
         }
     }
 }
+
+/// What the words behind the verb of a plain command say.
+pub(crate) fn line_of<'a>(
+    alloc: Global,
+    verb: PlainVerb,
+    args: &'a [u8],
+) -> Result<PlainLine<'a>, Memory>
+    ensures { IfOk result (λ line. Tells verb (words_in args.now) line) }
+{
+    match verb {
+        PlainVerb::Get => Ok(whole(get_of(alloc, args)?)),
+        PlainVerb::Gets => Ok(whole(gets_of(alloc, args)?)),
+        PlainVerb::Set => Ok(headed(set_of(args))),
+        PlainVerb::Add => Ok(headed(add_of(args))),
+        PlainVerb::Replace => Ok(headed(replace_of(args))),
+        PlainVerb::Cas => Ok(headed(cas_of(args))),
+        PlainVerb::Delete => Ok(whole(delete_of(alloc, args)?)),
+        PlainVerb::Incr => Ok(whole(incr_of(alloc, args)?)),
+        PlainVerb::Decr => Ok(whole(decr_of(alloc, args)?)),
+    }
+}
+
+fn whole<'a>(read: Option<(PlainSaid, bool)>) -> PlainLine<'a>
+    ensures { MatchOption read (result ≡ Bad) (λ it. result ≡ Whole it.0 it.1) }
+{
+    match read {
+        Some((said, noreply)) => PlainLine::Whole { said, noreply },
+        None => PlainLine::Bad,
+    }
+}
+
+fn headed(read: Option<PlainHead<'_>>) -> PlainLine<'_>
+    ensures { MatchOption read (result ≡ Bad) (λ head. result ≡ Headed head) }
+{
+    match read {
+        Some(head) => PlainLine::Headed { head },
+        None => PlainLine::Bad,
+    }
+}
+
+fn set_of(args: &[u8]) -> Option<PlainHead<'_>>
+    ensures found { IfSome result (λ head. IsHead verb.Set (words_in args.now) head) }
+    ensures none { IfNone result (IsNoHead verb.Set (words_in args.now)) }
+{
+    let (fields, noreply) = all_fields(args)?;
+    Some(fields.with(Storing::Set, noreply))
+}
+
+fn add_of(args: &[u8]) -> Option<PlainHead<'_>>
+    ensures found { IfSome result (λ head. IsHead verb.Add (words_in args.now) head) }
+    ensures none { IfNone result (IsNoHead verb.Add (words_in args.now)) }
+{
+    let (fields, noreply) = all_fields(args)?;
+    Some(fields.with(Storing::Add, noreply))
+}
+
+fn replace_of(args: &[u8]) -> Option<PlainHead<'_>>
+    ensures found { IfSome result (λ head. IsHead verb.Replace (words_in args.now) head) }
+    ensures none { IfNone result (IsNoHead verb.Replace (words_in args.now)) }
+{
+    let (fields, noreply) = all_fields(args)?;
+    Some(fields.with(Storing::Replace, noreply))
+}
+
+fn cas_of(args: &[u8]) -> Option<PlainHead<'_>>
+    ensures found { IfSome result (λ head. IsHead verb.Cas (words_in args.now) head) }
+    ensures none { IfNone result (IsNoHead verb.Cas (words_in args.now)) }
+{
+    let (fields, rest) = take_fields(args)?;
+    let (unique, rest) = take_number(rest)?;
+    let noreply = noreply_of(rest)?;
+    Some(fields.with(Storing::Cas { unique }, noreply))
+}
+
+// What `set`, `add`, `replace` and `cas` have in common.
+#[derive(Clone, Copy)]
+struct Fields<'a> {
+    key: KeyWord<'a>,
+    flags: u32,
+    expires: bool,
+    bytes: u64,
+}
+
+impl<'a> Fields<'a> {
+    fn with(self, storing: Storing, noreply: bool) -> PlainHead<'a>
+        ensures { result ≡ record {
+            storing = storing; key = self.key; flags = self.flags; expires = self.expires;
+            bytes = self.bytes; noreply = noreply } }
+    {
+        PlainHead {
+            storing,
+            key: self.key,
+            flags: self.flags,
+            expires: self.expires,
+            bytes: self.bytes,
+            noreply,
+        }
+    }
+}
+
+// The first four words, and what stands behind them.
+fn take_fields(args: &[u8]) -> Option<(Fields<'_>, &[u8])>
+    ensures found { IfSome result (λ read. BeginWithFields (words_in args.now) read.0 (words_in read.1.now)) }
+    ensures none { IfNone result ((head : PlainHead) → AreHead head (words_in args.now) → ⊥) }
+{
+    let (key, rest) = take_key_word(args)?;
+    let (flags, rest) = take_flags(rest)?;
+    let (expires, rest) = take_exptime(rest)?;
+    let (bytes, rest) = take_number(rest)?;
+    let fields = Fields {
+        key,
+        flags,
+        expires,
+        bytes,
+    };
+    Some((fields, rest))
+}
+
+// Those four words, and the end of the line.
+fn all_fields(args: &[u8]) -> Option<(Fields<'_>, bool)>
+    ensures found { IfSome result (λ read. AreFields read.0 (λ rest. IsLast rest read.1) (words_in args.now)) }
+    ensures none { IfNone result ((fields : Fields) (noreply : Bool) →
+        AreFields fields (λ rest. IsLast rest noreply) (words_in args.now) → ⊥) }
+{
+    let (fields, rest) = take_fields(args)?;
+    let noreply = noreply_of(rest)?;
+    Some((fields, noreply))
+}
