@@ -10,5 +10,7 @@ pub mod VerbLemmas
 pub mod OnceLemmas
 pub mod FrontLemmas
 pub mod LineLemmas
+pub mod PlainWordLemmas
+pub mod PlainLineLemmas
 pub mod TellLemmas
 pub mod StreamLemmas

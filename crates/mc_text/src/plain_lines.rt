@@ -1,7 +1,14 @@
 // What the line of a plain command says, by the words behind its verb.
-ghost use Rattle.std.specs.Prelude.{◌≡◌, Bool, IfSome, IfNone, IfOk};
+ghost use Rattle.std.specs.Prelude.{◌≡◌, Bool, IfSome, IfNone, IfOk, MatchOption};
 ghost use Rattle.mc_text.specs.Words.{words_in};
-ghost use Rattle.mc_text.specs.PlainLines.{said_with, Tells, IsHead, IsNoHead, AreKeys, AreNoKeys};
+ghost use Rattle.mc_text.specs.PlainWords.{IsKeyWord, IsLast};
+ghost use Rattle.mc_text.specs.declared.plain_words.KeyWord.{KeyWord};
+ghost use Rattle.mc_text.specs.declared.plain_verbs.PlainVerb.TheVariants as verb;
+ghost use Rattle.mc_text.specs.declared.plain_lines.Fields.{Fields};
+ghost use Rattle.mc_text.specs.declared.plain_lines.Counted.{Counted};
+ghost use Rattle.mc_text.specs.declared.plain_lines.PlainLine.TheVariants.{Whole, Headed, Bad};
+ghost use Rattle.mc_text.specs.PlainLines.{stored, said_with, AreFields, IsHead, IsNoHead, SayWhole, IsNoWhole, HasKey, Tells};
+ghost use Rattle.mc_text.specs.PlainParts.{BeginWithFields, IsNoFields, IsKeyAlone, IsCounted, AreKeyWords};
 
 use crate::plain_commands::PlainCommand;
 use crate::plain_keys::{PlainKey, PlainKeys};
@@ -31,16 +38,22 @@ pub enum Storing {
     Cas { unique: u64 },
 }
 
-/// What the line of a command says that stores the block behind it.
+/// What the lines of all commands say that store the block behind them.
 #[derive(Clone, Copy)]
-pub struct PlainHead<'a> {
-    pub storing: Storing,
+pub struct Fields<'a> {
     pub key: KeyWord<'a>,
     pub flags: u32,
     /// Whether the time of expiry isn't 0.
     pub expires: bool,
     /// How many bytes the block has.
     pub bytes: u64,
+}
+
+/// What the line of such a command says.
+#[derive(Clone, Copy)]
+pub struct PlainHead<'a> {
+    pub storing: Storing,
+    pub fields: Fields<'a>,
     pub noreply: bool,
 }
 
@@ -58,15 +71,15 @@ pub enum PlainLine<'a> {
 impl<'a> PlainHead<'a> {
     /// What the line says with its block.
     pub fn with_block(self, alloc: Global, block: Value) -> Result<PlainSaid, Memory>
-        ensures { IfOk result (λ said. said ≡ said_with self block) }
+        requires { IsKeyWord self.fields.key.word.now self.fields.key.is_plain }
+        ensures { IfOk result (λ said. said ≡ said_with self.entry block) }
     {
-        if !self.key.is_plain {
+        let Some(key) = self.fields.key.key(alloc)? else {
             return Ok(PlainSaid::QueryKey);
-        }
-        if self.expires {
+        };
+        if self.fields.expires {
             return Ok(PlainSaid::Exptime);
         }
-        let key = PlainKey::of_plain(alloc, self.key.word)?;
         Ok(PlainSaid::Asks {
             command: self.stored(key, block),
         })
@@ -74,9 +87,9 @@ impl<'a> PlainHead<'a> {
 
     // The command that stores the block.
     fn stored(self, key: PlainKey, block: Value) -> PlainCommand
-        ensures { result ≡ stored self.storing key self.flags block }
+        ensures { result ≡ stored self.entry.storing key self.entry.fields.flags block }
     {
-        let flags = self.flags;
+        let flags = self.fields.flags;
         match self.storing {
             Storing::Set => PlainCommand::Set {
                 key,
@@ -104,12 +117,9 @@ impl<'a> PlainHead<'a> {
 }
 
 /// What the words behind the verb of a plain command say.
-pub(crate) fn line_of<'a>(
-    alloc: Global,
-    verb: PlainVerb,
-    args: &'a [u8],
-) -> Result<PlainLine<'a>, Memory>
-    ensures { IfOk result (λ line. Tells verb (words_in args.now) line) }
+pub fn plain_line(alloc: Global, verb: PlainVerb, args: &[u8]) -> Result<PlainLine<'_>, Memory>
+    ensures tells { IfOk result (λ line. Tells verb (words_in args.now) line) }
+    ensures key { IfOk result HasKey }
 {
     match verb {
         PlainVerb::Get => Ok(whole(get_of(alloc, args)?)),
@@ -134,7 +144,7 @@ fn whole<'a>(read: Option<(PlainSaid, bool)>) -> PlainLine<'a>
 }
 
 fn headed(read: Option<PlainHead<'_>>) -> PlainLine<'_>
-    ensures { MatchOption read (result ≡ Bad) (λ head. result ≡ Headed head) }
+    ensures { MatchOption read.entry (result ≡ Bad) (λ head. result ≡ Headed head) }
 {
     match read {
         Some(head) => PlainLine::Headed { head },
@@ -147,7 +157,11 @@ fn set_of(args: &[u8]) -> Option<PlainHead<'_>>
     ensures none { IfNone result (IsNoHead verb.Set (words_in args.now)) }
 {
     let (fields, noreply) = all_fields(args)?;
-    Some(fields.with(Storing::Set, noreply))
+    Some(PlainHead {
+        storing: Storing::Set,
+        fields,
+        noreply,
+    })
 }
 
 fn add_of(args: &[u8]) -> Option<PlainHead<'_>>
@@ -155,7 +169,11 @@ fn add_of(args: &[u8]) -> Option<PlainHead<'_>>
     ensures none { IfNone result (IsNoHead verb.Add (words_in args.now)) }
 {
     let (fields, noreply) = all_fields(args)?;
-    Some(fields.with(Storing::Add, noreply))
+    Some(PlainHead {
+        storing: Storing::Add,
+        fields,
+        noreply,
+    })
 }
 
 fn replace_of(args: &[u8]) -> Option<PlainHead<'_>>
@@ -163,7 +181,11 @@ fn replace_of(args: &[u8]) -> Option<PlainHead<'_>>
     ensures none { IfNone result (IsNoHead verb.Replace (words_in args.now)) }
 {
     let (fields, noreply) = all_fields(args)?;
-    Some(fields.with(Storing::Replace, noreply))
+    Some(PlainHead {
+        storing: Storing::Replace,
+        fields,
+        noreply,
+    })
 }
 
 fn cas_of(args: &[u8]) -> Option<PlainHead<'_>>
@@ -173,39 +195,17 @@ fn cas_of(args: &[u8]) -> Option<PlainHead<'_>>
     let (fields, rest) = take_fields(args)?;
     let (unique, rest) = take_number(rest)?;
     let noreply = noreply_of(rest)?;
-    Some(fields.with(Storing::Cas { unique }, noreply))
-}
-
-// What `set`, `add`, `replace` and `cas` have in common.
-#[derive(Clone, Copy)]
-struct Fields<'a> {
-    key: KeyWord<'a>,
-    flags: u32,
-    expires: bool,
-    bytes: u64,
-}
-
-impl<'a> Fields<'a> {
-    fn with(self, storing: Storing, noreply: bool) -> PlainHead<'a>
-        ensures { result ≡ record {
-            storing = storing; key = self.key; flags = self.flags; expires = self.expires;
-            bytes = self.bytes; noreply = noreply } }
-    {
-        PlainHead {
-            storing,
-            key: self.key,
-            flags: self.flags,
-            expires: self.expires,
-            bytes: self.bytes,
-            noreply,
-        }
-    }
+    Some(PlainHead {
+        storing: Storing::Cas { unique },
+        fields,
+        noreply,
+    })
 }
 
 // The first four words, and what stands behind them.
 fn take_fields(args: &[u8]) -> Option<(Fields<'_>, &[u8])>
     ensures found { IfSome result (λ read. BeginWithFields (words_in args.now) read.0 (words_in read.1.now)) }
-    ensures none { IfNone result ((head : PlainHead) → AreHead head (words_in args.now) → ⊥) }
+    ensures none { IfNone result (IsNoFields (words_in args.now)) }
 {
     let (key, rest) = take_key_word(args)?;
     let (flags, rest) = take_flags(rest)?;
@@ -229,4 +229,158 @@ fn all_fields(args: &[u8]) -> Option<(Fields<'_>, bool)>
     let (fields, rest) = take_fields(args)?;
     let noreply = noreply_of(rest)?;
     Some((fields, noreply))
+}
+
+fn delete_of(alloc: Global, args: &[u8]) -> Result<Option<(PlainSaid, bool)>, Memory>
+    ensures found { IfOk result (λ read. IfSome read
+        (λ it. SayWhole verb.Delete (words_in args.now) it.0 it.1)) }
+    ensures none { IfOk result (λ read. IfNone read (IsNoWhole verb.Delete (words_in args.now))) }
+{
+    let Some((key, noreply)) = key_alone(args) else {
+        return Ok(None);
+    };
+    let said = match key.key(alloc)? {
+        Some(key) => PlainSaid::Asks {
+            command: PlainCommand::Delete { key },
+        },
+        None => PlainSaid::QueryKey,
+    };
+    Ok(Some((said, noreply)))
+}
+
+fn incr_of(alloc: Global, args: &[u8]) -> Result<Option<(PlainSaid, bool)>, Memory>
+    ensures found { IfOk result (λ read. IfSome read
+        (λ it. SayWhole verb.Incr (words_in args.now) it.0 it.1)) }
+    ensures none { IfOk result (λ read. IfNone read (IsNoWhole verb.Incr (words_in args.now))) }
+{
+    let Some(counted) = key_and_number(args) else {
+        return Ok(None);
+    };
+    let by = counted.by;
+    let said = match counted.key.key(alloc)? {
+        Some(key) => PlainSaid::Asks {
+            command: PlainCommand::Incr { key, by },
+        },
+        None => PlainSaid::QueryKey,
+    };
+    Ok(Some((said, counted.noreply)))
+}
+
+fn decr_of(alloc: Global, args: &[u8]) -> Result<Option<(PlainSaid, bool)>, Memory>
+    ensures found { IfOk result (λ read. IfSome read
+        (λ it. SayWhole verb.Decr (words_in args.now) it.0 it.1)) }
+    ensures none { IfOk result (λ read. IfNone read (IsNoWhole verb.Decr (words_in args.now))) }
+{
+    let Some(counted) = key_and_number(args) else {
+        return Ok(None);
+    };
+    let by = counted.by;
+    let said = match counted.key.key(alloc)? {
+        Some(key) => PlainSaid::Asks {
+            command: PlainCommand::Decr { key, by },
+        },
+        None => PlainSaid::QueryKey,
+    };
+    Ok(Some((said, counted.noreply)))
+}
+
+// A key, and the end of the line.
+fn key_alone(args: &[u8]) -> Option<(KeyWord<'_>, bool)>
+    ensures found { IfSome result (λ read. IsKeyAlone (words_in args.now) read.0 read.1) }
+    ensures none { IfNone result ((key : KeyWord) (noreply : Bool) →
+        IsKeyAlone (words_in args.now) key noreply → ⊥) }
+{
+    let (key, rest) = take_key_word(args)?;
+    let noreply = noreply_of(rest)?;
+    Some((key, noreply))
+}
+
+/// A key that counts by a number.
+#[derive(Clone, Copy)]
+pub struct Counted<'a> {
+    pub key: KeyWord<'a>,
+    pub by: u64,
+    pub noreply: bool,
+}
+
+// A key, a number, and the end of the line.
+fn key_and_number(args: &[u8]) -> Option<Counted<'_>>
+    ensures found { IfSome result (λ counted. IsCounted (words_in args.now) counted) }
+    ensures none { IfNone result ((counted : Counted) → IsCounted (words_in args.now) counted → ⊥) }
+{
+    let (key, rest) = take_key_word(args)?;
+    let (by, rest) = take_number(rest)?;
+    let noreply = noreply_of(rest)?;
+    Some(Counted { key, by, noreply })
+}
+
+fn get_of(alloc: Global, args: &[u8]) -> Result<Option<(PlainSaid, bool)>, Memory>
+    ensures found { IfOk result (λ read. IfSome read
+        (λ it. SayWhole verb.Get (words_in args.now) it.0 it.1)) }
+    ensures none { IfOk result (λ read. IfNone read (IsNoWhole verb.Get (words_in args.now))) }
+{
+    match keys_of(alloc, args)? {
+        KeyWords::Plain { keys } => {
+            let said = PlainSaid::Asks {
+                command: PlainCommand::Get { keys },
+            };
+            Ok(Some((said, false)))
+        }
+        KeyWords::Query => Ok(Some((PlainSaid::QueryKey, false))),
+        KeyWords::Bad => Ok(None),
+    }
+}
+
+fn gets_of(alloc: Global, args: &[u8]) -> Result<Option<(PlainSaid, bool)>, Memory>
+    ensures found { IfOk result (λ read. IfSome read
+        (λ it. SayWhole verb.Gets (words_in args.now) it.0 it.1)) }
+    ensures none { IfOk result (λ read. IfNone read (IsNoWhole verb.Gets (words_in args.now))) }
+{
+    match keys_of(alloc, args)? {
+        KeyWords::Plain { keys } => {
+            let said = PlainSaid::Asks {
+                command: PlainCommand::Gets { keys },
+            };
+            Ok(Some((said, false)))
+        }
+        KeyWords::Query => Ok(Some((PlainSaid::QueryKey, false))),
+        KeyWords::Bad => Ok(None),
+    }
+}
+
+/// What some words are as keys.
+#[derive(Drop)]
+pub enum KeyWords {
+    /// Plain keys, at least one.
+    Plain { keys: PlainKeys },
+    /// Keys, one of them of the cache.
+    Query,
+    /// There is none, or one may not be a key.
+    Bad,
+}
+
+// The keys that the words are.
+fn keys_of(alloc: Global, args: &[u8]) -> Result<KeyWords, Memory>
+    ensures { IfOk result (λ keys. AreKeyWords (words_in args.now) keys) }
+{
+    let mut keys = Vec::new(alloc);
+    let mut are_plain = true;
+    let mut rest = args;
+    while let Some((word, behind)) = next_word(rest) {
+        match is_plain_key(word) {
+            Some(true) => keys.push(PlainKey::of_plain(alloc, word)?)?,
+            Some(false) => are_plain = false,
+            None => return Ok(KeyWords::Bad),
+        }
+        rest = behind;
+    }
+    if !are_plain {
+        return Ok(KeyWords::Query);
+    }
+    if keys.is_empty() {
+        return Ok(KeyWords::Bad);
+    }
+    Ok(KeyWords::Plain {
+        keys: PlainKeys::from(keys),
+    })
 }

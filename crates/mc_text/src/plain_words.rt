@@ -1,11 +1,15 @@
 // The words of a plain command's line, taken off its front one after another.
-ghost use Rattle.std.specs.Prelude.{◌≡◌, ◌∷◌, Bool, IfSome, IfNone};
+ghost use Rattle.std.specs.Prelude.{◌≡◌, ◌∷◌, Bool, cond, codes, Some, None, IfSome, IfNone, IfOk};
+ghost use Rattle.std.specs.Bool.{MatchBool};
 ghost use Rattle.mc_text.specs.Words.{words_in};
 ghost use Rattle.mc_text.specs.Parsing.{IsFirst, IsNoFirst};
 ghost use Rattle.mc_text.specs.PlainWords.{IsKeyWord, unsigned, IsExptime, IsLast};
 
 use crate::numbers::{key_of, number_of};
+use crate::plain_keys::PlainKey;
 use crate::words::{has_ended, next_word};
+use rows_model::Memory;
+use std::alloc::Global;
 
 /// A word that may be a key.
 #[derive(Clone, Copy)]
@@ -13,6 +17,20 @@ pub struct KeyWord<'a> {
     pub word: &'a [u8],
     /// Whether it is a plain key, and no key of the cache.
     pub is_plain: bool,
+}
+
+impl<'a> KeyWord<'a> {
+    /// The plain key that the word is, if it is one.
+    pub(crate) fn key(self, alloc: Global) -> Result<Option<PlainKey>, Memory>
+        requires { IsKeyWord self.word.now self.is_plain }
+        ensures { IfOk result (λ key. key ≡ cond self.entry.is_plain (Some self.entry.word.now) None) }
+    {
+        if self.is_plain {
+            Ok(Some(PlainKey::of_plain(alloc, self.word)?))
+        } else {
+            Ok(None)
+        }
+    }
 }
 
 /// The first word, which may be a key, and what stands behind it.
@@ -76,9 +94,14 @@ pub(crate) fn noreply_of(args: &[u8]) -> Option<bool>
     let Some((word, rest)) = next_word(args) else {
         return Some(false);
     };
-    if word == b"noreply" && has_ended(rest) {
-        Some(true)
-    } else {
-        None
+    if !is_noreply(word) || !has_ended(rest) {
+        return None;
     }
+    Some(true)
+}
+
+fn is_noreply(word: &[u8]) -> bool
+    ensures { MatchBool result (word.now ≡ codes "noreply") (word.now ≡ codes "noreply" → ⊥) }
+{
+    word == b"noreply".as_slice()
 }
