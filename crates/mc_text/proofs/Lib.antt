@@ -11,6 +11,7 @@ pub mod OnceLemmas
 pub mod FrontLemmas
 pub mod LineLemmas
 pub mod PlainWordLemmas
+pub mod PlainTextLemmas
 pub mod PlainLineLemmas
 pub mod TellLemmas
 pub mod StreamLemmas

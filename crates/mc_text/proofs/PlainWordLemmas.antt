@@ -38,8 +38,8 @@ none_read words = record { read = []; words_are = refl; keys_are = All-nil _; to
 moved : (words read rest behind : List (List ℕ)) (word : List ℕ) → words ≡ read ++ rest → rest ≡ word ∷ behind → words ≡ (read ++ word ∷ []) ++ behind
 moved words read rest behind word e f = e ∙ ap (λ (ws : List (List ℕ)). read ++ ws) f ∙ sym (append_assoc read (word ∷ []) behind)
 
-one_more : {P : List ℕ → Type 0} (read : List (List ℕ)) (word : List ℕ) → All P read → P word → All P (read ++ word ∷ [])
-one_more {P} read word all one = All-append P read (word ∷ []) all (All-cons P word [] one (All-nil P))
+one_more : (P : List ℕ → Type 0) (read : List (List ℕ)) (word : List ℕ) → All P read → P word → All P (read ++ word ∷ [])
+one_more P read word all one = All-append P read (word ∷ []) all (All-cons P word [] one (All-nil P))
 
 -- a plain key is read
 pub plain_read : (words keys rest behind : List (List ℕ)) (are_plain : Bool) (word : List ℕ) → HasRead words keys are_plain rest → rest ≡ word ∷ behind
@@ -47,12 +47,12 @@ pub plain_read : (words keys rest behind : List (List ℕ)) (are_plain : Bool) (
 plain_read words keys rest behind are_plain word h f plain = record {
   read = h.read ++ word ∷ [];
   words_are = moved words h.read rest behind word h.words_are f;
-  keys_are = one_more h.read word h.keys_are plain.form;
+  keys_are = one_more (λ (w : List ℕ). is_key w ≡ true) h.read word h.keys_are plain.form;
   told = by are_plain h.told;
 }
   where
     by : (b : Bool) → AreRead h.read keys b → AreRead (h.read ++ word ∷ []) (keys ++ word ∷ []) b
-    by true told = (ap (λ (ks : List (List ℕ)). ks ++ word ∷ []) told.0, one_more h.read word told.1 plain)
+    by true told = (ap (λ (ks : List (List ℕ)). ks ++ word ∷ []) told.0, one_more IsPlainKey h.read word told.1 plain)
     by false told = (told.0, Contains-append_left h.read (word ∷ []) told.0 told.1, told.2)
 
 -- a key of the cache is read
@@ -61,7 +61,7 @@ pub query_read : (words keys rest behind : List (List ℕ)) (are_plain : Bool) (
 query_read words keys rest behind are_plain word h f query = record {
   read = h.read ++ word ∷ [];
   words_are = moved words h.read rest behind word h.words_are f;
-  keys_are = one_more h.read word h.keys_are query.form;
+  keys_are = one_more (λ (w : List ℕ). is_key w ≡ true) h.read word h.keys_are query.form;
   told = (word, Contains-append_right h.read (word ∷ []) word (head_in word []), query);
 }
 
@@ -70,7 +70,7 @@ pub no_keys : (words keys rest behind : List (List ℕ)) (are_plain : Bool) (wor
     → ((is_plain : Bool) → IsKeyWord word is_plain → ⊥) → All (λ word. is_key word ≡ true) words → ⊥
 no_keys words keys rest behind are_plain word h f none all =
     let there : Contains words word =
-        rw (h.words_are ∙ ap (λ (ws : List (List ℕ)). h.read ++ ws) f) (Contains-append_right h.read (word ∷ behind) word (head_in word behind)) in
+    rw (h.words_are ∙ ap (λ (ws : List (List ℕ)). h.read ++ ws) f) (Contains-append_right h.read (word ∷ behind) word (head_in word behind)) in
     no_key_form word none (All-contains (λ (w : List ℕ). is_key w ≡ true) words word all there)
 
 -- all words are read

@@ -5,8 +5,8 @@ use Rattle.mc_text.specs.Commands.{Then}
 use Rattle.mc_text.specs.PlainKeys.{IsPlainKey}
 use Rattle.mc_text.specs.PlainWords.{IsQueryKey, IsKeyWord, IsExptime, IsLast}
 use Rattle.mc_text.specs.declared.plain_words.KeyWord.{KeyWord}
-use Rattle.mc_text.specs.declared.plain_verbs.PlainVerb.{PlainVerb}
-use Rattle.mc_text.specs.declared.plain_verbs.PlainVerb.TheVariants as verb
+use Rattle.mc_text.specs.declared.plain_verb_words.PlainVerb.{PlainVerb}
+use Rattle.mc_text.specs.declared.plain_verb_words.PlainVerb.TheVariants as verb
 use Rattle.mc_text.specs.declared.plain_lines.Storing.{Storing}
 use Rattle.mc_text.specs.declared.plain_lines.Storing.TheVariants as storing
 use Rattle.mc_text.specs.declared.plain_lines.Fields.{Fields}

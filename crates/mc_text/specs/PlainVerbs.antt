@@ -1,7 +1,7 @@
 -- The verbs of plain commands.
 use Rattle.std.specs.Prelude.{ℕ, List, codes}
-use Rattle.mc_text.specs.declared.plain_verbs.PlainVerb.{PlainVerb}
-use Rattle.mc_text.specs.declared.plain_verbs.PlainVerb.TheVariants as verb
+use Rattle.mc_text.specs.declared.plain_verb_words.PlainVerb.{PlainVerb}
+use Rattle.mc_text.specs.declared.plain_verb_words.PlainVerb.TheVariants as verb
 
 -- how a verb is written
 abbrev pub text_of : PlainVerb → List ℕ

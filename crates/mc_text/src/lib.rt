@@ -12,7 +12,7 @@ pub use plain_lines::{Fields, PlainHead, PlainLine, PlainSaid, Storing, plain_li
 pub use plain_numbers::plain_number;
 pub use plain_replies::{Found, FoundItems, PlainReply};
 pub use plain_texts::{write_found, write_plain_reply};
-pub use plain_verbs::{PlainVerb, plain_verb};
+pub use plain_verb_words::{PlainVerb, plain_verb};
 pub use plain_words::KeyWord;
 pub use replies::{LineReply, reply_text, write_reply};
 pub use verbs::{VerbRow, Verbs, lease_verbs, plain_verbs};
@@ -30,7 +30,7 @@ mod plain_lines;
 pub mod plain_numbers;
 pub mod plain_replies;
 mod plain_texts;
-mod plain_verbs;
+mod plain_verb_words;
 mod plain_words;
 pub mod replies;
 mod txns;

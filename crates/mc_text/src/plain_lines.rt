@@ -3,7 +3,7 @@ ghost use Rattle.std.specs.Prelude.{◌≡◌, Bool, IfSome, IfNone, IfOk, Match
 ghost use Rattle.mc_text.specs.Words.{words_in};
 ghost use Rattle.mc_text.specs.PlainWords.{IsKeyWord, IsLast};
 ghost use Rattle.mc_text.specs.declared.plain_words.KeyWord.{KeyWord};
-ghost use Rattle.mc_text.specs.declared.plain_verbs.PlainVerb.TheVariants as verb;
+ghost use Rattle.mc_text.specs.declared.plain_verb_words.PlainVerb.TheVariants as verb;
 ghost use Rattle.mc_text.specs.declared.plain_lines.Fields.{Fields};
 ghost use Rattle.mc_text.specs.declared.plain_lines.Counted.{Counted};
 ghost use Rattle.mc_text.specs.declared.plain_lines.PlainLine.TheVariants.{Whole, Headed, Bad};
@@ -12,7 +12,7 @@ ghost use Rattle.mc_text.specs.PlainParts.{BeginWithFields, IsNoFields, IsKeyAlo
 
 use crate::plain_commands::PlainCommand;
 use crate::plain_keys::{PlainKey, PlainKeys};
-use crate::plain_verbs::PlainVerb;
+use crate::plain_verb_words::PlainVerb;
 use crate::plain_words::{KeyWord, is_plain_key, noreply_of, take_exptime, take_key_word};
 use crate::words::{next_word, take_flags, take_number};
 use rows_model::{Memory, Value};
@@ -239,13 +239,13 @@ fn delete_of(alloc: Global, args: &[u8]) -> Result<Option<(PlainSaid, bool)>, Me
     let Some((key, noreply)) = key_alone(args) else {
         return Ok(None);
     };
-    let said = match key.key(alloc)? {
-        Some(key) => PlainSaid::Asks {
-            command: PlainCommand::Delete { key },
-        },
-        None => PlainSaid::QueryKey,
-    };
-    Ok(Some((said, noreply)))
+    match key.key(alloc)? {
+        Some(key) => {
+            let command = PlainCommand::Delete { key };
+            Ok(Some((PlainSaid::Asks { command }, noreply)))
+        }
+        None => Ok(Some((PlainSaid::QueryKey, noreply))),
+    }
 }
 
 fn incr_of(alloc: Global, args: &[u8]) -> Result<Option<(PlainSaid, bool)>, Memory>
@@ -257,13 +257,13 @@ fn incr_of(alloc: Global, args: &[u8]) -> Result<Option<(PlainSaid, bool)>, Memo
         return Ok(None);
     };
     let by = counted.by;
-    let said = match counted.key.key(alloc)? {
-        Some(key) => PlainSaid::Asks {
-            command: PlainCommand::Incr { key, by },
-        },
-        None => PlainSaid::QueryKey,
-    };
-    Ok(Some((said, counted.noreply)))
+    match counted.key.key(alloc)? {
+        Some(key) => {
+            let command = PlainCommand::Incr { key, by };
+            Ok(Some((PlainSaid::Asks { command }, counted.noreply)))
+        }
+        None => Ok(Some((PlainSaid::QueryKey, counted.noreply))),
+    }
 }
 
 fn decr_of(alloc: Global, args: &[u8]) -> Result<Option<(PlainSaid, bool)>, Memory>
@@ -275,13 +275,13 @@ fn decr_of(alloc: Global, args: &[u8]) -> Result<Option<(PlainSaid, bool)>, Memo
         return Ok(None);
     };
     let by = counted.by;
-    let said = match counted.key.key(alloc)? {
-        Some(key) => PlainSaid::Asks {
-            command: PlainCommand::Decr { key, by },
-        },
-        None => PlainSaid::QueryKey,
-    };
-    Ok(Some((said, counted.noreply)))
+    match counted.key.key(alloc)? {
+        Some(key) => {
+            let command = PlainCommand::Decr { key, by };
+            Ok(Some((PlainSaid::Asks { command }, counted.noreply)))
+        }
+        None => Ok(Some((PlainSaid::QueryKey, counted.noreply))),
+    }
 }
 
 // A key, and the end of the line.
@@ -321,10 +321,8 @@ fn get_of(alloc: Global, args: &[u8]) -> Result<Option<(PlainSaid, bool)>, Memor
 {
     match keys_of(alloc, args)? {
         KeyWords::Plain { keys } => {
-            let said = PlainSaid::Asks {
-                command: PlainCommand::Get { keys },
-            };
-            Ok(Some((said, false)))
+            let command = PlainCommand::Get { keys };
+            Ok(Some((PlainSaid::Asks { command }, false)))
         }
         KeyWords::Query => Ok(Some((PlainSaid::QueryKey, false))),
         KeyWords::Bad => Ok(None),
@@ -338,10 +336,8 @@ fn gets_of(alloc: Global, args: &[u8]) -> Result<Option<(PlainSaid, bool)>, Memo
 {
     match keys_of(alloc, args)? {
         KeyWords::Plain { keys } => {
-            let said = PlainSaid::Asks {
-                command: PlainCommand::Gets { keys },
-            };
-            Ok(Some((said, false)))
+            let command = PlainCommand::Gets { keys };
+            Ok(Some((PlainSaid::Asks { command }, false)))
         }
         KeyWords::Query => Ok(Some((PlainSaid::QueryKey, false))),
         KeyWords::Bad => Ok(None),

@@ -2,8 +2,10 @@
 #![tactic(auto)]
 
 pub use items::Item;
+pub use laws::plain_map_stays_fit;
 pub use maps::Plain;
 
 pub mod items;
+pub mod laws;
 pub mod maps;
 mod tables;

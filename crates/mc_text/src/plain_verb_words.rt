@@ -1,7 +1,7 @@
 // The verbs of plain commands.
 ghost use Rattle.std.specs.Prelude.{◌≡◌, IfSome, IfNone};
 ghost use Rattle.std.specs.Bool.{MatchBool};
-ghost use Rattle.mc_text.specs.declared.plain_verbs.PlainVerb.{PlainVerb};
+ghost use Rattle.mc_text.specs.declared.plain_verb_words.PlainVerb.{PlainVerb};
 ghost use Rattle.mc_text.specs.PlainVerbs.{text_of};
 
 /// A verb of a plain command.
