@@ -1,6 +1,6 @@
 -- The lines of plain commands, one word after another.
 use Rattle.std.proofs.Common.{cond, is_some, Option, Some, None, ℕ, ◌≡◌, ◌≤◌, ◌+◌, rules, Bool, true, false, List, [], ◌∷◌, ◌++◌, length, refl, sym, ap, subst, ◌∙◌, arith, append_assoc, append-nil}
-use Rattle.std.specs.Prelude.{⊤, All, Contains}
+use Rattle.std.specs.Prelude.{⊤, All, Contains, IfSome, IfNone, MatchOption}
 use Rattle.std.specs.Option.{unwrap_or}
 use Rattle.std.proofs.lemmas.Bool.{false≢true}
 use Rattle.std.proofs.lemmas.List.Elements.{All-nil, All-cons, All-head, All-tail, All-contains}
@@ -9,7 +9,7 @@ use Rattle.mc_text.specs.Words.{is_key, IsNumber, IsFlags}
 use Rattle.mc_text.specs.Commands.{Then}
 use Rattle.mc_text.specs.Parsing.{IsFirst, IsNoFirst}
 use Rattle.mc_text.specs.PlainWords.{IsKeyWord, IsExptime, IsLast}
-use Rattle.mc_text.specs.PlainLines.{IsKeyOf, AreFields, IsTail, IsHead, IsNoHead, AreKeys, IsOnKey, verb_of}
+use Rattle.mc_text.specs.PlainLines.{IsKeyOf, AreFields, IsTail, IsHead, IsNoHead, AreKeys, IsOnKey, SayWhole, IsNoWhole, Tells, verb_of}
 use Rattle.mc_text.specs.PlainParts.{BeginWithFields, IsNoFields, IsKeyAlone, IsCounted}
 use Rattle.mc_text.specs.declared.plain_words.KeyWord.{KeyWord}
 use Rattle.mc_text.specs.declared.plain_verb_words.PlainVerb.{PlainVerb}
@@ -17,6 +17,8 @@ use Rattle.mc_text.specs.declared.plain_verb_words.PlainVerb.TheVariants as verb
 use Rattle.mc_text.specs.declared.plain_commands.PlainCommand.{PlainCommand}
 use Rattle.mc_text.specs.declared.plain_lines.PlainSaid.{PlainSaid}
 use Rattle.mc_text.specs.declared.plain_lines.PlainSaid.TheVariants as said
+use Rattle.mc_text.specs.declared.plain_lines.PlainLine.{PlainLine}
+use Rattle.mc_text.specs.declared.plain_lines.PlainLine.TheVariants as line
 use Rattle.mc_text.specs.declared.plain_lines.Storing.{Storing}
 use Rattle.mc_text.specs.declared.plain_lines.Storing.TheVariants as storing
 use Rattle.mc_text.specs.declared.plain_lines.Fields.{Fields}
@@ -175,3 +177,27 @@ pub counted_query : (make : ℕ → List ℕ → PlainCommand) (words : List (Li
     → IsOnKey (make counted.by) (Then (λ word. IsNumber word counted.by) (λ rest. IsLast rest counted.noreply)) words said.QueryKey
 counted_query make words counted h e =
     record { key = counted.key; words_are = h; told_is = on_query (make counted.by) counted.key.is_plain counted.key.word.now e }
+
+-- what a line says that is a command alone
+pub whole_tells : (verb : PlainVerb) (words : List (List ℕ)) (read : Option (PlainSaid × Bool)) (told : PlainLine) → IfSome read (λ it. SayWhole verb words it.0 it.1)
+    → IfNone read (IsNoWhole verb words) → MatchOption read (told ≡ line.Bad) (λ it. told ≡ line.Whole it.0 it.1) → IsNoHead verb words → Tells verb words told
+whole_tells verb words None told some none is other = rw is (none, other)
+whole_tells verb words (Some it) told some none is other = rw is some
+
+pub no_incr_head : (words : List (List ℕ)) → IsNoHead verb.Incr words
+no_incr_head words head h = by head.storing h.0
+  where
+    by : (other : Storing) → verb.Incr ≡ verb_of other → ⊥
+    by storing.Set e = search rules
+    by storing.Add e = search rules
+    by storing.Replace e = search rules
+    by (storing.Cas unique) e = search rules
+
+pub no_decr_head : (words : List (List ℕ)) → IsNoHead verb.Decr words
+no_decr_head words head h = by head.storing h.0
+  where
+    by : (other : Storing) → verb.Decr ≡ verb_of other → ⊥
+    by storing.Set e = search rules
+    by storing.Add e = search rules
+    by storing.Replace e = search rules
+    by (storing.Cas unique) e = search rules

@@ -18,7 +18,7 @@ pub items_next : (is_told : Bool) (found : List Found) (i : ℕ) (item : Found) 
     → new ≡ start ++ flat_map (item_text is_told) (take (i + 1) found)
 items_next is_told found i item start old new below is was grown =
     let one : take (i + 1) found ≡ take i found ++ item ∷ [] =
-        ap (λ (n : ℕ). take n found) (add-one i) ∙ take-suc found i item below ∙ ap (λ (f : Found). take i found ++ f ∷ []) (sym is) in
+    ap (λ (n : ℕ). take n found) (add-one i) ∙ take-suc found i item below ∙ ap (λ (f : Found). take i found ++ f ∷ []) (sym is) in
     rw (one, text_more is_told (take i found) item)
     (grown ∙ ap (λ (text : List ℕ). text ++ item_text is_told item) was ∙ append_assoc start (flat_map (item_text is_told) (take i found)) (item_text is_told item))
 

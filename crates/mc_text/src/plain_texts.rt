@@ -76,10 +76,7 @@ fn push_item(out: &mut Vec<u8>, found: &Found, is_told: bool) -> Result<(), Allo
     ensures err { OnErr result (BeginsWith out.old.items out.new.items) }
 {
     push_item_head(out, found)?;
-    if is_told {
-        out.push(b' ')?;
-        push_decimal(out, found.unique)?;
-    }
+    push_item_end(out, is_told, found.unique)?;
     out.extend_from_slice(b"\r\n")?;
     out.extend_from_slice(found.value.bytes())?;
     out.extend_from_slice(b"\r\n")
@@ -96,6 +93,18 @@ fn push_item_head(out: &mut Vec<u8>, found: &Found) -> Result<(), AllocError>
     push_decimal(out, u64::from(found.flags))?;
     out.push(b' ')?;
     push_decimal(out, found.value.bytes().len() as u64)
+}
+
+// The end of that line: the unique, where it is told.
+fn push_item_end(out: &mut Vec<u8>, is_told: bool, unique: u64) -> Result<(), AllocError>
+    ensures ok { OnOk result (out.new.items ≡ out.old.items ++ item_end is_told unique) }
+    ensures err { OnErr result (BeginsWith out.old.items out.new.items) }
+{
+    if !is_told {
+        return Ok(());
+    }
+    out.push(b' ')?;
+    push_decimal(out, unique)
 }
 
 // A number in a line of its own.
