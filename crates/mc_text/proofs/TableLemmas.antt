@@ -28,4 +28,4 @@ pub row_found : (rows : List Row) (i : ℕ) (word verb : List ℕ) → i < lengt
     })
 row_found rows i word verb below e same =
     let row : Verb = told (slice_index_or rows i some_row) in
-    rw e (record { listed = (i, omega (arith, length-map rows told), get_or-map rows told i some_row row below); word_is = sym e ∙ same })
+    rw e (record { listed = (i, omega (arith, length-map rows told), get_or-map told rows i some_row row below); word_is = sym e ∙ same })
