@@ -1,8 +1,8 @@
 use crate::plain_keys::{PlainKey, PlainKeys};
 use rows_model::Value;
 
-/// A command on plain keys, with what stands behind its verb. It says nothing of the time when an item
-/// expires, since none does, nor whether the client wants a reply.
+/// A command on plain keys, with what stands behind its verb. It says nothing of the time when an
+/// item expires, since none does, nor whether the client wants a reply.
 #[derive(Drop)]
 pub enum PlainCommand {
     /// Tells the items of some keys.

@@ -12,8 +12,8 @@ use std::alloc::Global;
 use std::hash::{Hash, Hasher};
 use std::marker::Model;
 
-/// A key of a plain command: 1 to 250 bytes that may stand in a key, and that name no key of the cache.
-/// Contracts see its bytes.
+/// A key of a plain command: 1 to 250 bytes that may stand in a key, and that name no key of the
+/// cache. Contracts see its bytes.
 #[derive(Drop)]
 pub struct PlainKey {
     bytes: Value,

@@ -204,7 +204,8 @@ fn cas_of(args: &[u8]) -> Option<PlainHead<'_>>
 
 // The first four words, and what stands behind them.
 fn take_fields(args: &[u8]) -> Option<(Fields<'_>, &[u8])>
-    ensures found { IfSome result (λ read. BeginWithFields (words_in args.now) read.0 (words_in read.1.now)) }
+    ensures found { IfSome result
+        (λ read. BeginWithFields (words_in args.now) read.0 (words_in read.1.now)) }
     ensures none { IfNone result (IsNoFields (words_in args.now)) }
 {
     let (key, rest) = take_key_word(args)?;
@@ -222,7 +223,8 @@ fn take_fields(args: &[u8]) -> Option<(Fields<'_>, &[u8])>
 
 // Those four words, and the end of the line.
 fn all_fields(args: &[u8]) -> Option<(Fields<'_>, bool)>
-    ensures found { IfSome result (λ read. AreFields read.0 (λ rest. IsLast rest read.1) (words_in args.now)) }
+    ensures found { IfSome result
+        (λ read. AreFields read.0 (λ rest. IsLast rest read.1) (words_in args.now)) }
     ensures none { IfNone result ((fields : Fields) (noreply : Bool) →
         AreFields fields (λ rest. IsLast rest noreply) (words_in args.now) → ⊥) }
 {

@@ -21,8 +21,8 @@ pub fn write_plain_reply(out: &mut Vec<u8>, reply: &PlainReply) -> Result<(), Me
     Ok(())
 }
 
-/// Writes the text of one of the items that a reply tells, with its unique or without, behind what is
-/// to go out. After want of memory that is as before.
+/// Writes the text of one of the items that a reply tells, with its unique or without, behind what
+/// is to go out. After want of memory that is as before.
 pub fn write_found(out: &mut Vec<u8>, found: &Found, is_told: bool) -> Result<(), Memory>
     ensures ok { OnOk result (out.new.items ≡ out.old.items ++ item_text is_told found.now) }
     ensures err { OnErr result (out.new.items ≡ out.old.items) }

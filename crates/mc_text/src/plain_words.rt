@@ -23,7 +23,8 @@ impl<'a> KeyWord<'a> {
     /// The plain key that the word is, if it is one.
     pub(crate) fn key(self, alloc: Global) -> Result<Option<PlainKey>, Memory>
         requires { IsKeyWord self.word.now self.is_plain }
-        ensures { IfOk result (λ key. key ≡ cond self.entry.is_plain (Some self.entry.word.now) None) }
+        ensures { IfOk result
+            (λ key. key ≡ cond self.entry.is_plain (Some self.entry.word.now) None) }
     {
         if self.is_plain {
             Ok(Some(PlainKey::of_plain(alloc, self.word)?))
@@ -35,7 +36,8 @@ impl<'a> KeyWord<'a> {
 
 /// The first word, which may be a key, and what stands behind it.
 pub(crate) fn take_key_word(args: &[u8]) -> Option<(KeyWord<'_>, &[u8])>
-    ensures found { IfSome result (λ read. words_in args.now ≡ read.0.word.now ∷ words_in read.1.now) }
+    ensures found { IfSome result
+        (λ read. words_in args.now ≡ read.0.word.now ∷ words_in read.1.now) }
     ensures key { IfSome result (λ read. IsKeyWord read.0.word.now read.0.is_plain) }
     ensures none { IfNone result (IsNoFirst IsKeyWord (words_in args.now)) }
 {

@@ -64,9 +64,10 @@ IsRefused old key flags value reply.Full = (old.next < 2 ^ 64 - 1) × (is_fit (a
 IsRefused old key flags value reply.Memory = ⊤
 IsRefused old key flags value told = ⊥
 
--- this is told, or that memory ran out
+-- this is told; or in place of items that were found, that memory ran out
 abbrev pub IsTold : PlainReply → PlainReply → Type 0
-IsTold wanted reply.Memory = ⊤
+IsTold (reply.Values found) reply.Memory = ⊤
+IsTold (reply.Uniques found) reply.Memory = ⊤
 IsTold wanted told = told ≡ wanted
 
 -- what comes of it

@@ -12,8 +12,8 @@ use rows_model::{Memory, Value};
 use std::alloc::Global;
 use std::marker::Model;
 
-/// The plain map: items by plain keys, at most 65,536 of them with at most 268,435,456 bytes of keys and
-/// values together. Contracts see its entries, and the unique that the next stored change draws.
+/// The plain map: items by plain keys, at most 65,536 of them with at most 268,435,456 bytes of keys
+/// and values together. Contracts see its entries, and the unique that the next stored change draws.
 #[derive(Drop)]
 pub struct Plain {
     alloc: Global,
@@ -42,8 +42,8 @@ impl Plain {
         }
     }
 
-    /// Carries out a command, and answers what its client is told. A refusal leaves the map as it was,
-    /// want of memory too. No value is copied, neither in nor out.
+    /// Carries out a command, and answers what its client is told. A refusal leaves the map as it
+    /// was, want of memory too. No value is copied, neither in nor out.
     pub fn run(&mut self, command: &PlainCommand) -> PlainReply
         ensures { PlainStep self.old command.now self.new result }
     {

@@ -87,7 +87,8 @@ impl Table {
 
     /// Whether a value may stand at a key.
     pub(crate) fn has_room(&self, key: &PlainKey, value: &Value) -> bool
-        ensures { (item : Item) → item.value ≡ value.now → result ≡ is_fit (with_item self.now key.now item) }
+        ensures { (item : Item) → item.value ≡ value.now →
+            result ≡ is_fit (with_item self.now key.now item) }
     {
         let (count, bytes) = self.others(key);
         let long = value.bytes().len();
