@@ -2,6 +2,7 @@ pub mod SplitLemmas
 pub mod NumberLemmas
 pub mod DecimalLemmas
 pub mod KindLemmas
+pub mod PlainNumberLemmas
 pub mod FirstLemmas
 pub mod RowLemmas
 pub mod TableLemmas
@@ -10,5 +11,8 @@ pub mod TxnLemmas
 pub mod OnceLemmas
 pub mod FrontLemmas
 pub mod LineLemmas
+pub mod PlainWordLemmas
+pub mod PlainTextLemmas
+pub mod PlainLineLemmas
 pub mod TellLemmas
 pub mod StreamLemmas

@@ -1,8 +1,15 @@
 pub mod Words
+pub mod PlainKeys
+pub mod PlainNumbers
+pub mod PlainVerbs
+pub mod PlainWords
 pub mod Verbs
 pub mod Commands
+pub mod PlainLines
+pub mod PlainParts
 pub mod Streams
 pub mod Replies
+pub mod PlainReplies
 pub mod Framing
 pub mod Parsing
 pub mod Telling

@@ -36,6 +36,15 @@ text_of word.Sar = codes "sar"
 text_of word.IqCommit = codes "iqcommit"
 text_of word.IqAbort = codes "iqabort"
 text_of word.Quit = codes "quit"
+text_of word.Get = codes "get"
+text_of word.Gets = codes "gets"
+text_of word.Set = codes "set"
+text_of word.Add = codes "add"
+text_of word.Replace = codes "replace"
+text_of word.Cas = codes "cas"
+text_of word.Delete = codes "delete"
+text_of word.Incr = codes "incr"
+text_of word.Decr = codes "decr"
 
 -- a row that is kept, as contracts see it
 abbrev pub told : Row → Verb
@@ -64,3 +73,9 @@ lease_rows =
     line_row 1 (codes "begin") 1 ∷ line_row 2 (codes "iqget") 3 ∷ line_row 3 (codes "ask") 2 ∷ line_row 4 (codes "stage") 3 ∷ block_row 5 (codes "iqset") 6
     ∷ line_row 6 (codes "qareg") 2 ∷ line_row 7 (codes "qaread") 2 ∷ line_row 8 (codes "iqdelta") 3 ∷ line_row 9 (codes "sql") 2 ∷ line_row 10 (codes "dar") 2
     ∷ block_row 11 (codes "sar") 5 ∷ line_row 12 (codes "iqcommit") 2 ∷ line_row 13 (codes "iqabort") 1 ∷ line_row 14 (codes "quit") 0 ∷ []
+
+-- the verbs of the plain commands
+abbrev pub plain_rows : List Verb
+plain_rows =
+    line_row 15 (codes "get") 1 ∷ line_row 16 (codes "gets") 1 ∷ block_row 17 (codes "set") 4 ∷ block_row 18 (codes "add") 4 ∷ block_row 19 (codes "replace") 4
+    ∷ block_row 20 (codes "cas") 5 ∷ line_row 21 (codes "delete") 1 ∷ line_row 22 (codes "incr") 2 ∷ line_row 23 (codes "decr") 2 ∷ []

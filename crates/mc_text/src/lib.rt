@@ -1,12 +1,21 @@
-//! The text of the lease commands: which bytes say which command, and what a reply looks like.
+//! The text of commands: which bytes say which lease command, which words say which plain one, and what
+//! a reply looks like.
 #![tactic(auto)]
 
 pub use commands::{Command, Role};
 pub use faults::FrameFault;
 pub use framing::Framer;
 pub use laws::streams_tell_items;
+pub use plain_commands::PlainCommand;
+pub use plain_keys::{PlainKey, PlainKeys};
+pub use plain_lines::{Fields, PlainHead, PlainLine, PlainSaid, Storing, plain_line};
+pub use plain_numbers::plain_number;
+pub use plain_replies::{Found, FoundItems, PlainReply};
+pub use plain_texts::{write_found, write_plain_reply};
+pub use plain_verb_words::{PlainVerb, plain_verb};
+pub use plain_words::KeyWord;
 pub use replies::{LineReply, reply_text, write_reply};
-pub use verbs::{VerbRow, Verbs, lease_verbs};
+pub use verbs::{VerbRow, Verbs, lease_verbs, plain_verbs};
 
 pub mod commands;
 pub mod faults;
@@ -15,6 +24,14 @@ mod items;
 pub mod laws;
 mod lines;
 mod numbers;
+pub mod plain_commands;
+pub mod plain_keys;
+mod plain_lines;
+pub mod plain_numbers;
+pub mod plain_replies;
+mod plain_texts;
+mod plain_verb_words;
+mod plain_words;
 pub mod replies;
 mod txns;
 mod verb_words;

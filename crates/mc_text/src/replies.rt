@@ -330,7 +330,7 @@ fn push_key(out: &mut Vec<u8>, key: QKey) -> Result<(), AllocError>
 
 // A number in decimal.
 #[tactic(auto, using(crate::proofs::DecimalLemmas::one_digit))]
-fn push_decimal(out: &mut Vec<u8>, number: u64) -> Result<(), AllocError>
+pub(crate) fn push_decimal(out: &mut Vec<u8>, number: u64) -> Result<(), AllocError>
     ensures ok { OnOk result (out.new.items ≡ out.old.items ++ decimal number) }
     ensures err { OnErr result (out.new.items ≡ out.old.items) }
 {

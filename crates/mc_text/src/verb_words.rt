@@ -19,6 +19,15 @@ pub enum Word {
     IqCommit,
     IqAbort,
     Quit,
+    Get,
+    Gets,
+    Set,
+    Add,
+    Replace,
+    Cas,
+    Delete,
+    Incr,
+    Decr,
 }
 
 impl Word {
@@ -41,6 +50,15 @@ impl Word {
             Word::IqCommit => b"iqcommit",
             Word::IqAbort => b"iqabort",
             Word::Quit => b"quit",
+            Word::Get => b"get",
+            Word::Gets => b"gets",
+            Word::Set => b"set",
+            Word::Add => b"add",
+            Word::Replace => b"replace",
+            Word::Cas => b"cas",
+            Word::Delete => b"delete",
+            Word::Incr => b"incr",
+            Word::Decr => b"decr",
         }
     }
 }

@@ -1,5 +1,5 @@
 ghost use Rattle.std.specs.Prelude.{◌≡◌, IfSome, IfNone};
-ghost use Rattle.mc_text.specs.Verbs.{seen, IsRowOf, IsNoVerb, lease_rows};
+ghost use Rattle.mc_text.specs.Verbs.{seen, IsRowOf, IsNoVerb, lease_rows, plain_rows};
 
 use crate::verb_words::Word;
 use std::marker::Model;
@@ -97,5 +97,23 @@ pub fn lease_verbs() -> Verbs<14>
         12 IqCommit 2 false;
         13 IqAbort 1 false;
         14 Quit 0 false;
+    }
+}
+
+/// The verbs of the plain commands. Of these, how many words stand behind the verb is told without
+/// `noreply`, and of `get` and `gets`, which take any number of keys, as one.
+pub fn plain_verbs() -> Verbs<9>
+    ensures { result ≡ plain_rows }
+{
+    verbs! {
+        15 Get 1 false;
+        16 Gets 1 false;
+        17 Set 4 true;
+        18 Add 4 true;
+        19 Replace 4 true;
+        20 Cas 5 true;
+        21 Delete 1 false;
+        22 Incr 2 false;
+        23 Decr 2 false;
     }
 }

@@ -1,0 +1,4 @@
+pub mod Entries
+pub mod Tables
+pub mod Steps
+pub mod Laws

@@ -1,0 +1,11 @@
+//! The plain map: what plain commands store, and what they are told.
+#![tactic(auto)]
+
+pub use items::Item;
+pub use laws::plain_map_stays_fit;
+pub use maps::Plain;
+
+pub mod items;
+pub mod laws;
+pub mod maps;
+mod tables;
