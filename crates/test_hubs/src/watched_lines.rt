@@ -70,8 +70,6 @@ impl<'a> Sink for WatchedLine<'a> {
 }
 
 impl<'a> Line for WatchedLine<'a> {
-    ghost use Rattle.std.specs.Prelude.{absurd};
-
     ghost reading = { λ _. refl };
 
     ghost writing = { λ _. refl };
