@@ -21,7 +21,7 @@ abbrev pub weight : List ℕ → Option Item → ℕ
 weight key None = 0
 weight key (Some item) = length key + length item.value
 
-same_bytes : (key other : List ℕ) → is_same key other ≡ true → key ≡ other
+pub same_bytes : (key other : List ℕ) → is_same key other ≡ true → key ≡ other
 same_bytes key other same = (bytes_decides key other).0 same
 
 -- no entry goes where a key has none
