@@ -1,8 +1,8 @@
 -- The entries of the plain map, without that of a key and with another.
 use Rattle.std.proofs.Common.{ℕ, ◌+◌, ◌-◌, ◌≡◌, ◌≤◌, ◌<◌, Bool, true, false, List, [], ◌∷◌, ◌++◌, length, Option, Some, None, take, get_or, take-suc, add-one, cond, is_some, refl, sym, ap, ◌∙◌, arith}
-use Rattle.std.specs.Prelude.{nat_le, ◌&&◌, MatchOption}
+use Rattle.std.specs.Prelude.{MatchOption}
 use Rattle.std.specs.Option.{option_len, option_map, option_to_list}
-use Rattle.std.specs.List.{sum_by, cons_option}
+use Rattle.std.specs.List.{cons_option}
 use Rattle.std.specs.List.Sorted.{IsPermutation}
 use Rattle.std.specs.Map.{set_value}
 use Rattle.std.specs.Cmp.Lexicographic.{bytes_decides}
@@ -21,7 +21,7 @@ abbrev pub weight : List ℕ → Option Item → ℕ
 weight key None = 0
 weight key (Some item) = length key + length item.value
 
-same_bytes : (key other : List ℕ) → is_same key other ≡ true → key ≡ other
+pub same_bytes : (key other : List ℕ) → is_same key other ≡ true → key ≡ other
 same_bytes key other same = (bytes_decides key other).0 same
 
 -- no entry goes where a key has none

@@ -1,5 +1,5 @@
 -- What a plain command does to the plain map, and what it is told.
-use Rattle.std.specs.Prelude.{ℕ, ◌+◌, ◌-◌, ◌%◌, ◌^◌, ◌==◌, ◌≡◌, ◌<◌, ◌⊎◌, ⊤, true, false, cond, List, [], decimal, Some, None}
+use Rattle.std.specs.Prelude.{ℕ, ◌+◌, ◌-◌, ◌%◌, ◌^◌, ◌==◌, ◌≡◌, ◌<◌, ◌⊎◌, ⊤, true, false, cond, List, decimal}
 use Rattle.std.specs.Option.{option_map_or}
 use Rattle.std.specs.List.Sorted.{IsPermutation}
 use Rattle.mc_text.specs.PlainNumbers.{plain_number}

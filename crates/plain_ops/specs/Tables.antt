@@ -1,5 +1,5 @@
 -- What a table keeps.
-use Rattle.std.specs.Prelude.{ℕ, true, ◌≡◌, ◌≤◌, List, length}
+use Rattle.std.specs.Prelude.{ℕ, ◌≡◌, ◌≤◌, List, length}
 use Rattle.plain_ops.specs.declared.items.Item.{Item}
 use Rattle.plain_ops.specs.Entries.{bytes_in}
 

@@ -1,7 +1,7 @@
-ghost use Rattle.plain_ops.specs.Laws.{StaysFit};
+ghost use Rattle.plain_ops.specs.Laws.{StayWhole};
 
-/// A plain map with no more keys and bytes than there may be has no more after any command, whatever
-/// is answered. A new map has none.
-pub fn plain_map_stays_fit()
-    ensures { StaysFit }
+/// A plain map in which no two keys are the same, with no more keys and bytes than there may be, is
+/// so after any command, whatever is answered. A new map is.
+pub fn plain_maps_stay_whole()
+    ensures { StayWhole }
 {}

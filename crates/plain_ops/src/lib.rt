@@ -2,7 +2,7 @@
 #![tactic(auto)]
 
 pub use items::Item;
-pub use laws::plain_map_stays_fit;
+pub use laws::plain_maps_stay_whole;
 pub use maps::Plain;
 
 pub mod items;

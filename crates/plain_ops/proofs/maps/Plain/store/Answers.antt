@@ -1,7 +1,5 @@
-use Rattle.std.proofs.Common.{ℕ, ◌≡◌, ◌<◌, List, inr, refl, sym, ap, ◌∙◌, arith}
-use Rattle.std.proofs.lemmas.Grind.{common_steps}
+use Rattle.std.proofs.Common.{◌≡◌, ◌<◌, inr, refl, sym, ap, ◌∙◌, arith}
 use Rattle.plain_ops.specs.Steps.{PlainMap, new_item}
-use Rattle.plain_ops.specs.declared.items.Item.{Item}
 use Rattle.plain_ops.proofs.maps.Plain.store.Goals as goal
 
 pub returns-then-not-has_room : goal.returns-then-not-has_room

@@ -1,4 +1,4 @@
-use Rattle.std.proofs.Common.{arith, sym, ◌∙◌}
+use Rattle.std.proofs.Common.{arith, sym}
 use Rattle.plain_ops.proofs.EntryLemmas.{taken, none_out}
 use Rattle.plain_ops.proofs.tables.Table.others.Goals as goal
 

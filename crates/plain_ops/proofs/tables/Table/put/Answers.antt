@@ -1,4 +1,3 @@
-use Rattle.std.proofs.Common.{sym, ◌∙◌}
 use Rattle.plain_ops.specs.Entries.{with_item}
 use Rattle.plain_ops.proofs.EntryLemmas.{put_in, table_with, table_moved}
 use Rattle.plain_ops.proofs.tables.Table.put.Goals as goal
