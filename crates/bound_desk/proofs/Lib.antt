@@ -2,5 +2,3 @@ pub mod BoundLemmas
 pub mod GrantNotes
 pub mod SafeLemmas
 pub mod SweepLemmas
-pub mod WritingLemmas
-pub mod WriteLemmas
