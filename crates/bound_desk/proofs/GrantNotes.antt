@@ -99,7 +99,7 @@ may_be_dropped opening shards book seen who h may =
     may
 
 -- all of the grants but one are seen
-each_but : (P : Held → Type 0) (permit : Permit) (held : List Held) → All P held → All P (all_but permit held)
+pub each_but : (P : Held → Type 0) (permit : Permit) (held : List Held) → All P held → All P (all_but permit held)
 each_but P permit [] all = all
 each_but P permit (one ∷ held) all =
     by_test (λ b. All P (cond b held (one ∷ all_but permit held))) (same_permit one.permit permit)

@@ -2,3 +2,5 @@ pub mod BoundLemmas
 pub mod GrantNotes
 pub mod SafeLemmas
 pub mod SweepLemmas
+pub mod WritingLemmas
+pub mod WriteLemmas

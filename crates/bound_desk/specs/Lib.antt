@@ -3,3 +3,4 @@ pub mod Grants
 pub mod Safe
 pub mod Shown
 pub mod Swept
+pub mod Writing

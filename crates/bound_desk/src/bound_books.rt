@@ -16,7 +16,8 @@ use std::marker::{Model, PhantomData};
 ///
 /// The pass has seen all that the book says: the lease when it was given, that each answer was given
 /// since, the Begin of a session that writes, the step of each grant, and that a session which has
-/// committed is over.
+/// committed is over. It had seen each quarantine alone on its key that is held to refresh or to shift,
+/// and it has seen the commit at its place.
 #[derive(Drop)]
 pub struct BoundBook<H: BoundName> {
     pub(crate) book: Book,
@@ -27,13 +28,15 @@ pub struct BoundBook<H: BoundName> {
 impl<H: BoundName> Model for BoundBook<H> {
     ghost use Rattle.std.specs.Prelude.{◌≡◌};
     ghost use Rattle.bound_desk.specs.Bound.{BoundBookView, IsBoundBook};
+    ghost use Rattle.bound_desk.specs.Writing.{IsReadyToWrite};
 
     ghost Value = { BoundBookView };
 
     ghost view = { λ bound. record { book = bound.book; seen = bound.pass.seen } };
 
     ghost invariant = { λ bound. (bound.pass.word ≡ H.word)
-        × IsBoundBook H.opening H.word.shards bound.book.book bound.pass.seen };
+        × IsBoundBook H.opening H.word.shards bound.book.book bound.pass.seen
+        × IsReadyToWrite H.opening H.before H.word.shards bound.book.book bound.pass.seen };
 }
 
 impl<H: BoundName> BoundBook<H> {

@@ -1,5 +1,5 @@
 //! A quarantine for a desk: the book notes the grant.
-ghost use Rattle.std.specs.Prelude.{◌≡◌, ◌≢◌, ◌<◌, ℕ, Bool, Err, IfOk, OnErr, length};
+ghost use Rattle.std.specs.Prelude.{◌≡◌, ◌≢◌, ◌<◌, ℕ, Bool, Err, IfOk, None, OnErr, length, true};
 ghost use Rattle.rows_model.specs.Placement.{shard_of};
 ghost use Rattle.key_shard.specs.Answers.{FitsShift, IsAtHome};
 ghost use Rattle.key_shard.specs.Past.{entry};
@@ -14,7 +14,9 @@ ghost use Rattle.bound_hub.specs.Gets.{IsLastStep};
 ghost use Rattle.bound_hub.specs.Olds.{IsGrantHeld};
 ghost use Rattle.bound_hub.specs.Stores.{IsGrantSeen};
 ghost use Rattle.bound_hub.specs.Told.{quarantine_short};
+ghost use Rattle.bound_hub.specs.Shorts.{is_alone};
 ghost use Rattle.bound_desk.specs.Grants.{IsGrantFor, with_granted};
+ghost use Rattle.bound_desk.specs.Writing.{IsGrantAlone, StoodAlone};
 
 use crate::bound_books::BoundBook;
 use crate::copies::old_copy;
@@ -92,6 +94,8 @@ impl<H: BoundName> BoundBook<H> {
             IsGrantHeld H.opening (H.before no) no self.new.seen key told) }
         ensures grant { IfOk result (IsGrantFor H.word.shards self.new.seen
             (old_value mode (entry key (past_of shard.old.shard)))) }
+        ensures alone { IfOk result
+            (IsGrantAlone H.opening H.before H.word.shards by self.new.seen) }
         ensures belongs { IfOk result (IsQuarantineOf who key mode) }
         ensures book { self.new.book ≡ self.old.book }
         ensures no_stranger { (place : ℕ) → result ≢ Err (faults.Stranger place) }
@@ -99,14 +103,19 @@ impl<H: BoundName> BoundBook<H> {
         shard.quarantine(word, &mut self.pass, key, who, mode, by, now)
     }
 
-    // Notes a grant whose step was seen.
+    // Notes a grant whose step was seen: as the last one, where its quarantine stands alone. The session
+    // hasn't committed.
     fn note_grant(&mut self, who: Sid, ticket: Ticket, old: Option<(Value, u64)>, by: i32)
         requires room { length self.old.book.book.held < self.old.book.grant_room }
         requires granted { IsGrantSeen H.word.shards self.old.seen ticket }
+        requires alone { is_alone ticket.mode ≡ true → StoodAlone H.opening H.before H.word.shards
+            self.old.seen (record { permit = ticket; old = old; by = by }) }
+        requires none { self.old.book.book.commit ≡ None }
         ensures seen { self.new.seen ≡ self.old.seen }
         ensures book { self.new.book.book
             ≡ noted_for who (with_grant ticket old by) self.old.book.book }
     {
+        self.pass.sound();
         self.book.note_grant(who, ticket, old, by);
     }
 }

@@ -1,10 +1,14 @@
-use Rattle.std.proofs.Common.{All, IfOk, sym, subst}
+use Rattle.std.proofs.Common.{◌<◌, All, IfOk, List, length, sym, subst}
+use Rattle.rows_model.specs.declared.changes.Change.{Change}
 use Rattle.desk_book.specs.Books.{with_commit}
 use Rattle.desk_book.specs.Borne.{Holds}
+use Rattle.bound_hub.specs.Knowns.{commits_of}
 use Rattle.bound_hub.specs.Stores.{ShowsCommit}
 use Rattle.bound_desk.specs.Bound.{BoundBookView, IsBoundBook}
+use Rattle.bound_desk.specs.Writing.{IsReadyToWrite}
 use Rattle.bound_desk.proofs.BoundLemmas.{book_goes_on, noted_is_bound}
 use Rattle.bound_desk.proofs.GrantNotes.{commit_is_over, committed_is_bound, held_are_seen}
+use Rattle.bound_desk.proofs.WritingLemmas.{committed_is_ready, noted_is_ready, ready_goes_on}
 use Rattle.bound_desk.proofs.bound_books.BoundBook.commit.Goals as goal
 
 pub commit-told-requires-clause-granted : goal.commit-told-requires-clause-granted
@@ -17,21 +21,30 @@ invariant_of-self g c =
     let a = c.args in
     let opening = g.H.HubName.opening in
     let cap = g.H.HubName.cap in
+    let before = g.H.BoundName.before in
     let shards = g.H.BoundName.word.shards in
     let book = c.self.inside.book.book in
     let seen = c.commit-told.new.pass.seen in
     let number = c.in-Ok-told.number in
     let still = book_goes_on opening shards book c.self.inside.pass.seen seen c.commit-told.ensures.seen c.self.invariant.1 in
     let shows = subst (λ r. IfOk r (ShowsCommit opening cap a.who a.txn a.grants.now seen)) c.in-Ok-told.is c.commit-told.ensures.ok in
+    let ready = ready_goes_on opening before shards book c.self.inside.pass.seen seen c.commit-told.ensures.seen c.self.invariant.2 in
+    let late = subst (λ r. IfOk r (λ n. length (commits_of c.self.inside.pass.seen.events) < n)) c.in-Ok-told.is c.commit-told.ensures.late in
+    let copied = subst (λ (t : List Change). ShowsCommit opening cap a.who t a.grants.now seen number) (sym c.in-Ok.ensures) shows in
     let over = commit_is_over opening cap a.who a.txn a.grants.now seen number shows in (
       c.commit-told.ensures.word,
       subst (λ b. IsBoundBook opening shards b seen) (sym c.note_commit.ensures)
           (noted_is_bound opening shards a.who (with_commit number c.in-Ok.copy) book seen still
           (λ is. committed_is_bound opening shards book seen a.who number c.in-Ok.copy over is still)),
+      subst (λ b. IsReadyToWrite opening before shards b seen) (sym c.note_commit.ensures)
+          (noted_is_ready opening before shards a.who (with_commit number c.in-Ok.copy) book seen ready
+          (λ is. committed_is_ready opening before shards book c.self.inside.pass.seen seen cap a.who c.in-Ok.copy a.grants.now number c.commit-told.ensures.seen late copied
+          c.commit-told.ensures.true_so_far is c.self.invariant.2)),
     )
 
 pub invariant_of-self-in-Err-told : goal.invariant_of-self-in-Err-told
 invariant_of-self-in-Err-told g c = (
   c.commit-told.ensures.word,
   book_goes_on g.H.HubName.opening g.H.BoundName.word.shards c.self.inside.book.book c.self.inside.pass.seen c.commit-told.new.pass.seen c.commit-told.ensures.seen c.self.invariant.1,
+  ready_goes_on g.H.HubName.opening g.H.BoundName.before g.H.BoundName.word.shards c.self.inside.book.book c.self.inside.pass.seen c.commit-told.new.pass.seen c.commit-told.ensures.seen c.self.invariant.2,
 )

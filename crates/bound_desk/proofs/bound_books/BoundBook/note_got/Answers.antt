@@ -6,13 +6,16 @@ use Rattle.log_word.specs.Steps.{IsSound}
 use Rattle.desk_book.specs.Books.{with_lease}
 use Rattle.bound_hub.specs.Gets.{got_short, IsLastStep}
 use Rattle.bound_desk.specs.Bound.{BoundBookView, IsBoundBook}
+use Rattle.bound_desk.specs.Writing.{IsReadyToWrite}
 use Rattle.bound_desk.proofs.BoundLemmas.{leased_is_bound, noted_is_bound}
+use Rattle.bound_desk.proofs.WritingLemmas.{leased_is_ready, noted_is_ready}
 use Rattle.bound_desk.proofs.bound_books.BoundBook.note_got.Goals as goal
 
 pub invariant_of-self : goal.invariant_of-self
 invariant_of-self g c =
     let a = c.args in
     let opening = g.H.HubName.opening in
+    let before = g.H.BoundName.before in
     let shards = g.H.BoundName.word.shards in
     let book = c.self.inside.book.book in
     let pass = c.self.inside.pass in
@@ -26,4 +29,7 @@ invariant_of-self g c =
       c.self.invariant.0,
       subst (λ b. IsBoundBook opening shards b pass.seen) (sym c.note_lease.ensures)
           (noted_is_bound opening shards a.who (with_lease a.key token) book pass.seen c.self.invariant.1 (λ _. leased)),
+      subst (λ b. IsReadyToWrite opening before shards b pass.seen) (sym c.note_lease.ensures)
+          (noted_is_ready opening before shards a.who (with_lease a.key token) book pass.seen c.self.invariant.2
+          (λ _. leased_is_ready opening before shards book pass.seen a.key token c.self.invariant.2)),
     )
