@@ -4,7 +4,7 @@ use Rattle.test_hubs.proofs.line_tests.the_fourth_get_is_served_and_who_goes_is_
 
 -- what the shards are made with, and the store as it is handed in
 abbrev pub ghosts-goes_well-H-HubName : goal.ghosts-goes_well-H-HubName
-ghosts-goes_well-H-HubName a = record {
+ghosts-goes_well-H-HubName g a = record {
   terms = terms_at 64 16 100 None;
   opening = a.store.ledger.opening;
   cap = a.store.ledger.cap;
@@ -13,4 +13,4 @@ ghosts-goes_well-H-HubName a = record {
 }
 
 abbrev pub ghosts-goes_well-H-Ledger : goal.ghosts-goes_well-H-Ledger
-ghosts-goes_well-H-Ledger a = record { name = a.ledger.name; parts = a.ledger.parts }
+ghosts-goes_well-H-Ledger g a = record { name = a.ledger.name; parts = a.ledger.parts }
