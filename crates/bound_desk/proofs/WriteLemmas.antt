@@ -1,5 +1,5 @@
 -- What the book bears out may be written: a new value, a shift. And a value may stay.
-use Rattle.std.proofs.Common.{ℕ, ◌≡◌, true, false, List, take, Option, Some, None, IsSomeAnd, refl, sym, ap, subst, ◌∙◌, inl, ⊎_elim, arith}
+use Rattle.std.proofs.Common.{ℕ, ◌≡◌, ◌&&◌, ◌||◌, Bool, true, false, not, List, take, Option, Some, None, IsSomeAnd, refl, sym, ap, subst, ◌∙◌, inl, ⊎_elim, arith}
 use Rattle.std.specs.Option.{ForSome}
 use Rattle.std.proofs.lemmas.Bool.{false≢true, eqb-true}
 use Rattle.std.proofs.lemmas.Option.{none-some}
@@ -25,6 +25,7 @@ use Rattle.bound_hub.specs.TrueLogs.{IsTrueLog}
 use Rattle.bound_hub.specs.Writes.{refreshed_by, MayPut, MayShift, WasAlone}
 use Rattle.bound_hub.proofs.EventLemmas.{over_is_known}
 use Rattle.bound_hub.proofs.QuarantineLemmas.{still_over}
+use Rattle.bound_hub.proofs.RuledLemmas.{more_is_known}
 use Rattle.bound_hub.proofs.SessionLemmas.{closed_is_over}
 use Rattle.bound_hub.proofs.TrueLogLemmas.{lawful_to_refresh, lawful_to_shift}
 use Rattle.desk_book.specs.Books.{Book, Held, is_of}
@@ -49,7 +50,7 @@ module _ (opening : Tables) (before : ℕ → List Step) (shards : ℕ) (seen : 
     (alone : IsAloneSeen opening before shards commit seen one) (is : commit ≡ Some done) (placed : IsPlaced opening seen who done)
     (mine : who.number ≡ one.permit.sid.number) (stamp : ℕ) (numbered : done.number ≡ stamp) where
   -- the quarantine stood alone when the pass had seen less, and its session has committed since
-  was_alone : WasAlone shards (shard_of one.permit.key shards) one.permit.key one.permit.sid.number one.permit.token stamp seen
+  abbrev was_alone : WasAlone shards (shard_of one.permit.key shards) one.permit.key one.permit.sid.number one.permit.token stamp seen
   was_alone = record {
     earlier = alone.earlier;
     sound = alone.sound;
@@ -145,3 +146,14 @@ quit_is_among shards early late who present sound shows h is writes begins never
     (still_over who.number early.events late.events begins.events
     (closed_is_over who.number early.events sound.in_order (present_writes early present who h is writes) shows))
     never
+
+-- what an end tells of it
+pub quit_shows : (shards : ℕ) (early late : Seen) (who : Sid) (present : Option Present) (was writes did_commit : Bool) → IsSound shards early → ShowsEnd who early was
+    → ForSome present (IsPresentSeen early) → (writes ≡ true → (is_of present who ≡ true) × (books.may_write present ≡ true)) → IsBeginning early late
+    → (did_commit ≡ false → IsLogged (commits_of late.events) who.number → ⊥) → (was || (writes && not did_commit)) ≡ true → IsAmong who.number (ended_of late.events)
+quit_shows shards early late who present true writes did_commit sound shows h is begins never e =
+    (more_is_known early late begins).kept who.number (end_is_among early who shows)
+quit_shows shards early late who present false true false sound shows h is begins never e =
+    quit_is_among shards early late who present sound shows h (is refl).0 (is refl).1 begins (never refl)
+quit_shows shards early late who present false true true sound shows h is begins never e = absurd (false≢true e)
+quit_shows shards early late who present false false did_commit sound shows h is begins never e = absurd (false≢true e)

@@ -1,5 +1,5 @@
 -- What a release that writes a value rests on is still seen when more is seen, and when something is noted.
-use Rattle.std.proofs.Common.{ℕ, suc, ℤ, pos, ◌≡◌, ◌+◌, ◌<◌, Bool, true, cond, List, [], ◌∷◌, ◌++◌, length, take, All, Option, Some, None, Result, Ok, Err, IfOk, slice_get, refl, sym, ap, subst, ◌∙◌, arith}
+use Rattle.std.proofs.Common.{ℕ, ℤ, pos, ◌≡◌, ◌+◌, ◌<◌, Bool, true, cond, List, [], ◌∷◌, ◌++◌, length, take, All, Option, Some, None, Result, Ok, Err, IfOk, slice_get, refl, sym, ap, subst, ◌∙◌, arith}
 use Rattle.std.proofs.lemmas.Bool.{eqb-true}
 use Rattle.std.proofs.lemmas.List.Elements.{All-nil, All-cons, All-head, All-tail, All-push, All-weaker}
 use Rattle.std.proofs.lemmas.Option.{same_Some, none-some, slice_get_within}
@@ -48,7 +48,7 @@ stands_last (first ∷ log) last = stands_last log last
 
 one_more : (log : List Commit) (last : Commit) → length (log ++ last ∷ []) ≡ length log + 1
 one_more [] last = refl
-one_more (first ∷ log) last = ap (λ n. suc n) (one_more log last)
+one_more (first ∷ log) last = let h = one_more log last in omega (arith, h)
 
 refresh_or_delta : mode.Refresh ≡ mode.Delta → ⊥
 refresh_or_delta e = cc

@@ -1,5 +1,5 @@
 //! A release that keeps the key's value, for a desk: of a session that was ended without a commit.
-ghost use Rattle.std.specs.Prelude.{◌≡◌, ◌≢◌, Bool, IsTrue};
+ghost use Rattle.std.specs.Prelude.{◌≡◌, ◌≢◌, ◌&&◌, ◌||◌, not, Bool, IsTrue};
 ghost use Rattle.rows_model.specs.Placement.{shard_of};
 ghost use Rattle.log_word.specs.Steps.{IsBeginning};
 ghost use Rattle.key_freshness.specs.Known.{IsAmong};
@@ -32,14 +32,10 @@ impl<H: BoundName> BoundBook<H> {
         ensures book { self.new.book ≡ self.old.book }
     {
         let closed = store.end(word, &mut self.pass, who);
-        if closed.was() {
-            return true;
-        }
-        if !self.book.is_writing(who) {
-            return false;
-        }
         self.pass.sound();
-        !store.has_committed(word, &mut self.pass, who)
+        let writes = self.book.is_writing(who);
+        let did_commit = store.has_committed(word, &mut self.pass, who);
+        has_quit(closed.was(), writes, did_commit)
     }
 
     /// Releases a grant for a session on the shard of its key, which is lent, and keeps the key's value.
@@ -67,4 +63,12 @@ impl<H: BoundName> BoundBook<H> {
         self.book.note_spent(who, &ticket);
         told
     }
+}
+
+/// Whether a session was ended without a commit: it was open, or had begun for writing and hasn't
+/// committed.
+fn has_quit(was: bool, writes: bool, did_commit: bool) -> bool
+    ensures { result ≡ (was || (writes && not did_commit)) }
+{
+    was || (writes && !did_commit)
 }

@@ -1,9 +1,11 @@
-use Rattle.std.proofs.Common.{is_some}
+use Rattle.std.proofs.Common.{IfOk, w32, to_z, of_z, is_some, subst}
+use Rattle.std.proofs.lemmas.Int.{to_z-of_z}
 use Rattle.key_shard.specs.Past.{entry}
 use Rattle.key_shard.specs.Shards.{past_of}
 use Rattle.session_client.specs.Belongs.{IsQuarantineOf}
 use Rattle.session_client.proofs.QuarantineLemmas.{quarantine_belongs}
 use Rattle.desk_book.proofs.ListLemmas.{ok_gives}
+use Rattle.bound_desk.specs.Writing.{IsGrantAlone}
 use Rattle.bound_desk.proofs.BoundLemmas.{book_goes_on}
 use Rattle.bound_desk.proofs.GrantNotes.{answer_brings}
 use Rattle.bound_desk.proofs.WritingLemmas.{answer_stood, ready_goes_on}
@@ -27,8 +29,9 @@ pub returns-clause-alone : goal.returns-clause-alone
 returns-clause-alone g c =
     let a = c.args in
     let shard = a.shard.now.shard in
-    answer_stood g.H.HubName.opening g.H.BoundName.before g.H.BoundName.word.shards shard.terms (past_of shard) a.key a.who a.mode _ a.now shard.terms.no c.quarantine.new.pass.seen
-    (is_some (entry a.key (past_of c.quarantine.new.self.shard))) c.quarantine.result c.requires.place c.quarantine.ensures.shows c.quarantine.ensures.last c.quarantine.ensures.old
+    subst (λ by. IfOk c.quarantine.result (IsGrantAlone g.H.HubName.opening g.H.BoundName.before g.H.BoundName.word.shards by c.quarantine.new.pass.seen)) (to_z-of_z w32 a.by c.ranges.by)
+    (answer_stood g.H.HubName.opening g.H.BoundName.before g.H.BoundName.word.shards shard.terms (past_of shard) a.key a.who a.mode (to_z w32 (of_z w32 a.by)) a.now shard.terms.no c.quarantine.new.pass.seen
+    (is_some (entry a.key (past_of c.quarantine.new.self.shard))) c.quarantine.result c.requires.place c.quarantine.ensures.shows c.quarantine.ensures.last c.quarantine.ensures.old)
 
 pub returns-clause-belongs : goal.returns-clause-belongs
 returns-clause-belongs g c =
