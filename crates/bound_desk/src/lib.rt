@@ -3,11 +3,15 @@
 #![tactic(auto)]
 
 pub use bound_books::BoundBook;
+pub use desks::BoundDesk;
+pub use sweeps::BoundSweep;
 
 pub mod asks;
+pub mod at_store;
 pub mod bound_books;
 pub mod commits;
 mod copies;
+pub mod desks;
 pub mod drops;
 pub mod ends;
 pub mod gets;
@@ -16,6 +20,7 @@ pub mod puts;
 pub mod quarantines;
 pub mod requests;
 pub mod sets;
+pub mod shards;
 pub mod shifts;
 pub mod stages;
 pub mod sweeps;

@@ -1,0 +1,233 @@
+//! The desk of a worker over a bound hub: each call takes the lock of the key's shard or that of the
+//! store, makes one request there with the desk's book, and lets go.
+ghost use Rattle.std.specs.Prelude.{◌≡◌};
+ghost use Rattle.session_client.specs.Belongs.{Belongs};
+ghost use Rattle.session_client.specs.declared.replies.Wanted.TheVariants as wanted;
+ghost use Rattle.log_word.specs.Steps.{IsBeginning};
+ghost use Rattle.desk_book.specs.Books.{empty_book};
+ghost use Rattle.desk_book.specs.Borne.{IsPut};
+ghost use Rattle.bound_desk.specs.Safe.{drop_reply};
+ghost use Rattle.bound_desk.specs.Shown.{ShowsReply};
+
+use crate::bound_books::BoundBook;
+use crate::requests::is_raise;
+use crate::sweeps::BoundSweep;
+use bound_hub::{BoundHub, BoundName};
+use desk_book::Made;
+use executor::key_of;
+use expiry_sweeper::{SweepReply, SweepWanted, Sweeper};
+use iq_outside::{Clock, Gate, Point};
+use key_shard::{Raising, Rel};
+use log_word::Pass;
+use rows_model::{Memory, QKey, Sid};
+use session_client::{Desk, Reply, Wanted};
+use sql_keeper::Keeper;
+use std::alloc::Global;
+use std::marker::Model;
+use std::sync::Wait;
+
+/// A worker's desk over a bound hub. It keeps a book of what it told for its present session, and a pass
+/// that has seen what the book says. Contracts see the book and what the pass has seen.
+///
+/// A request that the book doesn't bear out is made in its safe form. Of those that it does, a release drops
+/// the key's value where it could put or shift it, one that keeps the value is Gone, and a raise isn't made.
+#[derive(Drop)]
+pub struct BoundDesk<'a, K: Keeper, H: BoundName, C: Clock, G: Gate, R: Wait> {
+    rt: &'a R,
+    alloc: Global,
+    hub: &'a BoundHub<K, H>,
+    worker: u32,
+    clock: &'a C,
+    gate: &'a G,
+    told: BoundBook<H>,
+    sweeper: Sweeper,
+    sweep: BoundSweep<H>,
+}
+
+impl<'a, K: Keeper, H: BoundName, C: Clock, G: Gate, R: Wait> Model
+    for BoundDesk<'a, K, H, C, G, R> {
+    ghost use Rattle.std.specs.Prelude.{◌≡◌};
+    ghost use Rattle.expiry_sweeper.specs.Follows.{shards_of};
+    ghost use Rattle.bound_desk.specs.Bound.{BoundBookView};
+
+    ghost Value = { BoundBookView };
+
+    ghost view = { λ desk. desk.told };
+
+    ghost invariant = { λ desk. shards_of desk.sweeper ≡ desk.hub.now };
+}
+
+impl<'a, K: Keeper, H: BoundName, C: Clock, G: Gate, R: Wait> BoundDesk<'a, K, H, C, G, R> {
+    /// A desk of the worker of this number over the hub, with this pass of its word. It takes no lock and
+    /// no memory.
+    pub fn new(
+        rt: &'a R,
+        alloc: Global,
+        hub: &'a BoundHub<K, H>,
+        pass: Pass,
+        worker: u32,
+        clock: &'a C,
+        gate: &'a G,
+    ) -> BoundDesk<'a, K, H, C, G, R>
+        requires { pass.word ≡ H.word }
+        ensures book { result.book.book ≡ empty_book }
+        ensures seen { result.seen ≡ pass.seen }
+    {
+        let mut pass = pass;
+        let other = hub.pass(&mut pass);
+        BoundDesk {
+            rt,
+            alloc,
+            hub,
+            worker,
+            clock,
+            gate,
+            told: BoundBook::new(alloc, pass),
+            sweeper: Sweeper::new(hub.shards()),
+            sweep: BoundSweep::new(other),
+        }
+    }
+
+    /// Gets a key for a session. The get's own step is the last of that shard that the desk has seen then.
+    /// A hit is fresh against what the desk has seen then, unless that tells that the store has stopped
+    /// telling its rows, and its stamp is at least the floor.
+    pub fn get(&mut self, who: Sid, key: QKey, floor: u64) -> Reply
+        ensures belongs { Belongs who (wanted.Get key floor) result }
+        ensures seen { IsBeginning self.old.seen self.new.seen }
+        ensures shows { ShowsReply H.opening H.before H.word.shards who (wanted.Get key floor)
+            result self.new.seen }
+    {
+        let word = self.hub.word();
+        let mut shard = self.hub.lock_of(self.rt, &key);
+        self.gate
+            .at(self.worker, Point::Inside { shard: shard.no() });
+        let now = self.clock.now();
+        self.told
+            .reply_to_get(word, &mut *shard, who, key, floor, now)
+    }
+}
+
+impl<'a, K: Keeper, H: BoundName, C: Clock, G: Gate, R: Wait> Desk
+    for BoundDesk<'a, K, H, C, G, R> {
+    ghost use Rattle.std.specs.Prelude.{None};
+
+    ghost begun = { λ desk. None };
+
+    ghost record_of = { λ desk. None };
+
+    fn begin(&mut self, writes: bool) -> Result<Sid, Memory> {
+        let word = self.hub.word();
+        let mut store = self.hub.lock_store(self.rt);
+        self.gate.at(self.worker, Point::AtStore);
+        self.told.begin(word, &mut *store, self.worker, writes)
+    }
+
+    /// Makes a session's request as its book bears it out, and else in its safe form.
+    fn call(&mut self, who: Sid, request: Wanted) -> Reply {
+        let word = self.hub.word();
+        let raises = is_raise(&request);
+        match self.told.made(who, request) {
+            Ok(Made::One { request }) => {
+                if matches!(&request, Wanted::Nothing) {
+                    request.let_go();
+                    return Reply::Nothing;
+                }
+                match key_of(&request) {
+                    Some(key) => {
+                        let mut shard = self.hub.lock_of(self.rt, &key);
+                        self.gate
+                            .at(self.worker, Point::Inside { shard: shard.no() });
+                        let now = self.clock.now();
+                        self.told.on_shard(word, &mut *shard, who, request, now)
+                    }
+                    None => {
+                        let mut store = self.hub.lock_store(self.rt);
+                        self.gate.at(self.worker, Point::AtStore);
+                        self.told
+                            .at_store(word, self.alloc, &mut *store, who, request)
+                    }
+                }
+            }
+            Ok(Made::EndDrop { session, grant }) => {
+                let is_over = {
+                    let mut store = self.hub.lock_store(self.rt);
+                    self.gate.at(self.worker, Point::AtStore);
+                    self.told.close(word, &mut *store, session)
+                };
+                if !is_over {
+                    grant.let_go();
+                    return dropped(raises, Rel::Gone);
+                }
+                let mut shard = self.hub.lock_of(self.rt, &grant.key());
+                self.gate
+                    .at(self.worker, Point::Inside { shard: shard.no() });
+                dropped(raises, self.told.drop_value(word, &mut *shard, who, grant))
+            }
+            Ok(Made::Told { reply }) => reply,
+            Err(request) => back(request),
+        }
+    }
+
+    /// One step of the worker's own sweeper, under one lock.
+    fn tend(&mut self) {
+        let word = self.hub.word();
+        let told = match self.sweeper.wants() {
+            SweepWanted::Scan { shard } => {
+                let mut bound = self.hub.lock_at(self.rt, shard);
+                self.gate.at(self.worker, Point::Inside { shard });
+                let now = self.clock.now();
+                match self.sweep.scan(word, &mut *bound, now) {
+                    Some(due) => SweepReply::Found { shard, due },
+                    None => SweepReply::NoneFound { shard },
+                }
+            }
+            SweepWanted::End { sid } => {
+                let mut store = self.hub.lock_store(self.rt);
+                self.gate.at(self.worker, Point::AtStore);
+                SweepReply::Ended {
+                    closed: self.sweep.end(word, &mut *store, sid),
+                }
+            }
+            SweepWanted::Drop { key, token } => {
+                let mut bound = self.hub.lock_of(self.rt, &key);
+                let shard = bound.no();
+                self.gate.at(self.worker, Point::Inside { shard });
+                SweepReply::Dropped {
+                    told: self.sweep.drop_value(word, &mut *bound, key, token),
+                }
+            }
+        };
+        self.sweeper.told(told);
+    }
+}
+
+/// The reply to a release with a new value for which there was no memory: the grant comes back.
+fn back(request: Wanted) -> Reply
+    requires { IsPut request }
+    ensures { (who : Sid) → Belongs who request result }
+{
+    match request {
+        Wanted::Sar {
+            grant,
+            value: _,
+            stamp: _,
+        } => Reply::SarBack { grant },
+        other => {
+            other.let_go();
+            unreachable!()
+        }
+    }
+}
+
+/// The reply to a request in whose place a grant was dropped: of a raise it is Gone.
+fn dropped(raises: bool, told: Rel) -> Reply
+    ensures { result ≡ drop_reply raises told }
+{
+    if raises {
+        Reply::Raise {
+            told: Raising::Gone,
+        }
+    } else {
+        Reply::Rel { told }
+    }
+}

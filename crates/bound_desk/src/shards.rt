@@ -1,0 +1,234 @@
+//! The requests on a shard that is lent, each by one method of the book.
+ghost use Rattle.std.specs.Prelude.{◌≡◌, ◌≢◌, ℕ, IfSome};
+ghost use Rattle.rows_model.specs.Placement.{shard_of};
+ghost use Rattle.key_shard.specs.Answers.{IsAtHome};
+ghost use Rattle.session_client.specs.Belongs.{Belongs};
+ghost use Rattle.session_client.specs.declared.replies.Reply.TheVariants as reply;
+ghost use Rattle.session_client.specs.declared.replies.Wanted.TheVariants as wanted;
+ghost use Rattle.executor.specs.OnShard.{IsFor, fault_of};
+ghost use Rattle.executor.specs.Requests.{key_of};
+ghost use Rattle.log_word.specs.Steps.{IsBeginning};
+ghost use Rattle.desk_book.specs.Borne.{MayQuarantine};
+ghost use Rattle.bound_desk.specs.Safe.{IsSafe};
+ghost use Rattle.bound_desk.specs.Shown.{ShowsReply};
+
+use crate::bound_books::BoundBook;
+use bound_hub::{BoundName, BoundShard};
+use key_shard::{Grant, Raising, Rel, ShardFault};
+use lease_table::Mode;
+use log_word::LogWord;
+use rows_model::{QKey, Sid, Value};
+use session_client::{Fault, Reply, Wanted};
+
+impl<H: BoundName> BoundBook<H> {
+    /// A get, as `BoundBook::get`, with its reply.
+    pub(crate) fn reply_to_get(
+        &mut self,
+        word: &LogWord,
+        shard: &mut BoundShard<H>,
+        who: Sid,
+        key: QKey,
+        floor: u64,
+        now: u64,
+    ) -> Reply
+        requires word { word.now ≡ H.word }
+        requires place { shard.old.shard.terms.no ≡ shard_of key H.word.shards }
+        requires home { IsAtHome shard.old.shard.terms key }
+        ensures belongs { Belongs who (wanted.Get key floor) result }
+        ensures seen { IsBeginning self.old.seen self.new.seen }
+        ensures shows { ShowsReply H.opening H.before H.word.shards who (wanted.Get key floor)
+            result self.new.seen }
+    {
+        match self.get(word, shard, key, who, floor, now) {
+            Ok(got) => Reply::Got { got },
+            Err(fault) => refused(fault),
+        }
+    }
+
+    /// A quarantine to invalidate, as `BoundBook::quarantine`, with its reply.
+    pub(crate) fn reply_to_register(
+        &mut self,
+        word: &LogWord,
+        shard: &mut BoundShard<H>,
+        who: Sid,
+        key: QKey,
+        now: u64,
+    ) -> Reply
+        requires word { word.now ≡ H.word }
+        requires place { shard.old.shard.terms.no ≡ shard_of key H.word.shards }
+        requires home { IsAtHome shard.old.shard.terms key }
+        requires borne { MayQuarantine self.old.book.book who }
+        ensures belongs { Belongs who (wanted.QaReg key) result }
+        ensures seen { IsBeginning self.old.seen self.new.seen }
+        ensures shows { ShowsReply H.opening H.before H.word.shards who (wanted.QaReg key)
+            result self.new.seen }
+    {
+        match self.quarantine(word, shard, who, key, Mode::Invalidate, 0, now) {
+            Ok(told) => Reply::Quar { told },
+            Err(fault) => refused(fault),
+        }
+    }
+
+    /// A quarantine to refresh, as `BoundBook::quarantine`, with its reply.
+    pub(crate) fn reply_to_read(
+        &mut self,
+        word: &LogWord,
+        shard: &mut BoundShard<H>,
+        who: Sid,
+        key: QKey,
+        now: u64,
+    ) -> Reply
+        requires word { word.now ≡ H.word }
+        requires place { shard.old.shard.terms.no ≡ shard_of key H.word.shards }
+        requires home { IsAtHome shard.old.shard.terms key }
+        requires borne { MayQuarantine self.old.book.book who }
+        ensures belongs { Belongs who (wanted.QaRead key) result }
+        ensures seen { IsBeginning self.old.seen self.new.seen }
+        ensures shows { ShowsReply H.opening H.before H.word.shards who (wanted.QaRead key)
+            result self.new.seen }
+    {
+        match self.quarantine(word, shard, who, key, Mode::Refresh, 0, now) {
+            Ok(told) => Reply::Quar { told },
+            Err(fault) => refused(fault),
+        }
+    }
+
+    /// A quarantine to shift, as `BoundBook::quarantine`, with its reply.
+    pub(crate) fn reply_to_delta(
+        &mut self,
+        word: &LogWord,
+        shard: &mut BoundShard<H>,
+        who: Sid,
+        key: QKey,
+        by: i32,
+        now: u64,
+    ) -> Reply
+        requires word { word.now ≡ H.word }
+        requires place { shard.old.shard.terms.no ≡ shard_of key H.word.shards }
+        requires home { IsAtHome shard.old.shard.terms key }
+        requires borne { MayQuarantine self.old.book.book who }
+        ensures belongs { Belongs who (wanted.Delta key by) result }
+        ensures seen { IsBeginning self.old.seen self.new.seen }
+        ensures shows { ShowsReply H.opening H.before H.word.shards who (wanted.Delta key by)
+            result self.new.seen }
+    {
+        match self.quarantine(word, shard, who, key, Mode::Delta, by, now) {
+            Ok(told) => Reply::Quar { told },
+            Err(fault) => refused(fault),
+        }
+    }
+
+    /// A set, as `BoundBook::set`, with its reply.
+    pub(crate) fn reply_to_set(
+        &mut self,
+        word: &LogWord,
+        shard: &mut BoundShard<H>,
+        who: Sid,
+        key: QKey,
+        token: u64,
+        value: Value,
+        stamp: u64,
+        now: u64,
+    ) -> Reply
+        requires word { word.now ≡ H.word }
+        requires place { shard.old.shard.terms.no ≡ shard_of key H.word.shards }
+        requires safe { IsSafe self.old.book.book who (wanted.Set key token value stamp) }
+        ensures belongs { Belongs who (wanted.Set key token value stamp) result }
+        ensures seen { IsBeginning self.old.seen self.new.seen }
+        ensures shows { ShowsReply H.opening H.before H.word.shards who
+            (wanted.Set key token value stamp) result self.new.seen }
+    {
+        match self.set(word, shard, who, key, token, value, stamp, now) {
+            Ok(told) => Reply::Set { told },
+            Err(_) => Reply::Fault {
+                fault: Fault::Memory,
+            },
+        }
+    }
+
+    /// Makes a session's request, which is safe by the book, on the shard of its key, which is lent. What the
+    /// reply tells is shown by what the desk has seen then. A release drops the key's value, whatever is
+    /// asked for. A raise isn't made: it is answered as if another quarantine stood beside. A release
+    /// that keeps the value is Gone: its quarantine stands until it is swept.
+    pub fn on_shard(
+        &mut self,
+        word: &LogWord,
+        shard: &mut BoundShard<H>,
+        who: Sid,
+        request: Wanted,
+        now: u64,
+    ) -> Reply
+        requires word { word.now ≡ H.word }
+        requires place { IfSome (key_of request) (λ key.
+            shard.old.shard.terms.no ≡ shard_of key H.word.shards) }
+        requires home { IsFor shard.old.shard.terms request }
+        requires safe { IsSafe self.old.book.book who request }
+        ensures belongs { Belongs who request result }
+        ensures seen { IsBeginning self.old.seen self.new.seen }
+        ensures shows { ShowsReply H.opening H.before H.word.shards who request result
+            self.new.seen }
+    {
+        match request {
+            Wanted::Get { key, floor } => self.reply_to_get(word, shard, who, key, floor, now),
+            Wanted::Set {
+                key,
+                token,
+                value,
+                stamp,
+            } => self.reply_to_set(word, shard, who, key, token, value, stamp, now),
+            Wanted::QaReg { key } => self.reply_to_register(word, shard, who, key, now),
+            Wanted::QaRead { key } => self.reply_to_read(word, shard, who, key, now),
+            Wanted::Delta { key, by } => self.reply_to_delta(word, shard, who, key, by, now),
+            Wanted::Dar { grant } => Reply::Rel {
+                told: self.drop_value(word, shard, who, grant),
+            },
+            Wanted::Sar {
+                grant,
+                value: _,
+                stamp: _,
+            } => Reply::Rel {
+                told: self.drop_value(word, shard, who, grant),
+            },
+            Wanted::Apply { grant, stamp: _ } => Reply::Rel {
+                told: self.drop_value(word, shard, who, grant),
+            },
+            Wanted::Abort { grant } => {
+                grant.let_go();
+                Reply::Rel { told: Rel::Gone }
+            }
+            Wanted::Raise { grant } => share(grant),
+            Wanted::Renew { grant } => {
+                let told = self.renew(word, shard, &grant, now).ok();
+                Reply::Renew { grant, told }
+            }
+            Wanted::Ask { .. }
+            | Wanted::Staged { .. }
+            | Wanted::Commit { .. }
+            | Wanted::End
+            | Wanted::Nothing => unreachable!(),
+        }
+    }
+}
+
+/// The reply to a raise that isn't made: as if another quarantine stood beside. The grant comes back.
+fn share(grant: Grant) -> Reply
+    ensures { (who : Sid) → Belongs who (wanted.Raise grant) result }
+{
+    let holder = grant.sid();
+    Reply::Raise {
+        told: Raising::Shared { grant, holder },
+    }
+}
+
+/// The reply to a request that the shard refused.
+fn refused(fault: ShardFault) -> Reply
+    requires { (place : ℕ) → fault ≢ ShardFault.Stranger place }
+    ensures { result ≡ reply.Fault (fault_of fault) }
+{
+    let fault = match fault {
+        ShardFault::Spent { next: _ } => Fault::Spent,
+        ShardFault::Memory => Fault::Memory,
+        ShardFault::Stranger { shard: _ } => unreachable!(),
+    };
+    Reply::Fault { fault }
+}
