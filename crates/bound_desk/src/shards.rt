@@ -184,15 +184,13 @@ impl<H: BoundName> BoundBook<H> {
             },
             Wanted::Sar {
                 grant,
-                value: Some(value),
+                value,
                 stamp,
-            } => self.reply_to_put(word, shard, who, grant, value, stamp),
-            Wanted::Sar {
-                grant,
-                value: None,
-                stamp: _,
-            } => Reply::Rel {
-                told: self.drop_value(word, shard, who, grant),
+            } => match value {
+                Some(value) => self.reply_to_put(word, shard, who, grant, value, stamp),
+                None => Reply::Rel {
+                    told: self.drop_value(word, shard, who, grant),
+                },
             },
             Wanted::Apply { grant, stamp } => self.reply_to_shift(word, shard, who, grant, stamp),
             Wanted::Abort { grant } => {
