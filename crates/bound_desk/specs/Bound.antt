@@ -28,6 +28,12 @@ pub record BoundBookView : Type 0 where
   pub book : BookView
   pub seen : Seen
 
+-- What contracts see of a desk: its book, what its pass has seen, and the number of its worker.
+pub record BoundDeskView : Type 0 where
+  pub book : BookView
+  pub seen : Seen
+  pub worker : ℕ
+
 -- The answer was given since a pass had seen the earlier: its stamp is at least the number of commits that had been
 -- seen then, and at most that of those that are seen now. It is right for the key, unless it is seen that the store has
 -- stopped telling its rows.

@@ -21,6 +21,7 @@ use key_shard::{Raising, Rel};
 use log_word::Pass;
 use rows_model::{Memory, QKey, Sid};
 use session_client::{Desk, Reply, Wanted};
+use shard_lock::{is_held_up, is_timed, turned};
 use sql_keeper::Keeper;
 use std::alloc::Global;
 use std::marker::Model;
@@ -48,11 +49,15 @@ impl<'a, K: Keeper, H: BoundName, C: Clock, G: Gate, R: Wait> Model
     for BoundDesk<'a, K, H, C, G, R> {
     ghost use Rattle.std.specs.Prelude.{◌≡◌};
     ghost use Rattle.expiry_sweeper.specs.Follows.{shards_of};
-    ghost use Rattle.bound_desk.specs.Bound.{BoundBookView};
+    ghost use Rattle.bound_desk.specs.Bound.{BoundDeskView};
 
-    ghost Value = { BoundBookView };
+    ghost Value = { BoundDeskView };
 
-    ghost view = { λ desk. desk.told };
+    ghost view = { λ desk. record {
+      book = desk.told.book;
+      seen = desk.told.seen;
+      worker = desk.worker;
+    } };
 
     ghost invariant = { λ desk. shards_of desk.sweeper ≡ desk.hub.now };
 }
@@ -72,6 +77,7 @@ impl<'a, K: Keeper, H: BoundName, C: Clock, G: Gate, R: Wait> BoundDesk<'a, K, H
         requires { pass.word ≡ H.word }
         ensures book { result.book.book ≡ empty_book }
         ensures seen { result.seen ≡ pass.seen }
+        ensures worker { result.worker ≡ worker }
     {
         let mut pass = pass;
         let other = hub.pass(&mut pass);
@@ -122,7 +128,8 @@ impl<'a, K: Keeper, H: BoundName, C: Clock, G: Gate, R: Wait> Desk
         self.told.begin(word, &mut *store, self.worker, writes)
     }
 
-    /// Makes a session's request as its book bears it out, and else in its safe form.
+    /// Makes a session's request as its book bears it out, and else in its safe form. Where a reader is told
+    /// that a quarantine stands, and one is due on that shard, the worker's sweeper looks there next.
     fn call(&mut self, who: Sid, request: Wanted) -> Reply {
         let word = self.hub.word();
         let raises = is_raise(&request);
@@ -135,10 +142,20 @@ impl<'a, K: Keeper, H: BoundName, C: Clock, G: Gate, R: Wait> Desk
                 match key_of(&request) {
                     Some(key) => {
                         let mut shard = self.hub.lock_of(self.rt, &key);
-                        self.gate
-                            .at(self.worker, Point::Inside { shard: shard.no() });
-                        let now = self.clock.now();
-                        self.told.on_shard(word, &mut *shard, who, request, now)
+                        let place = shard.no();
+                        self.gate.at(self.worker, Point::Inside { shard: place });
+                        let now = if is_timed(&request) {
+                            self.clock.now()
+                        } else {
+                            0
+                        };
+                        let reply = self.told.on_shard(word, &mut *shard, who, request, now);
+                        let due = shard.next_due();
+                        self.hub.note_due(place, due);
+                        if is_held_up(&reply) && due <= now {
+                            self.sweeper = turned(self.sweeper, place);
+                        }
+                        reply
                     }
                     None => {
                         let mut store = self.hub.lock_store(self.rt);
@@ -159,26 +176,35 @@ impl<'a, K: Keeper, H: BoundName, C: Clock, G: Gate, R: Wait> Desk
                     return dropped(raises, Rel::Gone);
                 }
                 let mut shard = self.hub.lock_of(self.rt, &grant.key());
-                self.gate
-                    .at(self.worker, Point::Inside { shard: shard.no() });
-                dropped(raises, self.told.drop_value(word, &mut *shard, who, grant))
+                let place = shard.no();
+                self.gate.at(self.worker, Point::Inside { shard: place });
+                let told = self.told.drop_value(word, &mut *shard, who, grant);
+                self.hub.note_due(place, shard.next_due());
+                dropped(raises, told)
             }
             Ok(Made::Told { reply }) => reply,
             Err(request) => back(request),
         }
     }
 
-    /// One step of the worker's own sweeper, under one lock.
+    /// One step of the worker's own sweeper, under one lock. A shard on which no quarantine can be due yet
+    /// is passed without its lock.
     fn tend(&mut self) {
         let word = self.hub.word();
         let told = match self.sweeper.wants() {
             SweepWanted::Scan { shard } => {
-                let mut bound = self.hub.lock_at(self.rt, shard);
-                self.gate.at(self.worker, Point::Inside { shard });
-                let now = self.clock.now();
-                match self.sweep.scan(word, &mut *bound, now) {
-                    Some(due) => SweepReply::Found { shard, due },
-                    None => SweepReply::NoneFound { shard },
+                let due = self.hub.next_due(shard);
+                if due == u64::MAX || self.clock.now() < due {
+                    SweepReply::NoneFound { shard }
+                } else {
+                    let mut bound = self.hub.lock_at(self.rt, shard);
+                    self.gate.at(self.worker, Point::Inside { shard });
+                    let found = self.sweep.scan(word, &mut *bound, self.clock.now());
+                    self.hub.note_due(shard, bound.next_due());
+                    match found {
+                        Some(due) => SweepReply::Found { shard, due },
+                        None => SweepReply::NoneFound { shard },
+                    }
                 }
             }
             SweepWanted::End { sid } => {

@@ -1,7 +1,8 @@
 //! What lies under the lock of a shard: the shard, its token, and its pass.
-ghost use Rattle.std.specs.Prelude.{◌≡◌, ◌+◌, [], IfOk, OnOk, OnErr, is_some, option_map, length};
+ghost use Rattle.std.specs.Prelude.{◌≡◌, ◌+◌, ◌<◌, ℕ, [], IfOk, OnOk, OnErr, is_some, option_map, length};
+ghost use Rattle.lease_table.specs.Expiry.{NoneDue};
 ghost use Rattle.key_shard.specs.Answers.{Legal, get_step};
-ghost use Rattle.key_shard.specs.Past.{entry};
+ghost use Rattle.key_shard.specs.Past.{entry, standing};
 ghost use Rattle.key_shard.specs.Replies.{ShowsGot};
 ghost use Rattle.key_shard.specs.Shards.{past_of, stepped, rolled, refusal, Refuses};
 ghost use Rattle.log_word.specs.Views.{with_step};
@@ -69,6 +70,14 @@ impl<H: BoundName> BoundShard<H> {
         ensures named { IsNamed H.terms self.now.shard }
     {
         self.shard.no()
+    }
+
+    /// A time before which no quarantine's deadline comes on the shard. It takes no memory.
+    pub fn next_due(&self) -> u64
+        ensures { (now : ℕ) → now < result
+            → NoneDue now (λ key. standing key (past_of self.now.shard)) }
+    {
+        self.shard.next_due()
     }
 
     /// The value and the stamp of the key's entry, if it has one, as the shard tells them. It takes no

@@ -22,15 +22,10 @@ use crate::names::BoundName;
 use key_shard::{Got, Grant, ShardFault};
 use log_word::{LogWord, Pass};
 use rows_model::{Memory, QKey, Sid, Txn, Value, shard_number};
+use shard_lock::{locked_soon, wait_for_ever};
 use sql_keeper::{AfterFault, Answer, Closed, CommitFault, KeepFault, Keeper};
-use std::hint::spin_loop;
-use std::sync::{Mutex, MutexGuard, Wait};
-
-/// How often a thread looks again for a lock that another has, before it sleeps.
-const LOOKS: u32 = 256;
-
-/// How many hints to the processor a thread gives between two such looks.
-const PAUSE: u32 = 4;
+use std::sync::atomic::Ordering;
+use std::sync::{MutexGuard, Wait};
 
 impl<K: Keeper, H: BoundName> BoundHub<K, H> {
     /// Begins a session by this worker's desk. Its Begin is the last event that the caller has seen then.
@@ -162,6 +157,25 @@ impl<K: Keeper, H: BoundName> BoundHub<K, H> {
         &self.word
     }
 
+    /// A time before which no quarantine of the shard of this number was due when its lock was last free.
+    /// It takes no lock and no memory.
+    pub fn next_due(&self, place: u32) -> u64 {
+        match self.dues.get(place as usize) {
+            Some(due) => due.load(Ordering::Relaxed),
+            None => 0,
+        }
+    }
+
+    /// Writes down when the next quarantine of the shard of this number may be due. Its lock is held. It
+    /// takes no memory.
+    pub fn note_due(&self, place: u32, next: u64) {
+        if let Some(due) = self.dues.get(place as usize)
+            && due.load(Ordering::Relaxed) != next
+        {
+            due.store(next, Ordering::Relaxed);
+        }
+    }
+
     /// The lock of the store.
     pub fn lock_store<R: Wait>(&self, rt: &R) -> MutexGuard<'_, BoundStore<K, H>> {
         locked_soon(rt, &self.store)
@@ -188,26 +202,4 @@ impl<K: Keeper, H: BoundName> BoundHub<K, H> {
     {
         self.lock_at(rt, shard_number(key, self.count))
     }
-}
-
-/// Takes a lock. Where another thread has it, this one looks again for a while before it sleeps: what is
-/// done under a lock here takes less time than to send a thread to sleep and to wake it.
-fn locked_soon<'a, T, R: Wait>(rt: &R, lock: &'a Mutex<T>) -> MutexGuard<'a, T> {
-    for _ in 0..LOOKS {
-        if let Some(guard) = lock.try_lock() {
-            return guard;
-        }
-        for _ in 0..PAUSE {
-            spin_loop();
-        }
-    }
-    lock.lock(rt)
-}
-
-/// Never returns.
-fn wait_for_ever<R: Wait>(rt: &R)
-    ensures { ⊥ }
-{
-    for _ in rt.forever() {}
-    unreachable!()
 }

@@ -40,6 +40,7 @@ impl<K: Keeper, H: BoundName> BoundHub<K, H> {
         let BoundHub {
             word,
             shards,
+            dues: _,
             store,
             count: _,
             room,

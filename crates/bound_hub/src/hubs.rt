@@ -12,13 +12,14 @@ use crate::names::BoundName;
 use key_shard::Shard;
 use log_word::{LogWord, Note, Pass, ShardPass, StorePass};
 use rows_model::{QKey, shard_number};
-use shard_lock::StartOf;
 use shard_lock::kept::KeptRoom;
+use shard_lock::{StartOf, token_of};
 use sql_keeper::{Keeper, Store};
-use std::alloc::Global;
+use std::alloc::{AllocError, Global};
 use std::marker::Model;
 use std::sync::Mutex;
-use std::sync::ledger::{Blank, Book, Share, Total};
+use std::sync::atomic::AtomicU64;
+use std::sync::ledger::{Blank, Total};
 
 /// A cache that threads share, and whose locks know what happened: a lock round each of its shards and
 /// one round its store, with a pass of one word under each. Contracts see how many shards there are.
@@ -28,6 +29,9 @@ use std::sync::ledger::{Blank, Book, Share, Total};
 pub struct BoundHub<K: Keeper, H: BoundName> {
     pub(crate) word: LogWord,
     pub(crate) shards: Vec<Mutex<BoundShard<H>>>,
+    /// For each shard a time before which no quarantine on it is due. It is written under the shard's
+    /// lock and read without, so that a sweep passes a shard without a lock where nothing can be due.
+    pub(crate) dues: Vec<AtomicU64>,
     pub(crate) store: Mutex<BoundStore<K, H>>,
     pub(crate) count: u32,
     /// Room for the shards, once they are taken from under their locks.
@@ -84,6 +88,9 @@ impl<K: Keeper, H: BoundName> BoundHub<K, H> {
         let Ok(locks) = Vec::with_capacity(alloc, shards.len()) else {
             return Err((store, shards));
         };
+        let Ok(dues) = dues_of(alloc, &shards) else {
+            return Err((store, shards));
+        };
         let (word, store_pass, passes, caller) = made;
         let count = shards.len() as u32;
         let mut store = BoundStore::new(&word, store, store_pass);
@@ -92,6 +99,7 @@ impl<K: Keeper, H: BoundName> BoundHub<K, H> {
         let hub = BoundHub {
             word,
             shards: locks,
+            dues,
             store: Mutex::new(store),
             count,
             room: Mutex::new(KeptRoom::new(room)),
@@ -123,6 +131,15 @@ impl<K: Keeper, H: BoundName> BoundHub<K, H> {
     {
         from.note(&self.word).into_pass()
     }
+}
+
+/// For each shard the time before which none of its quarantines is due.
+fn dues_of(alloc: Global, shards: &[Shard]) -> Result<Vec<AtomicU64>, AllocError> {
+    let mut dues = Vec::with_capacity(alloc, shards.len())?;
+    for shard in shards {
+        dues.push(AtomicU64::new(shard.next_due()))?;
+    }
+    Ok(dues)
 }
 
 /// The pass of a caller once it has joined the first note.
@@ -197,19 +214,4 @@ fn locked<H: BoundName>(
     }
     locks.reverse();
     (locks, shards, book.close())
-}
-
-/// A token for the shard of this number. It is one of the parts that are left.
-fn token_of<H: BoundName>(book: &mut Book<H>, rest: &mut Share<H>, no: u32) -> Share<H>
-    requires few { no < 64 }
-    requires some { 1 ≤ rest.old.parts }
-    requires bare { rest.old.amount ≡ 0 }
-    ensures token { IsTokenOf no result.parts result.amount }
-    ensures parts { rest.new.parts + 1 ≡ rest.old.parts }
-    ensures bare { rest.new.amount ≡ 0 }
-    ensures total { book.new.total ≡ book.old.total + 2 ^ no }
-{
-    let mut token = rest.split_off(1, 0);
-    book.add(&mut token, 2u64.pow(no));
-    token
 }

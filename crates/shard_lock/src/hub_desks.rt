@@ -61,7 +61,7 @@ impl<'a, K: Keeper, H: HubName, C: Clock, G: Gate, R: Wait> HubDesk<'a, K, H, C,
 }
 
 /// Whether the time is of any account to a request on a shard.
-fn is_timed(request: &Wanted) -> bool {
+pub fn is_timed(request: &Wanted) -> bool {
     !matches!(
         request,
         Wanted::Dar { .. }
@@ -73,7 +73,7 @@ fn is_timed(request: &Wanted) -> bool {
 }
 
 /// Whether a reader was told that a quarantine stands on its key.
-fn is_held_up(reply: &Reply) -> bool {
+pub fn is_held_up(reply: &Reply) -> bool {
     matches!(
         reply,
         Reply::Got {
@@ -86,7 +86,7 @@ fn is_held_up(reply: &Reply) -> bool {
 
 /// The sweeper, gone on to this shard where it is looking for a quarantine. The shards between are passed
 /// over in this round.
-fn turned(sweeper: Sweeper, shard: u32) -> Sweeper
+pub fn turned(sweeper: Sweeper, shard: u32) -> Sweeper
     ensures { shards_of result ≡ shards_of sweeper }
 {
     let mut turned = sweeper;

@@ -6,6 +6,7 @@ ghost use Rattle.shard_lock.specs.Names.{AreAll, AreLegal, ArePlaced, AreTokens,
 
 use crate::hub_desks::HubDesk;
 use crate::kept::{KeptRoom, KeptShard, KeptStore};
+use crate::locks::{locked_soon, token_of, wait_for_ever};
 use crate::names::{HubName, StartOf};
 use expiry_sweeper::Sweeper;
 use iq_outside::{Clock, Gate};
@@ -13,17 +14,10 @@ use key_shard::Shard;
 use rows_model::{QKey, shard_number};
 use sql_keeper::{Keeper, Store};
 use std::alloc::{AllocError, Global};
-use std::hint::spin_loop;
 use std::marker::Model;
 use std::sync::atomic::{AtomicU64, Ordering};
-use std::sync::ledger::{Blank, Book, Share, Total};
+use std::sync::ledger::{Blank, Total};
 use std::sync::{Mutex, MutexGuard, Wait};
-
-/// How often a thread looks again for a lock that another has, before it sleeps.
-const LOOKS: u32 = 256;
-
-/// How many hints to the processor a thread gives between two such looks.
-const PAUSE: u32 = 4;
 
 /// A cache that threads share: a lock round each of its shards, and one round its store. Contracts see
 /// how many shards there are.
@@ -196,28 +190,6 @@ fn dues_of(alloc: Global, shards: &[Shard]) -> Result<Vec<AtomicU64>, AllocError
     Ok(dues)
 }
 
-/// Takes a lock. Where another thread has it, this one looks again for a while before it sleeps: what is
-/// done under a lock here takes less time than to send a thread to sleep and to wake it.
-fn locked_soon<'a, T, R: Wait>(rt: &R, lock: &'a Mutex<T>) -> MutexGuard<'a, T> {
-    for _ in 0..LOOKS {
-        if let Some(guard) = lock.try_lock() {
-            return guard;
-        }
-        for _ in 0..PAUSE {
-            spin_loop();
-        }
-    }
-    lock.lock(rt)
-}
-
-/// Never returns.
-fn wait_for_ever<R: Wait>(rt: &R)
-    ensures { ⊥ }
-{
-    for _ in rt.forever() {}
-    unreachable!()
-}
-
 /// Puts each shard under a lock of its own with a token, in their order. The list that they leave has
 /// the room that it had.
 fn locked<H: HubName>(
@@ -246,21 +218,6 @@ fn locked<H: HubName>(
     }
     locks.reverse();
     (locks, shards, book.close())
-}
-
-/// A token for the shard of this number. It is one of the parts that are left.
-fn token_of<H: HubName>(book: &mut Book<H>, rest: &mut Share<H>, no: u32) -> Share<H>
-    requires few { no < 64 }
-    requires some { 1 ≤ rest.old.parts }
-    requires bare { rest.old.amount ≡ 0 }
-    ensures token { IsTokenOf no result.parts result.amount }
-    ensures parts { rest.new.parts + 1 ≡ rest.old.parts }
-    ensures bare { rest.new.amount ≡ 0 }
-    ensures total { book.new.total ≡ book.old.total + 2 ^ no }
-{
-    let mut token = rest.split_off(1, 0);
-    book.add(&mut token, 2u64.pow(no));
-    token
 }
 
 /// Takes each shard from under its lock, in the order of their numbers. By their tokens no two have the

@@ -24,6 +24,7 @@ pub fn new_shards(
     ensures all { IfOk result (λ shards. AreAll (terms_at count room life keep) shards.items) }
     ensures as_many { IfOk result (λ shards. length shards.items ≡ count) }
     ensures new { IfOk result (λ shards. All (λ shard. shard.history ≡ []) shards.items) }
+    ensures none_out { IfOk result (λ shards. All (λ shard. shard.out ≡ []) shards.items) }
 {
     let mut shards = Vec::with_capacity(alloc, count as usize)?;
     for no in 0..count {
@@ -47,6 +48,7 @@ fn new_shard(
     requires keeps { IfSome keep (λ steps. 1 ≤ steps) }
     ensures terms { IfOk result (λ shard. shard.terms ≡ terms_at count room life keep no) }
     ensures new { IfOk result (λ shard. shard.history ≡ []) }
+    ensures none_out { IfOk result (λ shard. shard.out ≡ []) }
 {
     match keep {
         None => Shard::new(alloc, no, count, room, life, 1),

@@ -1,12 +1,17 @@
 -- What is there before a run over a hub begins.
-use Rattle.std.specs.Prelude.{ℕ, ◌≡◌, ◌<◌, ◌≤◌, List, [], length, map, All, Some, slice_get, vec_capacity}
+use Rattle.std.specs.Prelude.{ℕ, ◌≡◌, ◌<◌, ◌≤◌, Bool, List, [], length, map, All, IfSome, slice_get, vec_capacity}
+use Rattle.rows_model.specs.Rows.{Tables}
+use Rattle.key_shard.specs.declared.steps.Step.{Step}
 use Rattle.key_shard.specs.Past.{Terms}
-use Rattle.key_shard.specs.Shards.{ShardView}
 use Rattle.session_client.specs.declared.plans.Shape.{Shape}
 use Rattle.session_client.specs.Plans.{IsPlan}
-use Rattle.shard_lock.specs.Names.{AreAll, AreLegal}
+use Rattle.shard_lock.specs.Names.{AreAll}
+use Rattle.log_word.specs.Passes.{WordView, blind_pass, blind_shard_passes}
+use Rattle.bound_hub.specs.Ties.{IsNewShard}
+use Rattle.bound_desk.specs.Bound.{BoundDeskView}
 use Rattle.run_inputs.specs.declared.loads.WorkSpec.{WorkSpec}
 use Rattle.run_inputs.specs.Loads.{load}
+use Rattle.top_run.specs.declared.hubs.HubParts.{HubParts}
 use Rattle.top_run.specs.declared.hubs.Parts.{Parts}
 use Rattle.top_run.specs.declared.serves.Ready.{Ready as ServeReady}
 use Rattle.top_run.specs.declared.works.Ready.{Ready}
@@ -14,28 +19,53 @@ use Rattle.run_words.specs.declared.words.ServeSpec.{ServeSpec}
 use Rattle.top_run.specs.Serves.{serve_shape}
 use Rattle.top_run.specs.Works.{work_shape}
 
--- There are as many shards as the shape says, with the terms that are named and legal
--- histories, a ledger with a part for each, and room for their histories.
+-- A word for so many shards, with its passes, which have seen nothing.
+pub record IsNewWord (shards : ℕ) (made : HubParts) : Type 0 where
+  pub of_shards : made.word.0.shards ≡ shards
+  pub store_pass : made.word.1 ≡ blind_pass made.word.0
+  pub shard_passes : made.word.2.items ≡ blind_shard_passes made.word.0 shards
+  pub caller : made.word.3 ≡ blind_pass made.word.0
+
+-- There are as many shards as the shape says, with the terms that are named, which have made no step and let
+-- no grant out, a ledger with a part for each, a word for so many shards whose passes have seen nothing, and room for
+-- the histories.
 pub record AreParts (shape : Shape) (terms : ℕ → Terms) (parts : Parts) : Type 0 where
-  pub shards : AreAll terms parts.shards.items
-  pub as_many : length parts.shards.items ≡ shape.shards
-  pub legal : AreLegal parts.shards.items
-  pub one_each : parts.ledger.parts ≡ shape.shards
+  pub shards : AreAll terms parts.hub.shards.items
+  pub as_many : length parts.hub.shards.items ≡ shape.shards
+  pub new : All (λ shard. shard.history ≡ []) parts.hub.shards.items
+  pub none_out : All (λ shard. shard.out ≡ []) parts.hub.shards.items
+  pub one_each : parts.hub.ledger.parts ≡ shape.shards
+  pub word : IsNewWord shape.shards parts.hub
   pub none : parts.histories.items ≡ []
   pub room : shape.shards ≤ vec_capacity parts.histories
 
--- These make a hub: at most 64 shards with the terms that are named and legal histories, and a ledger that is named so, with
--- a part for each shard.
-pub record MakeHub (terms : ℕ → Terms) (name parts : ℕ) (shards : List ShardView) (its_name its_parts : ℕ) : Type 0 where
-  pub all : AreAll terms shards
-  pub few : length shards ≤ 64
-  pub legal : AreLegal shards
-  pub is_named : (its_name ≡ name) × (its_parts ≡ parts)
-  pub one_each : its_parts ≡ length shards
+-- The name of a hub names the parts that were made for it: their ledger and their word. By it the shards had made no step, and the
+-- store had begun no session and failed no call.
+pub record NamesParts (name parts : ℕ) (word : WordView) (before : ℕ → List Step) (begun failed : ℕ) (made : HubParts) : Type 0 where
+  pub ledger : (made.ledger.name ≡ name) × (made.ledger.parts ≡ parts)
+  pub word_is : made.word.0 ≡ word
+  pub none_before : (place : ℕ) → before place ≡ []
+  pub none_begun : begun ≡ 0
+  pub none_failed : failed ≡ 0
 
--- Each desk has its place for its number.
-abbrev pub HaveTheirPlaces : List ℕ → Type 0
-HaveTheirPlaces desks = (place : ℕ) → place < length desks → slice_get desks place ≡ Some place
+-- These make a hub: at most 64 new shards with the terms that are named, a ledger that is named so, with a part for each shard,
+-- and the word that is named, with passes that have seen nothing.
+pub record MakeHub (terms : ℕ → Terms) (opening : Tables) (before : ℕ → List Step) (stopped : Bool) (name parts : ℕ) (word : WordView)
+    (made : HubParts) : Type 0 where
+  pub all : AreAll terms made.shards.items
+  pub new : All (IsNewShard opening before stopped) made.shards.items
+  pub few : length made.shards.items ≤ 64
+  pub is_named : (made.ledger.name ≡ name) × (made.ledger.parts ≡ parts)
+  pub one_each : made.ledger.parts ≡ length made.shards.items
+  pub word_is : made.word.0 ≡ word
+  pub of_shards : word.shards ≡ length made.shards.items
+  pub store_pass : made.word.1 ≡ blind_pass word
+  pub shard_passes : made.word.2.items ≡ blind_shard_passes word (length made.shards.items)
+  pub caller : made.word.3 ≡ blind_pass word
+
+-- Each desk has its place for its worker's number.
+abbrev pub HaveTheirPlaces : List BoundDeskView → Type 0
+HaveTheirPlaces desks = (place : ℕ) → place < length desks → IfSome (slice_get desks place) (λ desk. desk.worker ≡ place)
 
 -- There are the plans of the load for each of its workers, and the parts of its hub.
 pub record IsReady (spec : WorkSpec) (terms : ℕ → Terms) (ready : Ready) : Type 0 where

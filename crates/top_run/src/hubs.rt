@@ -10,12 +10,15 @@ ghost use Rattle.top_run.specs.Works.{hub_terms};
 
 use crate::endings::histories_of;
 use crate::runs::{RunEnd, Status};
+use bound_desk::BoundDesk;
+use bound_hub::{BoundHub, BoundName};
 use conn_server::LineEnd;
 use iq_outside::{Clock, Gate};
 use key_shard::{Shard, Step};
+use log_word::{LogWord, Pass, ShardPass, StorePass};
 use rows_model::Memory;
 use session_client::Shape;
-use shard_lock::{Hub, HubDesk, HubName, new_shards};
+use shard_lock::new_shards;
 use sql_keeper::{Keeper, Start, Store};
 use std::alloc::Global;
 use std::sync::Wait;
@@ -27,45 +30,61 @@ pub(crate) const LIFE: u64 = 10_000;
 /// How many commits a store takes.
 pub(crate) const CAP: u64 = 8_000_000;
 
-/// What a hub is made of beside its store: the shards, a ledger with a part for each, and room for the
-/// steps that they leave.
+/// What a hub is made of beside its store: the shards, a ledger with a part for each, and a word with its
+/// passes.
 #[derive(Drop)]
-pub(crate) struct Parts {
+pub(crate) struct HubParts {
     pub(crate) shards: Vec<Shard>,
     pub(crate) ledger: Blank,
+    pub(crate) word: (LogWord, StorePass, Vec<ShardPass>, Pass),
+}
+
+/// The parts of a hub, and room for the steps that its shards leave.
+#[derive(Drop)]
+pub(crate) struct Parts {
+    pub(crate) hub: HubParts,
     pub(crate) histories: Vec<Vec<Step>>,
 }
 
 /// The parts of a new hub of this shape, whose shards are whole or roll.
 pub(crate) fn parts_for(alloc: Global, shape: &Shape, keep: Option<u32>) -> Result<Parts, Memory>
     requires some { 1 ≤ shape.now.shards }
+    requires few { shape.now.shards ≤ 64 }
     requires roomy { 1 ≤ shape.now.room }
     requires lively { 1 ≤ shape.now.life }
     requires keeps { IfSome keep (λ steps. 1 ≤ steps) }
     ensures { IfOk result (AreParts shape.now (hub_terms shape.now keep)) }
 {
-    Ok(Parts {
+    let hub = HubParts {
         shards: new_shards(alloc, shape.shards, shape.room, shape.life, keep)?,
         ledger: Blank::new(shape.shards as u64),
+        word: LogWord::new(alloc, shape.shards)?,
+    };
+    Ok(Parts {
+        hub,
         histories: Vec::with_capacity(alloc, shape.shards as usize)?,
     })
 }
 
-/// A desk over the hub for each worker, each with its place for its number.
-pub(crate) fn desks_over<'a, H: HubName, K: Keeper, C: Clock, G: Gate, R: Wait>(
+/// A desk over the hub for each worker, each with its place for its number. Each has a pass of its own, which
+/// has seen what the caller's has.
+pub(crate) fn desks_over<'a, H: BoundName, K: Keeper, C: Clock, G: Gate, R: Wait>(
     rt: &'a R,
     alloc: Global,
-    hub: &'a Hub<K, H>,
+    hub: &'a BoundHub<K, H>,
+    caller: &mut Pass,
     workers: u32,
     clock: &'a C,
     gate: &'a G,
-) -> Result<Vec<HubDesk<'a, K, H, C, G, R>>, Memory>
+) -> Result<Vec<BoundDesk<'a, K, H, C, G, R>>, Memory>
+    requires word { caller.old.word ≡ H.word }
     ensures count { IfOk result (λ desks. length desks.items ≡ workers) }
     ensures numbered { IfOk result (λ desks. HaveTheirPlaces desks.items) }
 {
     let mut desks = Vec::with_capacity(alloc, workers as usize)?;
     for worker in 0..workers {
-        desks.push_reserved(hub.desk(rt, worker, clock, gate));
+        let pass = hub.pass(caller);
+        desks.push_reserved(BoundDesk::new(rt, alloc, hub, pass, worker, clock, gate));
     }
     Ok(desks)
 }

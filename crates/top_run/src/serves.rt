@@ -1,11 +1,13 @@
 // A server: connections from a door, each served by a worker on a desk of its own over one hub.
-ghost use Rattle.std.specs.Prelude.{◌≡◌, ◌≢◌, ◌≤◌, ◌++◌, ℕ, [], List, Option, Some, None, IfOk, IfErr, OnOk, IsSome, length, vec_capacity};
+ghost use Rattle.std.specs.Prelude.{◌≡◌, ◌≢◌, ◌≤◌, ◌++◌, ℕ, [], List, Option, Some, None, IfOk, IfErr, OnOk, IsSome, is_none, length, vec_capacity};
 ghost use Rattle.std.specs.Bool.{IsFalse};
 ghost use Rattle.std.specs.Option.{ForSome};
 ghost use Rattle.rows_model.specs.Rows.{Tables};
 ghost use Rattle.core_history.specs.Machine.{log_cap};
+ghost use Rattle.sql_keeper.specs.Stores.{opened};
 ghost use Rattle.shard_lock.specs.Names.{AreAll, AreLegal, IsNamedStore};
-ghost use Rattle.top_run.specs.Ready.{IsServeReady, MakeHub};
+ghost use Rattle.bound_hub.specs.Ties.{IsNewStore};
+ghost use Rattle.top_run.specs.Ready.{IsServeReady, MakeHub, NamesParts};
 ghost use Rattle.top_run.specs.Runs.{Held, Input, Prints, moment, seen, held_at, IsOpened, RoseWhere, CountsWhere, is_read_fault, is_write_fault, is_door_fault};
 ghost use Rattle.top_run.specs.Serves.{serve_shape, serve_keep, ready_line, served_line, IsServedText, HasServed, course_of, ServeEnded};
 ghost use Rattle.run_words.specs.Words.{IsServe};
@@ -15,23 +17,24 @@ ghost use Rattle.top_run.specs.Works.{IsNameOf, hub_terms};
 ghost use Rattle.top_run.specs.declared.runs.Status.{Status};
 
 use crate::endings::{not_started, start_status};
-use crate::hubs::{CAP, LIFE, Parts, desks_over, ended_hub, parts_for};
+use crate::hubs::{CAP, HubParts, LIFE, Parts, desks_over, ended_hub, parts_for};
 use crate::printing::print;
 use crate::runs::{RunEnd, Status};
+use bound_hub::{BoundHub, BoundName};
 use conn_server::LineEnd;
 use door_workers::{Attended, serve_all};
 use iq_outside::{Clock, Door, Gate, Sink};
 use itoa::Buffer;
 use key_shard::Shard;
+use log_word::Pass;
 use rows_model::Memory;
 use run_words::ServeSpec;
 use session_client::{Desk, Shape};
-use shard_lock::{Hub, HubName, StartOf};
+use shard_lock::StartOf;
 use sql_keeper::{Keeper, NoStore, Place, Store};
 use std::alloc::Global;
 use std::marker::Brand;
 use std::sync::Wait;
-use std::sync::ledger::Blank;
 use std::thread::Threads;
 
 /// How many entries a shard of a server has room for.
@@ -122,7 +125,7 @@ fn shape_of(spec: &ServeSpec) -> Shape
 
 /// Serves over a store that was just started, and ends.
 fn serve_on<
-    H: HubName + Send + Sync,
+    H: BoundName + Send + Sync,
     W: Sink,
     K: Keeper + Send,
     D: Door,
@@ -143,10 +146,9 @@ fn serve_on<
     requires serve { IsServe spec.now }
     requires named { IsNameOf (serve_shape spec.now) serve_keep
         store H.terms H.opening H.cap H.told H.start }
-    requires cap { store.ledger.cap ≡ log_cap }
-    requires new { store.ledger.failed ≡ 0 }
+    requires new { store.ledger ≡ opened store.ledger.opening log_cap }
     requires ready { IsServeReady spec.now H.terms ready }
-    requires ledger { (ready.parts.ledger.name ≡ H.name) × (ready.parts.ledger.parts ≡ H.parts) }
+    requires parts { NamesParts H.name H.parts H.word H.before H.begun H.failed ready.parts.hub }
     ensures ended { (unread : Input) (rows : Option Tables) (held : Held) →
         IsOpened held (serve_shape spec.now) store.ledger.opening store.told →
         let before = moment unread (W.taken sink.old) (W.faults sink.old) rows store.faults in
@@ -165,11 +167,7 @@ fn serve_on<
     ensures keeper_never_falls { store.faults ≤ K.faults result.keeper }
 {
     let Ready { parts, ends } = ready;
-    let Parts {
-        shards,
-        ledger,
-        histories,
-    } = parts;
+    let Parts { hub, histories } = parts;
     let Ran {
         store,
         shards,
@@ -180,8 +178,7 @@ fn serve_on<
         spec,
         sink,
         store.named::<StartOf<H>>(),
-        shards,
-        ledger,
+        hub,
         door,
         ends,
         clock,
@@ -205,7 +202,7 @@ struct Served {
 
 /// A store and its shards after the threads have ended, and how the serving ended.
 #[derive(Drop)]
-struct Ran<K: Keeper, H: HubName> {
+struct Ran<K: Keeper, H: BoundName> {
     store: Store<K, StartOf<H>>,
     shards: Vec<Shard>,
     served: Served,
@@ -213,7 +210,7 @@ struct Ran<K: Keeper, H: HubName> {
 
 /// Serves over a hub of the store and the shards, and takes the hub apart.
 fn serve_hub<
-    H: HubName + Send + Sync,
+    H: BoundName + Send + Sync,
     W: Sink,
     K: Keeper + Send,
     D: Door,
@@ -226,8 +223,7 @@ fn serve_hub<
     spec: &ServeSpec,
     sink: &mut W,
     store: Store<K, StartOf<H>>,
-    shards: Vec<Shard>,
-    ledger: Blank,
+    parts: HubParts,
     door: &mut D,
     ends: Vec<LineEnd>,
     clock: &C,
@@ -235,11 +231,13 @@ fn serve_hub<
 ) -> Ran<K, H>
     requires serve { IsServe spec.now }
     requires store { IsNamedStore H.opening H.cap H.told H.start store }
-    requires parts { MakeHub H.terms H.name H.parts shards.items ledger.name ledger.parts }
+    requires new { IsNewStore H.begun H.failed store }
+    requires parts { MakeHub H.terms H.opening H.before (is_none store.told)
+        H.name H.parts H.word parts }
     requires none { ends.items ≡ [] }
     requires room { spec.now.conns ≤ vec_capacity ends }
     ensures store { IsNamedStore H.opening H.cap H.told H.start result.store }
-    ensures as_many { length result.shards.items ≡ length shards.items }
+    ensures as_many { length result.shards.items ≡ length parts.shards.items }
     ensures all { AreAll H.terms result.shards.items }
     ensures legal { AreLegal result.shards.items }
     ensures served { let tells = told D.lines D.faults D.ended D.closed in
@@ -248,10 +246,15 @@ fn serve_hub<
     ensures lines { D.fresh door.old →
         AreHandedBack result.served.ends.items (D.closed door.old) (D.closed door.new) }
 {
-    match Hub::new(alloc, store, shards, ledger) {
-        Ok(hub) => {
-            let served = serve_over(rt, alloc, spec, sink, &hub, door, ends, clock, gate);
-            let (store, shards) = hub.into_parts();
+    let HubParts {
+        shards,
+        ledger,
+        word,
+    } = parts;
+    match BoundHub::new(alloc, store, shards, ledger, word) {
+        Ok((hub, pass)) => {
+            let served = serve_over(rt, alloc, spec, sink, &hub, pass, door, ends, clock, gate);
+            let (store, shards) = hub.into_parts(Vec::new(alloc));
             Ran {
                 store,
                 shards,
@@ -279,7 +282,7 @@ fn unserved(ends: Vec<LineEnd>) -> Served
 
 /// Serves with a desk over the hub for each worker.
 fn serve_over<
-    H: HubName + Send + Sync,
+    H: BoundName + Send + Sync,
     W: Sink,
     K: Keeper + Send,
     D: Door,
@@ -291,13 +294,15 @@ fn serve_over<
     alloc: Global,
     spec: &ServeSpec,
     sink: &mut W,
-    hub: &Hub<K, H>,
+    hub: &BoundHub<K, H>,
+    pass: Pass,
     door: &mut D,
     ends: Vec<LineEnd>,
     clock: &C,
     gate: &G,
 ) -> Served
     requires serve { IsServe spec.now }
+    requires word { pass.word ≡ H.word }
     requires none { ends.items ≡ [] }
     requires room { spec.now.conns ≤ vec_capacity ends }
     ensures served { let tells = told D.lines D.faults D.ended D.closed in
@@ -305,7 +310,8 @@ fn serve_over<
     ensures lines { D.fresh door.old →
         AreHandedBack result.ends.items (D.closed door.old) (D.closed door.new) }
 {
-    match desks_over(rt, alloc, hub, spec.workers, clock, gate) {
+    let mut pass = pass;
+    match desks_over(rt, alloc, hub, &mut pass, spec.workers, clock, gate) {
         Ok(mut desks) => serve_with(rt, alloc, spec, sink, desks.as_mut_slice(), door, ends),
         Err(Memory) => unserved(ends),
     }

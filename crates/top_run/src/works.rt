@@ -1,6 +1,6 @@
 // The run of a load: its sessions over a hub, each worker in a thread of its own, and then the audit and
 // the summary.
-ghost use Rattle.std.specs.Prelude.{◌≡◌, ◌≢◌, ◌≤◌, ◌<◌, [], List, Option, Some, None, All, IfOk, IfErr, OnErr, IsErr, IsSome, Ok, Err, map, count_by, length, vec_capacity, nat_lt};
+ghost use Rattle.std.specs.Prelude.{◌≡◌, ◌≢◌, ◌≤◌, ◌<◌, [], List, Option, Some, None, All, IfOk, IfErr, OnErr, IsErr, IsSome, is_none, Ok, Err, map, count_by, length, vec_capacity, nat_lt};
 ghost use Rattle.std.specs.Bool.{IsFalse};
 ghost use Rattle.std.specs.Option.{ForSome};
 ghost use Rattle.rows_model.specs.Rows.{Tables};
@@ -9,35 +9,37 @@ ghost use Rattle.key_shard.specs.declared.steps.Step.{Step};
 ghost use Rattle.sql_keeper.specs.declared.stores.Commit.{Commit};
 ghost use Rattle.run_inputs.specs.declared.loads.WorkSpec.{WorkSpec};
 ghost use Rattle.sql_keeper.specs.Faults.{FailedSince};
-ghost use Rattle.sql_keeper.specs.Stores.{rows_of};
+ghost use Rattle.sql_keeper.specs.Stores.{opened, rows_of};
 ghost use Rattle.session_client.specs.Plans.{IsPlan};
 ghost use Rattle.core_history.specs.Machine.{log_cap};
 ghost use Rattle.shard_lock.specs.Names.{AreAll, AreLegal, IsNamedStore};
+ghost use Rattle.bound_hub.specs.Ties.{IsNewStore};
 ghost use Rattle.run_audit.specs.Findings.{histories_in, AreNumbered, AreWhole};
 ghost use Rattle.run_inputs.specs.Loads.{IsWork, load};
 ghost use Rattle.top_run.specs.Runs.{Held, Input, moment, seen, held_at, histories_at, left_at, IsOpened, RoseWhere, CountsWhere, is_read_fault, is_write_fault};
 ghost use Rattle.top_run.specs.Works.{work_shape, hub_terms, has_spent, first_spent, work_status, end_status, at_write_told, IsNameOf, HaveRun, IsSummary, IsTold, IsHalted, WorkEnded};
-ghost use Rattle.top_run.specs.Ready.{IsReady, MakeHub};
+ghost use Rattle.top_run.specs.Ready.{IsReady, MakeHub, NamesParts};
 
 use crate::endings::{not_started, start_status};
-use crate::hubs::{CAP, LIFE, Parts, desks_over, ended_hub, parts_for};
+use crate::hubs::{CAP, HubParts, LIFE, Parts, desks_over, ended_hub, parts_for};
 use crate::plays::Stop;
 use crate::printing::print;
 use crate::runs::{RunEnd, Status};
 use crate::summaries::{others_in, summary};
+use bound_hub::{BoundHub, BoundName};
 use gate_workers::{Transcript, work_all};
 use iq_outside::{Clock, Gate, Sink};
 use key_shard::{Shard, Step};
+use log_word::Pass;
 use rows_model::{Memory, Rows};
 use run_audit::{Finding, audit};
 use run_inputs::{WorkSpec, make_plans};
 use session_client::{Plan, Shape};
-use shard_lock::{Hub, HubName, StartOf};
+use shard_lock::StartOf;
 use sql_keeper::{Commit, Keeper, NoStore, Place, Start, Store};
 use std::alloc::Global;
 use std::marker::Brand;
 use std::sync::Wait;
-use std::sync::ledger::Blank;
 use std::thread::Threads;
 
 /// How many entries a shard of a load has room for.
@@ -112,7 +114,7 @@ fn shape_of(spec: &WorkSpec) -> Shape
 
 /// Runs the load over a store that was just started, and ends.
 fn work_on<
-    H: HubName + Send + Sync,
+    H: BoundName + Send + Sync,
     W: Sink,
     K: Keeper + Send,
     C: Clock,
@@ -131,10 +133,9 @@ fn work_on<
     requires work { IsWork spec.now }
     requires named { IsNameOf (work_shape spec.now) None
         store H.terms H.opening H.cap H.told H.start }
-    requires cap { store.ledger.cap ≡ log_cap }
-    requires new { store.ledger.failed ≡ 0 }
+    requires new { store.ledger ≡ opened store.ledger.opening log_cap }
     requires ready { IsReady spec.now H.terms ready }
-    requires ledger { (ready.parts.ledger.name ≡ H.name) × (ready.parts.ledger.parts ≡ H.parts) }
+    requires parts { NamesParts H.name H.parts H.word H.before H.begun H.failed ready.parts.hub }
     ensures ended { (unread : Input) (rows : Option Tables) (held : Held) →
         IsOpened held (work_shape spec.now) store.ledger.opening store.told →
         let before = moment unread (W.taken sink.old) (W.faults sink.old) rows store.faults in
@@ -149,11 +150,7 @@ fn work_on<
     ensures keeper_never_falls { store.faults ≤ K.faults result.keeper }
 {
     let Ready { plans, parts } = ready;
-    let Parts {
-        shards,
-        ledger,
-        histories,
-    } = parts;
+    let Parts { hub, histories } = parts;
     let Ran {
         store,
         shards,
@@ -162,8 +159,7 @@ fn work_on<
         rt,
         alloc,
         store.named::<StartOf<H>>(),
-        shards,
-        ledger,
+        hub,
         plans.as_slice(),
         clock,
         gate,
@@ -183,7 +179,7 @@ fn work_on<
 
 /// A store and its shards after the threads have ended, and the transcripts where memory sufficed.
 #[derive(Drop)]
-struct Ran<K: Keeper, H: HubName> {
+struct Ran<K: Keeper, H: BoundName> {
     store: Store<K, StartOf<H>>,
     shards: Vec<Shard>,
     transcripts: Result<Vec<Transcript>, Memory>,
@@ -191,7 +187,7 @@ struct Ran<K: Keeper, H: HubName> {
 
 /// Runs the plans over a hub of the store and the shards, and takes the hub apart.
 fn run_plans<
-    H: HubName + Send + Sync,
+    H: BoundName + Send + Sync,
     K: Keeper + Send,
     C: Clock,
     G: Gate,
@@ -200,27 +196,33 @@ fn run_plans<
     rt: &R,
     alloc: Global,
     store: Store<K, StartOf<H>>,
-    shards: Vec<Shard>,
-    ledger: Blank,
+    parts: HubParts,
     plans: &[Vec<Plan>],
     clock: &C,
     gate: &G,
 ) -> Ran<K, H>
     requires store { IsNamedStore H.opening H.cap H.told H.start store }
-    requires parts { MakeHub H.terms H.name H.parts shards.items ledger.name ledger.parts }
+    requires new { IsNewStore H.begun H.failed store }
+    requires parts { MakeHub H.terms H.opening H.before (is_none store.told)
+        H.name H.parts H.word parts }
     requires plans { All (λ list. All IsPlan list.items) plans.now }
     requires few_workers { length plans.now ≤ 1024 }
     ensures ran { IfOk result.transcripts (λ transcripts.
         HaveRun (map (λ list. list.items) plans.now) transcripts.items) }
     ensures store { IsNamedStore H.opening H.cap H.told H.start result.store }
-    ensures as_many { length result.shards.items ≡ length shards.items }
+    ensures as_many { length result.shards.items ≡ length parts.shards.items }
     ensures all { AreAll H.terms result.shards.items }
     ensures legal { AreLegal result.shards.items }
 {
-    match Hub::new(alloc, store, shards, ledger) {
-        Ok(hub) => {
-            let transcripts = run_over(rt, alloc, &hub, plans, clock, gate);
-            let (store, shards) = hub.into_parts();
+    let HubParts {
+        shards,
+        ledger,
+        word,
+    } = parts;
+    match BoundHub::new(alloc, store, shards, ledger, word) {
+        Ok((hub, pass)) => {
+            let transcripts = run_over(rt, alloc, &hub, pass, plans, clock, gate);
+            let (store, shards) = hub.into_parts(Vec::new(alloc));
             Ran {
                 store,
                 shards,
@@ -237,7 +239,7 @@ fn run_plans<
 
 /// Runs the plans of each worker on a desk of its own over the hub.
 fn run_over<
-    H: HubName + Send + Sync,
+    H: BoundName + Send + Sync,
     K: Keeper + Send,
     C: Clock,
     G: Gate,
@@ -245,17 +247,21 @@ fn run_over<
 >(
     rt: &R,
     alloc: Global,
-    hub: &Hub<K, H>,
+    hub: &BoundHub<K, H>,
+    pass: Pass,
     plans: &[Vec<Plan>],
     clock: &C,
     gate: &G,
 ) -> Result<Vec<Transcript>, Memory>
+    requires word { pass.word ≡ H.word }
     requires plans { All (λ list. All IsPlan list.items) plans.now }
     requires few { length plans.now ≤ 1024 }
     ensures { IfOk result (λ transcripts.
         HaveRun (map (λ list. list.items) plans.now) transcripts.items) }
 {
-    let mut desks = desks_over(rt, alloc, hub, plans.len() as u32, clock, gate)?;
+    let mut pass = pass;
+    let workers = plans.len() as u32;
+    let mut desks = desks_over(rt, alloc, hub, &mut pass, workers, clock, gate)?;
     work_all(rt, alloc, desks.as_mut_slice(), plans, gate)
 }
 

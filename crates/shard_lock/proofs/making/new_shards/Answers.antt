@@ -18,8 +18,9 @@ loop-no-preserved c =
     let Named : ShardView → Type 0 = IsNamed (terms_at c.args.count c.args.room c.args.life c.args.keep) in
     let Counted : ShardView → Type 0 = λ s. s.terms.count ≡ c.args.count in
     let New : ShardView → Type 0 = λ s. s.history ≡ [] in
+    let NoneOut : ShardView → Type 0 = λ s. s.out ≡ [] in
     let P : List ShardView → Type 0 = λ xs. (length xs ≡ c.loop-no.no + 1) × (c.args.count ≤ vec_capacity c.push_reserved.new.self)
-    × All Named xs × All Counted xs × All New xs
+    × All Named xs × All Counted xs × All New xs × All NoneOut xs
     × ((place : ℕ) (shard : ShardView) → slice_get xs place ≡ Some shard → shard.terms.no ≡ place) in
     subst P (sym c.push_reserved.ensures.items) (
       omega (arith, length-append shards (new ∷ []), c.loop-no.invariant.0),
@@ -27,6 +28,7 @@ loop-no-preserved c =
       all Named c.loop-no.invariant.2 named,
       all Counted c.loop-no.invariant.3 (ap (λ (t : Terms). t.count) c.in_ok-new_shard.ensures.terms),
       all New c.loop-no.invariant.4 c.in_ok-new_shard.ensures.new,
-      placed_next shards new c.loop-no.invariant.5 (let is = ap (λ (t : Terms). t.no) c.in_ok-new_shard.ensures.terms in
+      all NoneOut c.loop-no.invariant.5 c.in_ok-new_shard.ensures.none_out,
+      placed_next shards new c.loop-no.invariant.6 (let is = ap (λ (t : Terms). t.no) c.in_ok-new_shard.ensures.terms in
           omega (arith, is, c.loop-no.invariant.0)),
     )

@@ -10,4 +10,5 @@ invariant-loop-no l =
     × All (IsNamed (terms_at l.count l.room l.life l.keep)) l.shards.items
     × All (λ shard. shard.terms.count ≡ l.count) l.shards.items
     × All (λ shard. shard.history ≡ []) l.shards.items
+    × All (λ shard. shard.out ≡ []) l.shards.items
     × ((place : ℕ) (shard : ShardView) → slice_get l.shards.items place ≡ Some shard → shard.terms.no ≡ place)

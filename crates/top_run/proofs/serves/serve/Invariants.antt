@@ -1,4 +1,4 @@
-use Rattle.std.proofs.Common.{Some}
+use Rattle.std.proofs.Common.{[], Some}
 use Rattle.core_history.specs.Machine.{log_cap}
 use Rattle.top_run.specs.Serves.{serve_shape, serve_keep}
 use Rattle.top_run.specs.Works.{hub_terms}
@@ -15,4 +15,7 @@ ghosts-serve_on-H-HubName g a = record {
 }
 
 abbrev pub ghosts-serve_on-H-Ledger : goal.ghosts-serve_on-H-Ledger
-ghosts-serve_on-H-Ledger g a = record { name = a.ready.parts.ledger.name; parts = a.ready.parts.ledger.parts }
+ghosts-serve_on-H-Ledger g a = record { name = a.ready.parts.hub.ledger.name; parts = a.ready.parts.hub.ledger.parts }
+
+abbrev pub ghosts-serve_on-H-BoundName : goal.ghosts-serve_on-H-BoundName
+ghosts-serve_on-H-BoundName g a = record { word = a.ready.parts.hub.word.0; before = λ no. []; begun = 0; failed = 0 }

@@ -7,14 +7,19 @@ use Rattle.top_run.specs.Runs.{moment, IsOpened, kept_in, is_read_fault}
 use Rattle.top_run.specs.Serves.{serve_shape, serve_keep, Course}
 use Rattle.door_workers.specs.Attending.{told}
 use Rattle.top_run.proofs.KeepLemmas.{opened_since}
-use Rattle.top_run.proofs.ReadyLemmas.{make_hub}
+use Rattle.top_run.proofs.ReadyLemmas.{make_hub, new_store}
 use Rattle.top_run.proofs.WorkLemmas.{last_of, left_of, is_kept}
 use Rattle.top_run.proofs.ServeLemmas.{served_ended, no_usage, no_read}
 use Rattle.top_run.proofs.serves.serve_on.Goals as goal
 
 pub serve_hub-store-requires-clause-parts : goal.serve_hub-store-requires-clause-parts
 serve_hub-store-requires-clause-parts g c =
-    λ κs outlives. make_hub (serve_shape c.args.spec.now) g.H.HubName.terms _ _ c.args.ready.parts c.requires.ready.parts c.requires.serve.few_shards c.requires.ledger
+    λ κs outlives. make_hub (serve_shape c.args.spec.now) serve_keep g.H.HubName.terms g.H.HubName.opening g.H.BoundName.before _ _ _ g.H.BoundName.word
+    g.H.BoundName.begun g.H.BoundName.failed c.args.ready.parts c.requires.named.terms_are c.requires.ready.parts c.requires.serve.few_shards c.requires.parts
+
+pub serve_hub-store-requires-clause-new : goal.serve_hub-store-requires-clause-new
+serve_hub-store-requires-clause-new g c =
+    λ κs outlives. new_store c.args.store g.H.BoundName.begun g.H.BoundName.failed c.requires.new c.requires.parts.none_begun c.requires.parts.none_failed
 
 pub returns-clause-ended : goal.returns-clause-ended
 returns-clause-ended g c = λ unread rows held opens.

@@ -1,4 +1,4 @@
-use Rattle.std.proofs.Common.{Some, None}
+use Rattle.std.proofs.Common.{[], Some, None}
 use Rattle.core_history.specs.Machine.{log_cap}
 use Rattle.top_run.specs.Works.{work_shape, hub_terms}
 use Rattle.top_run.proofs.works.work.Given as goal
@@ -14,4 +14,7 @@ ghosts-work_on-H-HubName g a = record {
 }
 
 abbrev pub ghosts-work_on-H-Ledger : goal.ghosts-work_on-H-Ledger
-ghosts-work_on-H-Ledger g a = record { name = a.ready.parts.ledger.name; parts = a.ready.parts.ledger.parts }
+ghosts-work_on-H-Ledger g a = record { name = a.ready.parts.hub.ledger.name; parts = a.ready.parts.hub.ledger.parts }
+
+abbrev pub ghosts-work_on-H-BoundName : goal.ghosts-work_on-H-BoundName
+ghosts-work_on-H-BoundName g a = record { word = a.ready.parts.hub.word.0; before = λ no. []; begun = 0; failed = 0 }

@@ -10,13 +10,18 @@ use Rattle.top_run.specs.Runs.{moment, IsOpened, RoseWhere, is_read_fault, is_wr
 use Rattle.session_client.specs.declared.plans.Plan.{Plan}
 use Rattle.top_run.specs.Works.{HaveRun, first_spent, work_shape}
 use Rattle.top_run.proofs.KeepLemmas.{opened_since}
-use Rattle.top_run.proofs.ReadyLemmas.{make_hub}
+use Rattle.top_run.proofs.ReadyLemmas.{make_hub, new_store}
 use Rattle.top_run.proofs.WorkLemmas.{numbered_of, whole_of, legal_of, left_of, is_kept, work_ended, no_usage, no_read, at_write_end}
 use Rattle.top_run.proofs.works.work_on.Goals as goal
 
 pub run_plans-store-requires-clause-parts : goal.run_plans-store-requires-clause-parts
 run_plans-store-requires-clause-parts g c =
-    λ κs outlives. make_hub (work_shape c.args.spec.now) g.H.HubName.terms _ _ c.args.ready.parts c.requires.ready.parts c.requires.work.few_shards c.requires.ledger
+    λ κs outlives. make_hub (work_shape c.args.spec.now) None g.H.HubName.terms g.H.HubName.opening g.H.BoundName.before _ _ _ g.H.BoundName.word
+    g.H.BoundName.begun g.H.BoundName.failed c.args.ready.parts c.requires.named.terms_are c.requires.ready.parts c.requires.work.few_shards c.requires.parts
+
+pub run_plans-store-requires-clause-new : goal.run_plans-store-requires-clause-new
+run_plans-store-requires-clause-new g c =
+    λ κs outlives. new_store c.args.store g.H.BoundName.begun g.H.BoundName.failed c.requires.new c.requires.parts.none_begun c.requires.parts.none_failed
 
 pub summed_up-made-requires-clause-numbered : goal.summed_up-made-requires-clause-numbered
 summed_up-made-requires-clause-numbered g c =
