@@ -16,7 +16,7 @@ use sql_keeper::{Keeper, Store};
 use std::alloc::{AllocError, Global};
 use std::marker::Model;
 use std::sync::atomic::{AtomicU64, Ordering};
-use std::sync::ledger::{Blank, Total};
+use std::sync::ledger::{Blank, Share, Total};
 use std::sync::{Mutex, MutexGuard, Wait};
 
 /// A cache that threads share: a lock round each of its shards, and one round its store. Contracts see

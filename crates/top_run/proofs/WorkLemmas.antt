@@ -66,13 +66,6 @@ numbered_of terms shards all few = record {
   };
 }
 
--- a history of no step is legal
-pub new_are_legal : (shards : List ShardView) → All (λ shard. shard.history ≡ []) shards → AreLegal shards
-new_are_legal shards new = λ place default below.
-    let is = new place default below in
-    let shard = get_or shards place default in
-    subst (λ (h : List Step). Legal shard.terms h) (sym is) tt
-
 -- a mapped value is that of a value
 unmapped : (f : ShardView → List Step) (o : Option ShardView) (steps : List Step) → option_map f o ≡ Some steps
     → (shard : ShardView) × (o ≡ Some shard) × (f shard ≡ steps)
