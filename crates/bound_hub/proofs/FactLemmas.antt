@@ -1,5 +1,6 @@
 -- The facts of a key hold at first, and where more was seen.
 use Rattle.std.proofs.Common.{ℕ, ◌≡◌, Bool, true, false, List, [], ◌++◌, take, Option, None, Some, refl, sym, subst, ◌∙◌, inr, true≢false, arith}
+use Rattle.std.specs.List.{AllByRecursion}
 use Rattle.rows_model.specs.declared.keys.QKey.{QKey}
 use Rattle.rows_model.specs.Rows.{Tables}
 use Rattle.rows_model.specs.Placement.{shard_of}
@@ -9,7 +10,7 @@ use Rattle.key_shard.specs.Shards.{ShardView}
 use Rattle.sql_keeper.specs.declared.stores.Commit.{Commit}
 use Rattle.log_word.specs.declared.seen.Seen.{Seen}
 use Rattle.log_word.specs.Lists.{steps_of}
-use Rattle.log_word.specs.Steps.{IsSound, IsBeginning}
+use Rattle.log_word.specs.Steps.{IsBorneOut, IsSound, IsBeginning}
 use Rattle.log_word.specs.Passes.{WordView, ShardPassView, IsSameOf}
 use Rattle.key_freshness.specs.Marks.{Mark, marks_of}
 use Rattle.key_freshness.specs.Known.{Known, IsRuled, IsMore}
@@ -19,6 +20,7 @@ use Rattle.bound_hub.specs.Shorts.{shorts_of}
 use Rattle.bound_hub.specs.Knowns.{commits_of, known_of}
 use Rattle.bound_hub.specs.Facts.{answer_after, stamp_of, HoldsFacts, IsFirst}
 use Rattle.bound_hub.specs.Ties.{IsBoundShard, IsNewShard}
+use Rattle.bound_hub.proofs.HitsLemmas.{hits_go_on}
 use Rattle.bound_hub.proofs.RuledLemmas.{keys_are_ruled, more_is_known}
 
 pub stamped_first : (found : Option (List ℕ × ℕ)) → IsStamped [] (stamp_of found) found
@@ -98,6 +100,7 @@ bound_first word opening before shard pass at number count none blind new = reco
   told = blind;
   outs = λ permit is. inr (new.drawn permit is);
   facts = λ key home. first_facts opening (before shard.terms.no) pass.seen key none (new.entries key);
+  hits = λ _. tt;
 }
 
 -- the tie of a shard whose pass has seen more
@@ -123,6 +126,10 @@ bound_goes_on word opening before shard old new bound same_word same_shard begin
       (subst (λ n. steps_of n old.seen.steps ≡ shorts_of (before shard.terms.no) bound.more) (sym home) bound.told)
       (subst (λ n. steps_of n new.seen.steps ≡ shorts_of (before shard.terms.no) bound.more) (sym home) told)
       begins (bound.facts key home);
+  hits = λ told_now.
+      hits_go_on opening old.seen.events new.seen.events (more_is_known old.seen new.seen begins) sound_new.in_order (before shard.terms.no) bound.more
+      (subst (AllByRecursion (IsBorneOut old.seen.events)) bound.told (sound_old.borne_out shard.terms.no))
+      (bound.hits (was_not old.seen.stopped new.seen.stopped begins.stopped told_now));
 }
   where
     told : steps_of shard.terms.no new.seen.steps ≡ shorts_of (before shard.terms.no) bound.more

@@ -20,26 +20,46 @@ use Rattle.key_shard.specs.Past.{Terms, entry, standing, own_of, next_token}
 use Rattle.key_shard.specs.Answers.{get_step, get_by, found_step, miss_by, miss_step}
 use Rattle.key_shard.specs.Replies.{ShowsGot}
 use Rattle.key_shard.specs.Shards.{ShardView, past_of, refusal, Refuses, spent_at}
+use Rattle.sql_keeper.specs.Fresh.{IsFreshHit, IsFreshStep}
 use Rattle.log_word.specs.declared.events.StoreEvent.{StoreEvent}
 use Rattle.log_word.specs.declared.seen.Seen.{Seen}
 use Rattle.log_word.specs.Events.{commit_count}
 use Rattle.log_word.specs.Steps.{IsBorneOut}
-use Rattle.key_freshness.specs.Marks.{Mark, key_of}
-use Rattle.key_freshness.specs.Held.{IsEntryHeld}
+use Rattle.key_freshness.specs.Marks.{Mark, key_of, marks_of}
+use Rattle.key_freshness.specs.Held.{IsEntryHeld, IsEntryRight}
+use Rattle.key_freshness.proofs.HitLemmas.{hit_is_fresh}
 use Rattle.key_freshness.proofs.MarkLemmas.{by_test}
 use Rattle.bound_hub.specs.Shorts.{short_of}
 use Rattle.bound_hub.specs.Knowns.{commits_of, known_of}
+use Rattle.bound_hub.specs.Facts.{answer_after}
 use Rattle.bound_hub.specs.Gets.{got_short}
 use Rattle.bound_hub.proofs.EventLemmas.{commits_counted}
 use Rattle.bound_hub.proofs.StepFacts.{IsHonestStep}
 
--- a get's step is honest: it ends nothing, and writes nothing
-pub got_is_honest : (opening : Tables) (before more : List Step) (seen : Seen) (s : Step) (answer : Got) → ShowsGot s answer → IsHonestStep opening before more seen s
-got_is_honest opening before more seen (step.Hit on sid floor value stamp) answer shows = record { own = tt; honest = tt; true_step = λ _. tt }
-got_is_honest opening before more seen (step.Own on sid) answer shows = record { own = tt; honest = tt; true_step = λ _. tt }
-got_is_honest opening before more seen (step.Again on sid floor now stands) answer shows = record { own = tt; honest = tt; true_step = λ _. tt }
-got_is_honest opening before more seen (step.Lease on sid floor now token deadline) answer shows = record { own = tt; honest = tt; true_step = λ _. tt }
-got_is_honest opening before more seen other answer shows = absurd shows
+-- a hit is the key's entry
+abbrev pub IsTheEntry : Option (List ℕ × ℕ) → Got → Type 0
+IsTheEntry found (got.Hit value stamp) = found ≡ Some (value, stamp)
+IsTheEntry found other = Unit {0}
+
+-- a get's step is honest, where a hit is fresh: it ends nothing, and writes nothing
+pub got_is_honest : (opening : Tables) (before more : List Step) (seen : Seen) (s : Step) (answer : Got) → ShowsGot s answer
+    → (seen.stopped ≡ false → IsFreshStep opening (commits_of seen.events) more s) → IsHonestStep opening before more seen s
+got_is_honest opening before more seen (step.Hit on sid floor value stamp) answer shows fresh = record { own = tt; honest = tt; true_step = λ _. tt; fresh_step = fresh }
+got_is_honest opening before more seen (step.Own on sid) answer shows fresh = record { own = tt; honest = tt; true_step = λ _. tt; fresh_step = fresh }
+got_is_honest opening before more seen (step.Again on sid floor now stands) answer shows fresh = record { own = tt; honest = tt; true_step = λ _. tt; fresh_step = fresh }
+got_is_honest opening before more seen (step.Lease on sid floor now token deadline) answer shows fresh = record { own = tt; honest = tt; true_step = λ _. tt; fresh_step = fresh }
+got_is_honest opening before more seen other answer shows fresh = absurd shows
+
+-- a get's hit is fresh, where it tells an entry that is held and right
+pub got_is_fresh : (opening : Tables) (events : List StoreEvent) (more : List Step) (key : QKey) (found : Option (List ℕ × ℕ)) (s : Step) (answer : Got)
+    → ShowsGot s answer → key_of s ≡ key → IsTheEntry found answer → IsEntryHeld key (marks_of key more) (known_of events) found
+    → IsEntryRight (answer_after opening key) (commits_of events) found → IsFreshStep opening (commits_of events) more s
+got_is_fresh opening events more key found (step.Hit on sid floor value stamp) answer shows same is held right =
+    let at : found ≡ Some (value, stamp) = subst (IsTheEntry found) shows is in
+    subst (λ k. IsFreshHit opening (commits_of events) more k value stamp) (sym same)
+    (hit_is_fresh key opening (known_of events) more value stamp (subst (IsEntryHeld key (marks_of key more) (known_of events)) at held)
+    (subst (IsEntryRight (answer_after opening key) (commits_of events)) at right))
+got_is_fresh opening events more key found other answer shows same is held right = tt
 
 -- a hit leaves the entry
 pub hit_leaves : (key : QKey) (past : List Step) (s : Step) (value : List ℕ) (stamp : ℕ) → ShowsGot s (got.Hit value stamp) → entry key (s ∷ past) ≡ entry key past
@@ -86,11 +106,6 @@ module _ (terms : Terms) (past : List Step) (key : QKey) (who : Sid) (floor now 
 abbrev pub stamp_got : Got → ℕ
 stamp_got (got.Hit value stamp) = stamp
 stamp_got other = 0
-
--- a hit is the key's entry
-abbrev pub IsTheEntry : Option (List ℕ × ℕ) → Got → Type 0
-IsTheEntry found (got.Hit value stamp) = found ≡ Some (value, stamp)
-IsTheEntry found other = Unit {0}
 
 module _ (terms : Terms) (past : List Step) (key : QKey) (who : Sid) (floor now : ℕ) (answer : Got) where
   abbrev Finds : Option (List ℕ × ℕ) → Step → Type 0

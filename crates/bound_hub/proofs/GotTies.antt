@@ -1,5 +1,5 @@
 -- A shard and its pass still belong together when a get was made and seen.
-use Rattle.std.proofs.Common.{ℕ, ◌≡◌, Bool, List, [], ◌∷◌, ◌++◌, is_some, sym, ap, subst, ◌∙◌}
+use Rattle.std.proofs.Common.{ℕ, ◌≡◌, Bool, false, List, [], ◌∷◌, ◌++◌, is_some, sym, ap, subst, ◌∙◌}
 use Rattle.rows_model.specs.declared.keys.QKey.{QKey}
 use Rattle.rows_model.specs.declared.keys.Sid.{Sid}
 use Rattle.rows_model.specs.Rows.{Tables}
@@ -11,14 +11,17 @@ use Rattle.key_shard.specs.Past.{Terms, entry}
 use Rattle.key_shard.specs.Answers.{get_step}
 use Rattle.key_shard.specs.Replies.{ShowsGot}
 use Rattle.key_shard.specs.Shards.{ShardView, past_of, stepped, rolled}
+use Rattle.sql_keeper.specs.Fresh.{IsFreshStep}
 use Rattle.log_word.specs.Steps.{IsBorneOut, IsSound}
 use Rattle.log_word.specs.Views.{with_step}
 use Rattle.log_word.specs.Passes.{WordView, ShardPassView}
 use Rattle.key_freshness.specs.Marks.{key_of, marks_of}
 use Rattle.bound_hub.specs.Shorts.{short_of}
+use Rattle.bound_hub.specs.Knowns.{commits_of}
+use Rattle.bound_hub.specs.Facts.{HoldsFacts}
 use Rattle.bound_hub.specs.Ties.{IsBoundShard}
 use Rattle.bound_hub.specs.Gets.{got_short, IsGotHeld}
-use Rattle.bound_hub.proofs.GetLemmas.{got_is_honest, hit_leaves, get_tells, get_finds, got_borne_out, IsTheEntry}
+use Rattle.bound_hub.proofs.GetLemmas.{got_is_honest, got_is_fresh, hit_leaves, get_tells, get_finds, got_borne_out, IsTheEntry}
 use Rattle.bound_hub.proofs.StepTies.{HasTold, has_rolled, bound_with_step, entry_is_seen}
 
 module _ (word : WordView) (opening : Tables) (before : ℕ → List Step) (old : ShardView) (pass : ShardPassView) (bound : IsBoundShard word opening before old pass)
@@ -32,12 +35,21 @@ module _ (word : WordView) (opening : Tables) (before : ℕ → List Step) (old 
   the_entry : IsTheEntry (entry key (past_of old)) answer
   the_entry = get_finds old.terms (past_of old) key who floor now answer shows
 
+  facts : HoldsFacts opening (before number) bound.more pass.seen key
+  facts = bound.facts key (subst (λ n. shard_of key n ≡ number) bound.count home)
+
+  -- a hit is fresh
+  fresh_got : key_of s ≡ key → pass.seen.stopped ≡ false → IsFreshStep opening (commits_of pass.seen.events) bound.more s
+  fresh_got same running =
+      got_is_fresh opening pass.seen.events bound.more key (entry key (bound.more ++ before number)) s answer shows same
+      (subst (λ past. IsTheEntry (entry key past) answer) bound.goes_on the_entry) facts.held (facts.right running)
+
   -- the step in short may be seen
   pub got_is_borne_out : (has : Bool) → IsBorneOut pass.seen.events (got_short key who answer has)
   got_is_borne_out has =
       got_borne_out pass.seen.events key (marks_of key bound.more) who answer has (entry key (bound.more ++ before number))
       (subst (λ past. IsTheEntry (entry key past) answer) bound.goes_on the_entry)
-      (bound.facts key (subst (λ n. shard_of key n ≡ number) bound.count home)).held
+      facts.held
 
   module _ (sound : IsSound pass.word.shards pass.seen) (new : ShardView) (told : ShardPassView) (has : Bool) (made : new ≡ stepped (rolled old) s)
       (has_entry : has ≡ is_some (entry key (past_of new))) (at : told.word ≡ pass.word) (same : told.shard ≡ pass.shard)
@@ -55,7 +67,7 @@ module _ (word : WordView) (opening : Tables) (before : ℕ → List Step) (old 
 
     pub bound_with_got : IsBoundShard word opening before new told
     bound_with_got =
-        bound_with_step word opening before old pass bound sound s (got_is_honest opening (before number) bound.more pass.seen s answer shows)
+        bound_with_step word opening before old pass bound sound s (got_is_honest opening (before number) bound.more pass.seen s answer shows (fresh_got tells.1))
         new (has_rolled old new s made) (got_short key who answer has) told saw
 
     same_no : new.terms.no ≡ number

@@ -10,6 +10,7 @@ use Rattle.key_shard.specs.Past.{entry, standing}
 use Rattle.key_shard.specs.Shards.{ShardView, past_of}
 use Rattle.sql_keeper.specs.declared.stores.Commit.{Commit}
 use Rattle.sql_keeper.specs.Stores.{StoreView}
+use Rattle.sql_keeper.specs.Fresh.{IsFreshPast}
 use Rattle.log_word.specs.declared.seen.Seen.{Seen}
 use Rattle.log_word.specs.Lists.{IsStart, longer, steps_of}
 use Rattle.log_word.specs.Steps.{IsSound, IsBeginning}
@@ -18,6 +19,7 @@ use Rattle.log_word.proofs.StartLemmas.{longer_elim, start_trans}
 use Rattle.log_word.proofs.ViewLemmas.{beginning_trans}
 use Rattle.key_freshness.specs.Marks.{marks_of}
 use Rattle.key_freshness.specs.Held.{IsEntryHeld, IsEntryRight}
+use Rattle.key_freshness.proofs.GrantMarks.{granted-quarantined}
 use Rattle.key_freshness.proofs.HitLemmas.{lacking_stands}
 use Rattle.bound_hub.specs.Shorts.{shorts_of}
 use Rattle.bound_hub.specs.Knowns.{commits_of, known_of}
@@ -90,6 +92,13 @@ module _ (word : WordView) (opening : Tables) (before : ℕ → List Step) (begu
     entries = λ key value stamp home at.
         subst (λ past. IsKept opening store key (standing key past) value stamp) (sym bound.goes_on)
         (is_kept key value stamp (subst (λ n. shard_of key n ≡ shard.terms.no) bound.count home) (subst (λ past. entry key past ≡ Some (value, stamp)) bound.goes_on at));
+    hits = λ some.
+        subst (λ (log : List Commit). IsFreshPast opening log bound.more) (sym log_is) (bound.hits (running (tied.stopped ∙ tells store.told some)));
+    covered = λ place commit key stands touched home.
+        let home_of_word = subst (λ n. shard_of key n ≡ shard.terms.no) bound.count home in
+        let told = subst (λ n. steps_of n mine.steps ≡ shorts_of (before shard.terms.no) bound.more) (sym home_of_word) bound.told in
+        let ruled = keys_are_ruled word.shards mine key (before shard.terms.no) bound.more sound told in
+        granted-quarantined key commit.sid bound.more (ruled.covered place commit (subst (λ l. slice_get l place ≡ Some commit) log_is stands) touched);
   }
 
 -- who has seen less has seen the first of what was seen
@@ -101,6 +110,8 @@ left_early opening before store shard early late begins left = record {
   told =
       start_trans (steps_of shard.terms.no early.steps) (steps_of shard.terms.no late.steps) (shorts_of (before shard.terms.no) left.more) (begins.steps shard.terms.no) left.told;
   entries = left.entries;
+  hits = left.hits;
+  covered = left.covered;
 }
 
 -- passes that are left and those that are gathered are all there are

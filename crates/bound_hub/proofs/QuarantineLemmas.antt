@@ -56,9 +56,9 @@ module _ (terms : Terms) (past : List Step) (key : QKey) (who : Sid) (mode : Mod
   pub quarantine_is_honest : (opening : Tables) (before more : List Step) (seen : Seen) → IsHonestStep opening before more seen s
   quarantine_is_honest opening before more seen =
       quarantine_cases (IsHonestStep opening before more seen) terms past key who mode shift now
-      (λ _. record { own = tt; honest = tt; true_step = λ _. tt })
-      (record { own = tt; honest = tt; true_step = λ _. tt })
-      (λ _ _. record { own = tt; honest = tt; true_step = λ _. tt })
+      (λ _. record { own = tt; honest = tt; true_step = λ _. tt; fresh_step = λ _. tt })
+      (record { own = tt; honest = tt; true_step = λ _. tt; fresh_step = λ _. tt })
+      (λ _ _. record { own = tt; honest = tt; true_step = λ _. tt; fresh_step = λ _. tt })
 
   -- it leaves the entry
   pub quarantine_leaves : entry key (s ∷ past) ≡ entry key past

@@ -42,9 +42,9 @@ module _ (past : List Step) (grant : Permit) where
   pub raise_is_honest : (opening : Tables) (before more : List Step) (seen : Seen) → IsHonestStep opening before more seen s
   raise_is_honest opening before more seen =
       raise_cases (IsHonestStep opening before more seen) past grant
-      (λ _. record { own = tt; honest = tt; true_step = λ _. tt })
-      (λ _ _. record { own = tt; honest = tt; true_step = λ _. tt })
-      (record { own = tt; honest = tt; true_step = λ _. tt })
+      (λ _. record { own = tt; honest = tt; true_step = λ _. tt; fresh_step = λ _. tt })
+      (λ _ _. record { own = tt; honest = tt; true_step = λ _. tt; fresh_step = λ _. tt })
+      (record { own = tt; honest = tt; true_step = λ _. tt; fresh_step = λ _. tt })
 
   -- it leaves the entry
   pub raise_leaves : entry grant.key (s ∷ past) ≡ entry grant.key past
@@ -80,8 +80,8 @@ module _ (terms : Terms) (past : List Step) (grant : Permit) (now : ℕ) where
   pub renew_is_honest : (opening : Tables) (before more : List Step) (seen : Seen) → IsHonestStep opening before more seen r
   renew_is_honest opening before more seen =
       renew_cases (IsHonestStep opening before more seen) terms past grant now
-      (λ _ _. record { own = tt; honest = tt; true_step = λ _. tt })
-      (λ _. record { own = tt; honest = tt; true_step = λ _. tt })
+      (λ _ _. record { own = tt; honest = tt; true_step = λ _. tt; fresh_step = λ _. tt })
+      (λ _. record { own = tt; honest = tt; true_step = λ _. tt; fresh_step = λ _. tt })
 
   pub renew_tells : (answer : Renewal) (has : Bool) → ShowsRenewal r answer → (renew_short grant.key grant.sid grant.token answer has ≡ short_of r has) × (key_of r ≡ grant.key)
   renew_tells answer has =

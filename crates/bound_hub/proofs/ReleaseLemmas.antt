@@ -211,8 +211,9 @@ module _ (word : WordView) (opening : Tables) (before : ℕ → List Step) (old 
             own = own_end quar stands (ended_as quar how);
             honest = honest_end quar stands how may;
             true_step = true_end quar stands how may;
+            fresh_step = λ _. tt;
           })
-          (λ _. record { own = tt; honest = tt; true_step = λ _. tt })
+          (λ _. record { own = tt; honest = tt; true_step = λ _. tt; fresh_step = λ _. tt })
 
     pub release_tells : (answer : Rel) (has : Bool) → ShowsRelease s answer → release_short grant.key grant.sid grant.token how answer has ≡ short_of s has
     release_tells answer has =
@@ -251,8 +252,9 @@ module _ (word : WordView) (opening : Tables) (before : ℕ → List Step) (old 
           own = own_end quar stands (ended.Put value stamp (evicts old.terms grant.key (past_of old)));
           honest = held_end home stamp may.alone quar stands;
           true_step = λ told. put_is_right word opening before old pass bound legal sound grant.key grant.sid.number grant.token stamp home quar stands value may told;
+          fresh_step = λ _. tt;
         })
-        (λ _. record { own = tt; honest = tt; true_step = λ _. tt })
+        (λ _. record { own = tt; honest = tt; true_step = λ _. tt; fresh_step = λ _. tt })
 
     pub replace_tells : (answer : Rel) (has : Bool) → ShowsRelease r answer → replace_short grant.key grant.sid grant.token stamp answer has ≡ short_of r has
     replace_tells answer has =

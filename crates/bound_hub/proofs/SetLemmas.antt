@@ -148,9 +148,9 @@ module _ (word : WordView) (opening : Tables) (before : ℕ → List Step) (old 
         set_cases (IsHonestStep opening (before number) bound.more pass.seen) old.terms (past_of old) key token value stamp now
         (λ current. ⊎_elim
         (λ zero. absurd (never_zero zero current))
-        (λ asked. record { own = tt; honest = stored_held asked current; true_step = λ told. asked.right told })
+        (λ asked. record { own = tt; honest = stored_held asked current; true_step = λ told. asked.right told; fresh_step = λ _. tt })
         may)
-        (λ _. record { own = tt; honest = tt; true_step = λ _. tt })
+        (λ _. record { own = tt; honest = tt; true_step = λ _. tt; fresh_step = λ _. tt })
 
     -- the step in short, told by the answer
     pub set_tells : (answer : SetAnswer) (has : Bool) → ShowsSet s answer → (set_short key token stamp answer has ≡ short_of s has) × (key_of s ≡ key)

@@ -10,6 +10,7 @@ use Rattle.key_shard.specs.declared.steps.Step.{Step}
 use Rattle.key_shard.specs.declared.steps.Step.TheVariants as step
 use Rattle.key_shard.specs.Past.{standing, entry, entry_ended, entry_shifted, is_evicted, evicted_by}
 use Rattle.sql_keeper.specs.declared.stores.Commit.{Commit}
+use Rattle.sql_keeper.specs.Fresh.{IsFreshStep}
 use Rattle.log_word.specs.declared.seen.Seen.{Seen}
 use Rattle.key_freshness.specs.Marks.{marks_of}
 use Rattle.key_freshness.specs.Known.{IsRuled}
@@ -33,11 +34,13 @@ IsTrueStep opening log past (step.Stored on token now value stamp evicted) = IsR
 IsTrueStep opening log past (step.Released on sid token how) = IsTrueEnd opening log past on how
 IsTrueStep opening log past other = Unit {0}
 
--- what a step has to bring: it ends its own quarantine, if it ends one, and what it writes is held, and right unless the store stopped telling
+-- what a step has to bring: it ends its own quarantine, if it ends one, and what it writes is held, and right unless the store stopped telling;
+-- a hit is fresh then
 pub record IsHonestStep (opening : Tables) (before more : List Step) (seen : Seen) (s : Step) : Type 0 where
   pub own : EndsItsOwn (more ++ before) s
   pub honest : IsHonest (known_of seen.events) more s
   pub true_step : seen.stopped ≡ false → IsTrueStep opening (commits_of seen.events) (more ++ before) s
+  pub fresh_step : seen.stopped ≡ false → IsFreshStep opening (commits_of seen.events) more s
 
 module _ (opening : Tables) (log : List Commit) (key : QKey) (past : List Step) where
   abbrev R : Option (List ℕ × ℕ) → Type 0

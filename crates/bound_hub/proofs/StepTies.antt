@@ -9,6 +9,7 @@ use Rattle.key_shard.specs.Past.{Terms, entry}
 use Rattle.key_shard.specs.Permit.{Permit}
 use Rattle.key_shard.specs.Answers.{IsLegalPast}
 use Rattle.key_shard.specs.Shards.{ShardView, past_of, is_out, rolled, stepped, returned}
+use Rattle.sql_keeper.specs.Fresh.{IsFreshPast}
 use Rattle.shard_lock.specs.Names.{IsNamed, IsTokenOf}
 use Rattle.log_word.specs.declared.events.Short.{Short}
 use Rattle.log_word.specs.declared.seen.Seen.{Seen}
@@ -105,6 +106,11 @@ module _ (word : WordView) (opening : Tables) (before : ℕ → List Step) (old 
     outs_now : (permit : Permit) → is_out new permit ≡ true → WasGrantedOr old.terms (before number) (s ∷ bound.more) permit
     outs_now = granted_since old.terms (before number) bound.more s old.out new.out made.outs bound.outs
 
+    hits_now : told.seen.stopped ≡ false → IsFreshPast opening (commits_of told.seen.events) (s ∷ bound.more)
+    hits_now =
+        subst (λ (v : Seen). v.stopped ≡ false → IsFreshPast opening (commits_of v.events) (s ∷ bound.more)) (sym seen_is)
+        (λ running. (brings.fresh_step running, bound.hits running))
+
     pub bound_with_step : IsBoundShard word opening before new told
     bound_with_step =
         let at_no : (P : ℕ → Type 0) → P number → P new.terms.no = λ P p. subst P (sym same_no) p in
@@ -120,6 +126,7 @@ module _ (word : WordView) (opening : Tables) (before : ℕ → List Step) (old 
           told = at_no (λ n. steps_of n told.seen.steps ≡ shorts_of (before n) (s ∷ bound.more)) steps_are;
           outs = subst (λ (t : Terms). (permit : Permit) → is_out new permit ≡ true → WasGrantedOr t (before t.no) (s ∷ bound.more) permit) (sym made.terms) outs_now;
           facts = at_no (λ n. (key : QKey) → shard_of key word.shards ≡ n → HoldsFacts opening (before n) (s ∷ bound.more) told.seen key) facts_now;
+          hits = hits_now;
         }
 
 -- its pass has seen it, where the answer tells it in short, and the entry is looked at

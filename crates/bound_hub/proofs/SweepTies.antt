@@ -151,4 +151,5 @@ module _ (word : WordView) (opening : Tables) (before : ℕ → List Step) (old 
         (subst (λ past. stands_as who token (standing key past) ≡ true) (sym bound.goes_on) its) stands);
     honest = subst (λ (x : Sid). IsOver (known_of pass.seen.events) x.number) (sym swept_sid) (over_is_known pass.seen.events sid.number over);
     true_step = λ _. tt;
+    fresh_step = λ _. tt;
   }

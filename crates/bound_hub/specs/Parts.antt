@@ -1,5 +1,6 @@
 -- What holds of the shards and the store of a hub that is taken apart.
-use Rattle.std.specs.Prelude.{ℕ, ◌≡◌, ◌+◌, ◌-◌, ◌^◌, ◌≤◌, min, true, List, ◌++◌, length, All, Some, IsSome, is_none, slice_get}
+use Rattle.std.specs.Prelude.{ℕ, ◌≡◌, ◌+◌, ◌-◌, ◌^◌, ◌≤◌, min, true, List, ◌++◌, length, All, Some, IsSome, IsTrue, is_none, slice_get}
+use Rattle.std.specs.List.{list_any}
 use Rattle.rows_model.specs.declared.keys.QKey.{QKey}
 use Rattle.rows_model.specs.Rows.{Tables}
 use Rattle.rows_model.specs.Changes.{touches}
@@ -10,6 +11,7 @@ use Rattle.key_shard.specs.Answers.{IsAtHome}
 use Rattle.key_shard.specs.Past.{entry, standing}
 use Rattle.key_shard.specs.Shards.{ShardView, past_of}
 use Rattle.sql_keeper.specs.declared.stores.Commit.{Commit}
+use Rattle.sql_keeper.specs.Fresh.{IsFreshPast, quarantines}
 use Rattle.sql_keeper.specs.Log.{state}
 use Rattle.sql_keeper.specs.Stores.{StoreView}
 use Rattle.log_word.specs.declared.seen.Seen.{Seen}
@@ -29,13 +31,17 @@ pub record IsKept (opening : Tables) (store : StoreView) (key : QKey) (stands : 
   pub right : IsSome store.told → value ≡ query.answer key (state opening store.ledger.log stamp)
 
 -- A shard goes on from the steps that it had made before. Those that are seen of it are the first of its steps since.
--- Each of its entries is kept beside the store.
+-- Each of its entries is kept beside the store. Where the store tells its rows, each hit since is fresh. Each commit of the log
+-- on a key of the shard had the key granted to its session since.
 pub record IsLeft (opening : Tables) (before : ℕ → List Step) (store : StoreView) (seen : Seen) (shard : ShardView) : Type 0 where
   pub more : List Step
   pub goes_on : past_of shard ≡ more ++ before shard.terms.no
   pub told : IsStart (steps_of shard.terms.no seen.steps) (shorts_of (before shard.terms.no) more)
   pub entries : (key : QKey) (value : List ℕ) (stamp : ℕ) → IsAtHome shard.terms key
       → entry key (past_of shard) ≡ Some (value, stamp) → IsKept opening store key (standing key (past_of shard)) value stamp
+  pub hits : IsSome store.told → IsFreshPast opening store.ledger.log more
+  pub covered : (place : ℕ) (commit : Commit) (key : QKey) → slice_get store.ledger.log place ≡ Some commit → touches commit.txn key ≡ true
+      → IsAtHome shard.terms key → IsTrue (list_any (quarantines key commit.sid) more)
 
 -- What all the passes had seen is a beginning of this. It is sound; its commits are the log. So many calls of the
 -- keeper failed as the store counts, and the store tells its rows unless it is seen to have stopped.

@@ -12,6 +12,7 @@ use Rattle.sql_keeper.specs.declared.stores.Phase.{Phase}
 use Rattle.sql_keeper.specs.declared.stores.Phase.TheVariants as phase
 use Rattle.sql_keeper.specs.Sessions.{phase_of, is_open, first_phase}
 use Rattle.sql_keeper.specs.Stores.{StoreView}
+use Rattle.sql_keeper.specs.Fresh.{IsFreshPast}
 use Rattle.bound_hub.specs.Knowns.{begin_count}
 use Rattle.log_word.specs.declared.events.StoreEvent.{StoreEvent}
 use Rattle.log_word.specs.declared.events.StoreEvent.TheVariants as event
@@ -41,7 +42,8 @@ pub record HasSeenOnly (stopped : Bool) (seen : Seen) : Type 0 where
 -- A shard and its pass belong together: the pass is the shard's, and has seen each step that the shard
 -- made since the hub was made, which come after the steps before. Nothing stood at first, and each entry
 -- was of stamp 0. Each grant that is out was granted since, or its token was drawn before. The facts hold
--- of each key of the shard.
+-- of each key of the shard. Each hit since is fresh, unless the pass has seen that the store has stopped telling
+-- its rows.
 pub record IsBoundShard (word : WordView) (opening : Tables) (before : ℕ → List Step) (shard : ShardView) (pass : ShardPassView) : Type 0 where
   pub word_is : pass.word ≡ word
   pub number : pass.shard ≡ shard.terms.no
@@ -54,6 +56,7 @@ pub record IsBoundShard (word : WordView) (opening : Tables) (before : ℕ → L
   pub told : steps_of shard.terms.no pass.seen.steps ≡ shorts_of (before shard.terms.no) more
   pub outs : (permit : Permit) → is_out shard permit ≡ true → WasGrantedOr shard.terms (before shard.terms.no) more permit
   pub facts : (key : QKey) → shard_of key word.shards ≡ shard.terms.no → HoldsFacts opening (before shard.terms.no) more pass.seen key
+  pub hits : pass.seen.stopped ≡ false → IsFreshPast opening (commits_of pass.seen.events) more
 
 -- A shard is as it was when it was named: nothing stands, and each entry is of stamp 0, and right where
 -- the store tells its rows. Its first token isn't 0, and the token of each grant that is out was drawn.

@@ -23,8 +23,8 @@ impl<K: Keeper, H: BoundName> BoundHub<K, H> {
     /// The store and the shards, after the threads have ended: as many as were handed in, each in its
     /// place, with a legal history that goes on from the one that it had. Each entry is of a number of
     /// commits of the log, and each later commit on its key has its quarantine standing. Where the store
-    /// tells its rows, each entry is its key's answer after so many commits. It takes no lock and no
-    /// memory.
+    /// tells its rows, each entry is its key's answer after so many commits, and each hit since is fresh.
+    /// Each key that a commit touches was granted to its session since. It takes no lock and no memory.
     ///
     /// The passes of its callers are handed in: all that they have seen is a beginning of what happened,
     /// of which the commits are the log, and of which no shard made other steps first.
