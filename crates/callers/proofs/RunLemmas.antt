@@ -29,8 +29,7 @@ use Rattle.core_history.specs.Determined.{Call, call_of, RunsAreDetermined}
 use Rattle.core_history.specs.Events.{log_of}
 use Rattle.core_history.specs.Freshness.{histories_of}
 use Rattle.core_history.specs.Lines.{fault_turns}
-use Rattle.run_audit.specs.declared.findings.Finding.{Finding}
-use Rattle.run_audit.specs.declared.findings.Finding.TheVariants as finding
+use Rattle.run_audit.proofs.StaleLemmas.{found-clean}
 use Rattle.run_inputs.specs.declared.loads.WorkSpec.{WorkSpec}
 use Rattle.top_run.specs.Commands.{IsTextPart, EndedAs}
 use Rattle.top_run.specs.Serves.{Course, ServeEnded}
@@ -39,7 +38,7 @@ use Rattle.run_words.specs.declared.words.Words.{Words}
 use Rattle.run_words.specs.declared.words.Words.TheVariants as words
 use Rattle.run_words.specs.declared.words.WordsFault.{WordsFault}
 use Rattle.run_words.specs.declared.words.WordsFault.TheVariants as fault
-use Rattle.top_run.specs.Works.{IsTold, IsSummed, WorkEnded, first_spent, work_status}
+use Rattle.top_run.specs.Works.{IsSummed, WorkEnded}
 use Rattle.core_history.specs.Machine.{Move, terms_of}
 use Rattle.core_history.specs.Truth.{IsTruePast}
 use Rattle.top_run.specs.declared.runs.Status.{Status}
@@ -76,8 +75,6 @@ began-or-not status.DoorFault held before after left written h = absurd h
 began-or-not status.KeepFault held before after left written (rose, inl h) = inl h.nothing
 began-or-not status.KeepFault held before after left written (rose, inr (turns, some, h)) = inr (began-whole held before after left written turns h)
 began-or-not (status.Spent shard) held before after left written h = absurd h
-began-or-not (status.Stale shard at) held before after left written h = absurd h
-began-or-not (status.Uncovered commit key) held before after left written h = absurd h
 began-or-not status.Memory held before after left written (inl h) = inl h.2
 began-or-not status.Memory held before after left written (inr h) = inr (began-cut-off held before after left written h)
 
@@ -347,30 +344,21 @@ two-alike texts law one two held held' before after before' after' left left' wr
     began : (o : Option Tables) (opening : Tables) → o ≡ Some opening → IsSome o
     began o opening is = subst (λ (o : Option Tables). IsSome o) (sym is) refl
 
-clean_found : (failed : Bool) (spent : Option ℕ) (found : Finding) → status.Done ≡ work_status failed spent found → found ≡ finding.Clean
-clean_found true spent found h = absurd cc
-clean_found false (Some shard) found h = absurd cc
-clean_found false None finding.Clean h = refl
-clean_found false None (finding.Stale shard place) h = absurd cc
-clean_found false None (finding.Uncovered commit key) h = absurd cc
-
 clean_summed : (spec : WorkSpec) (held : Held) (before after : Tells) (left : Left) (written : ℕ)
     → IsSummed spec held before after left written status.Done
     → IsCleanLoad held.place spec before after left written
-clean_summed spec held before after left written h =
-    let clean = clean_found (nat_lt 0 h.failed) (first_spent left.histories) h.found h.ends in
-    let told : IsTold spec h.opening left.log left.histories before.taken after.taken written finding.Clean =
-    subst (IsTold spec h.opening left.log left.histories before.taken after.taken written) clean h.told in
-    record {
-      opening = h.opening;
-      opening_is = h.kept.opening_is;
-      opened = λ new rows is. h.kept.opened.opened rows is (start_tables spec.members) (h.kept.opened.fresh new);
-      fresh = told.is_summary.is_finding.1;
-      covered = told.is_summary.is_finding.0;
-      told = told;
-    }
+clean_summed spec held before after left written h = record {
+  opening = h.opening;
+  opening_is = h.kept.opening_is;
+  opened = λ new rows is. h.kept.opened.opened rows is (start_tables spec.members) (h.kept.opened.fresh new);
+  covered = h.kept.covered refl;
+  fresh = h.kept.fresh refl;
+  found = h.found;
+  told = h.told;
+  clean = λ some. (found-clean h.opening left.log left.histories h.found h.told.is_summary.is_finding).1 (h.kept.covered refl, h.kept.fresh refl some);
+}
 
--- a load that ended Done had a clean audit
+-- a load that ended Done is clean
 pub load_done : (s : Status) (spec : WorkSpec) (held : Held) (before after : Tells) (left : Left) (written : ℕ)
     → WorkEnded s spec held before after left written → s ≡ status.Done → IsCleanLoad held.place spec before after left written
 load_done s spec held before after left written h done =

@@ -1,5 +1,5 @@
 -- What is said of whole runs to who makes them.
-use Rattle.std.specs.Prelude.{ℕ, ◌≡◌, ◌<◌, ◌⊎◌, Bool, true, List, ◌∷◌, ◌++◌, length, Option, Some, slice_get}
+use Rattle.std.specs.Prelude.{ℕ, ◌≡◌, ◌<◌, ◌⊎◌, Bool, true, List, ◌∷◌, ◌++◌, length, Option, Some, IsSome, slice_get}
 use Rattle.rows_model.specs.declared.keys.QKey.{QKey}
 use Rattle.rows_model.specs.declared.keys.Sid.{Sid}
 use Rattle.std.specs.Option.{ForSome}
@@ -19,6 +19,7 @@ use Rattle.session_client.specs.declared.plans.Shape.{Shape}
 use Rattle.run_inputs.specs.declared.scripts.Act.{Act}
 use Rattle.top_run.specs.declared.runs.Status.{Status}
 use Rattle.top_run.specs.declared.runs.Status.TheVariants as status
+use Rattle.run_audit.specs.declared.findings.Finding.{Finding}
 use Rattle.run_audit.specs.declared.findings.Finding.TheVariants as finding
 use Rattle.run_inputs.specs.declared.loads.WorkSpec.{WorkSpec}
 use Rattle.core_history.specs.Machine.{terms_of}
@@ -54,16 +55,18 @@ pub record IsRunAt (place : Place) (held : ℕ → Option Tables) (left_old left
   pub covered : Covered log histories
   pub rows_are : rows ≡ rows_after opening log
 
--- A load of these words ended with a clean audit over these opening rows: its summary was written, no hit is stale, and
--- each commit is covered. Where the keeper tells its rows, and the words name no file, the opening rows are as many
--- members as the load says, and no links.
+-- A load of these words ended Done: its summary was written, and each commit is covered. Where the keeper tells its rows, no
+-- hit is stale and the audit was clean; and where the words name no file, the opening rows are as many members as the load
+-- says, and no links.
 pub record IsCleanLoad (place : Place) (spec : WorkSpec) (before after : Tells) (left : Left) (written : ℕ) : Type 0 where
   pub opening : Tables
   pub opening_is : left.opening ≡ Some opening
   pub opened : place ≡ places.Fresh → ForSome after.rows (λ _. opening ≡ start_tables spec.members)
-  pub fresh : Fresh opening left.log left.histories
   pub covered : Covered left.log left.histories
-  pub told : IsTold spec opening left.log left.histories before.taken after.taken written finding.Clean
+  pub fresh : IsSome after.rows → Fresh opening left.log left.histories
+  pub found : Finding
+  pub told : IsTold spec opening left.log left.histories before.taken after.taken written found
+  pub clean : IsSome after.rows → found ≡ finding.Clean
 
 -- A server ended Done: so many connections were served as were asked for, or the door said that no more come; the
 -- sink took all that a server writes, with that number; and of each shard there are the last steps of a legal history.
@@ -105,8 +108,6 @@ IsUnharmed status.WriteFault = ⊥
 IsUnharmed status.DoorFault = ⊥
 IsUnharmed status.KeepFault = ⊥
 IsUnharmed (status.Spent shard) = ⊥
-IsUnharmed (status.Stale shard place) = ⊥
-IsUnharmed (status.Uncovered commit key) = ⊥
 
 -- Two runs came to the same: their sinks tell the same bytes, as many were counted, their keepers
 -- tell the same rows, and they began with the same rows and leave the same log and histories.

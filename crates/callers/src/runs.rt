@@ -155,9 +155,9 @@ pub fn run_refused<
     run(rt, alloc, words, source, sink, keeper, door, clock, gate)
 }
 
-/// A load that ends Done left nothing stale, whatever its threads did and whatever the keeper is: its
-/// audit was clean, and the summary was written whole. Where the keeper tells its rows, and the words name no
-/// file, the load began with as many members as they say, and no links.
+/// A load that ends Done left nothing stale, whatever its threads did, where the keeper tells its rows: its
+/// audit was clean then. Each commit was covered, and the summary was written whole. Where the words name no
+/// file besides, the load began with as many members as they say, and no links.
 pub fn run_load<
     S: Source,
     W: Sink,

@@ -297,8 +297,6 @@ load_no_door status.WriteFault spec held before after left written h = refl
 load_no_door status.DoorFault spec held before after left written h = absurd h
 load_no_door status.KeepFault spec held before after left written h = refl
 load_no_door (status.Spent shard) spec held before after left written h = refl
-load_no_door (status.Stale shard place) spec held before after left written h = refl
-load_no_door (status.Uncovered commit key) spec held before after left written h = refl
 load_no_door status.Memory spec held before after left written h = refl
 
 pub server_not_failed : (ended : Status) (spec : ServeSpec) (course : Course) → ServeEnded ended spec course

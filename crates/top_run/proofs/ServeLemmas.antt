@@ -86,8 +86,6 @@ served_ended status.WriteFault spec course h = h
 served_ended status.DoorFault spec course h = h
 served_ended status.KeepFault spec course h = absurd h.attended.is_text
 served_ended (status.Spent shard) spec course h = h.attended.is_text
-served_ended (status.Stale shard place) spec course h = h.attended.is_text
-served_ended (status.Uncovered commit key) spec course h = h.attended.is_text
 served_ended status.Memory spec course h = inr h
 
 -- it is none for want of a command, nor at a read
@@ -103,8 +101,6 @@ no_read status.WriteFault lines printed text = refl
 no_read status.DoorFault lines printed text = refl
 no_read status.KeepFault lines printed text = refl
 no_read (status.Spent shard) lines printed text = refl
-no_read (status.Stale shard place) lines printed text = refl
-no_read (status.Uncovered commit key) lines printed text = refl
 no_read status.Memory lines printed text = refl
 
 -- ---- a server of the same numbers
@@ -142,8 +138,6 @@ same_server found spec status.WriteFault course conns members shards h = same_se
 same_server found spec status.DoorFault course conns members shards h = same_served found spec status.DoorFault course conns members shards h
 same_server found spec status.KeepFault course conns members shards h = h
 same_server found spec (status.Spent shard) course conns members shards h = h
-same_server found spec (status.Stale shard place) course conns members shards h = h
-same_server found spec (status.Uncovered commit key) course conns members shards h = h
 same_server found spec status.Memory course conns members shards (inl h) = inl h
 same_server found spec status.Memory course conns members shards (inr h) = inr (same_served found spec status.Memory course conns members shards h)
 

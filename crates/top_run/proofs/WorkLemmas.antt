@@ -1,7 +1,7 @@
 -- The ends of a load's run.
 use Rattle.std.proofs.Common.{ℕ, suc, ◌≡◌, ◌+◌, ◌-◌, ◌^◌, ◌<◌, ◌≤◌, ◌≢◌, List, [], ◌∷◌, ◌++◌, length, take, drop, drop-cons, add-one, arith, refl, sym, ap, ◌∙◌, subst, inl, inr, All}
 use Rattle.std.specs.Prelude.{Bool, true, false, ◌⊎◌, nat_lt, cond, Option, Some, None, Result, Ok, Err, IfOk, IfErr, slice_get, option_map}
-use Rattle.std.specs.Prelude.{unwrap_or, is_some, get_or}
+use Rattle.std.specs.Prelude.{unwrap_or, is_some, IsSome, get_or}
 use Rattle.std.specs.List.{position_from}
 use Rattle.std.proofs.lemmas.Iterator.Adapters.{position_from-zero}
 use Rattle.std.specs.Option.{ForSome}
@@ -16,6 +16,7 @@ use Rattle.key_shard.specs.Answers.{Legal}
 use Rattle.key_shard.specs.Past.{Terms}
 use Rattle.key_shard.specs.Shards.{ShardView, kept_of}
 use Rattle.sql_keeper.specs.Faults.{HaveFailed, FailedSince}
+use Rattle.sql_keeper.specs.Fresh.{Covered, Fresh}
 use Rattle.sql_keeper.specs.Stores.{StoreView, rows_of}
 use Rattle.session_client.specs.declared.plans.Plan.{Plan}
 use Rattle.session_client.specs.declared.plans.Shape.{Shape}
@@ -23,7 +24,6 @@ use Rattle.gate_workers.specs.Rows.{DeskView, RowView, AllWork}
 use Rattle.core_history.specs.Machine.{log_cap}
 use Rattle.shard_lock.specs.Names.{AreAll, AreLegal, IsNamed}
 use Rattle.run_audit.specs.declared.findings.Finding.{Finding}
-use Rattle.run_audit.specs.declared.findings.Finding.TheVariants as finding
 use Rattle.run_audit.specs.Findings.{histories_in, AreNumbered, AreWhole}
 use Rattle.run_inputs.specs.declared.loads.WorkSpec.{WorkSpec}
 use Rattle.top_run.specs.declared.plays.Stop.{Stop}
@@ -154,8 +154,9 @@ pub is_kept : (shape : Shape) (keep : Option ℕ) (held : Held) (before after : 
     → ForSome store.told (λ told. told ≡ rows_of store.ledger) → FailedSince start store.ledger.failed store.faults
     → ((place : ℕ) (steps : List Step) → slice_get histories place ≡ Some steps → IsLeft shape keep place steps) → length histories ≡ shape.shards
     → IsOpened held shape store.ledger.opening after.rows
+    → (keep ≡ None → IsSome store.told → Fresh store.ledger.opening store.ledger.log histories) → (keep ≡ None → Covered store.ledger.log histories)
     → IsKept shape keep held before after (left_of store histories) store.ledger.opening store.ledger.failed
-is_kept shape keep held before after store histories start rows count starts short cap told since legal many opened = record {
+is_kept shape keep held before after store histories start rows count starts short cap told since legal many opened fresh covered = record {
   opening_is = refl;
   opened = opened;
   short = subst (λ (n : ℕ). length store.ledger.log ≤ n) cap short;
@@ -163,45 +164,43 @@ is_kept shape keep held before after store histories start rows count starts sho
   as_many = many;
   legal = legal;
   since = subst (λ (n : ℕ). HaveFailed before.keeps_failed store.ledger.failed n) (sym count) (since before.keeps_failed starts);
+  fresh = λ whole some. fresh whole (subst (λ (r : Option Tables). IsSome r) rows some);
+  covered = covered;
 }
 
 module _ (spec : WorkSpec) (held : Held) (before after : Tells)
     (left : Left) (written : ℕ) (opening : Tables) (failed : ℕ) (kept : IsKept (work_shape spec) None held before after left opening failed) where
-  same_status : (b : Bool) (spent : Option ℕ) (found : Finding) → nat_lt 0 failed ≡ b → first_spent left.histories ≡ spent
-      → work_status b spent found ≡ work_status (nat_lt 0 failed) (first_spent left.histories) found
-  same_status b spent found is first =
-      ap (λ (x : Bool). work_status x spent found) (sym is) ∙ ap (λ (o : Option ℕ). work_status (nat_lt 0 failed) o found) (sym first)
+  same_status : (b : Bool) (spent : Option ℕ) → nat_lt 0 failed ≡ b → first_spent left.histories ≡ spent
+      → work_status b spent ≡ work_status (nat_lt 0 failed) (first_spent left.histories)
+  same_status b spent is first =
+      ap (λ (x : Bool). work_status x spent) (sym is) ∙ ap (λ (o : Option ℕ). work_status (nat_lt 0 failed) o) (sym first)
 
   unfailed : nat_lt 0 failed ≡ false → after.keeps_failed ≡ before.keeps_failed
   unfailed is = same_of_none before.keeps_failed failed after.keeps_failed is kept.since
 
   summed_as : (b : Bool) (spent : Option ℕ) (found : Finding) → nat_lt 0 failed ≡ b → first_spent left.histories ≡ spent
       → IsTold spec opening left.log left.histories before.taken after.taken written found
-      → (work_status b spent found ≢ status.KeepFault → after.keeps_failed ≡ before.keeps_failed)
-      → IsSummed spec held before after left written (work_status b spent found)
+      → (work_status b spent ≢ status.KeepFault → after.keeps_failed ≡ before.keeps_failed)
+      → IsSummed spec held before after left written (work_status b spent)
   summed_as b spent found is first told still = record {
     opening = opening;
     failed = failed;
     kept = kept;
     found = found;
     told = told;
-    ends = same_status b spent found is first;
+    ends = same_status b spent is first;
     unfailed = still;
   }
 
   summed : (b : Bool) (spent : Option ℕ) (found : Finding) → nat_lt 0 failed ≡ b → first_spent left.histories ≡ spent
       → IsTold spec opening left.log left.histories before.taken after.taken written found
-      → WorkEnded (work_status b spent found) spec held before after left written
+      → WorkEnded (work_status b spent) spec held before after left written
   summed true spent found is first told = (
     rose_of_failed before.keeps_failed failed after.keeps_failed is kept.since,
     inr (summed_as true spent found is first told (λ other. absurd (other refl))),
   )
   summed false (Some shard) found is first told = summed_as false (Some shard) found is first told (λ _. unfailed is)
-  summed false None finding.Clean is first told = summed_as false None finding.Clean is first told (λ _. unfailed is)
-  summed false None (finding.Stale shard place) is first told =
-      summed_as false None (finding.Stale shard place) is first told (λ _. unfailed is)
-  summed false None (finding.Uncovered commit key) is first told =
-      summed_as false None (finding.Uncovered commit key) is first told (λ _. unfailed is)
+  summed false None found is first told = summed_as false None found is first told (λ _. unfailed is)
 
   -- the end of a run that began
   pub work_ended : (told : Result Finding Stop)
@@ -213,38 +212,32 @@ module _ (spec : WorkSpec) (held : Held) (before after : Tells)
   work_ended (Err stop.Memory) all some = inr (record { opening = opening; failed = failed; kept = kept; prints = some })
 
 -- it is none for want of a command, nor at a read, and one at a write where the telling ended there
-no_usage_found : (b : Bool) (spent : Option ℕ) (found : Finding) → work_status b spent found ≡ status.Usage → ⊥
-no_usage_found true spent found is = cc
-no_usage_found false (Some shard) found is = cc
-no_usage_found false None finding.Clean is = cc
-no_usage_found false None (finding.Stale shard place) is = cc
-no_usage_found false None (finding.Uncovered commit key) is = cc
+no_usage_found : (b : Bool) (spent : Option ℕ) → work_status b spent ≡ status.Usage → ⊥
+no_usage_found true spent is = cc
+no_usage_found false (Some shard) is = cc
+no_usage_found false None is = cc
 
 pub no_usage : (b : Bool) (spent : Option ℕ) (told : Result Finding Stop) → end_status b spent told ≡ status.Usage → ⊥
-no_usage b spent (Ok found) is = no_usage_found b spent found is
+no_usage b spent (Ok found) is = no_usage_found b spent is
 no_usage b spent (Err stop.WriteFault) is = cc
 no_usage b spent (Err stop.Memory) is = cc
 
-no_read_found : (b : Bool) (spent : Option ℕ) (found : Finding) → is_read_fault (work_status b spent found) ≡ false
-no_read_found true spent found = refl
-no_read_found false (Some shard) found = refl
-no_read_found false None finding.Clean = refl
-no_read_found false None (finding.Stale shard place) = refl
-no_read_found false None (finding.Uncovered commit key) = refl
+no_read_found : (b : Bool) (spent : Option ℕ) → is_read_fault (work_status b spent) ≡ false
+no_read_found true spent = refl
+no_read_found false (Some shard) = refl
+no_read_found false None = refl
 
 pub no_read : (b : Bool) (spent : Option ℕ) (told : Result Finding Stop) → is_read_fault (end_status b spent told) ≡ false
-no_read b spent (Ok found) = no_read_found b spent found
+no_read b spent (Ok found) = no_read_found b spent
 no_read b spent (Err stop.WriteFault) = refl
 no_read b spent (Err stop.Memory) = refl
 
-no_write_found : (b : Bool) (spent : Option ℕ) (found : Finding) → is_write_fault (work_status b spent found) ≡ false
-no_write_found true spent found = refl
-no_write_found false (Some shard) found = refl
-no_write_found false None finding.Clean = refl
-no_write_found false None (finding.Stale shard place) = refl
-no_write_found false None (finding.Uncovered commit key) = refl
+no_write_found : (b : Bool) (spent : Option ℕ) → is_write_fault (work_status b spent) ≡ false
+no_write_found true spent = refl
+no_write_found false (Some shard) = refl
+no_write_found false None = refl
 
 pub at_write_end : (b : Bool) (spent : Option ℕ) (told : Result Finding Stop) → is_write_fault (end_status b spent told) ≡ at_write_told told
-at_write_end b spent (Ok found) = no_write_found b spent found
+at_write_end b spent (Ok found) = no_write_found b spent
 at_write_end b spent (Err stop.WriteFault) = refl
 at_write_end b spent (Err stop.Memory) = refl

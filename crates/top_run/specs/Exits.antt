@@ -1,6 +1,5 @@
 -- What the program tells of how a run ended: the number that it exits with, and a text.
 use Rattle.std.specs.Prelude.{ℕ, List, ◌∷◌, ◌++◌, codes, decimal}
-use Rattle.rows_model.specs.Key.{word_of}
 use Rattle.run_inputs.specs.Script.{kind_word}
 use Rattle.top_run.specs.declared.runs.Status.{Status}
 use Rattle.top_run.specs.declared.runs.Status.TheVariants as status
@@ -14,8 +13,6 @@ exit_code status.ReadFault = 3
 exit_code status.WriteFault = 4
 exit_code status.DoorFault = 5
 exit_code status.KeepFault = 6
-exit_code (status.Stale shard place) = 7
-exit_code (status.Uncovered commit key) = 8
 exit_code status.Memory = 10
 exit_code (status.Spent shard) = 11
 
@@ -28,8 +25,5 @@ status_text status.ReadFault = codes "read fault"
 status_text status.WriteFault = codes "write fault"
 status_text status.DoorFault = codes "door fault"
 status_text status.KeepFault = codes "store fault"
-status_text (status.Stale shard place) = codes "stale " ++ decimal shard ++ codes " " ++ decimal place
-status_text (status.Uncovered commit key) =
-    codes "uncovered " ++ decimal commit ++ codes " " ++ word_of key.kind ++ codes ":" ++ decimal key.id
 status_text status.Memory = codes "memory"
 status_text (status.Spent shard) = codes "spent " ++ decimal shard

@@ -276,8 +276,6 @@ Ended status.KeepFault held before after left written =
     Rose before.keeps_failed after.keeps_failed
     × (IsFailedStart before after left written ⊎ ((turns : List ℕ) × (turns ≢ []) × IsWhole held before after left written turns))
 Ended (status.Spent shard) held before after left written = ⊥
-Ended (status.Stale shard place) held before after left written = ⊥
-Ended (status.Uncovered commit key) held before after left written = ⊥
 Ended status.Memory held before after left written =
     (TakesAtMost most_taken before.left after.left × IsUnasked before after × IsNotStarted before after left written)
     ⊎ IsCutOff held before after left written

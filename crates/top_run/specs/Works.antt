@@ -1,6 +1,6 @@
 -- What the run of a load prints and keeps.
 use Rattle.std.specs.Prelude.{ℕ, ◌≡◌, ◌≢◌, ◌≤◌, ◌-◌, ◌^◌, ◌==◌, ◌⊎◌, nat_lt, min, Bool, true, false, List, [], ◌∷◌, ◌++◌, length, position, count_by}
-use Rattle.std.specs.Prelude.{sum_by, Option, Some, None, Result, Ok, Err, slice_get, codes, decimal}
+use Rattle.std.specs.Prelude.{sum_by, Option, Some, None, IsSome, Result, Ok, Err, slice_get, codes, decimal}
 use Rattle.std.specs.Option.{ForSome}
 use Rattle.iq_outside.specs.Outside.{Rose}
 use Rattle.rows_model.specs.Key.{key_text}
@@ -11,6 +11,7 @@ use Rattle.key_shard.specs.Answers.{Legal}
 use Rattle.key_shard.specs.Past.{Terms, draws}
 use Rattle.sql_keeper.specs.declared.stores.Commit.{Commit}
 use Rattle.sql_keeper.specs.Faults.{HaveFailed}
+use Rattle.sql_keeper.specs.Fresh.{Covered, Fresh}
 use Rattle.sql_keeper.specs.Log.{rows_after}
 use Rattle.sql_keeper.specs.Stores.{StoreView}
 use Rattle.session_client.specs.declared.plans.Plan.{Plan}
@@ -92,17 +93,15 @@ abbrev pub first_spent : List (List Step) → Option ℕ
 first_spent histories = position has_spent histories
 
 -- The status of a run whose summary was written: by whether a call of its keeper
--- failed, the least shard that is spent, and what the audit found, in this order.
-abbrev pub work_status : Bool → Option ℕ → Finding → Status
-work_status true spent found = status.KeepFault
-work_status false (Some shard) found = status.Spent shard
-work_status false None finding.Clean = status.Done
-work_status false None (finding.Stale shard place) = status.Stale shard place
-work_status false None (finding.Uncovered commit key) = status.Uncovered commit key
+-- failed, and the least shard that is spent, in this order.
+abbrev pub work_status : Bool → Option ℕ → Status
+work_status true spent = status.KeepFault
+work_status false (Some shard) = status.Spent shard
+work_status false None = status.Done
 
 -- How a run that began ends, by what stopped it if something did.
 abbrev pub end_status : Bool → Option ℕ → Result Finding Stop → Status
-end_status failed spent (Ok found) = work_status failed spent found
+end_status failed spent (Ok found) = work_status failed spent
 end_status failed spent (Err stop.WriteFault) = status.WriteFault
 end_status failed spent (Err stop.Memory) = status.Memory
 
@@ -179,7 +178,8 @@ IsLeft shape (Some keep) place steps = AreLast (hub_terms shape (Some keep) plac
 
 -- What a run over a hub that began leaves: the rows that it began with, which are those of the place, a log that isn't too long,
 -- and of each shard a legal history, or where the shards roll the last steps of one. Where the keeper tells its rows, they are
--- the opening rows after the log. So many of the keeper's calls failed since its count of faults was as before the run.
+-- the opening rows after the log. So many of the keeper's calls failed since its count of faults was as before the run. Of whole
+-- shards each commit is covered, and each hit is fresh where the keeper tells its rows.
 pub record IsKept (shape : Shape) (keep : Option ℕ) (held : Held) (before after : Tells) (left : Left) (opening : Tables) (failed : ℕ) : Type 0 where
   pub opening_is : left.opening ≡ Some opening
   pub opened : IsOpened held shape opening after.rows
@@ -188,6 +188,8 @@ pub record IsKept (shape : Shape) (keep : Option ℕ) (held : Held) (before afte
   pub as_many : length left.histories ≡ shape.shards
   pub legal : (place : ℕ) (history : List Step) → slice_get left.histories place ≡ Some history → IsLeft shape keep place history
   pub since : HaveFailed before.keeps_failed failed after.keeps_failed
+  pub fresh : keep ≡ None → IsSome after.rows → Fresh opening left.log left.histories
+  pub covered : keep ≡ None → Covered left.log left.histories
 
 -- A run ended with its summary written. Its status is that of what it keeps. Unless
 -- it is a store fault, no call of the keeper failed and its count of faults is as before.
@@ -197,7 +199,7 @@ pub record IsSummed (spec : WorkSpec) (held : Held) (before after : Tells) (left
   pub kept : IsKept (work_shape spec) None held before after left opening failed
   pub found : Finding
   pub told : IsTold spec opening left.log left.histories before.taken after.taken written found
-  pub ends : ended ≡ work_status (nat_lt 0 failed) (first_spent left.histories) found
+  pub ends : ended ≡ work_status (nat_lt 0 failed) (first_spent left.histories)
   pub unfailed : ended ≢ status.KeepFault → after.keeps_failed ≡ before.keeps_failed
 
 -- A run that began stopped at a write: the first bytes of its summary are written.
@@ -226,7 +228,5 @@ WorkEnded status.KeepFault spec held before after left written =
     Rose before.keeps_failed after.keeps_failed
     × (((after.rows ≡ before.rows) × IsNotStarted before after left written) ⊎ IsSummed spec held before after left written status.KeepFault)
 WorkEnded (status.Spent shard) spec held before after left written = IsSummed spec held before after left written (status.Spent shard)
-WorkEnded (status.Stale shard place) spec held before after left written = IsSummed spec held before after left written (status.Stale shard place)
-WorkEnded (status.Uncovered commit key) spec held before after left written = IsSummed spec held before after left written (status.Uncovered commit key)
 WorkEnded status.Memory spec held before after left written =
     (IsUnasked before after × IsNotStarted before after left written) ⊎ IsStoppedShort spec held before after left written

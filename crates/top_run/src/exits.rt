@@ -1,10 +1,8 @@
 // What the program tells of how a run ended: the number that it exits with, and a text.
 ghost use Rattle.std.specs.Prelude.{◌≡◌, Some};
-ghost use Rattle.rows_model.specs.Key.{word_of};
 ghost use Rattle.top_run.specs.Exits.{exit_code, status_text};
 
 use crate::runs::Status;
-use rows_model::Kind;
 use std::fmt;
 
 impl Status {
@@ -20,8 +18,6 @@ impl Status {
             Status::WriteFault => 4,
             Status::DoorFault => 5,
             Status::KeepFault => 6,
-            Status::Stale { .. } => 7,
-            Status::Uncovered { .. } => 8,
             Status::Memory => 10,
             Status::Spent { .. } => 11,
         }
@@ -42,25 +38,7 @@ impl fmt::Display for Status {
             Status::DoorFault => f.write_str("door fault"),
             Status::KeepFault => f.write_str("store fault"),
             Status::Spent { shard } => write!(f, "spent {}", shard),
-            Status::Stale { shard, place } => write!(f, "stale {} {}", shard, place),
-            Status::Uncovered { commit, key } => {
-                write!(f, "uncovered {} {}:{}", commit, kind_text(key.kind), key.id)
-            }
             Status::Memory => f.write_str("memory"),
         }
-    }
-}
-
-/// The word in front in the text of a key of this kind.
-fn kind_text(kind: Kind) -> &'static str
-    ensures { result.now ≡ word_of kind }
-{
-    match kind {
-        Kind::Profile => "profile",
-        Kind::Friends => "friends",
-        Kind::Pending => "pending",
-        Kind::NFriends => "nfriends",
-        Kind::NPending => "npending",
-        Kind::Blocked => "blocked",
     }
 }

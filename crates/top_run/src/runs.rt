@@ -24,7 +24,7 @@ use conn_server::LineEnd;
 use core_history::Core;
 use iq_outside::{Clock, Door, Gate, ReadStop, Sink, Source, read_up_to};
 use key_shard::Step;
-use rows_model::{QKey, Rows};
+use rows_model::Rows;
 use run_inputs::{Script, ScriptFault, ScriptKind};
 use run_words::{Words, WordsFault, read_words};
 use sql_keeper::{Commit, Keeper, NoStore, Place};
@@ -57,12 +57,6 @@ pub enum Status {
     /// This is the least shard that has no token left to draw. All sessions of the load were run, and its
     /// summary was printed.
     Spent { shard: u32 },
-    /// The load's summary was printed, and its audit found that this is the first hit that isn't fresh:
-    /// by the number of its shard, and then by its place in the history, from 0.
-    Stale { shard: u32, place: u64 },
-    /// The load's summary was printed, and its audit found that this is the first commit, counted from 1,
-    /// that touches a key which wasn't granted to its session, and the least such key.
-    Uncovered { commit: u64, key: QKey },
     /// Memory ran out.
     Memory,
 }

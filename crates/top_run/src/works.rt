@@ -1,6 +1,6 @@
 // The run of a load: its sessions over a hub, each worker in a thread of its own, and then the audit and
 // the summary.
-ghost use Rattle.std.specs.Prelude.{◌≡◌, ◌≢◌, ◌≤◌, ◌<◌, [], List, Option, Some, None, All, IfOk, IfErr, OnErr, IsErr, IsSome, is_none, Ok, Err, map, count_by, length, vec_capacity, nat_lt};
+ghost use Rattle.std.specs.Prelude.{◌≡◌, ◌≢◌, ◌≤◌, ◌<◌, ℕ, [], List, Option, Some, None, All, IfOk, IfErr, OnErr, IsErr, IsSome, is_none, Ok, Err, map, count_by, length, vec_capacity, nat_lt};
 ghost use Rattle.std.specs.Bool.{IsFalse};
 ghost use Rattle.std.specs.Option.{ForSome};
 ghost use Rattle.rows_model.specs.Rows.{Tables};
@@ -9,6 +9,7 @@ ghost use Rattle.key_shard.specs.declared.steps.Step.{Step};
 ghost use Rattle.sql_keeper.specs.declared.stores.Commit.{Commit};
 ghost use Rattle.run_inputs.specs.declared.loads.WorkSpec.{WorkSpec};
 ghost use Rattle.sql_keeper.specs.Faults.{FailedSince};
+ghost use Rattle.sql_keeper.specs.Fresh.{Covered, Fresh};
 ghost use Rattle.sql_keeper.specs.Stores.{opened, rows_of};
 ghost use Rattle.session_client.specs.Plans.{IsPlan};
 ghost use Rattle.core_history.specs.Machine.{log_cap};
@@ -205,6 +206,7 @@ fn run_plans<
     requires new { IsNewStore H.begun H.failed store }
     requires parts { MakeHub H.terms H.opening H.before (is_none store.told)
         H.name H.parts H.word parts }
+    requires none_before { (place : ℕ) → H.before place ≡ [] }
     requires plans { All (λ list. All IsPlan list.items) plans.now }
     requires few_workers { length plans.now ≤ 1024 }
     ensures ran { IfOk result.transcripts (λ transcripts.
@@ -213,6 +215,9 @@ fn run_plans<
     ensures as_many { length result.shards.items ≡ length parts.shards.items }
     ensures all { AreAll H.terms result.shards.items }
     ensures legal { AreLegal result.shards.items }
+    ensures fresh { IsSome result.store.told →
+        Fresh H.opening result.store.ledger.log (histories_in result.shards.items) }
+    ensures covered { Covered result.store.ledger.log (histories_in result.shards.items) }
 {
     let HubParts {
         shards,
@@ -360,31 +365,27 @@ fn ended_work<K: Keeper, N: Start>(
 }
 
 /// The status of a load's run that began: whether a call of its keeper failed, the least shard without
-/// a token left, and what its audit found, or what stopped it.
+/// a token left, and what stopped it, if something did.
 fn end_status(failed: bool, spent: Option<u32>, told: Result<Finding, Stop>) -> Status
     ensures { result ≡ end_status failed spent told }
 {
     match told {
         Err(Stop::WriteFault) => Status::WriteFault,
         Err(Stop::Memory) => Status::Memory,
-        Ok(finding) => work_status(failed, spent, finding),
+        Ok(_) => work_status(failed, spent),
     }
 }
 
 /// The status of a load's run whose summary was written.
-fn work_status(failed: bool, spent: Option<u32>, finding: Finding) -> Status
-    ensures { result ≡ work_status failed spent finding }
+fn work_status(failed: bool, spent: Option<u32>) -> Status
+    ensures { result ≡ work_status failed spent }
 {
     if failed {
         return Status::KeepFault;
     }
-    if let Some(shard) = spent {
-        return Status::Spent { shard };
-    }
-    match finding {
-        Finding::Clean => Status::Done,
-        Finding::Stale { shard, place } => Status::Stale { shard, place },
-        Finding::Uncovered { commit, key } => Status::Uncovered { commit, key },
+    match spent {
+        Some(shard) => Status::Spent { shard },
+        None => Status::Done,
     }
 }
 

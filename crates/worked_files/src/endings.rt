@@ -51,8 +51,7 @@ fn status_text(alloc: Global, status: Status) -> Result<String, Memory> {
         Status::DoorFault => "door fault",
         Status::KeepFault => "store fault",
         Status::Memory => "memory",
-        Status::Spent { .. } | Status::Stale { .. } | Status::Uncovered { .. } =>
-            "a fault of the load",
+        Status::Spent { .. } => "spent",
     };
     Ok(String::from_str(alloc, text)?)
 }

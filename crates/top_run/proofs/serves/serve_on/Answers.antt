@@ -41,7 +41,7 @@ returns-clause-ended g c = λ unread rows held opens.
     let last = last_of g.H.HubName.terms shape 256 shards c.requires.named.terms_are c.serve_hub-store.ensures.all c.serve_hub-store.ensures.legal in
     let kept = is_kept shape serve_keep held before after store (kept_in shards) g.H.HubName.start refl refl c.requires.named.start_is
     c.ended_hub.ensures.short (named.cap_is ∙ c.requires.named.cap_is) c.ended_hub.ensures.told c.ended_hub.ensures.since
-    last many opened in
+    last many opened (λ whole some. absurd cc) (λ whole. absurd cc) in
     let course : Course = record {
       held = held;
       before = before;

@@ -6,6 +6,7 @@ use Rattle.std.proofs.lemmas.Result.{IfOk-weaker}
 use Rattle.std.proofs.lemmas.List.{length-map}
 use Rattle.key_shard.specs.Shards.{ShardView}
 use Rattle.rows_model.specs.Rows.{Tables}
+use Rattle.sql_keeper.specs.Fresh.{Fresh}
 use Rattle.top_run.specs.Runs.{moment, IsOpened, RoseWhere, is_read_fault, is_write_fault}
 use Rattle.session_client.specs.declared.plans.Plan.{Plan}
 use Rattle.top_run.specs.Works.{HaveRun, first_spent, work_shape}
@@ -64,7 +65,9 @@ returns-clause-ended g c = λ unread rows held opens.
     let legal = legal_of g.H.HubName.terms (work_shape spec) shards c.requires.named.terms_are c.run_plans-store.ensures.all c.run_plans-store.ensures.legal in
     let kept = is_kept (work_shape spec) None held before after store (histories_in shards) g.H.HubName.start refl refl c.requires.named.start_is
     short (c.run_plans-store.ensures.store.cap_is ∙ c.requires.named.cap_is) c.ended_work.ensures.told c.ended_work.ensures.since
-    legal many opened in
+    legal many opened
+    (λ whole some. subst (λ (opening : Tables). Fresh opening store.ledger.log (histories_in shards)) (sym named.opening_is) (c.run_plans-store.ensures.fresh some))
+    (λ whole. c.run_plans-store.ensures.covered) in
     rw (
       c.ended_work.ensures.status,
       c.ended_work.ensures.opening,
