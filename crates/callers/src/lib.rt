@@ -3,6 +3,7 @@
 //! here of its own.
 #![tactic(auto)]
 
+pub mod desks;
 pub mod quits;
 pub mod runs;
 pub mod shards;
