@@ -7,7 +7,9 @@ use Rattle.top_run.specs.Runs.{moment, IsOpened, kept_in, is_read_fault}
 use Rattle.top_run.specs.Serves.{serve_shape, serve_keep, Course}
 use Rattle.door_workers.specs.Attending.{told}
 use Rattle.top_run.proofs.KeepLemmas.{opened_since}
-use Rattle.top_run.proofs.ReadyLemmas.{make_hub, new_store}
+use Rattle.core_history.specs.Machine.{log_cap}
+use Rattle.bound_hub.proofs.NewLemmas.{opened_is_new}
+use Rattle.top_run.proofs.ReadyLemmas.{make_hub}
 use Rattle.top_run.proofs.WorkLemmas.{last_of, left_of, is_kept}
 use Rattle.top_run.proofs.ServeLemmas.{served_ended, no_usage, no_read}
 use Rattle.top_run.proofs.serves.serve_on.Goals as goal
@@ -19,7 +21,7 @@ serve_hub-store-requires-clause-parts g c =
 
 pub serve_hub-store-requires-clause-new : goal.serve_hub-store-requires-clause-new
 serve_hub-store-requires-clause-new g c =
-    λ κs outlives. new_store c.args.store g.H.BoundName.begun g.H.BoundName.failed c.requires.new c.requires.parts.none_begun c.requires.parts.none_failed
+    λ κs outlives. opened_is_new c.args.store g.H.BoundName.begun g.H.BoundName.failed log_cap c.requires.new c.requires.parts.none_begun c.requires.parts.none_failed
 
 pub returns-clause-ended : goal.returns-clause-ended
 returns-clause-ended g c = λ unread rows held opens.

@@ -11,7 +11,9 @@ use Rattle.top_run.specs.Runs.{moment, IsOpened, RoseWhere, is_read_fault, is_wr
 use Rattle.session_client.specs.declared.plans.Plan.{Plan}
 use Rattle.top_run.specs.Works.{HaveRun, first_spent, work_shape}
 use Rattle.top_run.proofs.KeepLemmas.{opened_since}
-use Rattle.top_run.proofs.ReadyLemmas.{make_hub, new_store}
+use Rattle.core_history.specs.Machine.{log_cap}
+use Rattle.bound_hub.proofs.NewLemmas.{opened_is_new}
+use Rattle.top_run.proofs.ReadyLemmas.{make_hub}
 use Rattle.top_run.proofs.WorkLemmas.{numbered_of, whole_of, legal_of, left_of, is_kept, work_ended, no_usage, no_read, at_write_end}
 use Rattle.top_run.proofs.works.work_on.Goals as goal
 
@@ -22,7 +24,7 @@ run_plans-store-requires-clause-parts g c =
 
 pub run_plans-store-requires-clause-new : goal.run_plans-store-requires-clause-new
 run_plans-store-requires-clause-new g c =
-    λ κs outlives. new_store c.args.store g.H.BoundName.begun g.H.BoundName.failed c.requires.new c.requires.parts.none_begun c.requires.parts.none_failed
+    λ κs outlives. opened_is_new c.args.store g.H.BoundName.begun g.H.BoundName.failed log_cap c.requires.new c.requires.parts.none_begun c.requires.parts.none_failed
 
 pub summed_up-made-requires-clause-numbered : goal.summed_up-made-requires-clause-numbered
 summed_up-made-requires-clause-numbered g c =
