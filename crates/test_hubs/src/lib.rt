@@ -10,6 +10,8 @@ mod gates;
 #[cfg(test)]
 mod hub_tests;
 #[cfg(test)]
+mod hubs;
+#[cfg(test)]
 mod kept_desks;
 #[cfg(test)]
 mod line_tests;

@@ -1,27 +1,33 @@
 // Lines that are served at the desks of a hub of 64 shards. A writer that is gone has left a quarantine: a reader
 // that asks for its key again and again is served by the fourth get behind the deadline. And the session of a client
 // that goes is given up before its last replies are written.
-ghost use Rattle.std.specs.Prelude.{◌≡◌, Some, None};
-ghost use Rattle.shard_lock.specs.Names.{IsNamedStore, terms_at};
+ghost use Rattle.std.specs.Prelude.{◌≡◌};
+ghost use Rattle.session_client.specs.Plans.{IsShape};
+ghost use Rattle.test_hubs.specs.Hubs.{IsMadeFor, IsNewHub};
 
-use crate::runs::{PROFILES, store_of};
+use crate::hubs::{MadeOf, desk_of, hub_of, store_of};
+use crate::runs::PROFILES;
 use crate::watched_lines::{Passed, WatchedLine};
+use bound_hub::{BoundHub, BoundName};
 use conn_server::{LineEnd, serve_line};
 use iq_outside::{Line, ListClock, MemLine, MemSink, MemSource, OpenGate};
-use session_client::{Desk, Wanted};
-use shard_lock::{Hub, HubName, StartOf, new_shards};
+use log_word::Pass;
+use session_client::{Desk, Shape, Wanted};
 use sql_keeper::{MapKeeper, Store};
 use std::alloc::Global;
 use std::marker::Brand;
 use std::process::Abort;
 use std::sync::Wait;
 use std::sync::atomic::{AtomicU64, Ordering};
-use std::sync::ledger::Blank;
 use std::test::Fail;
 
-const SHARDS: u32 = 64;
-
-const LIFE: u64 = 100;
+/// 64 shards, and leases that live 100 milliseconds.
+const SHAPE: Shape = Shape {
+    members: 3,
+    shards: 64,
+    room: 16,
+    life: 100,
+};
 
 /// The time goes on, past the deadline of each quarantine that was given at first.
 const TIMES: [u64; 2] = [0, 1_000_000];
@@ -51,64 +57,63 @@ fn line_of(alloc: Global, said: &[u8]) -> Result<MemLine, Fail> {
 }
 
 /// Whether this goes as it must over a new hub.
-fn goes_well<H: HubName + Send + Sync, R: Wait + Abort>(
+fn goes_well<H: BoundName + Send + Sync, R: Wait + Abort>(
     rt: &R,
     alloc: Global,
+    shape: &Shape,
     store: Store<MapKeeper>,
-    ledger: Blank,
+    made: MadeOf,
     clock: &ListClock,
     trial: Trial,
 ) -> Result<bool, Fail>
-    requires store { IsNamedStore H.opening H.cap H.told H.start store }
-    requires start { H.start ≡ Some store.faults }
-    requires new { store.ledger.failed ≡ 0 }
-    requires ledger { (ledger.name ≡ H.name) × (ledger.parts ≡ H.parts) }
-    requires one_each { ledger.parts ≡ 64 }
-    requires terms { H.terms ≡ terms_at 64 16 100 None }
+    requires shape { IsShape shape.now }
+    requires made { IsMadeFor shape.now.shards made }
+    requires named { IsNewHub H.BoundName H.HubName H.name H.parts shape.now store made }
 {
-    let shards = new_shards(alloc, SHARDS, 16, LIFE, None)?;
-    let store = store.named::<StartOf<H>>();
-    let hub: Hub<MapKeeper, H> = match Hub::new(alloc, store, shards, ledger) {
-        Ok(hub) => hub,
-        Err(_) => panic!(rt; "memory"),
-    };
+    let (hub, mut pass) = hub_of::<H>(rt, alloc, shape, store, made)?;
     let well = match trial {
-        Trial::Swept => is_served(rt, alloc, &hub, clock)?,
-        Trial::GivenUp => gives_up_first(rt, alloc, &hub, clock)?,
+        Trial::Swept => is_served(rt, alloc, &hub, &mut pass, clock)?,
+        Trial::GivenUp => gives_up_first(rt, alloc, &hub, &mut pass, clock)?,
     };
-    let (store, _) = hub.into_parts();
+    let (store, _) = hub.into_parts(Vec::new(alloc));
     let _ = store.into_parts();
     Ok(well)
 }
 
 /// A writer begins at one desk, quarantines the key and is never heard of again; the reader is served at another.
-fn is_served<H: HubName + Send + Sync, R: Wait + Abort>(
+fn is_served<H: BoundName + Send + Sync, R: Wait + Abort>(
     rt: &R,
     alloc: Global,
-    hub: &Hub<MapKeeper, H>,
+    hub: &BoundHub<MapKeeper, H>,
+    pass: &mut Pass,
     clock: &ListClock,
-) -> Result<bool, Fail> {
-    let mut gone = hub.desk(rt, 0, clock, &OpenGate);
+) -> Result<bool, Fail>
+    requires { pass.old.word ≡ H.word }
+{
+    let mut gone = desk_of(rt, alloc, hub, pass, 0, clock, &OpenGate);
     let writer = gone.begin(true)?;
     let key = PROFILES[0];
     gone.call(writer, Wanted::QaReg { key }).let_go();
-    let mut desk = hub.desk(rt, 1, clock, &OpenGate);
+    let mut desk = desk_of(rt, alloc, hub, pass, 1, clock, &OpenGate);
     let mut line = line_of(alloc, ASKS)?;
     let end = serve_line(alloc, &mut line, &mut desk);
     Ok(end == LineEnd::Quit && line.taken() == TOLD)
 }
 
 /// A writer goes, and its desk has taken all its locks before the line is written to.
-fn gives_up_first<H: HubName + Send + Sync, R: Wait + Abort>(
+fn gives_up_first<H: BoundName + Send + Sync, R: Wait + Abort>(
     rt: &R,
     alloc: Global,
-    hub: &Hub<MapKeeper, H>,
+    hub: &BoundHub<MapKeeper, H>,
+    pass: &mut Pass,
     clock: &ListClock,
-) -> Result<bool, Fail> {
+) -> Result<bool, Fail>
+    requires { pass.old.word ≡ H.word }
+{
     let gate = Passed {
         times: AtomicU64::new(0),
     };
-    let mut desk = hub.desk(rt, 0, clock, &gate);
+    let mut desk = desk_of(rt, alloc, hub, pass, 0, clock, &gate);
     let mut line = WatchedLine::new(line_of(alloc, GOES)?, &gate);
     let end = serve_line(alloc, &mut line, &mut desk);
     line.finish();
@@ -121,8 +126,8 @@ fn the_fourth_get_is_served_and_who_goes_is_given_up_first(rt: HostRuntime) -> R
     for trial in [Trial::Swept, Trial::GivenUp].iter() {
         let clock = ListClock::new(Vec::from_slice(rt.alloc(), &TIMES)?);
         let store = store_of(&rt, rt.alloc(), 3);
-        let ledger = Blank::new(64);
-        let well = goes_well::<Brand, _>(&rt, rt.alloc(), store, ledger, &clock, *trial)?;
+        let made = MadeOf::new(rt.alloc(), SHAPE.shards)?;
+        let well = goes_well::<Brand, _>(&rt, rt.alloc(), &SHAPE, store, made, &clock, *trial)?;
         assert!(rt; well);
     }
     Ok(())

@@ -1,22 +1,23 @@
 // Runs of plans on the desks of a hub.
-ghost use Rattle.std.specs.Prelude.{◌≡◌, ◌≤◌, Some, None, All};
+ghost use Rattle.std.specs.Prelude.{◌≡◌, ◌≤◌, All};
 ghost use Rattle.session_client.specs.Plans.{IsPlan, IsShape};
-ghost use Rattle.shard_lock.specs.Names.{IsNamedStore, terms_at};
+ghost use Rattle.test_hubs.specs.Hubs.{IsMadeFor, IsNewHub};
 
+use crate::hubs::{MadeOf, desk_of, hub_of, store_of};
 use crate::kept_desks::{Call, KeptDesk};
 use crate::plan_texts::lists_of;
+use bound_hub::{BoundHub, BoundName};
 use gate_workers::{Transcript, work_all};
 use iq_outside::{Gate, ListClock};
 use key_shard::Shard;
+use log_word::Pass;
 use rows_model::{Kind, Memory, QKey, Sid, shard_number};
 use session_client::{Desk, Plan, Shape, Wanted};
-use shard_lock::{Hub, HubName, StartOf, new_shards};
-use sql_keeper::{Commit, MapKeeper, Place, Store};
+use sql_keeper::{Commit, MapKeeper, Store};
 use std::alloc::Global;
 use std::marker::Brand;
 use std::process::Abort;
 use std::sync::Wait;
-use std::sync::ledger::Blank;
 use std::test::Fail;
 use std::thread::Threads;
 
@@ -72,21 +73,8 @@ pub fn run_plans<G: Gate, R: Threads + Wait + Abort + Sync>(
     assert!(rt; !times.is_empty());
     let clock = ListClock::new(Vec::from_slice(alloc, times)?);
     let store = store_of(rt, alloc, shape.members);
-    let ledger = Blank::new(shape.shards as u64);
-    run_on::<Brand, _, _>(rt, alloc, shape, store, ledger, &clock, plans, gate)
-}
-
-/// A store of so many members in memory.
-pub fn store_of(rt: &impl Abort, alloc: Global, members: u32) -> Store<MapKeeper>
-    requires some { 1 ≤ members }
-    requires few { members ≤ 100000 }
-    ensures { result.ledger.failed ≡ 0 }
-{
-    let keeper = MapKeeper::new(Vec::new(alloc));
-    match Store::new(alloc, keeper, &Place::Fresh, members, 8_000_000) {
-        Ok(store) => store,
-        Err(_) => panic!(rt; "no store"),
-    }
+    let made = MadeOf::new(alloc, shape.shards)?;
+    run_on::<Brand, _, _>(rt, alloc, shape, store, made, &clock, plans, gate)
 }
 
 /// Two keys, which lie on two of two shards.
@@ -102,34 +90,25 @@ pub const PROFILES: [QKey; 2] = [
 ];
 
 /// Runs the plans on the desks of a hub of this shape over this store.
-fn run_on<'x, H: HubName + Send + Sync, G: Gate, R: Threads + Wait + Abort + Sync>(
+fn run_on<'x, H: BoundName + Send + Sync, G: Gate, R: Threads + Wait + Abort + Sync>(
     rt: &'x R,
     alloc: Global,
     shape: &Shape,
     store: Store<MapKeeper>,
-    ledger: Blank,
+    made: MadeOf,
     clock: &'x ListClock,
     plans: &[Vec<Plan>],
     gate: &'x G,
 ) -> Result<Ran, Fail>
-    requires store { IsNamedStore H.opening H.cap H.told H.start store }
-    requires start { H.start ≡ Some store.faults }
-    requires new { store.ledger.failed ≡ 0 }
-    requires ledger { (ledger.name ≡ H.name) × (ledger.parts ≡ H.parts) }
-    requires one_each { ledger.parts ≡ shape.now.shards }
-    requires terms { H.terms ≡ terms_at shape.now.shards shape.now.room shape.now.life None }
     requires shape { IsShape shape.now }
+    requires made { IsMadeFor shape.now.shards made }
+    requires named { IsNewHub H.BoundName H.HubName H.name H.parts shape.now store made }
     requires plans { All (λ list. All IsPlan list.items) plans.now }
 {
-    let shards = new_shards(alloc, shape.shards, shape.room, shape.life, None)?;
-    let store = store.named::<StartOf<H>>();
-    let hub: Hub<MapKeeper, H> = match Hub::new(alloc, store, shards, ledger) {
-        Ok(hub) => hub,
-        Err(_) => panic!(rt; "memory"),
-    };
+    let (hub, mut pass) = hub_of::<H>(rt, alloc, shape, store, made)?;
     check_shards(rt, &hub, shape.shards);
-    let worked = work_on(rt, alloc, &hub, clock, plans, gate)?;
-    let (store, shards) = hub.into_parts();
+    let worked = work_on(rt, alloc, &hub, &mut pass, clock, plans, gate)?;
+    let (store, shards) = hub.into_parts(Vec::new(alloc));
     let (_, _, log) = store.into_parts();
     Ok(Ran {
         worked,
@@ -139,7 +118,7 @@ fn run_on<'x, H: HubName + Send + Sync, G: Gate, R: Threads + Wait + Abort + Syn
 }
 
 /// The hub has so many shards, and finds the shard of a key by its number.
-fn check_shards<H: HubName>(rt: &impl Abort, hub: &Hub<MapKeeper, H>, count: u32)
+fn check_shards<H: BoundName>(rt: &impl Abort, hub: &BoundHub<MapKeeper, H>, count: u32)
     requires { 1 ≤ count }
 {
     assert!(rt; hub.shards() == count);
@@ -149,20 +128,23 @@ fn check_shards<H: HubName>(rt: &impl Abort, hub: &Hub<MapKeeper, H>, count: u32
 }
 
 /// Runs the plans of each list on a desk of its own over the hub.
-fn work_on<'x, H: HubName + Send + Sync, G: Gate, R: Threads + Wait + Abort + Sync>(
+fn work_on<'x, H: BoundName + Send + Sync, G: Gate, R: Threads + Wait + Abort + Sync>(
     rt: &'x R,
     alloc: Global,
-    hub: &'x Hub<MapKeeper, H>,
+    hub: &'x BoundHub<MapKeeper, H>,
+    pass: &mut Pass,
     clock: &'x ListClock,
     plans: &[Vec<Plan>],
     gate: &'x G,
 ) -> Result<Worked, Memory>
-    requires { All (λ list. All IsPlan list.items) plans.now }
+    requires word { pass.old.word ≡ H.word }
+    requires plans { All (λ list. All IsPlan list.items) plans.now }
 {
     let mut desks = Vec::new(alloc);
     for worker in 0..plans.len() {
         let worker = u32::try_from(worker).unwrap_or(u32::MAX);
-        desks.push(KeptDesk::new(alloc, hub.desk(rt, worker, clock, gate)))?;
+        let desk = desk_of(rt, alloc, hub, pass, worker, clock, gate);
+        desks.push(KeptDesk::new(alloc, desk))?;
     }
     assert!(rt; desks.len() == plans.len());
     let transcripts = work_all(rt, alloc, &mut desks, plans, gate)?;

@@ -1,11 +1,11 @@
-use Rattle.std.proofs.Common.{Some, None}
+use Rattle.std.proofs.Common.{[], Some, None}
 use Rattle.shard_lock.specs.Names.{terms_at}
 use Rattle.test_hubs.proofs.line_tests.the_fourth_get_is_served_and_who_goes_is_given_up_first.Given as goal
 
 -- what the shards are made with, and the store as it is handed in
 abbrev pub ghosts-goes_well-H-HubName : goal.ghosts-goes_well-H-HubName
 ghosts-goes_well-H-HubName g a = record {
-  terms = terms_at 64 16 100 None;
+  terms = terms_at a.shape.now.shards a.shape.now.room a.shape.now.life None;
   opening = a.store.ledger.opening;
   cap = a.store.ledger.cap;
   told = a.store.told;
@@ -13,4 +13,7 @@ ghosts-goes_well-H-HubName g a = record {
 }
 
 abbrev pub ghosts-goes_well-H-Ledger : goal.ghosts-goes_well-H-Ledger
-ghosts-goes_well-H-Ledger g a = record { name = a.ledger.name; parts = a.ledger.parts }
+ghosts-goes_well-H-Ledger g a = record { name = a.made.ledger.name; parts = a.made.ledger.parts }
+
+abbrev pub ghosts-goes_well-H-BoundName : goal.ghosts-goes_well-H-BoundName
+ghosts-goes_well-H-BoundName g a = record { word = a.made.word.0; before = λ no. []; begun = 0; failed = 0 }

@@ -1,4 +1,4 @@
-use Rattle.std.proofs.Common.{Some, None}
+use Rattle.std.proofs.Common.{[], Some, None}
 use Rattle.shard_lock.specs.Names.{terms_at}
 use Rattle.test_hubs.proofs.runs.run_plans.Given as goal
 
@@ -13,4 +13,7 @@ ghosts-run_on-H-HubName g a = record {
 }
 
 abbrev pub ghosts-run_on-H-Ledger : goal.ghosts-run_on-H-Ledger
-ghosts-run_on-H-Ledger g a = record { name = a.ledger.name; parts = a.ledger.parts }
+ghosts-run_on-H-Ledger g a = record { name = a.made.ledger.name; parts = a.made.ledger.parts }
+
+abbrev pub ghosts-run_on-H-BoundName : goal.ghosts-run_on-H-BoundName
+ghosts-run_on-H-BoundName g a = record { word = a.made.word.0; before = λ no. []; begun = 0; failed = 0 }
