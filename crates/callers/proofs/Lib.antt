@@ -1,7 +1,8 @@
-pub mod FloorLemmas
-pub mod StoreLemmas
-pub mod RunLemmas
-pub mod PartLemmas
-pub mod WriteLemmas
-pub mod QuitLemmas
+pub mod DeskLemmas
 pub mod DropLemmas
+pub mod FloorLemmas
+pub mod PartLemmas
+pub mod QuitLemmas
+pub mod RunLemmas
+pub mod StoreLemmas
+pub mod WriteLemmas

@@ -1,11 +1,12 @@
-pub mod PrintLemmas
+pub mod CommandLemmas
 pub mod HandedLemmas
+pub mod KeepLemmas
+pub mod LeftLemmas
 pub mod PlayLemmas
 pub mod PlayStates
-pub mod KeepLemmas
+pub mod PrintLemmas
+pub mod ReadyLemmas
 pub mod RunLemmas
+pub mod ServeLemmas
 pub mod SummaryLemmas
 pub mod WorkLemmas
-pub mod ServeLemmas
-pub mod CommandLemmas
-pub mod ReadyLemmas
