@@ -1,8 +1,7 @@
-pub mod DeskLemmas
-pub mod DropLemmas
 pub mod FloorLemmas
-pub mod PartLemmas
-pub mod QuitLemmas
-pub mod RunLemmas
 pub mod StoreLemmas
+pub mod RunLemmas
+pub mod PartLemmas
 pub mod WriteLemmas
+pub mod QuitLemmas
+pub mod DropLemmas

@@ -1,12 +1,11 @@
-pub mod CommandLemmas
+pub mod PrintLemmas
 pub mod HandedLemmas
-pub mod KeepLemmas
-pub mod LeftLemmas
 pub mod PlayLemmas
 pub mod PlayStates
-pub mod PrintLemmas
-pub mod ReadyLemmas
+pub mod KeepLemmas
 pub mod RunLemmas
-pub mod ServeLemmas
 pub mod SummaryLemmas
 pub mod WorkLemmas
+pub mod ServeLemmas
+pub mod CommandLemmas
+pub mod ReadyLemmas
