@@ -1,7 +1,9 @@
 pub mod ShortLemmas
 pub mod EventLemmas
 pub mod RuledLemmas
+pub mod HitsLemmas
 pub mod FactLemmas
+pub mod NewLemmas
 pub mod PassLemmas
 pub mod SessionLemmas
 pub mod StoreTies

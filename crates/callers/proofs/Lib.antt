@@ -5,3 +5,4 @@ pub mod PartLemmas
 pub mod WriteLemmas
 pub mod QuitLemmas
 pub mod DropLemmas
+pub mod DeskLemmas

@@ -4,3 +4,4 @@ pub mod Quits
 pub mod Runs
 pub mod Writes
 pub mod Drops
+pub mod Desks

@@ -3,6 +3,7 @@ pub mod HandedLemmas
 pub mod PlayLemmas
 pub mod PlayStates
 pub mod KeepLemmas
+pub mod LeftLemmas
 pub mod RunLemmas
 pub mod SummaryLemmas
 pub mod WorkLemmas
