@@ -1,4 +1,2 @@
 pub mod PowerLemmas
-pub mod NameLemmas
 pub mod PlaceLemmas
-pub mod TermLemmas

@@ -1,17 +1,13 @@
-//! The cache for many threads: a lock round each shard, and one round the store.
+//! What the locks of a hub have in common: the names of what they keep, new shards, tokens that tell which shard
+//! lies where, and how a lock is taken.
 #![tactic(auto)]
 
-pub use executor::{on_shard, on_store};
-pub use hub_desks::{HubDesk, is_held_up, is_timed, turned};
-pub use hubs::Hub;
-pub use kept::{KeptShard, KeptStore};
 pub use locks::{locked_soon, token_of, wait_for_ever};
 pub use making::new_shards;
 pub use names::{HubName, StartOf};
+pub use rooms::KeptRoom;
 
-pub mod hub_desks;
-pub mod hubs;
-pub mod kept;
 pub mod locks;
 pub mod making;
 pub mod names;
+pub mod rooms;

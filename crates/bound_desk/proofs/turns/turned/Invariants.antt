@@ -1,6 +1,6 @@
 use Rattle.std.proofs.Common.{◌≡◌}
 use Rattle.expiry_sweeper.specs.Follows.{shards_of}
-use Rattle.shard_lock.proofs.hub_desks.turned.Given as goal
+use Rattle.bound_desk.proofs.turns.turned.Given as goal
 
 -- it is a sweeper of as many shards
 abbrev pub invariant-loop : goal.invariant-loop
