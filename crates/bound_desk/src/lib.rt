@@ -24,3 +24,4 @@ pub mod shards;
 pub mod shifts;
 pub mod stages;
 pub mod sweeps;
+pub mod writes;

@@ -147,9 +147,9 @@ impl<H: BoundName> BoundBook<H> {
     }
 
     /// Makes a session's request, which is safe by the book, on the shard of its key, which is lent. What the
-    /// reply tells is shown by what the desk has seen then. A release drops the key's value, whatever is
-    /// asked for. A raise isn't made: it is answered as if another quarantine stood beside. A release
-    /// that keeps the value is Gone: its quarantine stands until it is swept.
+    /// reply tells is shown by what the desk has seen then. A raise isn't made: it is answered as if another
+    /// quarantine stood beside. A release that keeps the value is Gone: its quarantine stands until it is
+    /// swept.
     pub fn on_shard(
         &mut self,
         word: &LogWord,
@@ -184,14 +184,10 @@ impl<H: BoundName> BoundBook<H> {
             },
             Wanted::Sar {
                 grant,
-                value: _,
-                stamp: _,
-            } => Reply::Rel {
-                told: self.drop_value(word, shard, who, grant),
-            },
-            Wanted::Apply { grant, stamp: _ } => Reply::Rel {
-                told: self.drop_value(word, shard, who, grant),
-            },
+                value,
+                stamp,
+            } => self.reply_to_replace(word, shard, who, grant, value, stamp),
+            Wanted::Apply { grant, stamp } => self.reply_to_shift(word, shard, who, grant, stamp),
             Wanted::Abort { grant } => {
                 grant.let_go();
                 Reply::Rel { told: Rel::Gone }
