@@ -42,6 +42,11 @@ ShowsShift shards grant stamp told seen =
     grant.mode ≡ Delta → is_count grant.key ≡ true → told ≢ rel.Gone
     → IsLastOf shards grant.key (release_short grant.key grant.sid grant.token (hows.Shift stamp) told) seen
 
+-- So is the step of a release that keeps the key's value, unless it is Gone.
+abbrev pub ShowsKeep : ℕ → Permit → Rel → Seen → Type 0
+ShowsKeep shards grant told seen =
+    told ≢ rel.Gone → IsLastOf shards grant.key (release_short grant.key grant.sid grant.token hows.Keep told) seen
+
 -- What a reply tells: the request's own step is the last that is seen of its shard, a hit is fresh, and an old value is held
 -- and right, both unless it is seen that the store has stopped telling its rows.
 abbrev pub ShowsReply : Tables → (ℕ → List Step) → ℕ → Sid → Wanted → Reply → Seen → Type 0
@@ -61,4 +66,5 @@ ShowsReply opening before shards who (wanted.Dar grant) (reply.Rel told) seen = 
 ShowsReply opening before shards who (wanted.Sar grant (Some value) stamp) (reply.Rel told) seen = ShowsPut shards grant stamp told seen
 ShowsReply opening before shards who (wanted.Sar grant None stamp) (reply.Rel told) seen = ShowsDrop shards grant told seen
 ShowsReply opening before shards who (wanted.Apply grant stamp) (reply.Rel told) seen = ShowsShift shards grant stamp told seen
+ShowsReply opening before shards who (wanted.Abort grant) (reply.Rel told) seen = ShowsKeep shards grant told seen
 ShowsReply opening before shards who other told seen = Unit {0}

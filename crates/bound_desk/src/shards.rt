@@ -148,8 +148,7 @@ impl<H: BoundName> BoundBook<H> {
 
     /// Makes a session's request, which is safe by the book, on the shard of its key, which is lent. What the
     /// reply tells is shown by what the desk has seen then. A raise isn't made: it is answered as if another
-    /// quarantine stood beside. A release that keeps the value is Gone: its quarantine stands until it is
-    /// swept.
+    /// quarantine stood beside.
     pub fn on_shard(
         &mut self,
         word: &LogWord,
@@ -188,10 +187,7 @@ impl<H: BoundName> BoundBook<H> {
                 stamp,
             } => self.reply_to_replace(word, shard, who, grant, value, stamp),
             Wanted::Apply { grant, stamp } => self.reply_to_shift(word, shard, who, grant, stamp),
-            Wanted::Abort { grant } => {
-                grant.let_go();
-                Reply::Rel { told: Rel::Gone }
-            }
+            Wanted::Abort { grant } => self.reply_to_abort(word, shard, who, grant),
             Wanted::Raise { grant } => share(grant),
             Wanted::Renew { grant } => {
                 let told = self.renew(word, shard, &grant, now).ok();
