@@ -18,6 +18,7 @@ pub mod gets;
 pub mod keeps;
 pub mod puts;
 pub mod quarantines;
+pub mod raises;
 pub mod requests;
 pub mod sets;
 pub mod shards;
