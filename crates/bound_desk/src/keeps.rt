@@ -1,8 +1,11 @@
 //! Ends for a desk, and the release that keeps the key's value: of a session that was ended without a
 //! commit.
-ghost use Rattle.std.specs.Prelude.{◌≡◌, ◌≢◌, Bool};
+ghost use Rattle.std.specs.Prelude.{◌≡◌, ◌≢◌, Bool, IsTrue};
 ghost use Rattle.std.specs.Bool.{IsFalse};
 ghost use Rattle.rows_model.specs.Placement.{shard_of};
+ghost use Rattle.key_shard.specs.Answers.{release_step};
+ghost use Rattle.key_shard.specs.Replies.{ShowsRelease};
+ghost use Rattle.key_shard.specs.Shards.{is_out, past_of, returned};
 ghost use Rattle.session_client.specs.Belongs.{Belongs};
 ghost use Rattle.session_client.specs.declared.replies.Wanted.TheVariants as wanted;
 ghost use Rattle.log_word.specs.Steps.{IsBeginning};
@@ -51,8 +54,9 @@ impl<H: BoundName> BoundBook<H> {
     }
 
     /// Releases a grant for a session on the shard of its key, which is lent, and keeps the key's value.
-    /// The desk has seen that the grant's session was ended without a commit. Of that shard it has seen the
-    /// release's own step as the last, unless it is Gone. The grant is noted as spent. It takes no memory.
+    /// The desk has seen that the grant's session was ended without a commit. The release is the shard's; a
+    /// grant that isn't out there is Gone, and the shard stays. Of that shard the desk has seen the release's
+    /// own step as the last, unless it is Gone. The grant is noted as spent. It takes no memory.
     pub fn keep_value(
         &mut self,
         word: &LogWord,
@@ -67,6 +71,12 @@ impl<H: BoundName> BoundBook<H> {
         ensures last { result ≢ Rel.Gone → (has : Bool)
             × IsLastStep (shard_of grant.key H.word.shards)
             (release_short grant.key grant.sid grant.token How.Keep result has) self.new.seen }
+        ensures out { let at = shard.old.shard in IsTrue (is_out at grant) →
+            shard.new.shard ≡ returned at grant (release_step (past_of at) grant How.Keep) }
+        ensures shows { let at = shard.old.shard in IsTrue (is_out at grant) →
+            ShowsRelease (release_step (past_of at) grant How.Keep) result }
+        ensures unknown { IsFalse (is_out shard.old.shard grant) →
+            (shard.new.shard ≡ shard.old.shard) × (result ≡ Rel.Gone) }
         ensures book { self.new.book.book
             ≡ noted_for who (without_grant grant) self.old.book.book }
     {

@@ -1,8 +1,11 @@
 //! A raise for a desk: the book notes the grant as it is then.
-ghost use Rattle.std.specs.Prelude.{◌≡◌, ◌≢◌, Bool, IfErr, IfOk, None, OnErr, pos};
+ghost use Rattle.std.specs.Prelude.{◌≡◌, ◌≢◌, Bool, IfErr, IfOk, IsTrue, None, OnErr, OnOk, pos};
+ghost use Rattle.std.specs.Bool.{IsFalse};
 ghost use Rattle.rows_model.specs.Placement.{shard_of};
+ghost use Rattle.key_shard.specs.Answers.{raise_step};
 ghost use Rattle.key_shard.specs.Past.{entry};
-ghost use Rattle.key_shard.specs.Shards.{past_of};
+ghost use Rattle.key_shard.specs.Replies.{ShowsRaise};
+ghost use Rattle.key_shard.specs.Shards.{after_raise, is_out, past_of};
 ghost use Rattle.session_client.specs.Belongs.{Belongs, IsRaiseOf};
 ghost use Rattle.session_client.specs.declared.replies.Reply.TheVariants as reply;
 ghost use Rattle.session_client.specs.declared.replies.Wanted.TheVariants as wanted;
@@ -29,11 +32,13 @@ use session_client::Reply;
 
 impl<H: BoundName> BoundBook<H> {
     /// Raises the quarantine of a grant of a session, on the shard of its key, which is lent. The book bears
-    /// it out: the session is the present one and hasn't committed. The raise's own step is the last of
-    /// that shard that the desk has seen then, unless it is Gone. An old value that comes along is held by
+    /// it out: the session is the present one and hasn't committed. The raise is the shard's; a grant that
+    /// isn't out there is Gone, and the shard stays. The raise's own step is the last of that shard that the
+    /// desk has seen then, unless it is Gone. An old value that comes along is held by
     /// what the desk has seen then, and right, unless that tells that the store has stopped telling its
     /// rows. A grant that is raised is noted so, with its old value, of which a copy is taken first. One that
-    /// is Gone is noted as spent. For want of memory the grant comes back, and the book says what it said.
+    /// is Gone is noted as spent. For want of memory the grant comes back, the book says what it said, and
+    /// the shard stays.
     pub fn raise(
         &mut self,
         word: &LogWord,
@@ -53,6 +58,13 @@ impl<H: BoundName> BoundBook<H> {
             IsRaiseHeld H.opening (H.before no) no self.new.seen grant.key told) }
         ensures book { IfOk result (λ told.
             self.new.book.book ≡ noted_for who (with_raising grant told) self.old.book.book) }
+        ensures out { let at = shard.old.shard in IsTrue (is_out at grant) → OnOk result
+            (shard.new.shard ≡ after_raise at grant (raise_step (past_of at) grant)) }
+        ensures shows { let at = shard.old.shard in IsTrue (is_out at grant) → IfOk result
+            (ShowsRaise (past_of at) grant (raise_step (past_of at) grant)) }
+        ensures unknown { IsFalse (is_out shard.old.shard grant) → IfOk result (λ told.
+            (shard.new.shard ≡ shard.old.shard) × (told ≡ raising.Gone)) }
+        ensures stays { OnErr result (shard.new.shard ≡ shard.old.shard) }
         ensures belongs { IfOk result (IsRaiseOf grant) }
         ensures back { IfErr result (λ back. back ≡ grant) }
         ensures err { OnErr result (self.new.book.book ≡ self.old.book.book) }
@@ -93,6 +105,13 @@ impl<H: BoundName> BoundBook<H> {
             (IsRaiseFor grant (entry grant.key (past_of shard.old.shard))) }
         ensures alone { IfOk result
             (IsRaiseAlone H.opening H.before H.word.shards self.new.seen) }
+        ensures out { let at = shard.old.shard in IsTrue (is_out at grant) → OnOk result
+            (shard.new.shard ≡ after_raise at grant (raise_step (past_of at) grant)) }
+        ensures shows { let at = shard.old.shard in IsTrue (is_out at grant) → IfOk result
+            (ShowsRaise (past_of at) grant (raise_step (past_of at) grant)) }
+        ensures unknown { IsFalse (is_out shard.old.shard grant) → IfOk result (λ told.
+            (shard.new.shard ≡ shard.old.shard) × (told ≡ raising.Gone)) }
+        ensures stays { OnErr result (shard.new.shard ≡ shard.old.shard) }
         ensures belongs { IfOk result (IsRaiseOf grant) }
         ensures back { IfErr result (λ back. back ≡ grant) }
         ensures book { self.new.book ≡ self.old.book }

@@ -36,7 +36,7 @@ invariant_of-self g c =
       subst (λ (p : PassView). IsReadyToWrite opening before shards c.note_end.new.self.book p.seen) (sym same)
           (subst (λ b. IsReadyToWrite opening before shards b seen) (sym c.note_end.ensures)
           (noted_is_ready opening before shards who with_end book seen ready (λ _. ended_is_ready opening before shards book seen ready))),
-      subst (λ (p : PassView). IsQuitSeen c.quit_after.result p.seen) (sym same) (subst (λ o. IsQuitSeen o seen) (sym c.quit_after.ensures) has_quit),
+      subst (λ (p : PassView). IsQuitSeen c.quit_after-self-inside.result p.seen) (sym same) (subst (λ o. IsQuitSeen o seen) (sym c.quit_after-self-inside.ensures) has_quit),
     )
 
 pub returns-clause-seen : goal.returns-clause-seen
