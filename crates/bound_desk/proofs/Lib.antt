@@ -4,3 +4,4 @@ pub mod SafeLemmas
 pub mod SweepLemmas
 pub mod WritingLemmas
 pub mod WriteLemmas
+pub mod RaiseLemmas

@@ -1,8 +1,8 @@
 -- What the book bears out may be written: a new value, a shift. And a value may stay.
-use Rattle.std.proofs.Common.{ℕ, ◌≡◌, ◌&&◌, ◌||◌, Bool, true, false, not, List, take, Option, Some, None, IsSomeAnd, refl, sym, ap, subst, ◌∙◌, inl, ⊎_elim, arith}
+use Rattle.std.proofs.Common.{ℕ, ◌≡◌, ◌&&◌, ◌||◌, Bool, true, false, cond, not, List, take, Option, Some, None, IsSomeAnd, refl, sym, ap, subst, ◌∙◌, inl, ⊎_elim, arith}
 use Rattle.std.specs.Option.{ForSome}
 use Rattle.std.proofs.lemmas.Bool.{false≢true, eqb-true}
-use Rattle.std.proofs.lemmas.Option.{none-some}
+use Rattle.std.proofs.lemmas.Option.{none-some, same_Some}
 use Rattle.rows_model.specs.declared.changes.Change.{Change}
 use Rattle.rows_model.specs.declared.keys.Sid.{Sid}
 use Rattle.rows_model.specs.Delta.{delta_of, is_count}
@@ -16,7 +16,10 @@ use Rattle.session_client.specs.declared.replies.Wanted.TheVariants as wanted
 use Rattle.log_word.specs.declared.seen.Seen.{Seen}
 use Rattle.log_word.specs.Events.{is_over}
 use Rattle.log_word.specs.Steps.{IsBeginning, IsSound}
+use Rattle.log_word.proofs.ViewLemmas.{beginning_same}
 use Rattle.key_freshness.specs.Known.{IsAmong, IsLogged}
+use Rattle.key_freshness.proofs.KnownLemmas.{more-stands}
+use Rattle.key_freshness.proofs.MarkLemmas.{by_test}
 use Rattle.bound_hub.specs.Knowns.{commits_of, ended_of}
 use Rattle.bound_hub.specs.Olds.{IsOldHeld}
 use Rattle.bound_hub.specs.Shorts.{is_alone}
@@ -33,7 +36,7 @@ use Rattle.desk_book.specs.Books as books
 use Rattle.desk_book.specs.Borne.{IsBorne, Refreshes, Shifts}
 use Rattle.desk_book.specs.declared.facts.Committed.{Committed}
 use Rattle.desk_book.specs.declared.facts.Present.{Present}
-use Rattle.bound_desk.specs.Bound.{IsPresentSeen}
+use Rattle.bound_desk.specs.Bound.{quit_after, IsPresentSeen, IsQuitSeen}
 use Rattle.bound_desk.specs.Writing.{IsAloneSeen, IsHeldSeen, IsPlaced, IsReadyToWrite}
 use Rattle.bound_desk.proofs.BoundLemmas.{at_any}
 use Rattle.bound_desk.proofs.GrantNotes.{present_writes}
@@ -157,3 +160,27 @@ quit_shows shards early late who present false true false sound shows h is begin
     quit_is_among shards early late who present sound shows h (is refl).0 (is refl).1 begins (never refl)
 quit_shows shards early late who present false true true sound shows h is begins never e = absurd (false≢true e)
 quit_shows shards early late who present false false did_commit sound shows h is begins never e = absurd (false≢true e)
+
+-- a session that was ended without a commit is still seen to be so where more is seen
+pub quit_goes_on : (quit : Option Sid) (old new : Seen) → IsBeginning old new → IsQuitSeen quit old → IsQuitSeen quit new
+quit_goes_on quit old new begins h = λ who is. (more_is_known old new begins).kept who.number (h who is)
+
+-- none has quit yet
+pub none_quit : (quit : Option Sid) (seen : Seen) → quit ≡ None → IsQuitSeen quit seen
+none_quit quit seen none = λ who is. absurd (none-some who (sym none ∙ is))
+
+-- what is seen of the session that has quit after an end
+pub end_quits : (shards : ℕ) (seen : Seen) (who : Sid) (present : Option Present) (quit : Option Sid) (was writes did_commit : Bool) → IsSound shards seen → ShowsEnd who seen was
+    → ForSome present (IsPresentSeen seen) → (writes ≡ true → (is_of present who ≡ true) × (books.may_write present ≡ true))
+    → (did_commit ≡ false → IsLogged (commits_of seen.events) who.number → ⊥) → IsQuitSeen quit seen → IsQuitSeen (quit_after quit who was writes did_commit) seen
+end_quits shards seen who present quit was writes did_commit sound shows h is never old =
+    by_test (λ b. IsQuitSeen (cond b (Some who) quit) seen) (was || (writes && not did_commit))
+    (λ e one at.
+    subst (λ (s : Sid). IsAmong s.number (ended_of seen.events)) (same_Some who one at)
+    (quit_shows shards seen seen who present was writes did_commit sound shows h is (beginning_same seen) never e))
+    (λ _. old)
+
+-- no commit of a session is seen where none is when more is seen
+pub not_logged_yet : (old new : Seen) (who : ℕ) → IsBeginning old new → (IsLogged (commits_of new.events) who → ⊥) → IsLogged (commits_of old.events) who → ⊥
+not_logged_yet old new who begins never h =
+    never (record { place = h.place; commit = h.commit; at = more-stands (more_is_known old new begins) h.place h.commit h.at; own = h.own })

@@ -1,5 +1,5 @@
 -- What ties a desk's book to the pass beside it: the pass has seen what the book says.
-use Rattle.std.specs.Prelude.{ℕ, ◌≡◌, ◌≤◌, true, false, IsTrue, is_some, List, length, All}
+use Rattle.std.specs.Prelude.{ℕ, ◌≡◌, ◌≤◌, ◌&&◌, ◌||◌, not, Bool, true, false, if◌then◌else◌, IsTrue, is_some, List, length, All, Option, Some}
 use Rattle.std.specs.Option.{ForSome}
 use Rattle.rows_model.specs.declared.keys.QKey.{QKey}
 use Rattle.rows_model.specs.declared.keys.Sid.{Sid}
@@ -13,10 +13,11 @@ use Rattle.log_word.specs.declared.seen.Seen.{Seen}
 use Rattle.log_word.specs.Events.{may_write, is_over}
 use Rattle.log_word.specs.Steps.{IsSound, IsBeginning}
 use Rattle.key_freshness.specs.Held.{IsRight}
+use Rattle.key_freshness.specs.Known.{IsAmong}
 use Rattle.bound_hub.specs.Asked.{IsLeaseOn}
 use Rattle.bound_hub.specs.Facts.{answer_after}
 use Rattle.bound_hub.specs.Gets.{IsLastStep}
-use Rattle.bound_hub.specs.Knowns.{commits_of}
+use Rattle.bound_hub.specs.Knowns.{commits_of, ended_of}
 use Rattle.bound_hub.specs.Stores.{IsGrantSeen}
 use Rattle.desk_book.specs.Books.{Book, BookView, Held, with_lease}
 use Rattle.desk_book.specs.Borne.{IsPresent}
@@ -68,6 +69,14 @@ pub record IsBoundBook (opening : Tables) (shards : ℕ) (book : Book) (seen : S
   pub lease : ForSome book.lease (IsLeaseSeen opening shards book.answers seen)
   pub held : All (λ (one : Held). IsGrantSeen shards seen one.permit) book.held
   pub commit : IsCommitSeen book seen
+
+-- The pass has seen that the session was ended without a commit.
+abbrev pub IsQuitSeen : Option Sid → Seen → Type 0
+IsQuitSeen quit seen = ForSome quit (λ who. IsAmong who.number (ended_of seen.events))
+
+-- Which session has quit after the end of one: that one, where it was open, or was begun for writing and hasn't committed.
+abbrev pub quit_after : Option Sid → Sid → Bool → Bool → Bool → Option Sid
+quit_after before who was writes did_commit = if was || (writes && not did_commit) then Some who else before
 
 -- The session is the present one, and has committed.
 abbrev pub HasCommitted : Book → Sid → Type 0

@@ -1,10 +1,14 @@
--- What the answer to a quarantine brings, and what it adds to a book.
+-- What the answer to a quarantine or a raise brings, and what it adds to a book.
 use Rattle.std.specs.Prelude.{ℕ, ℤ, ◌≡◌, List, Option}
 use Rattle.key_shard.specs.declared.replies.QAnswer.{QAnswer}
 use Rattle.key_shard.specs.declared.replies.QAnswer.TheVariants as quarantine
+use Rattle.key_shard.specs.declared.replies.Raising.{Raising}
+use Rattle.key_shard.specs.declared.replies.Raising.TheVariants as raising
+use Rattle.key_shard.specs.Permit.{Permit}
+use Rattle.session_client.specs.Belongs.{IsRaised}
 use Rattle.log_word.specs.declared.seen.Seen.{Seen}
 use Rattle.bound_hub.specs.Stores.{IsGrantSeen}
-use Rattle.desk_book.specs.Books.{Book, with_grant}
+use Rattle.desk_book.specs.Books.{Book, with_grant, with_raised, without_grant}
 
 -- The step of the grant, if there is one, is seen, and this old value comes along.
 abbrev pub IsGrantFor : ℕ → Seen → Option (List ℕ × ℕ) → QAnswer → Type 0
@@ -15,3 +19,14 @@ IsGrantFor shards seen old other = Unit {0}
 abbrev pub with_granted : ℤ → QAnswer → Book → Book
 with_granted by (quarantine.Granted grant old) book = with_grant grant old by book
 with_granted by other book = book
+
+-- What comes along with a raise of a grant that is made: the grant in its new mode, and this old value.
+abbrev pub IsRaiseFor : Permit → Option (List ℕ × ℕ) → Raising → Type 0
+IsRaiseFor lent old (raising.Raised grant its) = IsRaised lent grant × (its ≡ old)
+IsRaiseFor lent old other = Unit {0}
+
+-- What the answer to a raise of a grant makes of a book: the grant is raised, or is spent.
+abbrev pub with_raising : Permit → Raising → Book → Book
+with_raising lent (raising.Raised grant old) book = with_raised grant old book
+with_raising lent (raising.Shared grant holder) book = book
+with_raising lent raising.Gone book = without_grant lent book

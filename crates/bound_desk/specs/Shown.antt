@@ -1,11 +1,14 @@
 -- What a reply to a request on a shard tells the desk that made it.
-use Rattle.std.specs.Prelude.{ℕ, ◌≡◌, ◌≢◌, pos, Bool, List}
+use Rattle.std.specs.Prelude.{ℕ, ◌≡◌, ◌≢◌, pos, true, Bool, List, Some, None}
 use Rattle.rows_model.specs.declared.keys.QKey.{QKey}
 use Rattle.rows_model.specs.declared.keys.Sid.{Sid}
+use Rattle.rows_model.specs.Delta.{is_count}
 use Rattle.rows_model.specs.Placement.{shard_of}
 use Rattle.rows_model.specs.Rows.{Tables}
 use Rattle.lease_table.specs.declared.records.Mode.TheVariants.{Invalidate, Refresh, Delta}
 use Rattle.key_shard.specs.declared.replies.How.TheVariants as hows
+use Rattle.key_shard.specs.declared.replies.Raising.{Raising}
+use Rattle.key_shard.specs.declared.replies.Raising.TheVariants as raising
 use Rattle.key_shard.specs.declared.replies.Rel.{Rel}
 use Rattle.key_shard.specs.declared.replies.Rel.TheVariants as rel
 use Rattle.key_shard.specs.declared.steps.Step.{Step}
@@ -17,8 +20,8 @@ use Rattle.session_client.specs.declared.replies.Wanted.TheVariants as wanted
 use Rattle.log_word.specs.declared.events.Short.{Short}
 use Rattle.log_word.specs.declared.seen.Seen.{Seen}
 use Rattle.bound_hub.specs.Gets.{got_short, IsGotFresh, IsLastStep}
-use Rattle.bound_hub.specs.Olds.{IsGrantHeld}
-use Rattle.bound_hub.specs.Told.{quarantine_short, release_short, set_short}
+use Rattle.bound_hub.specs.Olds.{IsGrantHeld, IsRaiseHeld}
+use Rattle.bound_hub.specs.Told.{quarantine_short, raise_short, release_short, replace_short, set_short}
 
 -- The step of this short form, after which the key has an entry or has none, is the last of the key's shard that is seen.
 abbrev pub IsLastOf : ℕ → QKey → (Bool → Short) → Seen → Type 0
@@ -28,6 +31,31 @@ IsLastOf shards key step seen = (has : Bool) × IsLastStep (shard_of key shards)
 abbrev pub ShowsDrop : ℕ → Permit → Rel → Seen → Type 0
 ShowsDrop shards grant told seen =
     told ≢ rel.Gone → IsLastOf shards grant.key (release_short grant.key grant.sid grant.token hows.Drop told) seen
+
+-- So is the step of a release with a new value, of a grant that is to refresh, unless it is Gone.
+abbrev pub ShowsPut : ℕ → Permit → ℕ → Rel → Seen → Type 0
+ShowsPut shards grant stamp told seen =
+    grant.mode ≡ Refresh → told ≢ rel.Gone
+    → IsLastOf shards grant.key (replace_short grant.key grant.sid grant.token stamp told) seen
+
+-- So is the step of a release that shifts the key's count, of a grant that is to shift, unless it is Gone.
+abbrev pub ShowsShift : ℕ → Permit → ℕ → Rel → Seen → Type 0
+ShowsShift shards grant stamp told seen =
+    grant.mode ≡ Delta → is_count grant.key ≡ true → told ≢ rel.Gone
+    → IsLastOf shards grant.key (release_short grant.key grant.sid grant.token (hows.Shift stamp) told) seen
+
+-- So is the step of a release that keeps the key's value, unless it is Gone.
+abbrev pub ShowsKeep : ℕ → Permit → Rel → Seen → Type 0
+ShowsKeep shards grant told seen =
+    told ≢ rel.Gone → IsLastOf shards grant.key (release_short grant.key grant.sid grant.token hows.Keep told) seen
+
+-- So is the step of a raise, of a grant that is to invalidate, unless it is Gone. An old value is held and right, unless it
+-- is seen that the store has stopped telling its rows.
+abbrev pub ShowsRaising : Tables → (ℕ → List Step) → ℕ → Permit → Raising → Seen → Type 0
+ShowsRaising opening before shards grant told seen =
+    grant.mode ≡ Invalidate
+    → (told ≢ raising.Gone → IsLastOf shards grant.key (raise_short grant.key grant.sid grant.token told) seen)
+    × IsRaiseHeld opening (before (shard_of grant.key shards)) (shard_of grant.key shards) seen grant.key told
 
 -- What a reply tells: the request's own step is the last that is seen of its shard, a hit is fresh, and an old value is held
 -- and right, both unless it is seen that the store has stopped telling its rows.
@@ -45,4 +73,9 @@ ShowsReply opening before shards who (wanted.QaRead key) (reply.Quar told) seen 
 ShowsReply opening before shards who (wanted.Delta key by) (reply.Quar told) seen =
     IsLastOf shards key (quarantine_short key who Delta by told) seen
 ShowsReply opening before shards who (wanted.Dar grant) (reply.Rel told) seen = ShowsDrop shards grant told seen
+ShowsReply opening before shards who (wanted.Sar grant (Some value) stamp) (reply.Rel told) seen = ShowsPut shards grant stamp told seen
+ShowsReply opening before shards who (wanted.Sar grant None stamp) (reply.Rel told) seen = ShowsDrop shards grant told seen
+ShowsReply opening before shards who (wanted.Apply grant stamp) (reply.Rel told) seen = ShowsShift shards grant stamp told seen
+ShowsReply opening before shards who (wanted.Abort grant) (reply.Rel told) seen = ShowsKeep shards grant told seen
+ShowsReply opening before shards who (wanted.Raise grant) (reply.Raise told) seen = ShowsRaising opening before shards grant told seen
 ShowsReply opening before shards who other told seen = Unit {0}

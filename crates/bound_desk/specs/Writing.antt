@@ -1,6 +1,6 @@
 -- What the pass has seen beside what the book says, for the releases that write a value: the quarantines that stood alone,
 -- and the place of the commit.
-use Rattle.std.specs.Prelude.{ℕ, ℤ, ◌≡◌, ◌+◌, ◌<◌, true, false, List, length, take, All, Option}
+use Rattle.std.specs.Prelude.{ℕ, ℤ, pos, ◌≡◌, ◌+◌, ◌<◌, true, false, List, length, take, All, Option}
 use Rattle.std.specs.Option.{ForSome}
 use Rattle.rows_model.specs.declared.keys.Sid.{Sid}
 use Rattle.rows_model.specs.Placement.{shard_of}
@@ -8,6 +8,8 @@ use Rattle.rows_model.specs.Rows.{Tables}
 use Rattle.lease_table.specs.declared.records.Mode.TheVariants as mode
 use Rattle.key_shard.specs.declared.replies.QAnswer.{QAnswer}
 use Rattle.key_shard.specs.declared.replies.QAnswer.TheVariants as quarantine
+use Rattle.key_shard.specs.declared.replies.Raising.{Raising}
+use Rattle.key_shard.specs.declared.replies.Raising.TheVariants as raising
 use Rattle.key_shard.specs.declared.steps.Step.{Step}
 use Rattle.sql_keeper.specs.declared.stores.Commit.{Commit}
 use Rattle.log_word.specs.declared.events.Short.{Short}
@@ -66,3 +68,9 @@ abbrev pub IsGrantAlone : Tables → (ℕ → List Step) → ℕ → ℤ → See
 IsGrantAlone opening before shards by seen (quarantine.Granted grant old) =
     is_alone grant.mode ≡ true → StoodAlone opening before shards seen (record { permit = grant; old = old; by = by })
 IsGrantAlone opening before shards by seen other = Unit {0}
+
+-- What a raise brings, whose quarantine stands alone.
+abbrev pub IsRaiseAlone : Tables → (ℕ → List Step) → ℕ → Seen → Raising → Type 0
+IsRaiseAlone opening before shards seen (raising.Raised grant old) =
+    StoodAlone opening before shards seen (record { permit = grant; old = old; by = pos 0 })
+IsRaiseAlone opening before shards seen other = Unit {0}

@@ -17,17 +17,19 @@ use std::marker::{Model, PhantomData};
 /// The pass has seen all that the book says: the lease when it was given, that each answer was given
 /// since, the Begin of a session that writes, the step of each grant, and that a session which has
 /// committed is over. It had seen each quarantine alone on its key that is held to refresh or to shift,
-/// and it has seen the commit at its place.
+/// and it has seen the commit at its place. Of a session that quit it has seen that it was ended without a
+/// commit.
 #[derive(Drop)]
 pub struct BoundBook<H: BoundName> {
     pub(crate) book: Book,
     pub(crate) pass: Pass,
+    pub(crate) quit: Option<Sid>,
     of: PhantomData<H>,
 }
 
 impl<H: BoundName> Model for BoundBook<H> {
     ghost use Rattle.std.specs.Prelude.{◌≡◌};
-    ghost use Rattle.bound_desk.specs.Bound.{BoundBookView, IsBoundBook};
+    ghost use Rattle.bound_desk.specs.Bound.{BoundBookView, IsBoundBook, IsQuitSeen};
     ghost use Rattle.bound_desk.specs.Writing.{IsReadyToWrite};
 
     ghost Value = { BoundBookView };
@@ -36,7 +38,8 @@ impl<H: BoundName> Model for BoundBook<H> {
 
     ghost invariant = { λ bound. (bound.pass.word ≡ H.word)
         × IsBoundBook H.opening H.word.shards bound.book.book bound.pass.seen
-        × IsReadyToWrite H.opening H.before H.word.shards bound.book.book bound.pass.seen };
+        × IsReadyToWrite H.opening H.before H.word.shards bound.book.book bound.pass.seen
+        × IsQuitSeen bound.quit bound.pass.seen };
 }
 
 impl<H: BoundName> BoundBook<H> {
@@ -49,6 +52,7 @@ impl<H: BoundName> BoundBook<H> {
         BoundBook {
             book: Book::new(alloc),
             pass,
+            quit: None,
             of: PhantomData,
         }
     }
@@ -82,6 +86,7 @@ impl<H: BoundName> BoundBook<H> {
         let BoundBook {
             book: _,
             pass,
+            quit: _,
             of: _,
         } = self;
         pass

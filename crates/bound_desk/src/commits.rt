@@ -1,11 +1,11 @@
-//! Commits and ends for a desk: the book notes them.
+//! Commits for a desk: the book notes them.
 ghost use Rattle.std.specs.Prelude.{◌≡◌, ◌⊎◌, All, IfErr, IfOk, OnErr};
 ghost use Rattle.sql_keeper.specs.Faults.{is_failure};
 ghost use Rattle.log_word.specs.Steps.{IsBeginning};
 ghost use Rattle.desk_book.specs.Apart.{put_back, AreLeft};
-ghost use Rattle.desk_book.specs.Books.{noted_for, with_commit, with_end};
+ghost use Rattle.desk_book.specs.Books.{noted_for, with_commit};
 ghost use Rattle.desk_book.specs.Borne.{Holds, IsPresent};
-ghost use Rattle.bound_hub.specs.Stores.{SeesFailure, ShowsCommit, ShowsEnd, ShowsRefusal};
+ghost use Rattle.bound_hub.specs.Stores.{SeesFailure, ShowsCommit, ShowsRefusal};
 
 use crate::bound_books::BoundBook;
 use bound_hub::{BoundName, BoundStore};
@@ -14,7 +14,7 @@ use key_shard::Grant;
 use log_word::LogWord;
 use rows_model::{Sid, Txn};
 use session_client::Grants;
-use sql_keeper::{Closed, CommitFault, Keeper};
+use sql_keeper::{CommitFault, Keeper};
 use std::alloc::Global;
 
 impl<H: BoundName> BoundBook<H> {
@@ -64,25 +64,5 @@ impl<H: BoundName> BoundBook<H> {
             self.book.note_commit(who, number, copy);
         }
         (told, txn)
-    }
-
-    /// Ends a session at the store that is lent, and tells whether it was open. Where it was, its End is
-    /// the last event that the desk has seen then. Else there is none. The end is noted. It takes no
-    /// memory.
-    pub fn end<K: Keeper>(
-        &mut self,
-        word: &LogWord,
-        store: &mut BoundStore<K, H>,
-        who: Sid,
-    ) -> Closed
-        requires { word.now ≡ H.word }
-        ensures sid { result.sid ≡ who }
-        ensures seen { IsBeginning self.old.seen self.new.seen }
-        ensures shows { ShowsEnd who self.new.seen result.was }
-        ensures book { self.new.book.book ≡ noted_for who with_end self.old.book.book }
-    {
-        let closed = store.end(word, &mut self.pass, who);
-        self.book.note_end(who);
-        closed
     }
 }

@@ -30,8 +30,10 @@ use std::sync::Wait;
 /// A worker's desk over a bound hub. It keeps a book of what it told for its present session, and a pass
 /// that has seen what the book says. Contracts see the book and what the pass has seen.
 ///
-/// A request that the book doesn't bear out is made in its safe form. Of those that it does, a release drops
-/// the key's value where it could put or shift it, one that keeps the value is Gone, and a raise isn't made.
+/// A request that the book bears out is made as it is asked for, and any other in its safe form. A release
+/// that keeps the value is Gone where the desk hasn't seen that the grant's session was ended without a
+/// commit. A put by a grant that isn't to refresh drops the value. So does a shift by a grant that isn't to
+/// shift, or of a key that is no count. A raise of a grant that isn't to invalidate is answered Shared.
 #[derive(Drop)]
 pub struct BoundDesk<'a, K: Keeper, H: BoundName, C: Clock, G: Gate, R: Wait> {
     rt: &'a R,
@@ -110,6 +112,26 @@ impl<'a, K: Keeper, H: BoundName, C: Clock, G: Gate, R: Wait> BoundDesk<'a, K, H
         let now = self.clock.now();
         self.told
             .reply_to_get(word, &mut *shard, who, key, floor, now)
+    }
+
+    /// The pass of the desk's word, which has seen what the desk has. The book goes, and so do the sweeper
+    /// and what it has seen.
+    pub fn into_pass(self) -> Pass
+        ensures word { result.word ≡ H.word }
+        ensures seen { result.seen ≡ self.seen }
+    {
+        let BoundDesk {
+            rt: _,
+            alloc: _,
+            hub: _,
+            worker: _,
+            clock: _,
+            gate: _,
+            told,
+            sweeper: _,
+            sweep: _,
+        } = self;
+        told.into_pass()
     }
 }
 

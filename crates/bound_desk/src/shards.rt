@@ -14,7 +14,7 @@ ghost use Rattle.bound_desk.specs.Shown.{ShowsReply};
 
 use crate::bound_books::BoundBook;
 use bound_hub::{BoundName, BoundShard};
-use key_shard::{Grant, Raising, Rel, ShardFault};
+use key_shard::ShardFault;
 use lease_table::Mode;
 use log_word::LogWord;
 use rows_model::{QKey, Sid, Value};
@@ -147,9 +147,10 @@ impl<H: BoundName> BoundBook<H> {
     }
 
     /// Makes a session's request, which is safe by the book, on the shard of its key, which is lent. What the
-    /// reply tells is shown by what the desk has seen then. A release drops the key's value, whatever is
-    /// asked for. A raise isn't made: it is answered as if another quarantine stood beside. A release
-    /// that keeps the value is Gone: its quarantine stands until it is swept.
+    /// reply tells is shown by what the desk has seen then. A release puts or shifts the value as asked for,
+    /// where the grant's mode, and of a shift the key, are fit for that, and else drops it. One that keeps the
+    /// value is Gone where the desk hasn't seen that the grant's session was ended without a commit. A raise
+    /// of a grant that isn't to invalidate is Shared.
     pub fn on_shard(
         &mut self,
         word: &LogWord,
@@ -184,19 +185,12 @@ impl<H: BoundName> BoundBook<H> {
             },
             Wanted::Sar {
                 grant,
-                value: _,
-                stamp: _,
-            } => Reply::Rel {
-                told: self.drop_value(word, shard, who, grant),
-            },
-            Wanted::Apply { grant, stamp: _ } => Reply::Rel {
-                told: self.drop_value(word, shard, who, grant),
-            },
-            Wanted::Abort { grant } => {
-                grant.let_go();
-                Reply::Rel { told: Rel::Gone }
-            }
-            Wanted::Raise { grant } => share(grant),
+                value,
+                stamp,
+            } => self.reply_to_replace(word, shard, who, grant, value, stamp),
+            Wanted::Apply { grant, stamp } => self.reply_to_shift(word, shard, who, grant, stamp),
+            Wanted::Abort { grant } => self.reply_to_abort(word, shard, who, grant),
+            Wanted::Raise { grant } => self.reply_to_raise(word, shard, who, grant),
             Wanted::Renew { grant } => {
                 let told = self.renew(word, shard, &grant, now).ok();
                 Reply::Renew { grant, told }
@@ -207,16 +201,6 @@ impl<H: BoundName> BoundBook<H> {
             | Wanted::End
             | Wanted::Nothing => unreachable!(),
         }
-    }
-}
-
-/// The reply to a raise that isn't made: as if another quarantine stood beside. The grant comes back.
-fn share(grant: Grant) -> Reply
-    ensures { (who : Sid) → Belongs who (wanted.Raise grant) result }
-{
-    let holder = grant.sid();
-    Reply::Raise {
-        told: Raising::Shared { grant, holder },
     }
 }
 

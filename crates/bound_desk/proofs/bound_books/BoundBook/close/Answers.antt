@@ -4,6 +4,7 @@ use Rattle.log_word.specs.Passes.{WordView}
 use Rattle.log_word.specs.Steps.{IsSound}
 use Rattle.bound_desk.proofs.BoundLemmas.{book_goes_on}
 use Rattle.bound_desk.proofs.GrantNotes.{close_is_over}
+use Rattle.bound_desk.proofs.WriteLemmas.{quit_goes_on}
 use Rattle.bound_desk.proofs.WritingLemmas.{ready_goes_on}
 use Rattle.bound_desk.proofs.bound_books.BoundBook.close.Goals as goal
 use Rattle.bound_desk.proofs.bound_books.BoundBook.close.Goals.{then-was, else-was}
@@ -13,6 +14,7 @@ invariant_of-self g c = (
   c.end-closed.ensures.word,
   book_goes_on g.H.HubName.opening g.H.BoundName.word.shards c.self.inside.book.book c.self.inside.pass.seen c.end-closed.new.pass.seen c.end-closed.ensures.seen c.self.invariant.1,
   ready_goes_on g.H.HubName.opening g.H.BoundName.before g.H.BoundName.word.shards c.self.inside.book.book c.self.inside.pass.seen c.end-closed.new.pass.seen c.end-closed.ensures.seen c.self.invariant.2,
+  quit_goes_on c.self.inside.quit c.self.inside.pass.seen c.end-closed.new.pass.seen c.end-closed.ensures.seen c.self.invariant.3,
 )
 
 pub returns-clause-over : goal.returns-clause-over

@@ -8,6 +8,7 @@ use Rattle.bound_desk.specs.Bound.{BoundBookView, IsBoundBook}
 use Rattle.bound_desk.specs.Writing.{IsReadyToWrite}
 use Rattle.bound_desk.proofs.BoundLemmas.{book_goes_on, noted_is_bound}
 use Rattle.bound_desk.proofs.GrantNotes.{commit_is_over, committed_is_bound, held_are_seen}
+use Rattle.bound_desk.proofs.WriteLemmas.{quit_goes_on}
 use Rattle.bound_desk.proofs.WritingLemmas.{committed_is_ready, noted_is_ready, ready_goes_on}
 use Rattle.bound_desk.proofs.bound_books.BoundBook.commit.Goals as goal
 
@@ -40,6 +41,7 @@ invariant_of-self g c =
           (noted_is_ready opening before shards a.who (with_commit number c.in-Ok.copy) book seen ready
           (λ is. committed_is_ready opening before shards book c.self.inside.pass.seen seen cap a.who c.in-Ok.copy a.grants.now number c.commit-told.ensures.seen late copied
           c.commit-told.ensures.true_so_far is c.self.invariant.2)),
+      quit_goes_on c.self.inside.quit c.self.inside.pass.seen seen c.commit-told.ensures.seen c.self.invariant.3,
     )
 
 pub invariant_of-self-in-Err-told : goal.invariant_of-self-in-Err-told
@@ -47,4 +49,5 @@ invariant_of-self-in-Err-told g c = (
   c.commit-told.ensures.word,
   book_goes_on g.H.HubName.opening g.H.BoundName.word.shards c.self.inside.book.book c.self.inside.pass.seen c.commit-told.new.pass.seen c.commit-told.ensures.seen c.self.invariant.1,
   ready_goes_on g.H.HubName.opening g.H.BoundName.before g.H.BoundName.word.shards c.self.inside.book.book c.self.inside.pass.seen c.commit-told.new.pass.seen c.commit-told.ensures.seen c.self.invariant.2,
+  quit_goes_on c.self.inside.quit c.self.inside.pass.seen c.commit-told.new.pass.seen c.commit-told.ensures.seen c.self.invariant.3,
 )

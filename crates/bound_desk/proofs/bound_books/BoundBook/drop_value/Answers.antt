@@ -4,6 +4,7 @@ use Rattle.bound_desk.specs.Bound.{IsBoundBook}
 use Rattle.bound_desk.specs.Writing.{IsReadyToWrite}
 use Rattle.bound_desk.proofs.BoundLemmas.{book_goes_on, noted_is_bound}
 use Rattle.bound_desk.proofs.GrantNotes.{spent_is_bound}
+use Rattle.bound_desk.proofs.WriteLemmas.{quit_goes_on}
 use Rattle.bound_desk.proofs.WritingLemmas.{noted_is_ready, ready_goes_on, spent_is_ready}
 use Rattle.bound_desk.proofs.bound_books.BoundBook.drop_value.Goals as goal
 
@@ -22,4 +23,5 @@ invariant_of-self g c =
           (noted_is_bound opening shards c.args.who (without_grant ticket) book seen still (λ _. spent_is_bound opening shards book seen ticket still)),
       subst (λ b. IsReadyToWrite opening before shards b seen) (sym c.note_spent.ensures)
           (noted_is_ready opening before shards c.args.who (without_grant ticket) book seen ready (λ _. spent_is_ready opening before shards book seen ticket ready)),
+      quit_goes_on c.self.inside.quit c.self.inside.pass.seen seen c.release-told.ensures.seen c.self.invariant.3,
     )

@@ -8,6 +8,7 @@ use Rattle.desk_book.proofs.ListLemmas.{ok_gives}
 use Rattle.bound_desk.specs.Writing.{IsGrantAlone}
 use Rattle.bound_desk.proofs.BoundLemmas.{book_goes_on}
 use Rattle.bound_desk.proofs.GrantNotes.{answer_brings}
+use Rattle.bound_desk.proofs.WriteLemmas.{quit_goes_on}
 use Rattle.bound_desk.proofs.WritingLemmas.{answer_stood, ready_goes_on}
 use Rattle.bound_desk.proofs.bound_books.BoundBook.make_quarantine.Goals as goal
 
@@ -16,6 +17,7 @@ invariant_of-self g c = (
   c.quarantine.ensures.word,
   book_goes_on g.H.HubName.opening g.H.BoundName.word.shards c.self.inside.book.book c.self.inside.pass.seen c.quarantine.new.pass.seen c.quarantine.ensures.seen c.self.invariant.1,
   ready_goes_on g.H.HubName.opening g.H.BoundName.before g.H.BoundName.word.shards c.self.inside.book.book c.self.inside.pass.seen c.quarantine.new.pass.seen c.quarantine.ensures.seen c.self.invariant.2,
+  quit_goes_on c.self.inside.quit c.self.inside.pass.seen c.quarantine.new.pass.seen c.quarantine.ensures.seen c.self.invariant.3,
 )
 
 pub returns-clause-grant : goal.returns-clause-grant

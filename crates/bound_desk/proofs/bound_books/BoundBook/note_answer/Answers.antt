@@ -23,4 +23,5 @@ invariant_of-self g c =
       subst (λ b. IsReadyToWrite opening before shards b seen) (sym c.note_answer.ensures)
           (noted_is_ready opening before shards a.who (with_answer a.answer) book seen c.self.invariant.2
           (λ _. answered_is_ready opening before shards book seen a.answer c.self.invariant.2)),
+      c.self.invariant.3,
     )

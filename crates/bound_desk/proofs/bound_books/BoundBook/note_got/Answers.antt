@@ -32,4 +32,5 @@ invariant_of-self g c =
       subst (λ b. IsReadyToWrite opening before shards b pass.seen) (sym c.note_lease.ensures)
           (noted_is_ready opening before shards a.who (with_lease a.key token) book pass.seen c.self.invariant.2
           (λ _. leased_is_ready opening before shards book pass.seen a.key token c.self.invariant.2)),
+      c.self.invariant.3,
     )

@@ -33,4 +33,5 @@ invariant_of-self g c =
       subst (λ b. IsReadyToWrite opening before shards b seen) (sym is)
           (noted_is_ready opening before shards a.who (with_grant a.ticket a.old a.by) book seen c.self.invariant.2
           (λ _. granted_is_ready opening before shards book seen a.ticket a.old a.by sound none stood c.self.invariant.2)),
+      c.self.invariant.3,
     )

@@ -7,7 +7,7 @@ use Rattle.bound_desk.specs.Bound.{BoundBookView, IsBoundBook}
 use Rattle.bound_desk.specs.Writing.{IsReadyToWrite}
 use Rattle.bound_desk.proofs.BoundLemmas.{book_goes_on, noted_is_bound}
 use Rattle.bound_desk.proofs.GrantNotes.{spent_is_bound}
-use Rattle.bound_desk.proofs.WriteLemmas.{borne_may_put}
+use Rattle.bound_desk.proofs.WriteLemmas.{borne_may_put, quit_goes_on}
 use Rattle.bound_desk.proofs.WritingLemmas.{noted_is_ready, ready_goes_on, spent_is_ready}
 use Rattle.bound_desk.proofs.bound_books.BoundBook.put_value.Goals as goal
 
@@ -33,6 +33,7 @@ invariant_of-self g c =
       c.replace.ensures.word,
       book_goes_on opening shards book seen now c.replace.ensures.seen c.self.invariant.1,
       ready_goes_on opening before shards book seen now c.replace.ensures.seen c.self.invariant.2,
+      quit_goes_on c.self.inside.quit seen now c.replace.ensures.seen c.self.invariant.3,
     )
 
 pub invariant_of-self-2 : goal.invariant_of-self-2
@@ -51,4 +52,5 @@ invariant_of-self-2 g c =
           (noted_is_bound opening shards who (without_grant ticket) book seen still (λ _. spent_is_bound opening shards book seen ticket still)),
       subst (λ b. IsReadyToWrite opening before shards b seen) (sym c.note_spent.ensures)
           (noted_is_ready opening before shards who (without_grant ticket) book seen ready (λ _. spent_is_ready opening before shards book seen ticket ready)),
+      quit_goes_on c.self.inside.quit c.self.inside.pass.seen seen c.replace.ensures.seen c.self.invariant.3,
     )

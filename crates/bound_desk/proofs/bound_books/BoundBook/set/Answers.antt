@@ -4,6 +4,7 @@ use Rattle.desk_book.specs.Borne.{IsBorne}
 use Rattle.bound_hub.specs.Asked.{MaySet}
 use Rattle.bound_desk.specs.Bound.{BoundBookView}
 use Rattle.bound_desk.proofs.BoundLemmas.{book_goes_on, borne_may_set}
+use Rattle.bound_desk.proofs.WriteLemmas.{quit_goes_on}
 use Rattle.bound_desk.proofs.WritingLemmas.{ready_goes_on}
 use Rattle.bound_desk.proofs.bound_books.BoundBook.set.Goals as goal
 
@@ -19,4 +20,5 @@ invariant_of-self g c = (
   c.set.ensures.word,
   book_goes_on g.H.HubName.opening g.H.BoundName.word.shards c.self.inside.book.book c.self.inside.pass.seen c.set.new.pass.seen c.set.ensures.seen c.self.invariant.1,
   ready_goes_on g.H.HubName.opening g.H.BoundName.before g.H.BoundName.word.shards c.self.inside.book.book c.self.inside.pass.seen c.set.new.pass.seen c.set.ensures.seen c.self.invariant.2,
+  quit_goes_on c.self.inside.quit c.self.inside.pass.seen c.set.new.pass.seen c.set.ensures.seen c.self.invariant.3,
 )
