@@ -1,6 +1,5 @@
-use Rattle.std.proofs.Common.{◌≡◌, Bool, false, sym, ap, subst, ◌∙◌}
+use Rattle.std.proofs.Common.{sym, ap, subst}
 use Rattle.key_shard.specs.Shards.{ShardView}
-use Rattle.log_word.specs.declared.seen.Seen.{Seen}
 use Rattle.log_word.specs.Steps.{IsBeginning}
 use Rattle.log_word.specs.Passes.{IsTogether}
 use Rattle.log_word.proofs.ViewLemmas.{beginning_trans}

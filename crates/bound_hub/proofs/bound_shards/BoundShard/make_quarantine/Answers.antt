@@ -1,4 +1,4 @@
-use Rattle.std.proofs.Common.{ℕ, ◌≡◌, true, Ok, w32, to_z, of_z, is_some, sym, ap, subst, ◌∙◌}
+use Rattle.std.proofs.Common.{◌≡◌, true, Ok, w32, to_z, of_z, is_some, sym, ap, subst, ◌∙◌}
 use Rattle.std.proofs.lemmas.Int.{to_z-of_z}
 use Rattle.rows_model.specs.Placement.{shard_of}
 use Rattle.key_shard.specs.Answers.{quarantine_step}

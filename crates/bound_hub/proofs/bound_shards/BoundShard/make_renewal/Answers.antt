@@ -1,4 +1,4 @@
-use Rattle.std.proofs.Common.{ℕ, ◌≡◌, true, false, is_some, sym, ap, subst, ◌∙◌}
+use Rattle.std.proofs.Common.{is_some, ap, subst, ◌∙◌}
 use Rattle.key_shard.specs.Answers.{renew_step}
 use Rattle.key_shard.specs.Past.{entry}
 use Rattle.key_shard.specs.Shards.{past_of, is_out}

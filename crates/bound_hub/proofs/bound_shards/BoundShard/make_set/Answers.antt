@@ -1,11 +1,9 @@
-use Rattle.std.proofs.Common.{ℕ, ◌≡◌, is_some, sym, ap, subst, ◌∙◌}
+use Rattle.std.proofs.Common.{◌≡◌, is_some, sym, ap, subst, ◌∙◌}
 use Rattle.rows_model.specs.Placement.{shard_of}
 use Rattle.key_shard.specs.Answers.{set_step}
 use Rattle.key_shard.specs.Past.{entry}
 use Rattle.key_shard.specs.Shards.{past_of}
-use Rattle.log_word.specs.declared.events.Short.{Short}
 use Rattle.log_word.specs.Steps.{IsBeginning, IsBorneOut}
-use Rattle.log_word.specs.Views.{with_step}
 use Rattle.bound_hub.specs.Asked.{MaySet}
 use Rattle.bound_hub.specs.Gets.{IsLastStep}
 use Rattle.bound_hub.specs.Ties.{BoundShardView}

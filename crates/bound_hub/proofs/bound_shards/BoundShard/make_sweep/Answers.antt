@@ -1,4 +1,4 @@
-use Rattle.std.proofs.Common.{ℕ, ◌≡◌, ◌≢◌, true, false, is_some, refl, sym, ap, subst, ◌∙◌}
+use Rattle.std.proofs.Common.{◌≡◌, ◌≢◌, true, false, is_some, refl, sym, ap, subst, ◌∙◌}
 use Rattle.key_shard.specs.declared.replies.How.TheVariants as hows
 use Rattle.key_shard.specs.declared.replies.Rel.TheVariants as rel
 use Rattle.key_shard.specs.declared.steps.Ended.TheVariants as ended

@@ -1,7 +1,6 @@
-use Rattle.std.proofs.Common.{◌≡◌, true, ap, sym, subst, ◌∙◌}
+use Rattle.std.proofs.Common.{ap, subst, ◌∙◌}
 use Rattle.log_word.specs.Passes.{PassView}
 use Rattle.log_word.specs.Steps.{IsBeginning}
-use Rattle.log_word.specs.Events.{may_write}
 use Rattle.bound_hub.proofs.FreshLemmas.{begins_on}
 use Rattle.bound_hub.proofs.QuarantineLemmas.{still_may_write}
 use Rattle.bound_hub.proofs.bound_shards.BoundShard.quarantine.Goals as goal

@@ -1,4 +1,4 @@
-use Rattle.std.proofs.Common.{ap, sym, subst, ◌∙◌}
+use Rattle.std.proofs.Common.{ap, subst, ◌∙◌}
 use Rattle.log_word.specs.Passes.{PassView}
 use Rattle.log_word.specs.Steps.{IsBeginning}
 use Rattle.bound_hub.proofs.FreshLemmas.{begins_on}

@@ -1,8 +1,4 @@
-use Rattle.std.proofs.Common.{IfSome, Option, None, Some, subst}
-use Rattle.lease_table.specs.declared.records.Due.{Due}
-use Rattle.lease_table.specs.Expiry.{StandsDue}
-use Rattle.key_shard.specs.Past.{standing}
-use Rattle.key_shard.specs.Shards.{past_of}
+use Rattle.std.proofs.Common.{IfSome, subst}
 use Rattle.bound_hub.specs.Sweeps.{HasSeenGrant}
 use Rattle.bound_hub.specs.Ties.{BoundShardView}
 use Rattle.bound_hub.proofs.SweepTies.{each_due_was_granted}

@@ -1,7 +1,5 @@
-use Rattle.std.proofs.Common.{sym, ap, subst, ◌∙◌}
-use Rattle.log_word.specs.declared.seen.Seen.{Seen}
+use Rattle.std.proofs.Common.{ap, ◌∙◌}
 use Rattle.log_word.specs.Passes.{PassView}
-use Rattle.bound_hub.specs.Stores.{ShowsEnd}
 use Rattle.bound_hub.proofs.ShowLemmas.{caller_goes_on}
 use Rattle.bound_hub.proofs.bound_stores.BoundStore.end.Goals as goal
 

@@ -1,7 +1,5 @@
-use Rattle.std.proofs.Common.{◌≡◌, Bool, IfOk, is_none, sym, ap, subst, ◌∙◌}
+use Rattle.std.proofs.Common.{is_none, ap, subst, ◌∙◌}
 use Rattle.sql_keeper.specs.Faults.{keep_failed}
-use Rattle.sql_keeper.specs.Stores.{with_call}
-use Rattle.executor.specs.OnStore.{Goes}
 use Rattle.log_word.specs.Steps.{IsBeginning}
 use Rattle.bound_hub.specs.Ties.{BoundStoreView}
 use Rattle.bound_hub.specs.Stores.{with_keeper_call}

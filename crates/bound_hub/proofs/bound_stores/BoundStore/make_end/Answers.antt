@@ -1,5 +1,4 @@
-use Rattle.std.proofs.Common.{◌≡◌, true, sym, ap, subst, ◌∙◌}
-use Rattle.log_word.specs.declared.seen.Seen.{Seen}
+use Rattle.std.proofs.Common.{◌≡◌, true, sym, subst, ◌∙◌}
 use Rattle.sql_keeper.specs.Sessions.{is_open}
 use Rattle.bound_hub.specs.Ties.{BoundStoreView}
 use Rattle.log_word.specs.Steps.{IsBeginning}
