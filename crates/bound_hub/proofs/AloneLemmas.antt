@@ -1,7 +1,7 @@
 -- A quarantine to refresh or to shift stands alone: it is a moment of its session when it comes to stand
 -- so, and while it stands no other is granted.
-use Rattle.std.proofs.Common.{ℕ, ℤ, ◌≡◌, ◌≢◌, ◌⊎◌, ◌≤◌, ◌<◌, ◌==◌, ◌&&◌, Bool, true, false, not, cond, IsTrue, List, [], ◌∷◌, ◌++◌, map, filter, find, Option, Some, None, refl, sym, ap, subst, ◌∙◌, inl, inr, ⊎_elim, arith}
-use Rattle.std.specs.List.{list_any, list_all, AllByRecursion}
+use Rattle.std.proofs.Common.{ℕ, ◌≡◌, ◌≢◌, ◌⊎◌, ◌<◌, ◌==◌, ◌&&◌, Bool, true, false, not, cond, List, [], ◌∷◌, ◌++◌, map, filter, find, Some, None, refl, sym, ap, subst, ◌∙◌, inl, inr, ⊎_elim, arith}
+use Rattle.std.specs.List.{list_all, AllByRecursion}
 use Rattle.std.proofs.lemmas.Bool.{false≢true, eqb-true, eq-eqb, and_parts, or_cases}
 use Rattle.rows_model.specs.declared.keys.QKey.{QKey}
 use Rattle.rows_model.specs.declared.keys.Sid.{Sid}
@@ -20,9 +20,9 @@ use Rattle.key_shard.specs.Answers.{IsLegalPast}
 use Rattle.key_shard.proofs.CaseLemmas.{MayJoin}
 use Rattle.key_shard.proofs.LegalLemmas.{legal_stands_well, token_stands}
 use Rattle.key_shard.proofs.ModeLemmas.{answers_end_by_mode}
-use Rattle.key_shard.proofs.RaiseLemmas.{raised-same, quar-raised, quar-renewed, raised-sid, renewed-sid, renewed-mode, renewed-shift}
+use Rattle.key_shard.proofs.RaiseLemmas.{quar-raised, quar-renewed, renewed-sid, renewed-mode, renewed-shift}
 use Rattle.sql_keeper.specs.Fresh.{quarantines}
-use Rattle.key_freshness.specs.Marks.{Mark, Granted, Ended, Leased, Wrote, Has, writes_by, marks_in, marks_of}
+use Rattle.key_freshness.specs.Marks.{Granted, Ended, Leased, Wrote, Has, writes_by, marks_in, marks_of}
 use Rattle.key_freshness.specs.Held.{stands_as}
 use Rattle.key_freshness.proofs.GrantMarks.{none_in, one_in, step-granted}
 use Rattle.key_freshness.proofs.MarkLemmas.{by_test, has-split}

@@ -1,10 +1,9 @@
 -- A get's step: its short, that it is borne out, and that the facts stay.
-use Rattle.std.proofs.Common.{ℕ, ◌≡◌, ◌≤◌, ◌==◌, Bool, true, false, cond, List, [], ◌∷◌, ◌++◌, length, Option, None}
-use Rattle.std.proofs.Common.{Some, Ok, Err, is_some, option_map, nat_le, refl, sym, ap, subst, ◌∙◌, inl, inr, ⊎_elim, eqb-true, arith}
+use Rattle.std.proofs.Common.{ℕ, ◌≡◌, ◌≤◌, ◌==◌, Bool, false, cond, List, ◌∷◌, length, Option, None}
+use Rattle.std.proofs.Common.{Some, Ok, Err, is_some, option_map, nat_le, refl, sym, ap, subst, ◌∙◌, eqb-true, arith}
 use Rattle.std.proofs.lemmas.Bool.{false≢true}
 use Rattle.rows_model.specs.declared.keys.QKey.{QKey}
 use Rattle.rows_model.specs.declared.keys.Sid.{Sid}
-use Rattle.rows_model.specs.Key.{same_key}
 use Rattle.rows_model.specs.Rows.{Tables}
 use Rattle.rows_model.specs.Placement.{shard_of}
 use Rattle.case_tables.specs.declared.grids.Verdict.{Verdict}
@@ -16,7 +15,7 @@ use Rattle.key_shard.specs.declared.replies.Got.{Got}
 use Rattle.key_shard.specs.declared.replies.ShardFault.{ShardFault}
 use Rattle.key_shard.specs.declared.replies.ShardFault.TheVariants as faults
 use Rattle.key_shard.specs.declared.replies.Got.TheVariants as got
-use Rattle.key_shard.specs.Past.{Terms, entry, standing, own_of, next_token}
+use Rattle.key_shard.specs.Past.{Terms, entry, own_of, next_token}
 use Rattle.key_shard.specs.Answers.{get_step, get_by, found_step, miss_by, miss_step}
 use Rattle.key_shard.specs.Replies.{ShowsGot}
 use Rattle.key_shard.specs.Shards.{ShardView, past_of, refusal, Refuses, spent_at}

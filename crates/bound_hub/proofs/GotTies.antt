@@ -1,5 +1,5 @@
 -- A shard and its pass still belong together when a get was made and seen.
-use Rattle.std.proofs.Common.{ℕ, ◌≡◌, Bool, false, List, [], ◌∷◌, ◌++◌, is_some, sym, ap, subst, ◌∙◌}
+use Rattle.std.proofs.Common.{ℕ, ◌≡◌, Bool, false, List, ◌++◌, is_some, sym, ap, subst, ◌∙◌}
 use Rattle.rows_model.specs.declared.keys.QKey.{QKey}
 use Rattle.rows_model.specs.declared.keys.Sid.{Sid}
 use Rattle.rows_model.specs.Rows.{Tables}
@@ -7,7 +7,7 @@ use Rattle.rows_model.specs.Placement.{shard_of}
 use Rattle.key_shard.specs.declared.steps.Step.{Step}
 use Rattle.key_shard.specs.declared.replies.Got.{Got}
 use Rattle.key_shard.specs.declared.replies.Got.TheVariants as got
-use Rattle.key_shard.specs.Past.{Terms, entry}
+use Rattle.key_shard.specs.Past.{entry}
 use Rattle.key_shard.specs.Answers.{get_step}
 use Rattle.key_shard.specs.Replies.{ShowsGot}
 use Rattle.key_shard.specs.Shards.{ShardView, past_of, stepped, rolled}

@@ -1,5 +1,5 @@
 -- Where no key of a transaction lacks a grant, and the steps of the grants are seen, the Commit may be seen.
-use Rattle.std.proofs.Common.{ℕ, ◌≡◌, ◌==◌, ◌&&◌, ◌||◌, Bool, true, false, cond, not, find, List, [], ◌∷◌, All, Option, None, Some, refl, sym, ap, subst, ◌∙◌, ⊎_elim}
+use Rattle.std.proofs.Common.{ℕ, ◌≡◌, ◌==◌, ◌||◌, Bool, true, false, cond, not, find, List, [], ◌∷◌, All, Option, None, Some, refl, sym, subst, ◌∙◌, ⊎_elim}
 use Rattle.std.specs.List.{list_any}
 use Rattle.std.proofs.lemmas.Bool.{false≢true, eqb-true, eq-eqb, or_cases, and_parts, and_from}
 use Rattle.std.proofs.lemmas.List.Elements.{All-head, All-tail, All-weaker}
@@ -12,7 +12,6 @@ use Rattle.rows_model.specs.Placement.{shard_of}
 use Rattle.rows_model.proofs.SameKey.{same_key-true, same_key-refl}
 use Rattle.rows_model.proofs.FootprintLemmas.{footprints_are_exact_is}
 use Rattle.key_shard.specs.Permit.{Permit}
-use Rattle.sql_keeper.specs.declared.faults.CommitFault.{CommitFault}
 use Rattle.sql_keeper.specs.Commits.{covers, is_covered, uncovered, covered_fault, commit_fault}
 use Rattle.log_word.specs.declared.events.StoreEvent.TheVariants.{Commit}
 use Rattle.log_word.specs.declared.events.ShortKind.TheVariants as kinds

@@ -1,5 +1,5 @@
 -- The hits of a shard that were fresh stay fresh where more was seen of the store.
-use Rattle.std.proofs.Common.{ℕ, ◌≡◌, ◌≤◌, ◌<◌, List, ◌∷◌, [], length, sym, inl, inr, arith}
+use Rattle.std.proofs.Common.{ℕ, ◌<◌, List, ◌∷◌, [], length, sym, inl, inr, arith}
 use Rattle.std.specs.List.{AllByRecursion}
 use Rattle.std.proofs.lemmas.Option.{slice_get_within}
 use Rattle.rows_model.specs.declared.keys.QKey.{QKey}
@@ -9,10 +9,9 @@ use Rattle.key_shard.specs.declared.steps.Step.TheVariants as step
 use Rattle.sql_keeper.specs.declared.stores.Commit.{Commit}
 use Rattle.sql_keeper.specs.Fresh.{IsFreshHit, IsFreshStep, IsFreshPast}
 use Rattle.log_word.specs.declared.events.StoreEvent.{StoreEvent}
-use Rattle.log_word.specs.declared.seen.Seen.{Seen}
 use Rattle.log_word.specs.Events.{AreInOrder}
-use Rattle.log_word.specs.Steps.{IsBorneOut, IsBeginning}
-use Rattle.key_freshness.specs.Known.{Known, IsMore, IsOver, StandsAt}
+use Rattle.log_word.specs.Steps.{IsBorneOut}
+use Rattle.key_freshness.specs.Known.{IsMore, IsOver, StandsAt}
 use Rattle.key_freshness.proofs.KnownLemmas.{more-length, more-stands, more-stood}
 use Rattle.key_freshness.proofs.MarkLemmas.{released-ended}
 use Rattle.key_freshness.proofs.MomentLemmas.{more_is_right}

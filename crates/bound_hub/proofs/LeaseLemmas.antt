@@ -1,5 +1,5 @@
 -- A lease to read is a moment of nobody, and while it is recorded no quarantine was granted.
-use Rattle.std.proofs.Common.{ℕ, ◌≡◌, ◌⊎◌, ◌≤◌, ◌<◌, ◌==◌, ◌&&◌, Bool, true, false, cond, nat_lt, List, [], ◌∷◌, ◌++◌, length, Option, None, Some, refl, sym, ap, subst, ◌∙◌, inl, inr, ⊎_elim, arith}
+use Rattle.std.proofs.Common.{ℕ, ◌≡◌, ◌⊎◌, ◌≤◌, ◌<◌, ◌==◌, true, cond, nat_lt, List, [], ◌∷◌, ◌++◌, Option, None, Some, refl, sym, ap, subst, ◌∙◌, inl, inr, ⊎_elim, arith}
 use Rattle.std.proofs.lemmas.Bool.{false≢true, eqb-true, and_parts}
 use Rattle.rows_model.specs.declared.keys.QKey.{QKey}
 use Rattle.rows_model.specs.declared.keys.Sid.{Sid}
@@ -11,7 +11,7 @@ use Rattle.key_shard.specs.declared.steps.Step.TheVariants as step
 use Rattle.key_shard.specs.Past.{Terms, standing, recorded, entry, next_token}
 use Rattle.key_shard.specs.Answers.{IsLegalPast}
 use Rattle.sql_keeper.specs.Fresh.{quarantines}
-use Rattle.key_freshness.specs.Marks.{Mark, Granted, Has, marks_in, marks_of}
+use Rattle.key_freshness.specs.Marks.{Granted, Has, marks_in, marks_of}
 use Rattle.key_freshness.specs.Known.{Known, IsRuled}
 use Rattle.key_freshness.specs.Moments.{IsMoment}
 use Rattle.key_freshness.specs.Held.{IsTied}

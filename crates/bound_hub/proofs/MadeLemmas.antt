@@ -1,12 +1,11 @@
 -- What a step of a legal past shows of the past before it, and how tokens are drawn in turn.
-use Rattle.std.proofs.Common.{ℕ, ◌≡◌, ◌+◌, ◌≤◌, ◌<◌, ◌==◌, ◌&&◌, Bool, true, false, cond, List, [], ◌∷◌, ◌++◌, Some, refl, sym, ap, subst, ◌∙◌, arith}
-use Rattle.rows_model.specs.declared.keys.QKey.{QKey}
+use Rattle.std.proofs.Common.{ℕ, ◌≡◌, ◌+◌, ◌≤◌, ◌<◌, true, cond, List, [], ◌∷◌, ◌++◌, refl, sym, ap, subst, ◌∙◌, arith}
 use Rattle.rows_model.specs.Placement.{shard_of}
 use Rattle.case_tables.specs.declared.grids.Verdict.TheVariants as verdicts
 use Rattle.lease_table.specs.Leases.{is_current, raise_in}
 use Rattle.key_shard.specs.declared.steps.Step.{Step}
 use Rattle.key_shard.specs.declared.steps.Step.TheVariants as step
-use Rattle.key_shard.specs.Past.{Terms, standing, recorded, next_token, draws, quar_of}
+use Rattle.key_shard.specs.Past.{Terms, standing, recorded, next_token, draws}
 use Rattle.key_shard.specs.Answers.{key_of as key_asked}
 use Rattle.key_shard.specs.Answers.{Answers, IsAtHome, IsLegalPast, Request, Get, Set, Quarantine, Release, Replace, Raise, Renew, step_of}
 use Rattle.key_shard.proofs.CaseLemmas.{MayJoin, got_cases, set_cases, verdict_cases, release_cases, replace_cases, raise_cases, renew_cases}
@@ -14,7 +13,6 @@ use Rattle.key_shard.proofs.LegalLemmas.{legal_stands_well, own_token}
 use Rattle.key_shard.proofs.ModeLemmas.{answers_end_by_mode}
 use Rattle.key_shard.proofs.OneStepLemmas.{next_drawn}
 use Rattle.key_freshness.specs.Marks.{key_of}
-use Rattle.key_freshness.specs.Held.{stands_as}
 use Rattle.key_freshness.specs.Laws.{EndsItsOwn}
 
 -- what a lease, a grant, a raise and a value that is stored show

@@ -1,10 +1,9 @@
 -- The grants that are out of a shard after a step: each was out before, or is the step's own.
-use Rattle.std.proofs.Common.{ℕ, ◌≡◌, ◌⊎◌, ◌<◌, ◌==◌, ◌&&◌, Bool, true, false, not, cond, List, [], ◌∷◌, ◌++◌, map, filter, refl, sym, ap, subst, ◌∙◌, inl, inr, ⊎_elim}
+use Rattle.std.proofs.Common.{ℕ, ◌≡◌, ◌⊎◌, ◌<◌, ◌==◌, ◌&&◌, Bool, true, false, not, cond, List, [], ◌∷◌, map, filter, refl, sym, subst, ◌∙◌, inl, inr, ⊎_elim}
 use Rattle.std.specs.List.{list_any}
 use Rattle.std.proofs.lemmas.Bool.{false≢true, eq-eqb, and_from, or_cases, or_left, or_right}
 use Rattle.std.proofs.lemmas.List.Folds.{list_any-append}
 use Rattle.rows_model.specs.declared.keys.QKey.{QKey}
-use Rattle.rows_model.specs.declared.keys.Sid.{Sid}
 use Rattle.rows_model.specs.Key.{same_key}
 use Rattle.rows_model.proofs.SameKey.{same_key-refl}
 use Rattle.case_tables.specs.Compatibility.{Way, invalidate, refresh, delta, same_way}
@@ -14,7 +13,7 @@ use Rattle.key_shard.specs.declared.steps.Step.{Step}
 use Rattle.key_shard.specs.declared.steps.Step.TheVariants as step
 use Rattle.key_shard.specs.Past.{Terms, grants, next_token}
 use Rattle.key_shard.specs.Permit.{Permit, same_permit}
-use Rattle.key_shard.specs.Shards.{ShardView, is_out, out_after, raised_permit, without_permit}
+use Rattle.key_shard.specs.Shards.{out_after, raised_permit, without_permit}
 use Rattle.key_shard.proofs.OutLemmas.{same_permit-true}
 use Rattle.key_freshness.proofs.MarkLemmas.{by_test}
 use Rattle.bound_hub.specs.Facts.{WasGrantedOr}

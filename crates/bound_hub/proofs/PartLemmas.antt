@@ -7,7 +7,7 @@ use Rattle.rows_model.specs.Rows.{Tables}
 use Rattle.rows_model.specs.Placement.{shard_of}
 use Rattle.key_shard.specs.declared.steps.Step.{Step}
 use Rattle.key_shard.specs.Past.{entry, standing}
-use Rattle.key_shard.specs.Shards.{ShardView, past_of}
+use Rattle.key_shard.specs.Shards.{ShardView}
 use Rattle.sql_keeper.specs.declared.stores.Commit.{Commit}
 use Rattle.sql_keeper.specs.Stores.{StoreView}
 use Rattle.sql_keeper.specs.Fresh.{IsFreshPast}

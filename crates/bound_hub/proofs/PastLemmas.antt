@@ -1,6 +1,6 @@
 -- The steps of a shard since the hub was made, as its pass has seen them: which of them a shorter list of
 -- steps in short is of, and what is tied after each of them.
-use Rattle.std.proofs.Common.{ℕ, ◌≡◌, Bool, true, List, [], ◌∷◌, ◌++◌, refl, sym, ap, subst, ◌∙◌}
+use Rattle.std.proofs.Common.{◌≡◌, List, [], ◌∷◌, ◌++◌, refl, ap}
 use Rattle.rows_model.specs.declared.keys.QKey.{QKey}
 use Rattle.key_shard.specs.declared.steps.Step.{Step}
 use Rattle.key_shard.specs.Past.{Terms, entry}

@@ -1,5 +1,5 @@
 -- A quarantine's step: it is honest, its answer tells it in short, and its old value is held.
-use Rattle.std.proofs.Common.{ℕ, ℤ, ◌≡◌, ◌++◌, ◌||◌, Bool, true, false, List, ◌∷◌, Option, None, Some, refl, sym, ap, subst, ◌∙◌, arith}
+use Rattle.std.proofs.Common.{ℕ, ℤ, ◌≡◌, Bool, true, List, ◌∷◌, Option, None, Some, refl, sym, ap, subst, ◌∙◌, arith}
 use Rattle.std.specs.List.{list_any}
 use Rattle.std.proofs.lemmas.Bool.{false≢true, or_right}
 use Rattle.std.proofs.lemmas.List.Folds.{list_any-append}

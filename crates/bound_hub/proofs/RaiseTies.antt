@@ -1,5 +1,5 @@
 -- A raise's step and a renewal's: they write nothing and end nothing, and their answers tell them in short.
-use Rattle.std.proofs.Common.{ℕ, ◌≡◌, ◌++◌, false, Bool, List, ◌∷◌, Option, refl, sym, ap, subst, arith}
+use Rattle.std.proofs.Common.{ℕ, ◌≡◌, Bool, List, ◌∷◌, refl, sym, ap, subst, arith}
 use Rattle.std.proofs.lemmas.Bool.{false≢true}
 use Rattle.rows_model.specs.declared.keys.QKey.{QKey}
 use Rattle.rows_model.specs.declared.keys.Sid.{Sid}
@@ -14,7 +14,7 @@ use Rattle.key_shard.specs.Past.{Terms, entry}
 use Rattle.key_shard.specs.Permit.{Permit}
 use Rattle.key_shard.specs.Answers.{raise_step, renew_step}
 use Rattle.key_shard.specs.Replies.{ShowsRaise, ShowsRenewal}
-use Rattle.key_shard.specs.Shards.{ShardView, past_of, after_raise}
+use Rattle.key_shard.specs.Shards.{ShardView, after_raise}
 use Rattle.key_shard.proofs.CaseLemmas.{raise_cases, renew_cases}
 use Rattle.log_word.specs.declared.events.StoreEvent.{StoreEvent}
 use Rattle.log_word.specs.declared.seen.Seen.{Seen}

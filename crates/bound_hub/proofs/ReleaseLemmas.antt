@@ -1,8 +1,7 @@
 -- A release's step: it is honest where its session is over, and its answer tells it in short.
-use Rattle.std.proofs.Common.{ℕ, ◌≡◌, ◌≤◌, ◌+◌, ◌==◌, ◌++◌, Bool, true, false, List, [], ◌∷◌, length, take, slice_get, Some, None, refl, sym, ap, subst, ◌∙◌, inl, inr, ⊎_elim, arith}
+use Rattle.std.proofs.Common.{ℕ, ◌≡◌, ◌≤◌, ◌==◌, ◌++◌, Bool, true, false, List, [], ◌∷◌, length, take, slice_get, Some, refl, sym, ap, subst, ◌∙◌, ⊎_elim, arith}
 use Rattle.std.proofs.lemmas.Bool.{false≢true, eq-eqb, or_left, or_right}
 use Rattle.std.proofs.lemmas.Option.{slice_get_within}
-use Rattle.rows_model.specs.declared.changes.Change.{Change}
 use Rattle.rows_model.specs.declared.keys.QKey.{QKey}
 use Rattle.rows_model.specs.declared.keys.Sid.{Sid}
 use Rattle.rows_model.specs.Placement.{shard_of}
@@ -16,7 +15,7 @@ use Rattle.key_shard.specs.declared.steps.Ended.{Ended}
 use Rattle.key_shard.specs.declared.steps.Ended.TheVariants as ended
 use Rattle.key_shard.specs.declared.steps.Step.{Step}
 use Rattle.key_shard.specs.declared.steps.Step.TheVariants as step
-use Rattle.key_shard.specs.Past.{Terms, quar_of, standing, entry, evicts}
+use Rattle.key_shard.specs.Past.{quar_of, standing, evicts}
 use Rattle.key_shard.specs.Permit.{Permit}
 use Rattle.key_shard.specs.Answers.{IsLegalPast, ended_as, release_step, replace_step}
 use Rattle.key_shard.specs.Replies.{ShowsRelease}
@@ -29,12 +28,11 @@ use Rattle.log_word.specs.declared.events.StoreEvent.{StoreEvent}
 use Rattle.log_word.specs.declared.events.StoreEvent.TheVariants as event
 use Rattle.log_word.specs.declared.seen.Seen.{Seen}
 use Rattle.log_word.specs.Events.{commit_count, is_over}
-use Rattle.log_word.specs.Lists.{IsStart}
 use Rattle.log_word.specs.Steps.{IsSound, IsBeginning, IsBorneOut}
 use Rattle.log_word.specs.Passes.{WordView, ShardPassView}
 use Rattle.log_word.proofs.ViewLemmas.{beginning_trans}
 use Rattle.key_freshness.specs.Marks.{Ended as EndedMark, Wrote, key_of, marks_of}
-use Rattle.key_freshness.specs.Known.{IsAmong, IsLogged, IsOver}
+use Rattle.key_freshness.specs.Known.{IsAmong, IsOver}
 use Rattle.key_freshness.specs.Held.{IsHeld, stands_as}
 use Rattle.key_freshness.specs.Laws.{IsHonest, EndsItsOwn}
 use Rattle.key_freshness.proofs.KnownLemmas.{stands-pushed, more-stands, more-take}

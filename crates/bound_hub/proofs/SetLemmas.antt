@@ -1,5 +1,5 @@
 -- What is set on a key under a lease that stands is honest, where it was asked for under that lease.
-use Rattle.std.proofs.Common.{ℕ, ◌≡◌, ◌⊎◌, ◌≤◌, ◌<◌, Bool, true, false, List, [], ◌∷◌, ◌++◌, length, Some, None, is_some, refl, sym, ap, subst, ◌∙◌, inl, inr, ⊎_elim, append_assoc, arith}
+use Rattle.std.proofs.Common.{ℕ, ◌≡◌, Bool, true, false, List, [], ◌∷◌, ◌++◌, length, Some, None, refl, sym, ap, subst, ◌∙◌, inl, inr, ⊎_elim, append_assoc, arith}
 use Rattle.std.proofs.lemmas.Bool.{false≢true}
 use Rattle.std.proofs.lemmas.Grind.{flat_map-append}
 use Rattle.rows_model.specs.declared.keys.QKey.{QKey}
@@ -7,26 +7,24 @@ use Rattle.rows_model.specs.Rows.{Tables}
 use Rattle.rows_model.specs.Placement.{shard_of}
 use Rattle.lease_table.specs.Leases.{is_current}
 use Rattle.key_shard.specs.declared.replies.SetAnswer.{SetAnswer}
-use Rattle.key_shard.specs.declared.replies.SetAnswer.TheVariants as set
 use Rattle.key_shard.specs.declared.steps.Ended.{Ended}
 use Rattle.key_shard.specs.declared.steps.Ended.TheVariants as ended
 use Rattle.key_shard.specs.declared.steps.Step.{Step}
 use Rattle.key_shard.specs.declared.steps.Step.TheVariants as step
-use Rattle.key_shard.specs.Past.{Terms, recorded, next_token}
+use Rattle.key_shard.specs.Past.{recorded, next_token}
 use Rattle.key_shard.specs.Answers.{IsLegalPast, set_step}
 use Rattle.key_shard.specs.Replies.{ShowsSet}
 use Rattle.key_shard.specs.Shards.{ShardView, past_of}
 use Rattle.key_shard.proofs.CaseLemmas.{set_cases}
 use Rattle.log_word.specs.declared.events.Short.{Short}
-use Rattle.log_word.specs.declared.events.StoreEvent.{StoreEvent}
 use Rattle.log_word.specs.declared.seen.Seen.{Seen}
 use Rattle.log_word.specs.Events.{commit_count}
 use Rattle.log_word.specs.Lists.{IsStart, steps_of}
 use Rattle.log_word.specs.Steps.{IsSound, IsBeginning, IsBorneOut}
 use Rattle.log_word.specs.Passes.{WordView, ShardPassView}
 use Rattle.log_word.proofs.ViewLemmas.{beginning_trans}
-use Rattle.key_freshness.specs.Marks.{Granted, Has, Wrote, key_of, marks_in, marks_of}
-use Rattle.key_freshness.specs.Moments.{IsMoment, IsSince}
+use Rattle.key_freshness.specs.Marks.{Wrote, key_of, marks_in, marks_of}
+use Rattle.key_freshness.specs.Moments.{IsSince}
 use Rattle.key_freshness.specs.Held.{IsHeld}
 use Rattle.key_freshness.proofs.KnownLemmas.{more-length}
 use Rattle.key_freshness.proofs.MomentLemmas.{more_is_right, stored_is_latest}
@@ -40,7 +38,7 @@ use Rattle.bound_hub.proofs.EventLemmas.{commits_counted}
 use Rattle.bound_hub.proofs.FactLemmas.{was_not}
 use Rattle.bound_hub.proofs.LeaseLemmas.{current_lease, none_granted, token_from_first, lease_moment}
 use Rattle.bound_hub.proofs.MadeLemmas.{well_made, legal_behind, drawn_below}
-use Rattle.bound_hub.proofs.PastLemmas.{StandsIn, stands_in}
+use Rattle.bound_hub.proofs.PastLemmas.{stands_in}
 use Rattle.bound_hub.proofs.RuledLemmas.{keys_are_ruled, more_is_known}
 use Rattle.bound_hub.proofs.StepFacts.{IsHonestStep}
 use Rattle.bound_hub.proofs.StepTies.{bound_rules}

@@ -1,5 +1,5 @@
 -- What the replies of the store show by the events that its pass has seen, and that nothing seen is lost.
-use Rattle.std.proofs.Common.{ℕ, suc, ◌+◌, ◌≡◌, ◌<◌, Bool, true, false, ◌||◌, List, length, take, Option, None, Some, IsSome, is_none, Result, Ok, Err, IfOk}
+use Rattle.std.proofs.Common.{ℕ, suc, ◌+◌, ◌≡◌, Bool, true, false, ◌||◌, List, length, take, Option, None, Some, IsSome, is_none, Result, Ok, Err, IfOk}
 use Rattle.std.proofs.Common.{refl, sym, ap, subst, ◌∙◌, arith}
 use Rattle.std.proofs.lemmas.Bool.{false≢true}
 use Rattle.rows_model.specs.declared.keys.QKey.{QKey}
@@ -22,7 +22,6 @@ use Rattle.sql_keeper.specs.Sessions.{is_open}
 use Rattle.sql_keeper.specs.Stores.{StoreView, rows_of, first_fault, with_session, with_call, IsRefusal, IsTrueFault}
 use Rattle.shard_lock.specs.Names.{IsNamedStore}
 use Rattle.executor.specs.OnStore.{Goes, IsAnswer, IsStaged, IsCommitted, IsRefused}
-use Rattle.log_word.specs.declared.events.StoreEvent.{StoreEvent}
 use Rattle.log_word.specs.declared.events.StoreEvent.TheVariants as event
 use Rattle.log_word.specs.declared.seen.Seen.{Seen}
 use Rattle.log_word.specs.Steps.{IsBeginning}

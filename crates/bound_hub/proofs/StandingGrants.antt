@@ -1,13 +1,11 @@
 -- Which step granted a quarantine that stands: each was granted since the hub was made, and no two were
 -- granted under one token.
-use Rattle.std.proofs.Common.{ℕ, ℤ, pos, ◌≡◌, ◌⊎◌, ◌≤◌, ◌<◌, ◌==◌, ◌&&◌, Bool, true, false, not, cond, List, [], ◌∷◌, ◌++◌, map, filter, Some, refl, sym, ap, subst, ◌∙◌, inl, inr, ⊎_elim, arith}
+use Rattle.std.proofs.Common.{ℕ, ◌≡◌, ◌⊎◌, ◌≤◌, ◌<◌, ◌==◌, ◌&&◌, Bool, true, false, not, cond, List, [], ◌∷◌, ◌++◌, map, filter, Some, refl, sym, ap, subst, ◌∙◌, inl, inr, ⊎_elim, arith}
 use Rattle.std.specs.List.{list_any}
 use Rattle.std.proofs.lemmas.Bool.{false≢true, eqb-true, eq-eqb, and_parts, and_from, or_cases, or_left, or_right}
 use Rattle.std.proofs.lemmas.List.Folds.{list_any-append}
 use Rattle.rows_model.specs.declared.keys.QKey.{QKey}
-use Rattle.rows_model.specs.declared.keys.Sid.{Sid}
 use Rattle.rows_model.specs.Key.{same_key}
-use Rattle.rows_model.proofs.SameKey.{same_key-true, same_key-refl}
 use Rattle.lease_table.specs.declared.records.Mode.TheVariants.{Invalidate}
 use Rattle.lease_table.specs.declared.records.Quar.{Quar}
 use Rattle.lease_table.specs.Leases.{has_token, raised, renewed}
@@ -16,14 +14,12 @@ use Rattle.key_shard.specs.declared.steps.Step.TheVariants as step
 use Rattle.key_shard.specs.Past.{Terms, standing, quar_of, grants, next_token}
 use Rattle.key_shard.specs.Permit.{Permit}
 use Rattle.key_shard.specs.Answers.{IsLegalPast}
-use Rattle.key_shard.specs.Shards.{ShardView, past_of, is_out}
+use Rattle.key_shard.specs.Shards.{ShardView, past_of}
 use Rattle.key_shard.proofs.LegalLemmas.{token_stands}
 use Rattle.key_shard.proofs.RaiseLemmas.{raised-same, renewed-same, any-mapped}
-use Rattle.log_word.specs.Passes.{WordView, ShardPassView}
 use Rattle.key_freshness.specs.Held.{stands_as}
 use Rattle.key_freshness.proofs.MarkLemmas.{by_test}
 use Rattle.bound_hub.specs.Facts.{IsQuiet, WasGrantedOr}
-use Rattle.bound_hub.specs.Ties.{IsBoundShard}
 use Rattle.bound_hub.proofs.MadeLemmas.{well_made, next_grows, drawn_below}
 
 -- a quarantine of this key, session and token

@@ -1,8 +1,7 @@
 -- The store and its pass still belong together when a session begins, is ended or commits, and when the keeper is asked.
-use Rattle.std.proofs.Common.{ℕ, suc, ◌+◌, ◌-◌, ◌^◌, ◌≡◌, ◌≤◌, min, cond, Bool, true, false, ◌==◌, ◌||◌, List, [], ◌∷◌, ◌++◌, length, length-append, Option, None, Some}
+use Rattle.std.proofs.Common.{ℕ, suc, ◌+◌, ◌-◌, ◌^◌, ◌≡◌, ◌≤◌, min, cond, Bool, true, false, ◌||◌, List, [], ◌∷◌, ◌++◌, length, length-append, Option, None, Some}
 use Rattle.std.proofs.Common.{IsSome, is_none, refl, sym, ap, subst, ◌∙◌, arith}
 use Rattle.std.proofs.lemmas.Bool.{false≢true}
-use Rattle.std.specs.Option.{ForSome}
 use Rattle.rows_model.specs.declared.keys.Sid.{Sid}
 use Rattle.rows_model.specs.declared.changes.Change.{Change}
 use Rattle.rows_model.specs.Rows.{Tables}
@@ -14,7 +13,7 @@ use Rattle.executor.specs.OnStore.{Goes}
 use Rattle.log_word.specs.declared.events.StoreEvent.TheVariants as event
 use Rattle.log_word.specs.declared.seen.Seen.{Seen}
 use Rattle.log_word.specs.Events.{has_begun}
-use Rattle.log_word.specs.Views.{with_event, with_failure, with_stop}
+use Rattle.log_word.specs.Views.{with_event}
 use Rattle.log_word.specs.Passes.{WordView, PassView}
 use Rattle.bound_hub.specs.Knowns.{commits_of}
 use Rattle.bound_hub.specs.Ties.{IsBoundStore, AreSessions}

@@ -1,5 +1,5 @@
 -- What a sweeper finds was granted, and its drop is honest where the session is over.
-use Rattle.std.proofs.Common.{ℕ, ◌≡◌, ◌≢◌, ◌≤◌, ◌==◌, ◌&&◌, Bool, true, false, Any, List, [], ◌∷◌, ◌++◌, Option, Some, None, IfSome, option_map, refl, sym, ap, subst, ◌∙◌, ⊎_elim}
+use Rattle.std.proofs.Common.{ℕ, ◌≡◌, ◌==◌, ◌&&◌, Bool, true, false, List, [], ◌∷◌, Option, Some, None, IfSome, option_map, refl, sym, ap, subst, ◌∙◌, ⊎_elim}
 use Rattle.std.specs.List.{list_any}
 use Rattle.std.proofs.lemmas.Bool.{false≢true, eqb-true, eq-eqb, and_parts, and_from, or_cases, or_left, or_right}
 use Rattle.std.proofs.lemmas.List.Folds.{list_any-append, list_any-from_Any}
@@ -9,22 +9,20 @@ use Rattle.rows_model.specs.Key.{same_key}
 use Rattle.rows_model.specs.Rows.{Tables}
 use Rattle.lease_table.specs.declared.records.Due.{Due}
 use Rattle.lease_table.specs.declared.records.Quar.{Quar}
-use Rattle.lease_table.specs.Expiry.{IsDue, StandsDue, due_as}
-use Rattle.key_shard.specs.declared.replies.Rel.{Rel}
+use Rattle.lease_table.specs.Expiry.{StandsDue, due_as}
 use Rattle.key_shard.specs.declared.replies.Rel.TheVariants as rel
 use Rattle.key_shard.specs.declared.steps.Ended as ends
 use Rattle.key_shard.specs.declared.steps.Ended.TheVariants as ended
 use Rattle.key_shard.specs.declared.steps.Step.{Step}
 use Rattle.key_shard.specs.declared.steps.Step.TheVariants as step
-use Rattle.key_shard.specs.Past.{Terms, standing, quar_of, grants, entry}
+use Rattle.key_shard.specs.Past.{standing, quar_of, grants}
 use Rattle.key_shard.specs.Answers.{IsLegalPast, sweep_step}
 use Rattle.key_shard.specs.Replies.{sweep_told}
-use Rattle.key_shard.specs.Shards.{ShardView, past_of, stepped, swept}
+use Rattle.key_shard.specs.Shards.{ShardView, past_of}
 use Rattle.key_shard.proofs.LegalLemmas.{legal_stands_well, own_token, token_stands}
-use Rattle.log_word.specs.declared.events.Short.{Short}
 use Rattle.log_word.specs.declared.seen.Seen.{Seen}
 use Rattle.log_word.specs.Events.{is_over}
-use Rattle.log_word.specs.Lists.{IsStart, steps_of}
+use Rattle.log_word.specs.Lists.{steps_of}
 use Rattle.log_word.specs.Steps.{IsBeginning, is_grant}
 use Rattle.log_word.specs.Passes.{WordView, ShardPassView}
 use Rattle.key_freshness.specs.Known.{IsOver}

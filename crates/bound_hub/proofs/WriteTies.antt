@@ -1,5 +1,5 @@
 -- What a writer puts or shifts while its quarantine stands alone is honest, where it was told so.
-use Rattle.std.proofs.Common.{ℕ, ℤ, pos, ◌≡◌, ◌≢◌, ◌⊎◌, ◌+◌, ◌-◌, ◌≤◌, ◌<◌, ◌==◌, ◌&&◌, not, Bool, true, false, List, [], ◌∷◌, ◌++◌, length, take, find, map, Option, Some, None, option_map, decimal, is_some}
+use Rattle.std.proofs.Common.{ℕ, ◌≡◌, ◌≢◌, ◌+◌, ◌-◌, ◌≤◌, ◌<◌, ◌==◌, ◌&&◌, not, Bool, true, false, List, [], ◌∷◌, ◌++◌, length, take, find, map, Option, Some, None, option_map, decimal}
 use Rattle.std.proofs.Common.{refl, sym, ap, subst, ◌∙◌, inl, inr, ⊎_elim, cond, drop, append_assoc, take-append-drop, length-take, arith}
 use Rattle.std.specs.List.{list_any, AllByRecursion}
 use Rattle.std.proofs.lemmas.Bool.{false≢true, and_parts, and_from, or_cases, or_left, or_right, eqb-true, eq-eqb}
@@ -10,7 +10,6 @@ use Rattle.rows_model.specs.declared.keys.QKey.{QKey}
 use Rattle.rows_model.specs.declared.keys.Sid.{Sid}
 use Rattle.rows_model.specs.Changes.{touches}
 use Rattle.rows_model.specs.Delta.{delta_of}
-use Rattle.rows_model.specs.Key.{same_key}
 use Rattle.rows_model.specs.Placement.{shard_of}
 use Rattle.rows_model.specs.Rows.{Tables}
 use Rattle.rows_model.specs.Shift.{shifted}
@@ -21,37 +20,33 @@ use Rattle.lease_table.specs.declared.records.Mode.{Mode}
 use Rattle.lease_table.specs.declared.records.Mode.TheVariants.{Invalidate, Refresh, Delta}
 use Rattle.lease_table.specs.declared.records.Quar.{Quar}
 use Rattle.lease_table.specs.Leases.{way_of, has_token, is_of, is_raisable, raise_in, raised, holding_of}
-use Rattle.key_shard.specs.declared.steps.Ended as ends
-use Rattle.key_shard.specs.declared.steps.Ended.TheVariants as ended
 use Rattle.key_shard.specs.declared.steps.Step.{Step}
 use Rattle.key_shard.specs.declared.steps.Step.TheVariants as step
 use Rattle.key_shard.specs.Past.{Terms, standing, quar_of, entry, entry_shifted, next_token}
 use Rattle.key_shard.specs.Answers.{IsLegalPast}
 use Rattle.key_shard.specs.Shards.{ShardView, past_of}
 use Rattle.key_shard.proofs.LegalLemmas.{is_quar, legal_stands_well, found_token}
-use Rattle.key_shard.proofs.RaiseLemmas.{find-mapped, raised-same, raised-here}
+use Rattle.key_shard.proofs.RaiseLemmas.{find-mapped, raised-same}
 use Rattle.sql_keeper.specs.declared.stores.Commit.{Commit}
 use Rattle.log_word.specs.declared.events.Short.{Short}
-use Rattle.log_word.specs.declared.seen.Seen.{Seen}
 use Rattle.log_word.specs.Lists.{IsStart, steps_of}
-use Rattle.log_word.specs.Steps.{IsSound, IsBeginning, is_grant}
+use Rattle.log_word.specs.Steps.{IsSound, is_grant}
 use Rattle.log_word.specs.Passes.{WordView, ShardPassView}
-use Rattle.key_freshness.specs.Marks.{Mark, Granted, Ended, Wrote, Has, marks_in, marks_of}
+use Rattle.key_freshness.specs.Marks.{Ended, Wrote, Has, marks_in, marks_of}
 use Rattle.key_freshness.specs.Known.{Known, StandsAt, IsMore, IsRuled}
 use Rattle.key_freshness.specs.Moments.{IsMoment, IsSince}
-use Rattle.key_freshness.specs.Held.{IsHeld, IsRight, IsEntryHeld, IsEntryRight, IsStamped, stands_as}
+use Rattle.key_freshness.specs.Held.{IsHeld, IsRight, IsEntryHeld, IsEntryRight, IsStamped}
 use Rattle.key_freshness.specs.Laws.{IsOwn}
-use Rattle.key_freshness.proofs.KnownLemmas.{stands-front, more-stands, more-stood, more-take, more-length, take-front}
+use Rattle.key_freshness.proofs.KnownLemmas.{more-stands, more-stood, more-take}
 use Rattle.key_freshness.proofs.MarkLemmas.{by_test, has-back}
 use Rattle.key_freshness.proofs.MomentLemmas.{known_then, more_is_right}
 use Rattle.key_freshness.proofs.WriteLemmas.{put_is_held, unmoved, written_before}
-use Rattle.bound_hub.specs.Shorts.{kind_of_end, short_of, shorts_of}
+use Rattle.bound_hub.specs.Shorts.{short_of, shorts_of}
 use Rattle.bound_hub.specs.Knowns.{commits_of, known_of}
 use Rattle.bound_hub.specs.Facts.{answer_after, stamp_of, HoldsFacts}
 use Rattle.bound_hub.specs.Ties.{IsBoundShard}
-use Rattle.bound_hub.specs.Gets.{IsSeenHeld}
 use Rattle.bound_hub.specs.Writes.{IsAloneOn, WasAlone, IsLawful, refreshed_by, shifted_by, MayPut, MayShift}
-use Rattle.bound_hub.proofs.AloneLemmas.{IsStill, StillAlone, alone_one, still_alone}
+use Rattle.bound_hub.proofs.AloneLemmas.{alone_one, still_alone}
 use Rattle.bound_hub.proofs.FactLemmas.{was_not}
 use Rattle.bound_hub.proofs.MadeLemmas.{well_made, legal_behind, next_grows}
 use Rattle.bound_hub.proofs.MarkShorts.{same_marks}

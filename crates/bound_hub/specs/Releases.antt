@@ -1,5 +1,5 @@
 -- What has to be seen before a quarantine is ended.
-use Rattle.std.specs.Prelude.{ℕ, ◌≡◌, true, List}
+use Rattle.std.specs.Prelude.{ℕ, ◌≡◌, true}
 use Rattle.rows_model.specs.Rows.{Tables}
 use Rattle.key_shard.specs.declared.replies.How.{How}
 use Rattle.key_shard.specs.declared.replies.How.TheVariants as hows
