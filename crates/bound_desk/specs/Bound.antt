@@ -24,10 +24,12 @@ use Rattle.desk_book.specs.Borne.{IsPresent}
 use Rattle.desk_book.specs.declared.facts.Leased.{Leased}
 use Rattle.desk_book.specs.declared.facts.Present.{Present}
 
--- What contracts see of a book and the pass beside it.
+-- What contracts see of a book and the pass beside it: the book, what the pass has seen, and the session that was seen last to
+-- be ended without a commit.
 pub record BoundBookView : Type 0 where
   pub book : BookView
   pub seen : Seen
+  pub quit : Option Sid
 
 -- What contracts see of a desk: its book, what its pass has seen, and the number of its worker.
 pub record BoundDeskView : Type 0 where

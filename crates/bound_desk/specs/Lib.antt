@@ -1,5 +1,6 @@
 pub mod Bound
 pub mod Grants
+pub mod Made
 pub mod Safe
 pub mod Shown
 pub mod Swept

@@ -12,7 +12,8 @@ use sql_keeper::Keeper;
 use std::alloc::Global;
 use std::marker::{Model, PhantomData};
 
-/// The book of a desk, and the desk's pass. Contracts see the book, and what the pass has seen.
+/// The book of a desk, and the desk's pass. Contracts see the book, what the pass has seen, and the session
+/// that it has seen last to be ended without a commit.
 ///
 /// The pass has seen all that the book says: the lease when it was given, that each answer was given
 /// since, the Begin of a session that writes, the step of each grant, and that a session which has
@@ -34,7 +35,11 @@ impl<H: BoundName> Model for BoundBook<H> {
 
     ghost Value = { BoundBookView };
 
-    ghost view = { λ bound. record { book = bound.book; seen = bound.pass.seen } };
+    ghost view = { λ bound. record {
+      book = bound.book;
+      seen = bound.pass.seen;
+      quit = bound.quit;
+    } };
 
     ghost invariant = { λ bound. (bound.pass.word ≡ H.word)
         × IsBoundBook H.opening H.word.shards bound.book.book bound.pass.seen

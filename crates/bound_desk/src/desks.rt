@@ -118,7 +118,7 @@ impl<'a, K: Keeper, H: BoundName, C: Clock, G: Gate, R: Wait> BoundDesk<'a, K, H
     /// and what it has seen.
     pub fn into_pass(self) -> Pass
         ensures word { result.word ≡ H.word }
-        ensures seen { result.seen ≡ self.seen }
+        ensures seen { result.seen ≡ self.entry.seen }
     {
         let BoundDesk {
             rt: _,

@@ -1,6 +1,6 @@
 //! Ends for a desk, and the release that keeps the key's value: of a session that was ended without a
 //! commit.
-ghost use Rattle.std.specs.Prelude.{◌≡◌, ◌≢◌, Bool, IsTrue};
+ghost use Rattle.std.specs.Prelude.{◌≡◌, ◌≢◌, ◌↔◌, Bool, IsTrue, Some};
 ghost use Rattle.std.specs.Bool.{IsFalse};
 ghost use Rattle.rows_model.specs.Placement.{shard_of};
 ghost use Rattle.key_shard.specs.Answers.{release_step};
@@ -16,6 +16,7 @@ ghost use Rattle.bound_hub.specs.Knowns.{commits_of, ended_of};
 ghost use Rattle.bound_hub.specs.Stores.{ShowsEnd};
 ghost use Rattle.bound_hub.specs.Told.{release_short};
 ghost use Rattle.bound_desk.specs.Bound.{quit_after};
+ghost use Rattle.bound_desk.specs.Made.{IsMade};
 ghost use Rattle.bound_desk.specs.Shown.{ShowsReply};
 
 use crate::bound_books::BoundBook;
@@ -42,6 +43,7 @@ impl<H: BoundName> BoundBook<H> {
         ensures sid { result.sid ≡ who }
         ensures seen { IsBeginning self.old.seen self.new.seen }
         ensures shows { ShowsEnd who self.new.seen result.was }
+        ensures quit { IsTrue result.was → self.new.quit ≡ Some who }
         ensures book { self.new.book.book ≡ noted_for who with_end self.old.book.book }
     {
         let closed = store.end(word, &mut self.pass, who);
@@ -102,16 +104,25 @@ impl<H: BoundName> BoundBook<H> {
         ensures seen { IsBeginning self.old.seen self.new.seen }
         ensures shows { ShowsReply H.opening H.before H.word.shards who (wanted.Abort grant)
             result self.new.seen }
+        ensures made { IsMade self.old.quit shard.old.shard (wanted.Abort grant) result }
     {
-        if let Some(quit) = self.quit
-            && quit == grant.sid()
-        {
-            return Reply::Rel {
-                told: self.keep_value(word, shard, who, grant),
-            };
+        if !self.has_quit(grant.sid()) {
+            grant.let_go();
+            return Reply::Rel { told: Rel::Gone };
         }
-        grant.let_go();
-        Reply::Rel { told: Rel::Gone }
+        Reply::Rel {
+            told: self.keep_value(word, shard, who, grant),
+        }
+    }
+
+    // Whether it is the session that was seen last to be ended without a commit.
+    fn has_quit(&self, who: Sid) -> bool
+        ensures { IsTrue result ↔ (self.now.quit ≡ Some who) }
+    {
+        match self.quit {
+            Some(quit) => quit == who,
+            None => false,
+        }
     }
 }
 

@@ -17,6 +17,7 @@ ghost use Rattle.bound_hub.specs.Gets.{IsLastStep};
 ghost use Rattle.bound_hub.specs.Olds.{IsRaiseHeld};
 ghost use Rattle.bound_hub.specs.Told.{raise_short};
 ghost use Rattle.bound_desk.specs.Grants.{IsRaiseFor, with_raising};
+ghost use Rattle.bound_desk.specs.Made.{IsMade};
 ghost use Rattle.bound_desk.specs.Shown.{ShowsReply};
 ghost use Rattle.bound_desk.specs.Writing.{IsRaiseAlone, StoodAlone};
 
@@ -157,6 +158,7 @@ impl<H: BoundName> BoundBook<H> {
         ensures seen { IsBeginning self.old.seen self.new.seen }
         ensures shows { ShowsReply H.opening H.before H.word.shards who (wanted.Raise grant)
             result self.new.seen }
+        ensures made { IsMade self.old.quit shard.old.shard (wanted.Raise grant) result }
     {
         match grant.mode() {
             Mode::Invalidate => match self.raise(word, shard, who, grant) {

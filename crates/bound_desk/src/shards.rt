@@ -10,6 +10,7 @@ ghost use Rattle.executor.specs.Requests.{key_of};
 ghost use Rattle.log_word.specs.Steps.{IsBeginning};
 ghost use Rattle.desk_book.specs.Borne.{MayQuarantine};
 ghost use Rattle.bound_desk.specs.Safe.{IsSafe};
+ghost use Rattle.bound_desk.specs.Made.{IsMade};
 ghost use Rattle.bound_desk.specs.Shown.{ShowsReply};
 
 use crate::bound_books::BoundBook;
@@ -168,6 +169,7 @@ impl<H: BoundName> BoundBook<H> {
         ensures seen { IsBeginning self.old.seen self.new.seen }
         ensures shows { ShowsReply H.opening H.before H.word.shards who request result
             self.new.seen }
+        ensures made { IsMade self.old.quit shard.old.shard request result }
     {
         match request {
             Wanted::Get { key, floor } => self.reply_to_get(word, shard, who, key, floor, now),

@@ -6,6 +6,7 @@ ghost use Rattle.session_client.specs.declared.replies.Wanted.TheVariants as wan
 ghost use Rattle.log_word.specs.Steps.{IsBeginning};
 ghost use Rattle.desk_book.specs.Borne.{IsBorne};
 ghost use Rattle.bound_desk.specs.Safe.{IsSafe};
+ghost use Rattle.bound_desk.specs.Made.{IsMade};
 ghost use Rattle.bound_desk.specs.Shown.{ShowsReply};
 
 use crate::bound_books::BoundBook;
@@ -34,6 +35,7 @@ impl<H: BoundName> BoundBook<H> {
         ensures seen { IsBeginning self.old.seen self.new.seen }
         ensures shows { ShowsReply H.opening H.before H.word.shards who
             (wanted.Sar grant value stamp) result self.new.seen }
+        ensures made { IsMade self.old.quit shard.old.shard (wanted.Sar grant value stamp) result }
     {
         match value {
             Some(value) => self.reply_to_put(word, shard, who, grant, value, stamp),
@@ -61,6 +63,7 @@ impl<H: BoundName> BoundBook<H> {
         ensures seen { IsBeginning self.old.seen self.new.seen }
         ensures shows { ShowsReply H.opening H.before H.word.shards who
             (wanted.Sar grant (Some value) stamp) result self.new.seen }
+        ensures made { IsMade self.old.quit shard.old.shard (wanted.Sar grant (Some value) stamp) result }
     {
         match grant.mode() {
             Mode::Refresh => match self.put_value(word, shard, who, grant, value, stamp) {
@@ -90,6 +93,7 @@ impl<H: BoundName> BoundBook<H> {
         ensures seen { IsBeginning self.old.seen self.new.seen }
         ensures shows { ShowsReply H.opening H.before H.word.shards who
             (wanted.Apply grant stamp) result self.new.seen }
+        ensures made { IsMade self.old.quit shard.old.shard (wanted.Apply grant stamp) result }
     {
         match grant.mode() {
             Mode::Delta if grant.key().is_count() => Reply::Rel {
