@@ -273,14 +273,21 @@ class Talk:
             at += piece
         if not goes_on:
             self.socket.shutdown(socket.SHUT_WR)
-        found = b""
-        while (not goes_on or len(found) < len(told)) and (piece := self.socket.recv(65536)):
-            found += piece
+        found = b"".join(self.pieces(None if not goes_on else len(told)))
         if not goes_on:
             self.socket.close()
         if found != told:
             raise SystemExit(f"drawn_streams: to\n{sent!r}\ncame\n{found!r}\nand not\n{told!r}")
         return goes_on
+
+    def pieces(self, count):
+        """What comes back: so many bytes, or fewer where no more come. All that come till the end, where it is None."""
+        try:
+            while (count is None or count > 0) and (piece := self.socket.recv(65536)):
+                count = None if count is None else count - len(piece)
+                yield piece
+        except TimeoutError:
+            pass
 
 
 def compare(program, draw, count):

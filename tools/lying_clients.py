@@ -82,6 +82,18 @@ CASES = {
         (LIAR, "begin read;ask profile:2 1;iqget profile:2 1 0;", f"SESSION 1;{TWO}LEASE 1;"),
         *(NOT_STORED, reads(2, "AGAIN I")),
     ),
+    "a set of another key's answer": (
+        *(LEASED, (LIAR, "ask profile:1 1;iqset profile:2 0 0 6 1 0;m1 0 0;", f"{ONE}NOT_STORED;")),
+        reads(2, "AGAIN I"),
+    ),
+    "a set behind questions for another key": (LEASED, ASKED, (LIAR, "ask profile:1 1;" * 9, ONE * 9), STORED, reads(2, TWO[:-1])),
+    "a set by the token of a later lease": (
+        *(LEASED, ASKED),
+        (OTHER, "begin write;qareg profile:2 2;sql 2 rename 2 bob;", "SESSION 2;GRANTED 2;COMMITTED 1;"),
+        (OTHER, "dar profile:2 2;begin read;iqget profile:2 3 0;", "DELETED;SESSION 3;LEASE 3;"),
+        (LIAR, "iqset profile:2 0 0 6 3 0;m2 0 0;", "NOT_STORED;"),
+        reads(4, "AGAIN I"),
+    ),
     "a set of what was so before a commit": (
         *(LEASED, ASKED),
         (OTHER, "begin write;qareg profile:2 2;sql 2 rename 2 bob;", "SESSION 2;GRANTED 2;COMMITTED 1;"),
@@ -345,8 +357,8 @@ def read(client):
     draw = client.draw
     yield from begin(client, "read")
     for _ in range(draw.randint(1, 4)):
-        key = draw.choice(KEYS)
-        got = yield f"iqget {key} {client.sid} {draw.choice((0, 0, client.known.get(key, 0)))}"
+        key, floor = draw.choice(KEYS), draw.choice((0, max(client.known.values(), default=0)))
+        got = yield f"iqget {key} {client.sid} {floor}"
         leases = [(key, int(got.line.split(" ")[1]))] if got.line.startswith("LEASE ") else []
         if client.lies():
             yield from set_falsely(client, *draw.choice(leases * 9 + client.log.leases[-9:]))
@@ -368,7 +380,7 @@ def made_up(client, key):
     """A value and a stamp that are near to what somebody was told of the key."""
     values = [(it.value, it.stamp) for it in client.log.values if it.key == key] or [("0", 0)]
     value, stamp = client.draw.choice(values)
-    return client.draw.choice((value, value, value + "1", "")), max(0, stamp + client.draw.choice((-1, 0, 0, 1)))
+    return client.draw.choice((value, value, value + "1", "")), max(0, stamp + client.draw.choice((-1, 0, 0, 1, 9)))
 
 
 def drawn_txn(client):
