@@ -156,6 +156,7 @@ CASES = {
         (LIAR, "iqcommit npending:2 1;", "CLIENT_ERROR not committed;"),
         reads(2, "AGAIN Q", "npending:2"),
     ),
+    "dar": (LEASED, ASKED, STORED, RENAMED, (LIAR, "dar profile:2 2;", "DELETED;"), reads(3, "LEASE 3")),
     "dar before the commit": (WRITES, (LIAR, "dar profile:2 1;", "CLIENT_ERROR not committed;"), reads(2, "AGAIN Q")),
     "dar of another's quarantine": (
         *(WRITES, (OTHER, "begin write;dar profile:2 1;", "SESSION 2;CLIENT_ERROR not yours;")),
