@@ -90,7 +90,7 @@ class Stream:
         return self.draw.random() < LIES
 
     def made_up(self, key):
-        """A value that isn't the key's answer now, but may have been."""
+        """A value that is the key's answer by chance alone."""
         value = self.server.rows.answer(key)
         return self.draw.choice(("", "abc", value + " ", value.replace("1", "2") + "0", self.server.rows.answer(self.key()) + "1"))
 
