@@ -203,8 +203,22 @@ CASES = {
 }
 
 
-def play_case(program, turns):
-    served = Server(program, [3, 3, 2, 3])
+# Cases over one worker, which serves a client once the one before has quit.
+ONE_BY_ONE = {
+    "a set by the lease of the connection before": (
+        *(LEASED, ASKED, (LIAR, "quit;", ""), (OTHER, SET, "NOT_STORED;"), (OTHER, "begin read;", "SESSION 2;")),
+        *((OTHER, SET, "NOT_STORED;"), (OTHER, "quit;", ""), reads(3, "AGAIN I")),
+    ),
+    "a release by the connection before": (
+        *((LIAR, "begin write;qaread profile:2 1;quit;", "SESSION 1;GRANTED 1;END;"), (OTHER, "begin write;", "SESSION 2;")),
+        (OTHER, "qareg profile:1 2;sql 2 rename 1 x;sar profile:2 0 0 2 2;zz;", "GRANTED 1;COMMITTED 1;CLIENT_ERROR no grant;"),
+        *((OTHER, "dar profile:1 2;quit;", "DELETED;"), reads(3, "LEASE 2")),
+    ),
+}
+
+
+def play_case(program, workers, turns):
+    served = Server(program, [3, workers, 2, 3])
     clients = [served.connect() for _ in range(3)]
     replies = [client.makefile("rb") for client in clients]
     try:
@@ -508,7 +522,8 @@ def is_right(name, play, *words):
 
 def main(words):
     program, streams, seed = (words + ["1000", "1"][len(words) - 1 :])[:3]
-    right = [is_right(name, play_case, program, turns) for name, turns in CASES.items()]
+    right = [is_right(name, play_case, program, 3, turns) for name, turns in CASES.items()]
+    right += [is_right(name, play_case, program, 1, turns) for name, turns in ONE_BY_ONE.items()]
     for begun in range(0, int(streams), BATCH):
         draw, count = random.Random(f"{seed} {begun}"), min(BATCH, int(streams) - begun)
         right.append(is_right(f"streams {begun + 1} to {begun + count}", play_streams, program, draw, count))
