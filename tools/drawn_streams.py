@@ -116,7 +116,7 @@ def read(stream):
 
 
 def ask_and_set(stream, key, token):
-    """Asks, and hands in one of the answers, or something near it."""
+    """Asks, and hands in one of the answers, or something near it, now and then in the next session."""
     draw, answers = stream.draw, []
     for _ in range(draw.choice((0, 1, 1, 1, 1, 1, 2, 7))):
         asked = stream.key() if draw.random() < 0.1 else key
@@ -126,8 +126,11 @@ def ask_and_set(stream, key, token):
     value, stamp = draw.choice((answers or [(stream.server.rows.answer(key), stream.server.commits)])[:3])
     value = stream.made_up(key) if stream.lies() else value
     stamp += draw.choice((-1, 1, 2)) if stream.lies() and stamp else 0
-    token += draw.choice((-1, 1)) if stream.lies() else 0
+    token = draw.choice((token - 1, token + 1, stream.server.at(key).lease or token)) if stream.lies() else token
     key = stream.key() if stream.lies() else key
+    if draw.random() < 0.05:
+        stream.say("begin read")
+        yield
     stream.say(f"iqset {key_text(key)} 0 0 {len(value)} {token} {stamp}", value)
     yield
 
