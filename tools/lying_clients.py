@@ -64,7 +64,10 @@ def asks_too_often():
 
 
 CASES = {
-    "a set of a made-up value": (LEASED, ASKED, (LIAR, "iqset profile:2 0 0 2 1 0;zz;", "NOT_STORED;"), reads(2, "AGAIN I")),
+    "a set of a made-up value": (
+        *(LEASED, ASKED, (LIAR, "iqset profile:2 0 0 2 1 0;zz;iqget profile:2 1 0;", "NOT_STORED;AGAIN I;")),
+        reads(2, "AGAIN I"),
+    ),
     "a set of the true value behind it": (
         *(LEASED, ASKED, (LIAR, "iqset profile:2 0 0 2 1 0;zz;", "NOT_STORED;"), STORED),
         reads(2, TWO[:-1]),
