@@ -154,6 +154,8 @@ check_served() {
     done
     python3 tools/drawn_streams.py out/iq 2000
     count "served: drawn streams, as the model" $?
+    python3 tools/lying_clients.py out/iq 100
+    count "served: clients that lie" $?
 }
 
 # A picture is well-formed, and has a row for each line of the output but the last.

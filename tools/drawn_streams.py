@@ -4,10 +4,10 @@
     python3 tools/drawn_streams.py PROGRAM [STREAMS [SEED]]
 
 PROGRAM is the proved `iq`. Up to three streams at a time are sent over the loopback, each over a connection of its
-own, cut into drawn pieces; now one goes on and now another. All that comes back is compared with what
-`model_server.py` tells. Streams are 10,000 unless another number is given, a new server comes each 200 of them, and a
-server that lived so long that a lease of its could end by its deadline is skipped. The status is 0 where all bytes
-are the model's.
+own, cut into drawn pieces; now one goes on and now another. Their clients lie now and then: they hand in what they
+weren't told. All that comes back is compared with what `model_server.py` tells. Streams are 10,000 unless another
+number is given, a new server comes each 200 of them, and a server that lived so long that a lease of its could end by
+its deadline is skipped. The status is 0 where all bytes are the model's.
 """
 import random
 import socket
@@ -20,8 +20,9 @@ from play_clients import Server as Served
 BATCH = 200
 AT_ONCE = 3
 LIFE = 10  # seconds
-MEMBERS = 5
-TXN_VERBS = ("invite", "accept", "reject", "thaw", "rename", "block")
+MEMBERS = 4
+LIES = 0.2  # how often a client hands in something else than what is true
+TXN_VERBS = ["invite"] * 8 + ["accept"] * 8 + ["thaw"] * 6 + ["reject"] * 3 + ["rename"] * 4 + ["block"]
 
 
 class Stream:
@@ -42,7 +43,7 @@ class Stream:
 
     def live(self):
         for _ in range(self.draw.randint(1, 6)):
-            yield from self.draw.choice((read, read, write, write, any_command, any_command))(self)
+            yield from self.draw.choice((read, read, read, write, write, any_command))(self)
         yield from last(self)
 
     def go_on(self, steps):
@@ -66,12 +67,32 @@ class Stream:
     def key(self):
         return self.draw.choice(KINDS), self.draw.randint(1, MEMBERS + 1)
 
-    def change(self):
-        verb, a, b = self.draw.choice(TXN_VERBS), self.draw.randint(1, MEMBERS), self.draw.randint(1, MEMBERS + 1)
+    def change(self, verb):
+        a, b = self.draw.randint(1, MEMBERS), self.draw.randint(1, MEMBERS + 1)
         return (verb, a, f"n{b}") if verb == "rename" else (verb, a, b)
 
     def txn(self):
-        return [self.change() for _ in range(self.draw.choice((1, 1, 1, 1, 2, 3)))]
+        """A transaction, more often one that applies."""
+        verbs = self.draw.choices(TXN_VERBS, k=self.draw.choice((1, 1, 1, 1, 2, 3)))
+        for _ in range(self.draw.choice((1, 50, 50))):
+            txn = [self.change(verb) for verb in verbs]
+            if self.applies(txn):
+                break
+        return txn
+
+    def applies(self, txn):
+        try:
+            return bool(self.server.rows.after(txn))
+        except Rejected:
+            return False
+
+    def lies(self):
+        return self.draw.random() < LIES
+
+    def made_up(self, key):
+        """A value that is the key's answer by chance alone."""
+        value = self.server.rows.answer(key)
+        return self.draw.choice(("", "abc", value + " ", value.replace("1", "2") + "0", self.server.rows.answer(self.key()) + "1"))
 
 
 def txn_text(txn):
@@ -79,39 +100,55 @@ def txn_text(txn):
 
 
 def read(stream):
-    """A session that gets a key and, where it is given the lease, asks and sets, or leaves that out."""
+    """A session that gets keys and, where it is given the lease, asks and sets, or leaves some of that out. It asks now
+    and then more often than the server keeps answers, and may be given a second lease before it sets."""
     draw = stream.draw
     stream.say("begin read")
     yield
-    for _ in range(draw.randint(1, 3)):
-        key, floor = key_text(stream.key()), draw.choice((0, 0, 0, stream.server.commits, stream.server.commits + 1))
-        told = stream.say(f"iqget {key} {stream.sid} {floor}")
+    leases = []
+    for _ in range(draw.randint(1, 6)):
+        key, floor = stream.key(), draw.choice((0, 0, 0, stream.server.commits, stream.server.commits + 1))
+        told = stream.say(f"iqget {key_text(key)} {stream.sid} {floor}")
         yield
-        if not told[0].startswith("LEASE ") or draw.random() < 0.1:
-            continue
-        token = int(told[0].split(" ")[1]) + (draw.random() < 0.1)
-        head, value, *_ = stream.say(f"ask {key} {stream.connection.client.sid}") + [""]
+        leases += [(key, int(told[0].split(" ")[1]))] if told[0].startswith("LEASE ") else []
+        if leases and draw.random() < 0.8:
+            yield from ask_and_set(stream, *draw.choice((leases[-1], leases[-1], leases[-1], leases[0])))
+
+
+def ask_and_set(stream, key, token):
+    """Asks, and hands in one of the answers, or something near it, now and then in the next session."""
+    draw, answers = stream.draw, []
+    for _ in range(draw.choice((0, 1, 1, 1, 1, 1, 2, 7))):
+        asked = stream.key() if draw.random() < 0.1 else key
+        head, value, *_ = stream.say(f"ask {key_text(asked)} {stream.connection.client.sid}") + [""]
         yield
-        if head.startswith("VALUE "):
-            stamp = head.split(" ")[4]
-            stream.say(f"iqset {key} 0 0 {len(value)} {token} {stamp}", value)
-            yield
+        answers += [(value, int(head.split(" ")[4]))] if head.startswith("VALUE ") else []
+    value, stamp = draw.choice((answers or [(stream.server.rows.answer(key), stream.server.commits)])[:3])
+    value = stream.made_up(key) if stream.lies() else value
+    stamp += draw.choice((-1, 1, 2)) if stream.lies() and stamp else 0
+    token = draw.choice((token - 1, token + 1, stream.server.at(key).lease or token)) if stream.lies() else token
+    key = stream.key() if stream.lies() else key
+    if draw.random() < 0.05:
+        stream.say("begin read")
+        yield
+    stream.say(f"iqset {key_text(key)} 0 0 {len(value)} {token} {stamp}", value)
+    yield
 
 
 def write(stream):
-    """A session that quarantines the keys of a transaction, commits and releases, or leaves some of that out."""
+    """A session that quarantines the keys of a transaction, commits and releases, or leaves some of that out. A count that
+    it lies about is shifted by another number."""
     draw, txn = stream.draw, stream.txn()
     stream.say("begin write")
     yield
-    sid, old = stream.connection.client.sid, {}
+    sid = stream.connection.client.sid
     for key in footprint(txn):
         if draw.random() < 0.03:
             continue
         verb = draw.choice(("qareg", "qaread", "iqdelta" if key[0] in ("nfriends", "npending") else "qareg"))
-        by = f" {delta(key, txn)}" if verb == "iqdelta" else ""
+        by = f" {delta(key, txn) + draw.choice((-1, 1, 7)) * stream.lies()}" if verb == "iqdelta" else ""
         told = stream.say(f"{verb} {key_text(key)} {stream.sid}{by}")
         yield
-        old[key] = verb == "qaread" and len(told) > 2 and told[1].startswith("VALUE ")
         if told[0].startswith("REFUSED") and draw.random() < 0.8:
             break
     if draw.random() < 0.2:
@@ -125,21 +162,21 @@ def write(stream):
     kept = 0.05 if stream.connection.client.stage == "committed" else 0.9
     for grant in list(stream.connection.client.grants):
         if draw.random() > kept:
-            yield from release(stream, sid, grant, old.get(grant.key))
+            yield from release(stream, sid, grant)
     if stream.connection.client.is_busy() and draw.random() < 0.9:
         stream.say(f"iqabort {sid}")
         yield
 
 
-def release(stream, sid, grant, has_old):
+def release(stream, sid, grant):
     draw, key = stream.draw, key_text(grant.key)
     if draw.random() < 0.05:
         stream.say(f"{draw.choice(('dar', 'iqcommit'))} {key_text(stream.key())} {sid}")
         yield
     if stream.connection.client.grant(grant.key) is None:
         return
-    if grant.mode == "refresh" and has_old:
-        value = stream.server.rows.answer(grant.key)
+    if grant.mode == "refresh" and (grant.has_old or stream.lies()):
+        value = stream.made_up(grant.key) if stream.lies() else stream.server.rows.answer(grant.key)
         stream.say(f"sar {key} 0 0 {len(value)} {sid}", value)
         yield
     elif grant.mode == "delta":
@@ -151,22 +188,29 @@ def release(stream, sid, grant, has_old):
 
 
 def any_command(stream):
-    """A command whatever the state: a verb with words that fit it more or less. A value is handed in with token 0, or
-    for session 0, so it is never taken. No count is shifted by a number that isn't its transaction's."""
+    """A command whatever the state: a verb with words that fit it more or less."""
     draw, verb = stream.draw, stream.draw.choice(VERBS[:-1])
-    key, sid = key_text(stream.key()), 0 if verb == "iqcommit" else stream.sid
-    key = key.removeprefix("n") if verb == "iqdelta" else key
+    key, sid = stream.key(), stream.sid
     if verb in ("iqset", "sar"):
-        flags, exptime = draw.choice(((0, 0), (1, 0), (0, 1)))
-        behind = "0 0" if verb == "iqset" else "0"
-        line = f"{verb} {key} {flags} {exptime} 3 {behind}"
-        stream.say(spoilt(draw, line) if draw.random() < 0.3 else line, "abc")
-        yield
+        yield from any_block(stream, verb, key, sid)
         return
+    key = key_text(key)
     words = {"begin": draw.choice(("read", "write")), "iqget": f"{key} {sid} 0", "iqdelta": f"{key} {sid} {draw.randint(-3, 3)}"}
     words |= {"stage": f"{key} {sid} {txn_text(stream.txn())}", "sql": f"{sid} {txn_text(stream.txn())}", "iqabort": f"{sid}"}
     line = f"{verb} {words.get(verb, f'{key} {sid}')}"
     stream.say(spoilt(draw, line) if draw.random() < 0.4 else line)
+    yield
+
+
+def any_block(stream, verb, key, sid):
+    """A value that nobody asked for: by the token of the lease that stands, whoever has it, or by another."""
+    draw = stream.draw
+    value = stream.server.rows.answer(key) if draw.random() < 0.5 else stream.made_up(key)
+    token = draw.choice((stream.server.at(key).lease or 1, draw.randrange(4)))
+    stamp = draw.choice((stream.server.commits, 0, stream.server.commits + 1))
+    flags, exptime = draw.choice(((0, 0), (0, 0), (0, 0), (1, 0), (0, 1)))
+    line = f"{verb} {key_text(key)} {flags} {exptime} {len(value)} " + (f"{token} {stamp}" if verb == "iqset" else f"{sid}")
+    stream.say(spoilt(draw, line) if draw.random() < 0.2 else line, value)
     yield
 
 
@@ -232,14 +276,21 @@ class Talk:
             at += piece
         if not goes_on:
             self.socket.shutdown(socket.SHUT_WR)
-        found = b""
-        while (not goes_on or len(found) < len(told)) and (piece := self.socket.recv(65536)):
-            found += piece
+        found = b"".join(self.pieces(None if not goes_on else len(told)))
         if not goes_on:
             self.socket.close()
         if found != told:
             raise SystemExit(f"drawn_streams: to\n{sent!r}\ncame\n{found!r}\nand not\n{told!r}")
         return goes_on
+
+    def pieces(self, count):
+        """What comes back: so many bytes, or fewer where no more come. All that come till the end, where it is None."""
+        try:
+            while (count is None or count > 0) and (piece := self.socket.recv(65536)):
+                count = None if count is None else count - len(piece)
+                yield piece
+        except TimeoutError:
+            pass
 
 
 def compare(program, draw, count):

@@ -6,7 +6,7 @@ a server's bytes with it.
 
 KINDS = ("profile", "friends", "pending", "nfriends", "npending", "blocked")
 VERBS = ("begin", "iqget", "ask", "stage", "iqset", "qareg", "qaread", "iqdelta", "sql", "dar", "sar", "iqcommit", "iqabort", "quit")
-MOST_LINE, MOST_BLOCK, MOST_GRANTS, MOST_ID = 2048, 1_048_576, 64, 100_000
+MOST_LINE, MOST_BLOCK, MOST_GRANTS, MOST_ID, MOST_ANSWERS = 2048, 1_048_576, 64, 100_000, 4
 MODES = {"qareg": "invalidate", "qaread": "refresh", "iqdelta": "delta"}
 RELEASES = {"dar": None, "sar": "refresh", "iqcommit": "delta"}
 
@@ -138,10 +138,36 @@ class Key:
 
 
 class Grant:
-    """A quarantine that a session holds: its key, mode, token, and by how much it is to shift the value."""
+    """A quarantine that a session holds: its key, mode, token, by how much it is to shift the value, and whether an old
+    value came along with it."""
 
-    def __init__(self, key, mode, token, by):
-        self.key, self.mode, self.token, self.by = key, mode, token, by
+    def __init__(self, key, mode, token, by, has_old):
+        self.key, self.mode, self.token, self.by, self.has_old = key, mode, token, by, has_old
+
+
+class Book:
+    """What the server told a client for its present session, and judges what it hands in by: the last lease, what the
+    store has answered for that key since, and the committed transaction with the rows behind it."""
+
+    def __init__(self):
+        self.lease, self.answers, self.txn, self.rows = None, [], None, None
+
+    def note_lease(self, key, token):
+        self.lease, self.answers = (key, token), []
+
+    def note_answer(self, key, value, stamp):
+        if self.lease and self.lease[0] == key:
+            self.answers = (self.answers + [(value, stamp)])[-MOST_ANSWERS:]
+
+    def bears_set(self, key, token, value, stamp):
+        return self.lease == (key, token) and (value, stamp) in self.answers
+
+    def bears_put(self, grant, value):
+        """Whether the value is the old one as the transaction changes it. No other session's changes the key meanwhile."""
+        return grant.has_old and value == self.rows.answer(grant.key)
+
+    def bears_shift(self, grant):
+        return grant.by == delta(grant.key, self.txn)
 
 
 class Server:
@@ -185,7 +211,7 @@ class Server:
         others = own or at.quarantines
         if others and (own or mode != "invalidate" or others[0][1] != "invalidate"):
             return None, f"REFUSED {others[0][0]} {others[0][1]}"
-        grant = Grant(key, mode, self.token(key), by)
+        grant = Grant(key, mode, self.token(key), by, at.entry is not None)
         at.lease = None
         at.quarantines.append((who, mode, grant.token))
         return grant, None
@@ -201,10 +227,12 @@ def stamped(key, entry):
 
 
 class Client:
-    """A connection: its present session and the grants that this holds."""
+    """A connection: its present session, the grants that this holds, and its book. What the book doesn't bear out is made
+    in a safe form: a set is void, and a release drops the key's value."""
 
     def __init__(self, server):
         self.server, self.sid, self.stage, self.grants, self.number = server, 0, None, [], None
+        self.book = Book()
 
     def is_busy(self):
         return self.stage == "open" or bool(self.grants)
@@ -239,13 +267,19 @@ class Client:
     def do_begin(self, role):
         self.server.sessions += 1
         self.sid, self.stage, self.number = self.server.sessions, "read" if role == "read" else "open", None
+        self.book = Book()
         return f"SESSION {self.sid}"
 
     def do_iqget(self, key, sid, floor):
-        return self.server.get(key, sid, floor)
+        told = self.server.get(key, sid, floor)
+        if told.startswith("LEASE "):
+            self.book.note_lease(key, self.server.at(key).lease)
+        return told
 
     def do_ask(self, key, sid):
-        return stamped(key, (self.server.rows.answer(key), self.server.commits))
+        answer = (self.server.rows.answer(key), self.server.commits)
+        self.book.note_answer(key, *answer)
+        return stamped(key, answer)
 
     def do_stage(self, key, sid, txn):
         try:
@@ -255,7 +289,7 @@ class Client:
         return f"VALUE {key_text(key)} 0 {len(value.encode())}\r\n{value}\r\nEND"
 
     def do_iqset(self, key, flags, exptime, token, stamp, block):
-        return self.server.set(key, token, block, stamp)
+        return self.server.set(key, token if self.book.bears_set(key, token, block, stamp) else 0, block, stamp)
 
     def do_qareg(self, key, sid, by=0, verb="qareg"):
         grant, told = self.server.quarantine(key, sid, MODES[verb], by)
@@ -285,6 +319,7 @@ class Client:
             return f"REJECTED {rejected.args[0]}"
         self.server.commits += 1
         self.stage, self.number = "committed", self.server.commits
+        self.book.txn, self.book.rows = txn, self.server.rows
         return f"COMMITTED {self.number}"
 
     def spend(self, key, entry):
@@ -297,12 +332,13 @@ class Client:
         return "DELETED"
 
     def do_sar(self, key, flags, exptime, sid, block):
-        self.spend(key, (block, self.number))
+        self.spend(key, (block, self.number) if self.book.bears_put(self.grant(key), block) else None)
         return "STORED"
 
     def do_iqcommit(self, key, sid):
-        entry, by = self.server.at(key).entry, self.grant(key).by
-        self.spend(key, entry and (str(max(0, int(entry[0]) + by)), self.number))
+        entry, grant = self.server.at(key).entry, self.grant(key)
+        is_shifted = entry and self.book.bears_shift(grant)
+        self.spend(key, (str(int(entry[0]) + grant.by), self.number) if is_shifted else None)
         return "STORED"
 
     def do_iqabort(self, sid):

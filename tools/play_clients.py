@@ -287,8 +287,8 @@ def beside(program, _path):
             client.sendall(b"begin read\r\n")
             expect(receive(client, len(b"SESSION %d\r\n" % number)), b"SESSION %d\r\n" % number)
     for clients in groups:
-        clients[0].sendall(b"iqget profile:2 1 0\r\niqset profile:2 0 0 6 1 0\r\nm2 0 0\r\n")
-        expect(receive(clients[0], 17), b"LEASE 1\r\nSTORED\r\n")
+        said = b"iqget profile:2 1 0\r\nask profile:2 1\r\niqset profile:2 0 0 6 1 0\r\nm2 0 0\r\n"
+        say(clients[0], [(said, b"LEASE 1\r\nVALUE profile:2 0 6 0\r\nm2 0 0\r\nEND\r\nSTORED\r\n")])
     times = [[hits(clients, 1024) for clients in groups] for _ in range(9)]
     alone, crowd = (sorted(it[place] for it in times)[4] for place in (0, 1))
     print(f"100 clients: {102400 / alone:.0f} hits a second alone, {102400 / crowd:.0f} beside 900 silent ones")
