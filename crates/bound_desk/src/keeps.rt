@@ -117,7 +117,8 @@ impl<H: BoundName> BoundBook<H> {
 
     // Whether it is the session that was seen last to be ended without a commit.
     fn has_quit(&self, who: Sid) -> bool
-        ensures { IsTrue result ↔ (self.now.quit ≡ Some who) }
+        ensures quit { IsTrue result ↔ (self.now.quit ≡ Some who) }
+        ensures ended { IsTrue result → IsAmong who.number (ended_of self.now.seen.events) }
     {
         match self.quit {
             Some(quit) => quit == who,
