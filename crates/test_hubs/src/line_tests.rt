@@ -8,6 +8,7 @@ use crate::runs::{PROFILES, store_of};
 use crate::watched_lines::{Passed, WatchedLine};
 use conn_server::{LineEnd, serve_line};
 use iq_outside::{Line, ListClock, MemLine, MemSink, MemSource, OpenGate};
+use plain_ops::Plain;
 use session_client::{Desk, Wanted};
 use shard_lock::{Hub, HubName, StartOf, new_shards};
 use sql_keeper::{MapKeeper, Store};
@@ -94,7 +95,8 @@ fn is_served<H: HubName + Send + Sync, R: Wait + Abort>(
     gone.call(writer, Wanted::QaReg { key }).let_go();
     let mut desk = hub.desk(rt, 1, clock, &OpenGate);
     let mut line = line_of(alloc, ASKS)?;
-    let end = serve_line(alloc, &mut line, &mut desk);
+    let mut plain = Plain::new(alloc, 1);
+    let end = serve_line(alloc, &mut line, &mut desk, &mut plain);
     Ok(end == LineEnd::Quit && line.taken() == TOLD)
 }
 
@@ -110,7 +112,8 @@ fn gives_up_first<H: HubName + Send + Sync, R: Wait + Abort>(
     };
     let mut desk = hub.desk(rt, 0, clock, &gate);
     let mut line = WatchedLine::new(line_of(alloc, GOES)?, &gate);
-    let end = serve_line(alloc, &mut line, &mut desk);
+    let mut plain = Plain::new(alloc, 1);
+    let end = serve_line(alloc, &mut line, &mut desk, &mut plain);
     line.finish();
     let times = gate.times.load(Ordering::SeqCst);
     Ok(end == LineEnd::Quit && line.passed() == Some(4) && times == 4)
