@@ -145,7 +145,7 @@ done_one start reads writes before after client new done item taken calls reply 
       ∙ (ap (with_plain_calls (plain_calls_of item reply)) done.asks_plain
       ∙ (sym (with_plain_calls-append (plain_calls done.items done.told) (plain_calls_of item reply) start.desk.plains)
       ∙ ap (λ (calls : List PlainCall). with_plain_calls calls start.desk.plains)
-          (sym (plains_one newcomer done.items done.asked done.told client item reply done.answers))));
+      (sym (plains_one newcomer done.items done.asked done.told client item reply done.answers))));
   first = first_one done.given done.items item done.size taken done.first stands;
   answers = all_one newcomer done.items done.asked done.told client item calls reply new done.answers answers;
   read_faults = done.read_faults;

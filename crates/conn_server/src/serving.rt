@@ -207,9 +207,13 @@ impl Serving {
     {
         let next = next_said(&mut self.framer);
         match next {
-            Ok(Some(Said::Lease {
-                command: Command::Quit,
-            })) => Err(LineEnd::Quit),
+            Ok(
+                Some(
+                    Said::Lease {
+                        command: Command::Quit,
+                    },
+                ),
+            ) => Err(LineEnd::Quit),
             Ok(Some(Said::Lease { command })) => {
                 let reply = self.client.answer(desk, command);
                 self.tell(desk, Told::Lease { reply })

@@ -253,24 +253,24 @@ verb_back verb.Decr = refl
 verb_once : (v w : PlainVerb) → text_of v ≡ text_of w → v ≡ w
 verb_once v w e = sym (verb_back v) ∙ (ap (λ (text : List ℕ). verb_with (letters text)) e ∙ verb_back w)
 
-first_once : (a b : List ℕ) (as bs : List (List ℕ)) → a ∷ as ≡ b ∷ bs → a ≡ b
-first_once a b as bs e = cc
+pub first_once : (a b : List ℕ) (vs ws : List (List ℕ)) → a ∷ vs ≡ b ∷ ws → a ≡ b
+first_once a b vs ws e = cc
 
-tail_once : (a b : List ℕ) (as bs : List (List ℕ)) → a ∷ as ≡ b ∷ bs → as ≡ bs
-tail_once a b as bs e = cc
+tail_once : (a b : List ℕ) (vs ws : List (List ℕ)) → a ∷ vs ≡ b ∷ ws → vs ≡ ws
+tail_once a b vs ws e = cc
 
 -- one line of a plain command stands first
-pub record SameLine (a b : ℕ) (v w : PlainVerb) (as bs : List (List ℕ)) : Type 0 where
+pub record SameLine (a b : ℕ) (v w : PlainVerb) (vs ws : List (List ℕ)) : Type 0 where
   pub long : a ≡ b
   pub verb : v ≡ w
-  pub args : as ≡ bs
+  pub args : vs ≡ ws
 
-pub plain_once : (stream : List ℕ) (a b : ℕ) (v w : PlainVerb) (as bs : List (List ℕ))
-    → IsPlainLine stream a v as → IsPlainLine stream b w bs → SameLine a b v w as bs
-plain_once stream a b v w as bs h k =
+pub plain_once : (stream : List ℕ) (a b : ℕ) (v w : PlainVerb) (vs ws : List (List ℕ))
+    → IsPlainLine stream a v vs → IsPlainLine stream b w ws → SameLine a b v w vs ws
+plain_once stream a b v w vs ws h k =
     let long : a ≡ b = line_once stream a b h.line k.line in
-    let words : text_of v ∷ as ≡ text_of w ∷ bs = sym h.words ∙ (ap (λ (n : ℕ). words_in (take n stream)) long ∙ k.words) in
-    record { long = long; verb = verb_once v w (first_once (text_of v) (text_of w) as bs words); args = tail_once (text_of v) (text_of w) as bs words }
+    let words : text_of v ∷ vs ≡ text_of w ∷ ws = sym h.words ∙ (ap (λ (n : ℕ). words_in (take n stream)) long ∙ k.words) in
+    record { long = long; verb = verb_once v w (first_once (text_of v) (text_of w) vs ws words); args = tail_once (text_of v) (text_of w) vs ws words }
 
 -- the first line announces one size
 pub size_once : (stream : List ℕ) (a b : ℕ) (x y : PlainHead) → IsHeaded stream a x → IsHeaded stream b y → (a ≡ b) × (x.fields.bytes ≡ y.fields.bytes)

@@ -147,7 +147,7 @@ blocked_same stream long x y a b m n bytes noreply said (inl h) (inl k) =
     let block : h.block ≡ k.block = h.block_is.2 ∙ (ap (λ (size : ℕ). take size (drop (long + 2) stream)) bytes ∙ sym k.block_is.2) in (
       h.is
           ∙ (ap (λ (s : PlainSaid). plain s x.noreply) (said h.block)
-          ∙ (ap (λ (data : List ℕ). plain (said_with y data) x.noreply) block
+          ∙ (ap (λ (bytes : List ℕ). plain (said_with y bytes) x.noreply) block
           ∙ (ap (λ (r : Bool). plain (said_with y k.block) r) noreply ∙ sym k.is))),
       h.taken_is ∙ (ap (λ (size : ℕ). long + 2 + (size + 2)) bytes ∙ sym k.taken_is),
     )

@@ -48,8 +48,8 @@ last_once words false false h k = refl
 -- what keys say
 keys_once : (make : List (List ℕ) → PlainCommand) (words : List (List ℕ)) (a b : PlainSaid) → AreKeys make words a → AreKeys make words b → a ≡ b
 keys_once make words (said.Asks x) (said.Asks y) h k = ap (λ (c : PlainCommand). said.Asks c) (h.2 ∙ sym k.2)
-keys_once make words (said.Asks x) said.QueryKey h k = absurd (plain_not_query k.1.0 (All-contains words k.1.0 h.1 k.1.1) k.1.2)
-keys_once make words said.QueryKey (said.Asks y) h k = absurd (plain_not_query h.1.0 (All-contains words h.1.0 k.1 h.1.1) h.1.2)
+keys_once make words (said.Asks x) said.QueryKey h k = absurd (plain_not_query k.1.0 (All-contains IsPlainKey words k.1.0 h.1 k.1.1) k.1.2)
+keys_once make words said.QueryKey (said.Asks y) h k = absurd (plain_not_query h.1.0 (All-contains IsPlainKey words h.1.0 k.1 h.1.1) h.1.2)
 keys_once make words said.QueryKey said.QueryKey h k = refl
 keys_once make words said.Exptime b h k = absurd h
 keys_once make words a said.Exptime h k = absurd k

@@ -27,7 +27,9 @@ pub enum PlainFront {
         taken: usize,
     },
     /// A line that isn't of its verb's form, with how many bytes it takes.
-    BadLine { taken: usize },
+    BadLine {
+        taken: usize,
+    },
     /// A block that doesn't end where it should.
     BadBlock,
     /// A block that is too big.

@@ -23,11 +23,13 @@ pub fn next_said(framer: &mut Framer) -> Result<Option<Said>, FrameFault>
 {
     let place = framer.place();
     match plain_front(framer.alloc(), framer.rest()) {
-        Ok(PlainFront::Command {
-            said,
-            noreply,
-            taken,
-        }) => {
+        Ok(
+            PlainFront::Command {
+                said,
+                noreply,
+                taken,
+            },
+        ) => {
             framer.take(taken);
             Ok(Some(Said::Plain { said, noreply }))
         }

@@ -17,15 +17,15 @@ use Rattle.plain_ops.specs.Desks.{AreOf, IsUnstored, Belongs}
 -- items that are found at some of the keys are found at those of more keys
 found_of : (entries : List (List ℕ × Item)) (keys : List (List ℕ)) → AreOf (found_in entries keys) keys
 found_of entries [] = tt
-found_of entries (key ∷ keys) = by (item_at entries key) refl
+found_of entries (key ∷ keys) = by (item_at entries key) refl (found_of entries keys)
   where
     later : (found : List Found) → AreOf found keys → AreOf found (key ∷ keys)
     later [] h = tt
     later (item ∷ items) h = inr h
 
-    by : (at : Option Item) → item_at entries key ≡ at → AreOf (found_in entries (key ∷ keys)) (key ∷ keys)
-    by None e = rw e (later (found_in entries keys) (found_of entries keys))
-    by (Some item) e = rw e (inl (refl, found_of entries keys))
+    by : (at : Option Item) → item_at entries key ≡ at → AreOf (found_in entries keys) keys → AreOf (found_in entries (key ∷ keys)) (key ∷ keys)
+    by None e h = rw e (later (found_in entries keys) h)
+    by (Some item) e h = rw e (inl (refl, h))
 
 refused_unstored : (old : PlainMap) (key : List ℕ) (flags : ℕ) (value : List ℕ) (told : PlainReply) → IsRefused old key flags value told → IsUnstored told
 refused_unstored old key flags value reply.Spent h = tt

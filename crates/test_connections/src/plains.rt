@@ -60,13 +60,19 @@ const SILENT: &[(&str, &str)] = &[
     ("set a 0 60 1 noreply\r\nx\r\nget a", "END"),
     ("set profile:2 0 0 1 noreply\r\nx\r\nget a", "END"),
     ("add a 0 0 1 noreply\r\n1\r\nincr a 6", "7"),
-    ("incr a 1 noreply\r\ndecr a 9 noreply\r\nget a", "VALUE a 0 1\r\n0\r\nEND"),
+    (
+        "incr a 1 noreply\r\ndecr a 9 noreply\r\nget a",
+        "VALUE a 0 1\r\n0\r\nEND",
+    ),
     ("delete b noreply\r\ndelete b", "NOT_FOUND"),
     ("get a noreply", "VALUE a 0 1\r\n0\r\nEND"),
     ("get", "CLIENT_ERROR bad line"),
     ("delete a 0", "CLIENT_ERROR bad line"),
     ("incr a noreply", "CLIENT_ERROR bad line"),
-    ("set a 0 0 1 norepl\r\nget a", "CLIENT_ERROR bad line\r\nVALUE a 0 1\r\n0\r\nEND"),
+    (
+        "set a 0 0 1 norepl\r\nget a",
+        "CLIENT_ERROR bad line\r\nVALUE a 0 1\r\n0\r\nEND",
+    ),
     ("GET a", "ERROR"),
 ];
 
