@@ -9,7 +9,7 @@ mod answers;
 pub mod clients;
 mod closing;
 pub mod ends;
-mod outgoing;
+pub mod outgoing;
 mod refusals;
 pub mod serving;
 mod tellings;

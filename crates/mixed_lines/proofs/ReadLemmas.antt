@@ -15,7 +15,8 @@ use Rattle.mc_text.specs.declared.commands.Command.{Command}
 use Rattle.mc_text.specs.declared.faults.FrameFault.{FrameFault}
 use Rattle.mc_text.specs.declared.faults.FrameFault.TheVariants as frame
 use Rattle.mixed_lines.specs.Fronts.{Takes, Faults}
-use Rattle.mixed_lines.specs.Items.{IsPlainLine, IsNoPlainLine, IsWhole, IsHeaded, IsWithBlock, IsBadPlain, HasBigPlain, HasBadPlain, AwaitsBlock, command}
+use Rattle.mixed_lines.specs.Items.{IsPlainLine, IsNoPlainLine, IsWhole, IsHeaded, IsWithBlock, IsBadPlain, HasBigPlain, HasBadPlain, AwaitsBlock}
+use Rattle.mixed_lines.specs.Items.{command, plain, bad_line}
 use Rattle.mixed_lines.proofs.ItemLemmas.{first_once}
 
 -- a lease command is taken, where no line of a plain one stands
@@ -102,3 +103,11 @@ block_front stream long head block said line small ends is said_is = record {
   noreply_is = refl;
   taken_is = omega arith;
 }
+
+-- a plain command is taken, or a bad line
+pub front_taken : (old new : Frames) (said : PlainSaid) (noreply : Bool) (taken : ℕ)
+    → IsWhole old.rest said noreply taken ⊎ IsWithBlock old.rest said noreply taken → new ≡ framing.past old taken → Takes old (plain said noreply) new
+front_taken old new said noreply taken stands is = record { taken = taken; stands = stands; goes_on = is }
+
+pub bad_taken : (old new : Frames) (taken : ℕ) → IsBadPlain old.rest taken → new ≡ framing.past old taken → Takes old bad_line new
+bad_taken old new taken bad is = record { taken = taken; stands = inr bad; goes_on = is }

@@ -50,8 +50,9 @@ fn next_lease(framer: &mut Framer) -> Result<Option<Said>, FrameFault>
     requires { IsNoPlainLine framer.old.rest }
     ensures { Reads framer.old result framer.new }
 {
-    match framer.next_command()? {
-        Some(command) => Ok(Some(Said::Lease { command })),
-        None => Ok(None),
+    match framer.next_command() {
+        Ok(Some(command)) => Ok(Some(Said::Lease { command })),
+        Ok(None) => Ok(None),
+        Err(fault) => Err(fault),
     }
 }
