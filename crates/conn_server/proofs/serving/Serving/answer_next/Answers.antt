@@ -25,12 +25,12 @@ returns-in-Ok-Some-Lease-Quit-clause-ends g c =
 
 pub returns-in-Ok-Some-Lease : goal.returns-in-Ok-Some-Lease
 returns-in-Ok-Some-Lease g c =
-    let is : c.next_said-next.result ≡ Ok (Some (said.Lease c.in-Lease.command)) = cc in
-    let t = next_said c.args.self.now.framer c.next_said-next.new.framer c.next_said-next.result (said.Lease c.in-Lease.command) c.next_said-next.ensures is in
+    let is : c.next_said-next.result ≡ Ok (Some (said.Lease c.in-Ok-Some-Lease.command)) = cc in
+    let t = next_said c.args.self.now.framer c.next_said-next.new.framer c.next_said-next.result (said.Lease c.in-Ok-Some-Lease.command) c.next_said-next.ensures is in
     let heard = told.Lease c.answer-reply.result in
     let a : Answered (desk_side g.D.Desk.record_of g.D.Desk.tends g.P.PlainDesk.record_of c.args.desk.now c.args.plain.now) (desk_side g.D.Desk.record_of g.D.Desk.tends g.P.PlainDesk.record_of c.tell.new.desk c.args.plain.now) c.args.self.now c.tell.new.self heard =
     record {
-      item = command c.in-Lease.command;
+      item = command c.in-Ok-Some-Lease.command;
       taken = t.taken;
       calls = c.answer-reply.ensures.answers.calls;
       stands = t.stands;
@@ -38,7 +38,7 @@ returns-in-Ok-Some-Lease g c =
       tended = c.tell.ensures.tended ∙ ap one_more c.answer-reply.ensures.untended;
       plains = refl;
       asks = c.tell.ensures.asks_nothing ∙ c.answer-reply.ensures.answers.record_is;
-      answers = subst (λ (x : Client). ItemAnswers c.args.self.now.client (command c.in-Lease.command) c.answer-reply.ensures.answers.calls heard x)
+      answers = subst (λ (x : Client). ItemAnswers c.args.self.now.client (command c.in-Ok-Some-Lease.command) c.answer-reply.ensures.answers.calls heard x)
           (sym c.tell.ensures.client) c.answer-reply.ensures.answers.answers;
       count = c.tell.ensures.counts;
     } in
@@ -53,29 +53,29 @@ returns-in-Ok-Some-Lease g c =
 
 pub returns-in-Ok-Some-Plain : goal.returns-in-Ok-Some-Plain
 returns-in-Ok-Some-Plain g c =
-    let is : c.next_said-next.result ≡ Ok (Some (said.Plain c.in-Plain.said c.in-Plain.noreply)) = cc in
-    let t = next_said c.args.self.now.framer c.next_said-next.new.framer c.next_said-next.result (said.Plain c.in-Plain.said c.in-Plain.noreply) c.next_said-next.ensures is in
-    let heard = told.Plain c.reply_to-reply.result c.in-Plain.noreply in
-    let a : Answered (desk_side g.D.Desk.record_of g.D.Desk.tends g.P.PlainDesk.record_of c.args.desk.now c.args.plain.now) (desk_side g.D.Desk.record_of g.D.Desk.tends g.P.PlainDesk.record_of c.tell-in-Plain.new.desk c.reply_to-reply.new.plain) c.args.self.now c.tell-in-Plain.new.self heard =
+    let is : c.next_said-next.result ≡ Ok (Some (said.Plain c.in-Ok-Some-Plain.said c.in-Ok-Some-Plain.noreply)) = cc in
+    let t = next_said c.args.self.now.framer c.next_said-next.new.framer c.next_said-next.result (said.Plain c.in-Ok-Some-Plain.said c.in-Ok-Some-Plain.noreply) c.next_said-next.ensures is in
+    let heard = told.Plain c.reply_to-reply.result c.in-Ok-Some-Plain.noreply in
+    let a : Answered (desk_side g.D.Desk.record_of g.D.Desk.tends g.P.PlainDesk.record_of c.args.desk.now c.args.plain.now) (desk_side g.D.Desk.record_of g.D.Desk.tends g.P.PlainDesk.record_of c.tell-in-Ok-Some-Plain.new.desk c.reply_to-reply.new.plain) c.args.self.now c.tell-in-Ok-Some-Plain.new.self heard =
     record {
-      item = plain c.in-Plain.said c.in-Plain.noreply;
+      item = plain c.in-Ok-Some-Plain.said c.in-Ok-Some-Plain.noreply;
       taken = t.taken;
       calls = [];
       stands = t.stands;
-      framer = c.tell-in-Plain.ensures.framer ∙ t.goes_on;
-      tended = c.tell-in-Plain.ensures.tended;
+      framer = c.tell-in-Ok-Some-Plain.ensures.framer ∙ t.goes_on;
+      tended = c.tell-in-Ok-Some-Plain.ensures.tended;
       plains = c.reply_to-reply.ensures.recorded;
-      asks = c.tell-in-Plain.ensures.asks_nothing;
-      answers = (refl, (c.reply_to-reply.ensures.belongs, refl), c.tell-in-Plain.ensures.client);
-      count = c.tell-in-Plain.ensures.counts;
+      asks = c.tell-in-Ok-Some-Plain.ensures.asks_nothing;
+      answers = (refl, (c.reply_to-reply.ensures.belongs, refl), c.tell-in-Ok-Some-Plain.ensures.client);
+      count = c.tell-in-Ok-Some-Plain.ensures.counts;
     } in
     record {
-      within = tells_within c.tell-in-Plain.result heard _ c.tell-in-Plain.new.self c.tell-in-Plain.ensures.tells;
-      counts = λ e. c.tell-in-Plain.ensures.counts;
-      waits = tells_waits c.tell-in-Plain.result heard _ c.args.self.now c.tell-in-Plain.new.self c.requires.few refl c.tell-in-Plain.ensures.tells;
-      stops = λ e. absurd (tells_more c.tell-in-Plain.result heard _ c.tell-in-Plain.new.self c.tell-in-Plain.ensures.tells e);
-      goes_on = answered_goes_on c.tell-in-Plain.result _ _ c.args.self.now _ c.tell-in-Plain.new.self heard refl c.tell-in-Plain.ensures.tells a;
-      ends = answered_ends c.tell-in-Plain.result _ _ c.args.self.now _ c.tell-in-Plain.new.self heard refl c.tell-in-Plain.ensures.tells a;
+      within = tells_within c.tell-in-Ok-Some-Plain.result heard _ c.tell-in-Ok-Some-Plain.new.self c.tell-in-Ok-Some-Plain.ensures.tells;
+      counts = λ e. c.tell-in-Ok-Some-Plain.ensures.counts;
+      waits = tells_waits c.tell-in-Ok-Some-Plain.result heard _ c.args.self.now c.tell-in-Ok-Some-Plain.new.self c.requires.few refl c.tell-in-Ok-Some-Plain.ensures.tells;
+      stops = λ e. absurd (tells_more c.tell-in-Ok-Some-Plain.result heard _ c.tell-in-Ok-Some-Plain.new.self c.tell-in-Ok-Some-Plain.ensures.tells e);
+      goes_on = answered_goes_on c.tell-in-Ok-Some-Plain.result _ _ c.args.self.now _ c.tell-in-Ok-Some-Plain.new.self heard refl c.tell-in-Ok-Some-Plain.ensures.tells a;
+      ends = answered_ends c.tell-in-Ok-Some-Plain.result _ _ c.args.self.now _ c.tell-in-Ok-Some-Plain.new.self heard refl c.tell-in-Ok-Some-Plain.ensures.tells a;
     }
 
 pub returns-in-Ok-None-clause-goes_on : goal.returns-in-Ok-None-clause-goes_on
