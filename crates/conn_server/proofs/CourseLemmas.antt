@@ -6,34 +6,29 @@ use Rattle.std.proofs.lemmas.Bool.{cases_lt}
 use Rattle.std.proofs.lemmas.List.{drop-drop, drop-append-le, length-append, length-drop, take-append-drop}
 use Rattle.iq_outside.specs.Outside.{Takes, Gains, Rose, AtEnd, ZeroAtEnd, ReadSide, WriteSide}
 use Rattle.iq_outside.proofs.OutsideLemmas.{Takes-append, Takes-none, Gains-append, Gains-none, AtEnd-zero, Rose-later}
-use Rattle.mc_text.specs.Framing.{Frames, past, fed, Answers, Faults, Takes as FrameTakes}
-use Rattle.mc_text.specs.Replies.{text_of}
-use Rattle.mc_text.specs.Streams.{Item, command, bad_line, Stands, IsOpen, AreFirst}
-use Rattle.mc_text.specs.declared.commands.Command.{Command}
+use Rattle.mc_text.specs.Framing.{Frames, past, fed}
 use Rattle.mc_text.specs.declared.commands.Command.TheVariants.{Quit}
 use Rattle.mc_text.specs.declared.faults.FrameFault.{FrameFault}
 use Rattle.mc_text.specs.declared.faults.FrameFault.TheVariants as frame
-use Rattle.mc_text.specs.declared.replies.LineReply.{LineReply}
 use Rattle.mc_text.specs.declared.replies.LineReply.TheVariants as reply
-use Rattle.mc_text.proofs.StreamLemmas.{streams_tell}
 use Rattle.session_client.specs.Desks.{Call, one_more}
+use Rattle.plain_ops.specs.Desks.{PlainCall, with_plain_call, with_plain_calls}
 use Rattle.conn_server.specs.declared.clients.Client.{Client}
 use Rattle.conn_server.specs.declared.ends.LineEnd.{LineEnd}
 use Rattle.conn_server.specs.declared.ends.LineEnd.TheVariants as ends
 use Rattle.conn_server.specs.declared.serving.Serving.{Serving}
+use Rattle.conn_server.specs.declared.outgoing.Told.{Told}
+use Rattle.conn_server.specs.declared.outgoing.Told.TheVariants.{Lease}
+use Rattle.mixed_lines.specs.declared.streams.Said.{Said}
+use Rattle.mixed_lines.specs.Fronts.{Reads as IsRead, Faults, item_of, Takes as FrameTakes}
+use Rattle.mixed_lines.specs.Items.{Item, command, bad_line, Stands, IsOpen, AreFirst}
+use Rattle.conn_server.specs.Outgoing.{told_text, plain_calls_of, plain_calls}
 use Rattle.conn_server.specs.Clients.{newcomer}
 use Rattle.conn_server.specs.Answers.{ItemAnswers, AllAnswer, GivenUp, with_calls}
 use Rattle.conn_server.specs.Service.{budget, texts, IsWithin, Lasts, place_of, TookSome, TookToFault, EndsSo, NoneLeft, IsServed, CountsWrites, tended_by}
 use Rattle.conn_server.specs.Course.{most_reads, DeskSide, IsUnserved, WaitsFew, Start, Done, Course, CountsAt, Ending, Tells, Flushes, Shuts, Finishes}
 use Rattle.conn_server.proofs.ClosingLemmas.{with_calls-append}
-use Rattle.conn_server.proofs.BoundLemmas.{first_bound, open_bound}
-
--- items stay first where more bytes come behind
-first_more : (given more : List ℕ) (items : List Item) (size : ℕ) → AreFirst given items size → AreFirst (given ++ more) items size
-first_more given more items size h =
-    let whole : AreFirst (given ++ more) (items ++ []) (size + 0) = streams_tell.pieces given more items [] size 0 h refl in
-    let all : AreFirst (given ++ more) items (size + 0) = subst (λ (xs : List Item). AreFirst (given ++ more) xs (size + 0)) (append-nil items) whole in
-    subst (λ (n : ℕ). AreFirst (given ++ more) items n) (add-zero size) all
+use Rattle.mixed_lines.proofs.ItemLemmas.{item_fits, first_more, first_bound, item_open_bound}
 
 -- one item more
 first_one : (stream : List ℕ) (items : List Item) (item : Item) (size taken : ℕ)
@@ -47,8 +42,8 @@ first_one stream (i ∷ items) item size taken h s =
     let more = first_one (drop one stream) items item others taken rest (subst (λ (bytes : List ℕ). Stands bytes item taken) behind s) in
     (one, others + taken, stands, more, omega (arith, sum))
 
-all_one : (old : Client) (items : List Item) (asked : List Call) (told : List LineReply) (client : Client)
-    (item : Item) (calls : List Call) (reply : LineReply) (new : Client)
+all_one : (old : Client) (items : List Item) (asked : List Call) (told : List Told) (client : Client)
+    (item : Item) (calls : List Call) (reply : Told) (new : Client)
     → AllAnswer old items asked told client → ItemAnswers client item calls reply new
     → AllAnswer old (items ++ item ∷ []) (asked ++ calls) (told ++ reply ∷ []) new
 all_one old [] asked told client item calls reply new h a =
@@ -61,7 +56,7 @@ all_one old [] asked told client item calls reply new h a =
       here,
       (refl, refl, refl),
       ap (λ (xs : List Call). xs ++ calls) h.0 ∙ sym (append-nil calls),
-      ap (λ (xs : List LineReply). xs ++ reply ∷ []) h.1,
+      ap (λ (xs : List Told). xs ++ reply ∷ []) h.1,
     )
 all_one old (i ∷ items) asked told client item calls reply new h a =
     let (first, others, r, replies, next, here, rest, calls_are, told_are) = h in
@@ -74,20 +69,41 @@ all_one old (i ∷ items) asked told client item calls reply new h a =
       here,
       more,
       ap (λ (xs : List Call). xs ++ calls) calls_are ∙ append_assoc first others calls,
-      ap (λ (xs : List LineReply). xs ++ reply ∷ []) told_are,
+      ap (λ (xs : List Told). xs ++ reply ∷ []) told_are,
     )
 
-texts_one : (told : List LineReply) (reply : LineReply) → texts (told ++ reply ∷ []) ≡ texts told ++ text_of reply
-texts_one [] reply = append-nil (text_of reply)
+-- calls on the plain desk, one behind the other
+with_plain_calls-append : (calls more : List PlainCall) (told : Option (List PlainCall))
+    → with_plain_calls (calls ++ more) told ≡ with_plain_calls more (with_plain_calls calls told)
+with_plain_calls-append [] more told = refl
+with_plain_calls-append (call ∷ calls) more told = with_plain_calls-append calls more (with_plain_call call told)
+
+-- those of one item more
+plains_one : (old : Client) (items : List Item) (asked : List Call) (told : List Told) (client : Client) (item : Item) (reply : Told)
+    → AllAnswer old items asked told client
+    → plain_calls (items ++ item ∷ []) (told ++ reply ∷ []) ≡ plain_calls items told ++ plain_calls_of item reply
+plains_one old [] asked told client item reply h =
+    let all : plain_calls (item ∷ []) ([] ++ reply ∷ []) ≡ plain_calls_of item reply = append-nil (plain_calls_of item reply) in
+    subst (λ (ts : List Told). plain_calls (item ∷ []) (ts ++ reply ∷ []) ≡ plain_calls [] ts ++ plain_calls_of item reply) (sym h.1) all
+plains_one old (i ∷ items) asked told client item reply h =
+    let (first, others, r, replies, next, here, rest, calls_are, told_are) = h in
+    let more = plains_one next items others replies client item reply rest in
+    subst (λ (ts : List Told). plain_calls (i ∷ (items ++ item ∷ [])) (ts ++ reply ∷ []) ≡ plain_calls (i ∷ items) ts ++ plain_calls_of item reply)
+    (sym told_are)
+    (ap (λ (xs : List PlainCall). plain_calls_of i r ++ xs) more
+    ∙ sym (append_assoc (plain_calls_of i r) (plain_calls items replies) (plain_calls_of item reply)))
+
+texts_one : (told : List Told) (reply : Told) → texts (told ++ reply ∷ []) ≡ texts told ++ told_text reply
+texts_one [] reply = append-nil (told_text reply)
 texts_one (t ∷ told) reply =
-    ap (λ (xs : List ℕ). text_of t ++ xs) (texts_one told reply) ∙ sym (append_assoc (text_of t) (texts told) (text_of reply))
+    ap (λ (xs : List ℕ). told_text t ++ xs) (texts_one told reply) ∙ sym (append_assoc (told_text t) (texts told) (told_text reply))
 
 -- what is told once more stands behind what was to be written
-due_one : (told : List LineReply) (sent old new : List ℕ) (reply : LineReply)
-    → texts told ≡ sent ++ old → new ≡ old ++ text_of reply → texts (told ++ reply ∷ []) ≡ sent ++ new
+due_one : (told : List Told) (sent old new : List ℕ) (reply : Told)
+    → texts told ≡ sent ++ old → new ≡ old ++ told_text reply → texts (told ++ reply ∷ []) ≡ sent ++ new
 due_one told sent old new reply due is =
     texts_one told reply
-    ∙ (ap (λ (xs : List ℕ). xs ++ text_of reply) due ∙ (append_assoc sent old (text_of reply) ∙ ap (λ (xs : List ℕ). sent ++ xs) (sym is)))
+    ∙ (ap (λ (xs : List ℕ). xs ++ told_text reply) due ∙ (append_assoc sent old (told_text reply) ∙ ap (λ (xs : List ℕ). sent ++ xs) (sym is)))
 
 -- a place that stops at the end of its type
 place_more : (size taken place end : ℕ) → place ≡ min size end → min (place + taken) end ≡ min (size + taken) end
@@ -108,11 +124,12 @@ tended_none None = refl
 tended_none (Some count) = ap Some (sym (add-zero count))
 
 abbrev done_one : (start : Start) (reads : ReadSide) (writes : WriteSide) (before after : DeskSide) (client new : Client)
-    (done : Done start reads writes before client) (item : Item) (taken : ℕ) (calls : List Call) (reply : LineReply)
+    (done : Done start reads writes before client) (item : Item) (taken : ℕ) (calls : List Call) (reply : Told)
     → Stands (drop done.size done.given) item taken → after.calls ≡ with_calls calls before.calls → after.tends ≡ one_more before.tends
+    → after.plains ≡ with_plain_calls (plain_calls_of item reply) before.plains
     → ItemAnswers client item calls reply new
     → Done start reads writes after new
-done_one start reads writes before after client new done item taken calls reply stands asks tended answers = record {
+done_one start reads writes before after client new done item taken calls reply stands asks tended plains answers = record {
   given = done.given;
   items = done.items ++ item ∷ [];
   size = done.size + taken;
@@ -124,6 +141,11 @@ done_one start reads writes before after client new done item taken calls reply 
   takes = done.takes;
   asks = asks ∙ (ap (with_calls calls) done.asks ∙ sym (with_calls-append done.asked calls start.desk.calls));
   tended = tended ∙ (ap one_more done.tended ∙ tended_one done.items item start.desk.tends);
+  asks_plain = plains
+      ∙ (ap (with_plain_calls (plain_calls_of item reply)) done.asks_plain
+      ∙ (sym (with_plain_calls-append (plain_calls done.items done.told) (plain_calls_of item reply) start.desk.plains)
+      ∙ ap (λ (calls : List PlainCall). with_plain_calls calls start.desk.plains)
+      (sym (plains_one newcomer done.items done.asked done.told client item reply done.answers))));
   first = first_one done.given done.items item done.size taken done.first stands;
   answers = all_one newcomer done.items done.asked done.told client item calls reply new done.answers answers;
   read_faults = done.read_faults;
@@ -131,7 +153,7 @@ done_one start reads writes before after client new done item taken calls reply 
 }
 
 -- an item that stood first was taken and answered
-pub record Answered (before after : DeskSide) (old new : Serving) (reply : LineReply) : Type 0 where
+pub record Answered (before after : DeskSide) (old new : Serving) (reply : Told) : Type 0 where
   pub item : Item
   pub taken : ℕ
   pub calls : List Call
@@ -139,16 +161,17 @@ pub record Answered (before after : DeskSide) (old new : Serving) (reply : LineR
   pub framer : new.framer ≡ past old.framer taken
   pub asks : after.calls ≡ with_calls calls before.calls
   pub tended : after.tends ≡ one_more before.tends
+  pub plains : after.plains ≡ with_plain_calls (plain_calls_of item reply) before.plains
   pub answers : ItemAnswers old.client item calls reply new.client
   pub count : new.count ≡ old.count + 1
 
-course_one : (start : Start) (rounds : ℕ) (reads : ReadSide) (writes : WriteSide) (before after : DeskSide) (old new : Serving) (reply : LineReply)
-    → Answered before after old new reply → new.count < budget → new.out.items ≡ old.out.items ++ text_of reply
+course_one : (start : Start) (rounds : ℕ) (reads : ReadSide) (writes : WriteSide) (before after : DeskSide) (old new : Serving) (reply : Told)
+    → Answered before after old new reply → new.count < budget → new.out.items ≡ old.out.items ++ told_text reply
     → Course start rounds reads writes before old → Course start rounds reads writes after new
 course_one start rounds reads writes before after old new reply a few out c =
     let stands = subst (λ (bytes : List ℕ). Stands bytes a.item a.taken) c.rest a.stands in
     record {
-      done = done_one start reads writes before after old.client new.client c.done a.item a.taken a.calls reply stands a.asks a.tended a.answers;
+      done = done_one start reads writes before after old.client new.client c.done a.item a.taken a.calls reply stands a.asks a.tended a.plains a.answers;
       within = omega (arith, length-append c.done.items (a.item ∷ []), a.count, c.count);
       count = omega (arith, length-append c.done.items (a.item ∷ []), a.count, c.count);
       due = due_one c.done.told c.done.sent old.out.items new.out.items reply c.due out;
@@ -162,13 +185,13 @@ course_one start rounds reads writes before after old new reply a few out c =
 
 -- behind its last item a connection ends
 ending_one : (end : LineEnd) (start : Start) (rounds : ℕ) (reads : ReadSide) (writes : WriteSide) (before after : DeskSide)
-    (old new : Serving) (reply : LineReply)
+    (old new : Serving) (reply : Told)
     → Answered before after old new reply → Tells (Err end) reply old new
     → Course start rounds reads writes before old → Ending end start reads writes after new
 ending_one ends.Budget start rounds reads writes before after old new reply a told c =
     let stands = subst (λ (bytes : List ℕ). Stands bytes a.item a.taken) c.rest a.stands in
     record {
-      done = done_one start reads writes before after old.client new.client c.done a.item a.taken a.calls reply stands a.asks a.tended a.answers;
+      done = done_one start reads writes before after old.client new.client c.done a.item a.taken a.calls reply stands a.asks a.tended a.plains a.answers;
       ends = (
         omega (arith, length-append c.done.items (a.item ∷ []), a.count, c.count, told.0),
         sym (due_one c.done.told c.done.sent old.out.items new.out.items reply c.due told.1),
@@ -181,10 +204,10 @@ ending_one ends.Memory start rounds reads writes before after old new reply a to
     let within = c.within in
     let all : texts c.done.told ≡ c.done.sent ++ new.out.items = c.due ∙ ap (λ (xs : List ℕ). c.done.sent ++ xs) (sym told) in
     record {
-      done = done_one start reads writes before after old.client new.client c.done a.item a.taken a.calls reply stands a.asks a.tended a.answers;
+      done = done_one start reads writes before after old.client new.client c.done a.item a.taken a.calls reply stands a.asks a.tended a.plains a.answers;
       ends = (
         omega (arith, length-append c.done.items (a.item ∷ [])),
-        inl (text_of reply, texts_one c.done.told reply ∙ ap (λ (xs : List ℕ). xs ++ text_of reply) all),
+        inl (told_text reply, texts_one c.done.told reply ∙ ap (λ (xs : List ℕ). xs ++ told_text reply) all),
       );
       counts = (c.no_read_fault, c.no_write_fault);
       none_left = tt;
@@ -192,22 +215,22 @@ ending_one ends.Memory start rounds reads writes before after old new reply a to
 ending_one other start rounds reads writes before after old new reply a told c = absurd told
 
 -- where replies stand is all that matters of what was before
-tells_from : (result : Result Bool LineEnd) (reply : LineReply) (mid old new : Serving)
+tells_from : (result : Result Bool LineEnd) (reply : Told) (mid old new : Serving)
     → mid.out.items ≡ old.out.items → Tells result reply mid new → Tells result reply old new
-tells_from (Ok more) reply mid old new same t = (t.0, t.1, t.2 ∙ ap (λ (xs : List ℕ). xs ++ text_of reply) same)
-tells_from (Err ends.Budget) reply mid old new same t = (t.0, t.1 ∙ ap (λ (xs : List ℕ). xs ++ text_of reply) same)
+tells_from (Ok more) reply mid old new same t = (t.0, t.1, t.2 ∙ ap (λ (xs : List ℕ). xs ++ told_text reply) same)
+tells_from (Err ends.Budget) reply mid old new same t = (t.0, t.1 ∙ ap (λ (xs : List ℕ). xs ++ told_text reply) same)
 tells_from (Err ends.Memory) reply mid old new same t = t ∙ same
 tells_from (Err other) reply mid old new same t = absurd t
 
-pub tells_within : (result : Result Bool LineEnd) (reply : LineReply) (old new : Serving) → Tells result reply old new → OnOk result (new.count < 1000000)
+pub tells_within : (result : Result Bool LineEnd) (reply : Told) (old new : Serving) → Tells result reply old new → OnOk result (new.count < 1000000)
 tells_within (Ok more) reply old new t = t.1
 tells_within (Err end) reply old new t = tt
 
-pub tells_more : (result : Result Bool LineEnd) (reply : LineReply) (old new : Serving) → Tells result reply old new → result ≡ Ok false → ⊥
+pub tells_more : (result : Result Bool LineEnd) (reply : Told) (old new : Serving) → Tells result reply old new → result ≡ Ok false → ⊥
 tells_more (Ok more) reply old new t e = let is = t.0 in absurd cc
 tells_more (Err end) reply old new t e = absurd cc
 
-pub answered_goes_on : (result : Result Bool LineEnd) (before after : DeskSide) (old mid new : Serving) (reply : LineReply)
+pub answered_goes_on : (result : Result Bool LineEnd) (before after : DeskSide) (old mid new : Serving) (reply : Told)
     → mid.out.items ≡ old.out.items → Tells result reply mid new → Answered before after old new reply
     → OnOk result ((start : Start) (rounds : ℕ) (reads : ReadSide) (writes : WriteSide)
     → Course start rounds reads writes before old → Course start rounds reads writes after new)
@@ -216,7 +239,7 @@ answered_goes_on (Ok more) before after old mid new reply same t a =
     λ start rounds reads writes c. course_one start rounds reads writes before after old new reply a told.1 told.2 c
 answered_goes_on (Err end) before after old mid new reply same t a = tt
 
-pub answered_ends : (result : Result Bool LineEnd) (before after : DeskSide) (old mid new : Serving) (reply : LineReply)
+pub answered_ends : (result : Result Bool LineEnd) (before after : DeskSide) (old mid new : Serving) (reply : Told)
     → mid.out.items ≡ old.out.items → Tells result reply mid new → Answered before after old new reply
     → IfErr result (λ end. (start : Start) (rounds : ℕ) (reads : ReadSide) (writes : WriteSide)
     → Course start rounds reads writes before old → Ending end start reads writes after new)
@@ -225,25 +248,25 @@ answered_ends (Err end) before after old mid new reply same t a =
     λ start rounds reads writes c.
     ending_one end start rounds reads writes before after old new reply a (tells_from (Err end) reply mid old new same t) c
 
--- what the framer answered
-pub next_said : (old new : Frames) (r : Result (Option Command) FrameFault) (said : Command)
-    → Answers old r new → r ≡ Ok (Some said) → FrameTakes old (command said) new
-next_said old new r said a is = subst (λ (x : Result (Option Command) FrameFault). Answers old x new) is a
+-- what was read
+pub next_said : (old new : Frames) (r : Result (Option Said) FrameFault) (said : Said)
+    → IsRead old r new → r ≡ Ok (Some said) → FrameTakes old (item_of said) new
+next_said old new r said a is = subst (λ (x : Result (Option Said) FrameFault). IsRead old x new) is a
 
-pub next_none : (old new : Frames) (r : Result (Option Command) FrameFault) → Answers old r new → r ≡ Ok None → new ≡ old
-next_none old new r a is = (subst (λ (x : Result (Option Command) FrameFault). Answers old x new) is a).1
+pub next_none : (old new : Frames) (r : Result (Option Said) FrameFault) → IsRead old r new → r ≡ Ok None → new ≡ old
+next_none old new r a is = (subst (λ (x : Result (Option Said) FrameFault). IsRead old x new) is a).1
 
-pub next_fault : (old new : Frames) (r : Result (Option Command) FrameFault) (found fault : FrameFault)
-    → Answers old r new → r ≡ Err found → found ≡ fault → Faults old fault new
+pub next_fault : (old new : Frames) (r : Result (Option Said) FrameFault) (found fault : FrameFault)
+    → IsRead old r new → r ≡ Err found → found ≡ fault → Faults old fault new
 next_fault old new r found fault a is same =
-    subst (λ (x : FrameFault). Faults old x new) same (subst (λ (x : Result (Option Command) FrameFault). Answers old x new) is a)
+    subst (λ (x : FrameFault). Faults old x new) same (subst (λ (x : Result (Option Said) FrameFault). IsRead old x new) is a)
 
 -- a bad line is answered
 pub bad_line_answered : (before after : DeskSide) (old new : Serving) (place : ℕ) (frames : Frames)
     → Faults old.framer (frame.BadLine place) frames → new.framer ≡ frames → after.calls ≡ before.calls → after.tends ≡ one_more before.tends
-    → new.client ≡ old.client → new.count ≡ old.count + 1
-    → Answered before after old new reply.BadLine
-bad_line_answered before after old new place frames f framer asks tended client count = record {
+    → after.plains ≡ before.plains → new.client ≡ old.client → new.count ≡ old.count + 1
+    → Answered before after old new (Lease reply.BadLine)
+bad_line_answered before after old new place frames f framer asks tended plains client count = record {
   item = bad_line;
   taken = f.1.taken;
   calls = [];
@@ -251,6 +274,7 @@ bad_line_answered before after old new place frames f framer asks tended client 
   framer = framer ∙ f.1.goes_on;
   asks = asks;
   tended = tended;
+  plains = plains;
   answers = (refl, refl, client);
   count = count;
 }
@@ -306,6 +330,7 @@ done_sent start reads old new desk client bytes gains up done = record {
   takes = Gains-append start.writes.taken old.taken new.taken done.sent bytes done.takes gains;
   asks = done.asks;
   tended = done.tended;
+  asks_plain = done.asks_plain;
   first = done.first;
   answers = done.answers;
   read_faults = done.read_faults;
@@ -323,7 +348,7 @@ course_flushed start rounds reads writes new_writes desk old new gains same none
     (c.due ∙ (sym (append-nil (c.done.sent ++ old.out.items)) ∙ ap (λ (xs : List ℕ). (c.done.sent ++ old.out.items) ++ xs) (sym none)))
 
 -- a beginning of what stands to be written was taken
-some_of : (told : List LineReply) (sent out : List ℕ) (written : ℕ) → texts told ≡ sent ++ out → TookSome ((sent ++ take written out) ++ []) told
+some_of : (told : List Told) (sent out : List ℕ) (written : ℕ) → texts told ≡ sent ++ out → TookSome ((sent ++ take written out) ++ []) told
 some_of told sent out written due = (
   drop written out,
   due ∙ (ap (λ (xs : List ℕ). sent ++ xs) (sym (take-append-drop written out))
@@ -396,7 +421,7 @@ ending_quit start rounds reads writes desk old new taken stands out client c =
     (c.within, (taken, subst (λ (bytes : List ℕ). Stands bytes (command Quit) taken) c.rest stands), sym c.due) (c.no_read_fault, c.no_write_fault) tt
 
 -- a beginning of the replies stands to be written
-all_due : (told : List LineReply) (taken : List ℕ) → texts told ≡ taken → TookSome taken told
+all_due : (told : List Told) (taken : List ℕ) → texts told ≡ taken → TookSome taken told
 all_due told taken due = ([], due ∙ sym (append-nil taken))
 
 pub ending_memory : (start : Start) (rounds : ℕ) (reads : ReadSide) (writes : WriteSide) (desk : DeskSide) (old new : Serving)
@@ -407,9 +432,9 @@ ending_memory start rounds reads writes desk old new out client c =
     ending_here ends.Memory start rounds reads writes desk old new out client c
     (omega arith, inl (all_due c.done.told (c.done.sent ++ old.out.items) c.due)) (c.no_read_fault, c.no_write_fault) tt
 
-ending_shut : (fault : FrameFault) (last : LineReply) (start : Start) (rounds : ℕ) (reads : ReadSide) (writes : WriteSide)
+ending_shut : (fault : FrameFault) (last : Told) (start : Start) (rounds : ℕ) (reads : ReadSide) (writes : WriteSide)
     (desk : DeskSide) (old new : Serving)
-    → Lasts old.framer.rest fault last → place_of fault ≡ old.framer.place → new.out.items ≡ old.out.items ++ text_of last → new.client ≡ old.client
+    → Lasts old.framer.rest fault last → place_of fault ≡ old.framer.place → new.out.items ≡ old.out.items ++ told_text last → new.client ≡ old.client
     → Course start rounds reads writes desk old → Ending (ends.Shut fault) start reads writes desk new
 ending_shut fault last start rounds reads writes desk old new lasts place out client c =
     subst (λ (x : Client). Ending (ends.Shut fault) start reads writes desk (with_client new x)) (sym client) (record {
@@ -427,7 +452,7 @@ ending_shut fault last start rounds reads writes desk old new lasts place out cl
       none_left = tt;
     })
 
-pub shut_ends : (end : LineEnd) (fault : FrameFault) (last : LineReply) (start : Start) (rounds : ℕ) (reads : ReadSide) (writes : WriteSide)
+pub shut_ends : (end : LineEnd) (fault : FrameFault) (last : Told) (start : Start) (rounds : ℕ) (reads : ReadSide) (writes : WriteSide)
     (desk : DeskSide) (old new : Serving)
     → Lasts old.framer.rest fault last → place_of fault ≡ old.framer.place → Shuts end fault last old.out.items new.out.items → new.client ≡ old.client
     → Course start rounds reads writes desk old → Ending end start reads writes desk new
@@ -438,7 +463,7 @@ shut_ends ends.Memory fault last start rounds reads writes desk old new lasts pl
     ending_memory start rounds reads writes desk old new s client c
 shut_ends other fault last start rounds reads writes desk old new lasts place s client c = absurd s
 
-pub shut_by : (end : LineEnd) (fault found : FrameFault) (last : LineReply) (start : Start) (rounds : ℕ) (reads : ReadSide) (writes : WriteSide)
+pub shut_by : (end : LineEnd) (fault found : FrameFault) (last : Told) (start : Start) (rounds : ℕ) (reads : ReadSide) (writes : WriteSide)
     (desk : DeskSide) (old new : Serving)
     → fault ≡ found → Lasts old.framer.rest found last → place_of found ≡ old.framer.place → Shuts end fault last old.out.items new.out.items
     → new.client ≡ old.client → Course start rounds reads writes desk old → Ending end start reads writes desk new
@@ -462,6 +487,7 @@ done_fed start old new writes desk client bytes gives adds same done = record {
   takes = done.takes;
   asks = done.asks;
   tended = done.tended;
+  asks_plain = done.asks_plain;
   first = first_more done.given bytes done.items done.size done.first;
   answers = done.answers;
   read_faults = let before = done.read_faults in omega (arith, same);
@@ -479,7 +505,7 @@ size_fits : (stream : List ℕ) (items : List Item) (size : ℕ) → AreFirst st
 size_fits stream [] size h = omega (arith, h)
 size_fits stream (item ∷ items) size h =
     let (one, others, stands, rest, sum) = h in
-    let here = streams_tell.fits stream item one stands in
+    let here = item_fits stream item one stands in
     let there = size_fits (drop one stream) items others rest in
     omega (arith, length-drop one stream)
 
@@ -488,7 +514,7 @@ rounds_few : (given : List ℕ) (items : List Item) (size rounds : ℕ)
     → AreFirst given items size → IsWithin items → IsOpen (drop size given) → rounds ≤ length given → rounds + 1 ≤ most_reads
 rounds_few given items size rounds first within is_open fed =
     let sizes = first_bound given items size first in
-    let rest = open_bound (drop size given) is_open in
+    let rest = item_open_bound (drop size given) is_open in
     omega (arith, length-drop size given)
 
 pub course_fed : (start : Start) (rounds : ℕ) (reads new_reads : ReadSide) (writes : WriteSide) (desk : DeskSide) (old new : Serving)
@@ -547,6 +573,7 @@ done_stays start old new writes desk client same given up done = record {
   takes = done.takes;
   asks = done.asks;
   tended = done.tended;
+  asks_plain = done.asks_plain;
   first = done.first;
   answers = done.answers;
   read_faults = let before = done.read_faults in omega arith;
@@ -604,6 +631,7 @@ course_begins reads writes desk serving fresh =
         takes = Gains-none writes.taken;
         asks = refl;
         tended = tended_none desk.tends;
+        asks_plain = refl;
         first = refl;
         answers = (refl, refl, refl);
         read_faults = omega arith;
@@ -626,7 +654,7 @@ pub rounds_end : (start : Start) (rounds : ℕ) (reads : ReadSide) (writes : Wri
 rounds_end start rounds reads writes desk serving c many = let few = c.few in absurd (omega arith)
 
 -- at every end the line took a beginning of what is due
-ends_some : (end : LineEnd) (items : List Item) (size : ℕ) (rest taken : List ℕ) (told : List LineReply)
+ends_some : (end : LineEnd) (items : List Item) (size : ℕ) (rest taken : List ℕ) (told : List Told)
     → EndsSo end items size rest taken told → (length items ≤ budget) × (TookSome taken told ⊎ TookToFault rest taken told)
 ends_some ends.Quit items size rest taken told e = let within = e.0 in (omega arith, inl (all_due told taken (sym e.2)))
 ends_some (ends.Closed left) items size rest taken told e = let within = e.0 in (omega arith, inl (all_due told taken (sym e.3)))
@@ -640,7 +668,7 @@ ends_some ends.WriteFault items size rest taken told e = e
 ends_some ends.Memory items size rest taken told e = e
 
 -- a beginning of that
-some_less : (told : List LineReply) (sent out : List ℕ) (written : ℕ) → TookSome (sent ++ out) told → TookSome (sent ++ take written out) told
+some_less : (told : List Told) (sent out : List ℕ) (written : ℕ) → TookSome (sent ++ out) told → TookSome (sent ++ take written out) told
 some_less told sent out written t = (
   drop written out ++ t.0,
   t.1 ∙ (ap (λ (xs : List ℕ). (sent ++ xs) ++ t.0) (sym (take-append-drop written out))
@@ -648,7 +676,7 @@ some_less told sent out written t = (
       ∙ append_assoc (sent ++ take written out) (drop written out) t.0)),
 )
 
-ends_less : (items : List Item) (size : ℕ) (rest sent out : List ℕ) (told : List LineReply) (written : ℕ)
+ends_less : (items : List Item) (size : ℕ) (rest sent out : List ℕ) (told : List Told) (written : ℕ)
     → (length items ≤ budget) × (TookSome (sent ++ out) told ⊎ TookToFault rest (sent ++ out) told)
     → EndsSo ends.WriteFault items size rest (sent ++ take written out) told
 ends_less items size rest sent out told written e = (e.0, by e.1)
@@ -660,7 +688,7 @@ ends_less items size rest sent out told written e = (e.0, by e.1)
 
 -- what stands of a connection at its end, by what its line and its desk tell
 pub record Finished (start : Start) (reads : ReadSide) (writes : WriteSide) (desk : DeskSide) (end : LineEnd) : Type 0 where
-  pub served : IsServed start.reads reads start.writes writes start.desk.calls desk.calls start.desk.tends desk.tends end
+  pub served : IsServed start.reads reads start.writes writes start.desk.calls desk.calls start.desk.plains desk.plains start.desk.tends desk.tends end
   pub counts : CountsAt end start reads writes
   pub read_faults : start.reads.faults ≤ reads.faults
   pub write_faults : start.writes.faults ≤ writes.faults
@@ -671,19 +699,21 @@ finished_by : (end : LineEnd) (start : Start) (reads : ReadSide) (writes new_wri
     → Gains writes.taken new_writes.taken bytes → writes.faults ≤ new_writes.faults
     → EndsSo end done.items done.size (drop done.size done.given) (done.sent ++ bytes) done.told
     → CountsAt end start reads new_writes → NoneLeft end reads.left
-    → GivenUp desk.calls new_desk.calls serving.client → new_desk.tends ≡ desk.tends
+    → GivenUp desk.calls new_desk.calls serving.client → new_desk.tends ≡ desk.tends → new_desk.plains ≡ desk.plains
     → Finished start reads new_writes new_desk end
-finished_by end start reads writes new_writes desk new_desk serving bytes done gains up e counts none up_given untended = record {
+finished_by end start reads writes new_writes desk new_desk serving bytes done gains up e counts none up_given untended unasked = record {
   served = record {
     given = done.given;
     taken = done.sent ++ bytes;
     calls = done.asked ++ up_given.calls;
+    plains = plain_calls done.items done.told;
     gives = done.gives;
     adds = done.adds;
     takes = Gains-append start.writes.taken writes.taken new_writes.taken done.sent bytes done.takes gains;
     asks = up_given.record_is
         ∙ (ap (λ (calls : Option (List Call)). with_calls up_given.calls calls) done.asks
         ∙ sym (with_calls-append done.asked up_given.calls start.desk.calls));
+    asks_plain = unasked ∙ done.asks_plain;
     tended = untended ∙ done.tended;
     served = record {
       items = done.items;
@@ -697,6 +727,7 @@ finished_by end start reads writes new_writes desk new_desk serving bytes done g
       answers = done.answers;
       leaves = up_given.leaves;
       calls_are = refl;
+      plains_are = refl;
       ends = e;
     };
     none_left = none;
@@ -714,32 +745,35 @@ counts_on end start reads old new same c = (c.0, subst (λ (n : ℕ). CountsWrit
 pub finished : (due end : LineEnd) (start : Start) (reads new_reads : ReadSide) (writes new_writes : WriteSide)
     (desk new_desk : DeskSide) (serving : Serving)
     → Ending due start reads writes desk serving → Finishes due end writes new_writes serving.out.items → new_reads ≡ reads
-    → GivenUp desk.calls new_desk.calls serving.client → new_desk.tends ≡ desk.tends → Finished start new_reads new_writes new_desk end
-finished due end start reads new_reads writes new_writes desk new_desk serving e (inl f) apart up untended =
+    → GivenUp desk.calls new_desk.calls serving.client → new_desk.tends ≡ desk.tends → new_desk.plains ≡ desk.plains
+    → Finished start new_reads new_writes new_desk end
+finished due end start reads new_reads writes new_writes desk new_desk serving e (inl f) apart up untended unasked =
     subst (λ (r : ReadSide). Finished start r new_writes new_desk end) (sym apart)
     (subst (λ (x : LineEnd). Finished start reads new_writes new_desk x) (sym f.2)
     (finished_by due start reads writes new_writes desk new_desk serving serving.out.items e.done f.0 (omega (arith, f.1)) e.ends
-    (counts_on due start reads writes new_writes f.1 e.counts) e.none_left up untended))
-finished due end start reads new_reads writes new_writes desk new_desk serving e (inr f) apart up untended =
+    (counts_on due start reads writes new_writes f.1 e.counts) e.none_left up untended unasked))
+finished due end start reads new_reads writes new_writes desk new_desk serving e (inr f) apart up untended unasked =
     let bytes = take f.0.0 serving.out.items in
     let less = ends_less e.done.items e.done.size (drop e.done.size e.done.given) e.done.sent serving.out.items e.done.told f.0.0
     (ends_some due e.done.items e.done.size (drop e.done.size e.done.given) (e.done.sent ++ serving.out.items) e.done.told e.ends) in
     subst (λ (r : ReadSide). Finished start r new_writes new_desk end) (sym apart)
     (subst (λ (x : LineEnd). Finished start reads new_writes new_desk x) (sym f.3)
     (finished_by ends.WriteFault start reads writes new_writes desk new_desk serving bytes e.done f.0.1 f.2 less
-    (e.done.read_faults, Rose-later start.writes.faults writes.faults new_writes.faults e.done.write_faults f.1) tt up untended))
+    (e.done.read_faults, Rose-later start.writes.faults writes.faults new_writes.faults e.done.write_faults f.1) tt up untended unasked))
 
 -- a connection for which memory ran out at once
 pub never_served : (reads : ReadSide) (writes : WriteSide) (desk : DeskSide)
-    → IsServed reads reads writes writes desk.calls desk.calls desk.tends desk.tends ends.Memory
+    → IsServed reads reads writes writes desk.calls desk.calls desk.plains desk.plains desk.tends desk.tends ends.Memory
 never_served reads writes desk = record {
   given = [];
   taken = [];
   calls = [];
+  plains = [];
   gives = Takes-none reads.left;
   adds = Gains-none reads.given;
   takes = Gains-none writes.taken;
   asks = refl;
+  asks_plain = refl;
   tended = tended_none desk.tends;
   served = record {
     items = [];
@@ -753,6 +787,7 @@ never_served reads writes desk = record {
     answers = (refl, refl, refl);
     leaves = (refl, refl);
     calls_are = refl;
+    plains_are = refl;
     ends = (omega arith, inl ([], refl));
   };
   none_left = tt;
@@ -879,16 +914,16 @@ pub waits_same : (old new : List ℕ) → length old < 65536 → new ≡ old →
 waits_same old new short same = (old, short, inl same)
 
 -- and where one reply was put behind it
-pub tells_waits : (result : Result Bool LineEnd) (reply : LineReply) (mid old new : Serving)
+pub tells_waits : (result : Result Bool LineEnd) (reply : Told) (mid old new : Serving)
     → length old.out.items < 65536 → mid.out.items ≡ old.out.items → Tells result reply mid new → WaitsFew new.out.items
 tells_waits (Ok more) reply mid old new short same t =
-    (old.out.items, short, inr (reply, t.2 ∙ ap (λ (xs : List ℕ). xs ++ text_of reply) same))
+    (old.out.items, short, inr (reply, t.2 ∙ ap (λ (xs : List ℕ). xs ++ told_text reply) same))
 tells_waits (Err ends.Budget) reply mid old new short same t =
-    (old.out.items, short, inr (reply, t.1 ∙ ap (λ (xs : List ℕ). xs ++ text_of reply) same))
+    (old.out.items, short, inr (reply, t.1 ∙ ap (λ (xs : List ℕ). xs ++ told_text reply) same))
 tells_waits (Err ends.Memory) reply mid old new short same t = (old.out.items, short, inl (t ∙ same))
 tells_waits (Err other) reply mid old new short same t = absurd t
 
-pub shuts_waits : (end : LineEnd) (fault : FrameFault) (last : LineReply) (old new : List ℕ) → length old < 65536 → Shuts end fault last old new → WaitsFew new
+pub shuts_waits : (end : LineEnd) (fault : FrameFault) (last : Told) (old new : List ℕ) → length old < 65536 → Shuts end fault last old new → WaitsFew new
 shuts_waits (ends.Shut found) fault last old new short s = (old, short, inr (last, s.1))
 shuts_waits ends.Memory fault last old new short s = (old, short, inl s)
 shuts_waits other fault last old new short s = absurd s

@@ -3,5 +3,4 @@ pub mod RefusalLemmas
 pub mod TellingLemmas
 pub mod AnswerLemmas
 pub mod ClosingLemmas
-pub mod BoundLemmas
 pub mod CourseLemmas

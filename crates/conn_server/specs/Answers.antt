@@ -9,7 +9,6 @@ use Rattle.session_client.specs.Belongs.{Belongs}
 use Rattle.session_client.specs.Desks.{Call, Began, Asked, with_member}
 use Rattle.session_client.specs.declared.replies.Reply.{Reply}
 use Rattle.session_client.specs.declared.replies.Wanted.{Wanted}
-use Rattle.mc_text.specs.Streams.{Item, command, bad_line}
 use Rattle.mc_text.specs.declared.commands.Role.{Role}
 use Rattle.mc_text.specs.declared.commands.Role.TheVariants.{Read, Write}
 use Rattle.mc_text.specs.declared.commands.Command.{Command}
@@ -19,6 +18,10 @@ use Rattle.mc_text.specs.declared.replies.LineReply.TheVariants as reply
 use Rattle.conn_server.specs.declared.clients.Client.{Client}
 use Rattle.conn_server.specs.declared.clients.Stage.{Stage}
 use Rattle.conn_server.specs.declared.clients.Stage.TheVariants as stages
+use Rattle.conn_server.specs.declared.outgoing.Told.{Told}
+use Rattle.conn_server.specs.declared.outgoing.Told.TheVariants as outgoing
+use Rattle.mixed_lines.specs.Items.{Item, command, plain, bad_line}
+use Rattle.conn_server.specs.Outgoing.{IsPlainTold}
 use Rattle.conn_server.specs.Clients.{asker, grant_on}
 use Rattle.conn_server.specs.Refusals.{refused}
 use Rattle.conn_server.specs.Requests.{request, told_of, client_after}
@@ -96,19 +99,25 @@ AnswersBy None old said calls told new = Does old said calls told new
 abbrev pub Answers : Client → Command → List Call → LineReply → Client → Type 0
 Answers old said calls told new = AnswersBy (refused old said) old said calls told new
 
--- how what stands in a stream is answered: a command, or a line that isn't of its verb's form
-abbrev pub ItemAnswers : Client → Item → List Call → LineReply → Client → Type 0
-ItemAnswers old (command said) calls told new = Answers old said calls told new
-ItemAnswers old bad_line calls told new = (calls ≡ []) × (told ≡ reply.BadLine) × (new ≡ old)
-ItemAnswers old other calls told new = ⊥
+-- how a lease command is told the reply to it
+abbrev pub TellsAnswer : Client → Command → List Call → Told → Client → Type 0
+TellsAnswer old said calls (outgoing.Lease reply) new = Answers old said calls reply new
+TellsAnswer old said calls (outgoing.Plain reply noreply) new = ⊥
+
+-- how what stands in a stream is answered: a command, or a line that isn't of its verb's form; a plain command asks nothing of the desk of sessions
+abbrev pub ItemAnswers : Client → Item → List Call → Told → Client → Type 0
+ItemAnswers old (command said) calls heard new = TellsAnswer old said calls heard new
+ItemAnswers old (plain said noreply) calls heard new = (calls ≡ []) × IsPlainTold said noreply heard × (new ≡ old)
+ItemAnswers old bad_line calls heard new = (calls ≡ []) × (heard ≡ outgoing.Lease reply.BadLine) × (new ≡ old)
+ItemAnswers old other calls heard new = ⊥
 
 -- how items are answered, one behind the other
-abbrev pub AllAnswer : Client → List Item → List Call → List LineReply → Client → Type 0
-AllAnswer old [] calls told new = (calls ≡ []) × (told ≡ []) × (new ≡ old)
-AllAnswer old (item ∷ items) calls told new =
-    (first : List Call) × (others : List Call) × (reply : LineReply) × (replies : List LineReply) × (next : Client)
-    × ItemAnswers old item first reply next × AllAnswer next items others replies new
-    × (calls ≡ first ++ others) × (told ≡ reply ∷ replies)
+abbrev pub AllAnswer : Client → List Item → List Call → List Told → Client → Type 0
+AllAnswer old [] calls heard new = (calls ≡ []) × (heard ≡ []) × (new ≡ old)
+AllAnswer old (item ∷ items) calls heard new =
+    (first : List Call) × (others : List Call) × (one : Told) × (more : List Told) × (next : Client)
+    × ItemAnswers old item first one next × AllAnswer next items others more new
+    × (calls ≡ first ++ others) × (heard ≡ one ∷ more)
 
 -- a desk's record, where it is told, with these calls more, in the order in which they were made
 abbrev pub with_calls : List Call → Option (List Call) → Option (List Call)

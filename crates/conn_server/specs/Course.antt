@@ -2,15 +2,16 @@
 use Rattle.std.specs.Prelude.{ℕ, ◌+◌, ◌-◌, ◌^◌, ◌≡◌, ◌<◌, ◌≤◌, ◌⊎◌, min, Bool, true, List, [], ◌++◌, length, take, drop, Option, Result, Ok, Err}
 use Rattle.iq_outside.specs.Outside.{Takes, Gains, Rose, ReadSide, WriteSide}
 use Rattle.mc_text.specs.Framing.{begun}
-use Rattle.mc_text.specs.Replies.{text_of}
-use Rattle.mc_text.specs.Streams.{Item, AreFirst}
 use Rattle.mc_text.specs.declared.faults.FrameFault.{FrameFault}
-use Rattle.mc_text.specs.declared.replies.LineReply.{LineReply}
 use Rattle.session_client.specs.Desks.{Call}
+use Rattle.plain_ops.specs.Desks.{PlainCall, with_plain_calls}
 use Rattle.conn_server.specs.declared.clients.Client.{Client}
 use Rattle.conn_server.specs.declared.ends.LineEnd.{LineEnd}
 use Rattle.conn_server.specs.declared.ends.LineEnd.TheVariants as ends
 use Rattle.conn_server.specs.declared.serving.Serving.{Serving}
+use Rattle.conn_server.specs.declared.outgoing.Told.{Told}
+use Rattle.mixed_lines.specs.Items.{Item, AreFirst}
+use Rattle.conn_server.specs.Outgoing.{told_text, plain_calls}
 use Rattle.conn_server.specs.Clients.{newcomer}
 use Rattle.conn_server.specs.Answers.{AllAnswer, with_calls}
 use Rattle.conn_server.specs.Service.{budget, texts, IsWithin, EndsSo, NoneLeft, CountsReads, CountsWrites, tended_by}
@@ -32,15 +33,16 @@ full = 65536
 
 -- fewer bytes than that wait to be written, and then one reply at most
 abbrev pub WaitsFew : List ℕ → Type 0
-WaitsFew bytes = (front : List ℕ) × (length front < full) × ((bytes ≡ front) ⊎ ((last : LineReply) × (bytes ≡ front ++ text_of last)))
+WaitsFew bytes = (front : List ℕ) × (length front < full) × ((bytes ≡ front) ⊎ ((last : Told) × (bytes ≡ front ++ told_text last)))
 
--- what a desk tells: the calls that it records, and how many steps its sweep took
+-- what the desks tell: the calls that each records, and how many steps the sweep took
 pub record DeskSide : Type 0 where
   pub calls : Option (List Call)
   pub tends : Option ℕ
+  pub plains : Option (List PlainCall)
 
-abbrev pub desk_side : {Desk : Type 0} → (Desk → Option (List Call)) → (Desk → Option ℕ) → Desk → DeskSide
-desk_side calls tends told = record { calls = calls told; tends = tends told }
+abbrev pub desk_side : {Desk Plain : Type 0} → (Desk → Option (List Call)) → (Desk → Option ℕ) → (Plain → Option (List PlainCall)) → Desk → Plain → DeskSide
+desk_side calls tends plains told plain = record { calls = calls told; tends = tends told; plains = plains plain }
 
 -- what a line and a desk told when a connection began
 pub record Start : Type 0 where
@@ -54,7 +56,7 @@ pub record Done (start : Start) (reads : ReadSide) (writes : WriteSide) (desk : 
   pub given : List ℕ
   pub items : List Item
   pub size : ℕ
-  pub told : List LineReply
+  pub told : List Told
   pub asked : List Call
   pub sent : List ℕ
   pub gives : Takes start.reads.left reads.left given
@@ -62,6 +64,7 @@ pub record Done (start : Start) (reads : ReadSide) (writes : WriteSide) (desk : 
   pub takes : Gains start.writes.taken writes.taken sent
   pub asks : desk.calls ≡ with_calls asked start.desk.calls
   pub tended : desk.tends ≡ tended_by (length items) start.desk.tends
+  pub asks_plain : desk.plains ≡ with_plain_calls (plain_calls items told) start.desk.plains
   pub first : AreFirst given items size
   pub answers : AllAnswer newcomer items asked told client
   pub read_faults : start.reads.faults ≤ reads.faults
@@ -91,17 +94,17 @@ pub record Ending (end : LineEnd) (start : Start) (reads : ReadSide) (writes : W
   pub counts : CountsAt end start reads writes
   pub none_left : NoneLeft end reads.left
 
--- a connection at a moment: what its line tells of reads and writes, what its desk tells, and what is served
+-- a connection at a moment: what its line tells of reads and writes, what its desks tell, and what is served
 pub record Moment : Type 0 where
   pub reads : ReadSide
   pub writes : WriteSide
   pub desk : DeskSide
   pub serving : Serving
 
-abbrev pub moment : {Line Desk : Type 0} → (Line → ReadSide) → (Line → WriteSide) → (Desk → Option (List Call)) → (Desk → Option ℕ)
-    → Line → Desk → Serving → Moment
-moment reads writes calls tends line desk serving =
-    record { reads = reads line; writes = writes line; desk = desk_side calls tends desk; serving = serving }
+abbrev pub moment : {Line Desk Plain : Type 0} → (Line → ReadSide) → (Line → WriteSide) → (Desk → Option (List Call)) → (Desk → Option ℕ)
+    → (Plain → Option (List PlainCall)) → Line → Desk → Plain → Serving → Moment
+moment reads writes calls tends plains line desk plain serving =
+    record { reads = reads line; writes = writes line; desk = desk_side calls tends plains desk plain; serving = serving }
 
 -- a connection that went on until the one moment goes on until the other, without a read
 abbrev pub GoesOn : Moment → Moment → Type 0
@@ -122,10 +125,10 @@ EndsFrom old new end = (start : Start) (rounds : ℕ) →
     Ending end start new.reads new.writes new.desk new.serving
 
 -- a reply was counted and stands behind what is to be written, unless memory ran out for it; more is answered while the budget lasts
-abbrev pub Tells : Result Bool LineEnd → LineReply → Serving → Serving → Type 0
+abbrev pub Tells : Result Bool LineEnd → Told → Serving → Serving → Type 0
 Tells (Ok more) reply old new =
-    (more ≡ true) × (new.count < budget) × (new.out.items ≡ old.out.items ++ text_of reply)
-Tells (Err ends.Budget) reply old new = (new.count ≡ budget) × (new.out.items ≡ old.out.items ++ text_of reply)
+    (more ≡ true) × (new.count < budget) × (new.out.items ≡ old.out.items ++ told_text reply)
+Tells (Err ends.Budget) reply old new = (new.count ≡ budget) × (new.out.items ≡ old.out.items ++ told_text reply)
 Tells (Err ends.Memory) reply old new = new.out.items ≡ old.out.items
 Tells (Err other) reply old new = ⊥
 
@@ -137,8 +140,8 @@ Flushes (Err ends.WriteFault) old new bytes =
 Flushes (Err other) old new bytes = ⊥
 
 -- what is told of a fault stands behind what is to be written, unless memory ran out for it
-abbrev pub Shuts : LineEnd → FrameFault → LineReply → List ℕ → List ℕ → Type 0
-Shuts (ends.Shut found) fault last old new = (found ≡ fault) × (new ≡ old ++ text_of last)
+abbrev pub Shuts : LineEnd → FrameFault → Told → List ℕ → List ℕ → Type 0
+Shuts (ends.Shut found) fault last old new = (found ≡ fault) × (new ≡ old ++ told_text last)
 Shuts ends.Memory fault last old new = new ≡ old
 Shuts other fault last old new = ⊥
 

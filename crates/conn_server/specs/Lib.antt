@@ -1,3 +1,4 @@
+pub mod Outgoing
 pub mod Views
 pub mod Clients
 pub mod Refusals

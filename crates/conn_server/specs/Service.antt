@@ -1,17 +1,19 @@
 -- What a connection was given, what it took, what it asked of the desk, and how it ended.
 use Rattle.std.specs.Prelude.{ℕ, ◌+◌, ◌-◌, ◌^◌, ◌≡◌, ◌<◌, ◌≤◌, ◌⊎◌, ⊤, min, List, [], ◌∷◌, ◌++◌, length, drop, Option, Some, None}
 use Rattle.iq_outside.specs.Outside.{Takes, Gains, Rose, AtEnd, ReadSide, WriteSide}
-use Rattle.mc_text.specs.Replies.{text_of}
-use Rattle.mc_text.specs.Streams.{Item, command, long_line, bad_block, big_block, Stands, IsOpen, AreFirst}
 use Rattle.mc_text.specs.declared.commands.Command.TheVariants.{Quit}
 use Rattle.mc_text.specs.declared.faults.FrameFault.{FrameFault}
 use Rattle.mc_text.specs.declared.faults.FrameFault.TheVariants as frame
-use Rattle.mc_text.specs.declared.replies.LineReply.{LineReply}
 use Rattle.mc_text.specs.declared.replies.LineReply.TheVariants as reply
 use Rattle.session_client.specs.Desks.{Call}
+use Rattle.plain_ops.specs.Desks.{PlainCall, with_plain_calls}
 use Rattle.conn_server.specs.declared.clients.Client.{Client}
 use Rattle.conn_server.specs.declared.ends.LineEnd.{LineEnd}
 use Rattle.conn_server.specs.declared.ends.LineEnd.TheVariants as ends
+use Rattle.conn_server.specs.declared.outgoing.Told.{Told}
+use Rattle.conn_server.specs.declared.outgoing.Told.TheVariants.{Lease}
+use Rattle.mixed_lines.specs.Items.{Item, command, long_line, bad_block, big_block, Stands, IsOpen, AreFirst}
+use Rattle.conn_server.specs.Outgoing.{told_text, plain_calls}
 use Rattle.conn_server.specs.Clients.{newcomer}
 use Rattle.conn_server.specs.Answers.{AllAnswer, with_calls}
 use Rattle.conn_server.specs.Closing.{Leaves}
@@ -21,15 +23,15 @@ abbrev pub budget : ℕ
 budget = 1000000
 
 -- the texts of replies, one behind the other
-abbrev pub texts : List LineReply → List ℕ
+abbrev pub texts : List Told → List ℕ
 texts [] = []
-texts (told ∷ others) = text_of told ++ texts others
+texts (told ∷ others) = told_text told ++ texts others
 
 -- a fault that lasts stands next in the stream, and its client is told this
-abbrev pub Lasts : List ℕ → FrameFault → LineReply → Type 0
-Lasts rest (frame.LongLine place) told = Stands rest long_line 0 × (told ≡ reply.LongLine)
-Lasts rest (frame.BadBlock place) told = Stands rest bad_block 0 × (told ≡ reply.BadBlock)
-Lasts rest (frame.BigBlock place) told = Stands rest big_block 0 × (told ≡ reply.BigBlock)
+abbrev pub Lasts : List ℕ → FrameFault → Told → Type 0
+Lasts rest (frame.LongLine place) told = Stands rest long_line 0 × (told ≡ Lease reply.LongLine)
+Lasts rest (frame.BadBlock place) told = Stands rest bad_block 0 × (told ≡ Lease reply.BadBlock)
+Lasts rest (frame.BigBlock place) told = Stands rest big_block 0 × (told ≡ Lease reply.BigBlock)
 Lasts rest other told = ⊥
 
 -- where in the stream a fault stands
@@ -41,17 +43,17 @@ place_of (frame.BigBlock place) = place
 place_of frame.Memory = 0
 
 -- the line took all the replies
-abbrev pub TookAll : List ℕ → List LineReply → Type 0
+abbrev pub TookAll : List ℕ → List Told → Type 0
 TookAll taken told = taken ≡ texts told
 
 -- it took a beginning of them
-abbrev pub TookSome : List ℕ → List LineReply → Type 0
+abbrev pub TookSome : List ℕ → List Told → Type 0
 TookSome taken told = (rest : List ℕ) × (texts told ≡ taken ++ rest)
 
 -- a fault that lasts stands next, and the line took a beginning of the replies and of what is told of the fault
-pub record TookToFault (rest taken : List ℕ) (told : List LineReply) : Type 0 where
+pub record TookToFault (rest taken : List ℕ) (told : List Told) : Type 0 where
   pub fault : FrameFault
-  pub last : LineReply
+  pub last : Told
   pub lasts : Lasts rest fault last
   pub some : TookSome taken (told ++ last ∷ [])
 
@@ -60,14 +62,14 @@ abbrev pub IsWithin : List Item → Type 0
 IsWithin items = length items < budget
 
 -- how a connection ended whose items took so many bytes of the stream, with this behind them
-abbrev pub EndsSo : LineEnd → List Item → ℕ → List ℕ → List ℕ → List LineReply → Type 0
+abbrev pub EndsSo : LineEnd → List Item → ℕ → List ℕ → List ℕ → List Told → Type 0
 EndsSo ends.Quit items size rest taken told =
     IsWithin items × ((more : ℕ) × Stands rest (command Quit) more) × TookAll taken told
 EndsSo (ends.Closed left) items size rest taken told =
     IsWithin items × IsOpen rest × (left ≡ length rest) × TookAll taken told
 EndsSo (ends.Shut fault) items size rest taken told =
     IsWithin items × (place_of fault ≡ min size (2 ^ 64 - 1))
-    × ((last : LineReply) × Lasts rest fault last × TookAll taken (told ++ last ∷ []))
+    × ((last : Told) × Lasts rest fault last × TookAll taken (told ++ last ∷ []))
 EndsSo ends.Budget items size rest taken told = (length items ≡ budget) × TookAll taken told
 EndsSo ends.ReadFault items size rest taken told = IsWithin items × IsOpen rest × TookAll taken told
 EndsSo ends.WriteFault items size rest taken told =
@@ -77,10 +79,10 @@ EndsSo ends.Memory items size rest taken told =
 
 -- a connection was served: the first commands and bad lines of what it was given were
 -- answered in order, its client's session was then given up, and it took the replies
-pub record Served (given taken : List ℕ) (calls : List Call) (end : LineEnd) : Type 0 where
+pub record Served (given taken : List ℕ) (calls : List Call) (plains : List PlainCall) (end : LineEnd) : Type 0 where
   pub items : List Item
   pub size : ℕ
-  pub told : List LineReply
+  pub told : List Told
   pub asked : List Call
   pub client : Client
   pub closing : List Call
@@ -89,6 +91,7 @@ pub record Served (given taken : List ℕ) (calls : List Call) (end : LineEnd) :
   pub answers : AllAnswer newcomer items asked told client
   pub leaves : Leaves client.present client.grants.items closing count
   pub calls_are : calls ≡ asked ++ closing
+  pub plains_are : plains ≡ plain_calls items told
   pub ends : EndsSo end items size (drop size given) taken told
 
 -- where the input ended the line has no byte left, where it tells its bytes
@@ -101,18 +104,21 @@ abbrev pub tended_by : ℕ → Option ℕ → Option ℕ
 tended_by more (Some count) = Some (count + more)
 tended_by more None = None
 
--- a line was served at a desk: what it told of its reading and its writing, what the desk records, and how many steps its
--- sweep took, each where it is told, before and after: one step behind each command and bad line that was answered
+-- a line was served at two desks: what it told of its reading and its writing, what the desk records, how many steps its
+-- sweep took, and what the plain desk records, each where it is told, before and after: one step of the sweep behind each
+-- command and bad line that was answered
 pub record IsServed (reads reads_new : ReadSide) (writes writes_new : WriteSide) (record_old record_new : Option (List Call))
-    (tends tends_new : Option ℕ) (end : LineEnd) : Type 0 where
+    (plain_old plain_new : Option (List PlainCall)) (tends tends_new : Option ℕ) (end : LineEnd) : Type 0 where
   pub given : List ℕ
   pub taken : List ℕ
   pub calls : List Call
+  pub plains : List PlainCall
   pub gives : Takes reads.left reads_new.left given
   pub adds : Gains reads.given reads_new.given given
   pub takes : Gains writes.taken writes_new.taken taken
   pub asks : record_new ≡ with_calls calls record_old
-  pub served : Served given taken calls end
+  pub asks_plain : plain_new ≡ with_plain_calls plains plain_old
+  pub served : Served given taken calls plains end
   pub tended : tends_new ≡ tended_by (length served.items) tends
   pub none_left : NoneLeft end reads_new.left
 

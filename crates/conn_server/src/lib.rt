@@ -1,5 +1,5 @@
-//! One connection: its bytes are read as commands, each is answered by the desk or by a refusal, and
-//! the replies go out in their order.
+//! One connection: its bytes are read as commands, each is answered by its desk or by a refusal, and
+//! the replies go out in their order. Lease commands and plain ones come on one line, each with a desk.
 #![tactic(auto)]
 
 pub use ends::LineEnd;
@@ -9,6 +9,7 @@ mod answers;
 pub mod clients;
 mod closing;
 pub mod ends;
+pub mod outgoing;
 mod refusals;
 pub mod serving;
 mod tellings;

@@ -1,6 +1,6 @@
 ghost use Rattle.std.specs.Prelude.{◌≡◌, ◌+◌, ◌<◌, ◌≤◌, ℕ, true, false, [], length, IfOk, IfErr, OnOk};
 ghost use Rattle.iq_outside.specs.Outside.{Rose, ReadSide, WriteSide};
-ghost use Rattle.mc_text.specs.Streams.{IsOpen};
+ghost use Rattle.mixed_lines.specs.Items.{IsOpen};
 ghost use Rattle.session_client.specs.Desks.{one_more};
 ghost use Rattle.conn_server.specs.Answers.{GivenUp};
 ghost use Rattle.conn_server.specs.Course.{Start, Course, Ending, DeskSide, WaitsFew, desk_side, moment, GoesOn, ReadsOn, EndsFrom, IsUnserved, Finishes, Flushes, Tells, Shuts};
@@ -9,8 +9,11 @@ ghost use Rattle.conn_server.specs.declared.ends.LineEnd.TheVariants as ends;
 
 use crate::clients::Client;
 use crate::ends::LineEnd;
+use crate::outgoing::{Told, reply_to, write_told};
 use iq_outside::{Failed, Line, write_all};
-use mc_text::{Command, FrameFault, Framer, LineReply, write_reply};
+use mc_text::{Command, FrameFault, Framer, LineReply};
+use mixed_lines::{Said, next_said};
+use plain_ops::PlainDesk;
 use rows_model::Memory;
 use session_client::Desk;
 use std::alloc::Global;
@@ -38,10 +41,11 @@ struct Serving {
     count: u32,
 }
 
-/// Serves one connection to its end. Its bytes are read as commands, each is answered by the desk or
-/// by an error, the desk takes a step of its sweep behind each, and the replies are written in their
-/// order. What is due is written before each read, so no reply waits for further input. Never more than
-/// 64 KiB and one reply wait to be written.
+/// Serves one connection to its end. Its bytes are read as commands. Each lease command is answered by
+/// the desk, each plain one by the plain desk, or by an error. The desk takes a step of its sweep behind
+/// each, and the replies are written in their order. A plain command that ends with `noreply` and is of
+/// its verb's form is carried out, and nothing is written of it. What is due is written before each read,
+/// so no reply waits for further input. Never more than 64 KiB and one reply wait to be written.
 ///
 /// At every end the client's session is given up: one that writes and hasn't committed is ended at the
 /// store, and then its grants are released, which takes no memory. Only then are the last replies
@@ -49,10 +53,16 @@ struct Serving {
 ///
 /// A read or a write that fails ends the connection, and so does a lack of memory, of which it is
 /// told nothing. A lasting fault of the input is told the client.
-pub fn serve_line<L: Line, D: Desk>(alloc: Global, line: &mut L, desk: &mut D) -> LineEnd
+pub fn serve_line<L: Line, D: Desk, P: PlainDesk>(
+    alloc: Global,
+    line: &mut L,
+    desk: &mut D,
+    plain: &mut P,
+) -> LineEnd
     ensures served { IsServed (L.read_side line.old) (L.read_side line.new) (L.write_side line.old)
-        (L.write_side line.new) (D.record_of desk.old) (D.record_of desk.new) (D.tends desk.old)
-        (D.tends desk.new) result }
+        (L.write_side line.new) (D.record_of desk.old) (D.record_of desk.new)
+        (P.record_of plain.old) (P.record_of plain.new) (D.tends desk.old) (D.tends desk.new)
+        result }
     ensures reads { CountsReads result (L.Source.faults line.old) (L.Source.faults line.new) }
     ensures writes { CountsWrites result (L.Sink.faults line.old) (L.Sink.faults line.new) }
     ensures reads_never_fall { L.Source.faults line.old ≤ L.Source.faults line.new }
@@ -60,7 +70,7 @@ pub fn serve_line<L: Line, D: Desk>(alloc: Global, line: &mut L, desk: &mut D) -
 {
     match Serving::new(alloc) {
         Ok(mut serving) => {
-            let end = serving.serve(line, desk);
+            let end = serving.serve(line, desk, plain);
             serving.finish(line, desk, end)
         }
         Err(Memory) => LineEnd::Memory,
@@ -82,19 +92,24 @@ impl Serving {
 
     /// Reads and answers until the connection ends, and tells how. Some replies may still stand to be
     /// written: fewer bytes than those at which replies are written, and then one reply at most.
-    fn serve<L: Line, D: Desk>(&mut self, line: &mut L, desk: &mut D) -> LineEnd
+    fn serve<L: Line, D: Desk, P: PlainDesk>(
+        &mut self,
+        line: &mut L,
+        desk: &mut D,
+        plain: &mut P,
+    ) -> LineEnd
         requires { IsUnserved self.old }
         ensures ends { Ending result (record {
           reads = L.read_side line.old;
           writes = L.write_side line.old;
-          desk = desk_side D.record_of D.tends desk.old;
+          desk = desk_side D.record_of D.tends P.record_of desk.old plain.old;
         }) (L.read_side line.new) (L.write_side line.new)
-            (desk_side D.record_of D.tends desk.new) self.new }
+            (desk_side D.record_of D.tends P.record_of desk.new plain.new) self.new }
         ensures waits { WaitsFew self.new.out.items }
     {
         let mut room = [0u8; PIECE];
         for _ in 0..MORE_READS {
-            match self.go_on(line, desk, &mut room) {
+            match self.go_on(line, desk, plain, &mut room) {
                 Ok(()) => {}
                 Err(end) => return end,
             }
@@ -103,10 +118,11 @@ impl Serving {
     }
 
     /// Answers what stands to be answered, writes what is due, and reads once.
-    fn go_on<L: Line, D: Desk>(
+    fn go_on<L: Line, D: Desk, P: PlainDesk>(
         &mut self,
         line: &mut L,
         desk: &mut D,
+        plain: &mut P,
         room: &mut [u8],
     ) -> Result<(), LineEnd>
         requires within { self.old.count < 1000000 }
@@ -116,33 +132,46 @@ impl Serving {
         ensures few { OnOk result (length self.new.out.items < 65536) }
         ensures waits { WaitsFew self.new.out.items }
         ensures goes_on { OnOk result (ReadsOn
-            (moment L.read_side L.write_side D.record_of D.tends line.old desk.old self.old)
-            (moment L.read_side L.write_side D.record_of D.tends line.new desk.new self.new)) }
+            (moment L.read_side L.write_side D.record_of D.tends P.record_of
+            line.old desk.old plain.old self.old)
+            (moment L.read_side L.write_side D.record_of D.tends P.record_of
+            line.new desk.new plain.new self.new)) }
         ensures ends { IfErr result (EndsFrom
-            (moment L.read_side L.write_side D.record_of D.tends line.old desk.old self.old)
-            (moment L.read_side L.write_side D.record_of D.tends line.new desk.new self.new)) }
+            (moment L.read_side L.write_side D.record_of D.tends P.record_of
+            line.old desk.old plain.old self.old)
+            (moment L.read_side L.write_side D.record_of D.tends P.record_of
+            line.new desk.new plain.new self.new)) }
     {
-        self.answer_all(line, desk)?;
+        self.answer_all(line, desk, plain)?;
         self.flush(line)?;
         self.read_more(line, room)
     }
 
     /// Answers the whole commands that were read, as far as the budget lasts.
-    fn answer_all<L: Line, D: Desk>(&mut self, line: &mut L, desk: &mut D) -> Result<(), LineEnd>
+    fn answer_all<L: Line, D: Desk, P: PlainDesk>(
+        &mut self,
+        line: &mut L,
+        desk: &mut D,
+        plain: &mut P,
+    ) -> Result<(), LineEnd>
         requires within { self.old.count < 1000000 }
         requires few { length self.old.out.items < 65536 }
         ensures waits { WaitsFew self.new.out.items }
         ensures within { OnOk result (self.new.count < 1000000) }
         ensures stops { OnOk result (IsOpen self.new.framer.rest) }
         ensures goes_on { OnOk result (GoesOn
-            (moment L.read_side L.write_side D.record_of D.tends line.old desk.old self.old)
-            (moment L.read_side L.write_side D.record_of D.tends line.new desk.new self.new)) }
+            (moment L.read_side L.write_side D.record_of D.tends P.record_of
+            line.old desk.old plain.old self.old)
+            (moment L.read_side L.write_side D.record_of D.tends P.record_of
+            line.new desk.new plain.new self.new)) }
         ensures ends { IfErr result (EndsFrom
-            (moment L.read_side L.write_side D.record_of D.tends line.old desk.old self.old)
-            (moment L.read_side L.write_side D.record_of D.tends line.new desk.new self.new)) }
+            (moment L.read_side L.write_side D.record_of D.tends P.record_of
+            line.old desk.old plain.old self.old)
+            (moment L.read_side L.write_side D.record_of D.tends P.record_of
+            line.new desk.new plain.new self.new)) }
     {
         loop {
-            if !self.answer_next(desk)? {
+            if !self.answer_next(desk, plain)? {
                 return Ok(());
             }
             if self.out.len() >= FULL {
@@ -152,7 +181,11 @@ impl Serving {
     }
 
     /// Answers the command that stands next, and tells whether a whole one did.
-    fn answer_next<D: Desk>(&mut self, desk: &mut D) -> Result<bool, LineEnd>
+    fn answer_next<D: Desk, P: PlainDesk>(
+        &mut self,
+        desk: &mut D,
+        plain: &mut P,
+    ) -> Result<bool, LineEnd>
         requires within { self.old.count < 1000000 }
         requires few { length self.old.out.items < 65536 }
         ensures waits { WaitsFew self.new.out.items }
@@ -161,36 +194,62 @@ impl Serving {
         ensures stops { result ≡ Ok false → IsOpen self.new.framer.rest }
         ensures goes_on { OnOk result ((start : Start) (rounds : ℕ) (reads : ReadSide)
             (writes : WriteSide) →
-            Course start rounds reads writes (desk_side D.record_of D.tends desk.old) self.old →
-            Course start rounds reads writes (desk_side D.record_of D.tends desk.new) self.new) }
+            Course start rounds reads writes
+            (desk_side D.record_of D.tends P.record_of desk.old plain.old) self.old →
+            Course start rounds reads writes
+            (desk_side D.record_of D.tends P.record_of desk.new plain.new) self.new) }
         ensures ends { IfErr result (λ end. (start : Start) (rounds : ℕ) (reads : ReadSide)
             (writes : WriteSide) →
-            Course start rounds reads writes (desk_side D.record_of D.tends desk.old) self.old →
-            Ending end start reads writes (desk_side D.record_of D.tends desk.new) self.new) }
+            Course start rounds reads writes
+            (desk_side D.record_of D.tends P.record_of desk.old plain.old) self.old →
+            Ending end start reads writes
+            (desk_side D.record_of D.tends P.record_of desk.new plain.new) self.new) }
     {
-        let next = self.framer.next_command();
+        let next = next_said(&mut self.framer);
         match next {
-            Ok(Some(Command::Quit)) => Err(LineEnd::Quit),
-            Ok(Some(said)) => {
-                let reply = self.client.answer(desk, said);
-                self.tell(desk, reply)
+            Ok(
+                Some(
+                    Said::Lease {
+                        command: Command::Quit,
+                    },
+                ),
+            ) => Err(LineEnd::Quit),
+            Ok(Some(Said::Lease { command })) => {
+                let reply = self.client.answer(desk, command);
+                self.tell(desk, Told::Lease { reply })
+            }
+            Ok(Some(Said::Plain { said, noreply })) => {
+                let reply = reply_to(plain, &said);
+                self.tell(desk, Told::Plain { reply, noreply })
             }
             Ok(None) => Ok(false),
             Err(fault) => match fault {
-                FrameFault::BadLine { place: _ } => self.tell(desk, LineReply::BadLine),
-                FrameFault::LongLine { place: _ } => Err(self.shut(fault, LineReply::LongLine)),
-                FrameFault::BadBlock { place: _ } => Err(self.shut(fault, LineReply::BadBlock)),
-                FrameFault::BigBlock { place: _ } => Err(self.shut(fault, LineReply::BigBlock)),
+                FrameFault::BadLine { place: _ } => {
+                    let reply = LineReply::BadLine;
+                    self.tell(desk, Told::Lease { reply })
+                }
+                FrameFault::LongLine { place: _ } => {
+                    let reply = LineReply::LongLine;
+                    Err(self.shut(fault, Told::Lease { reply }))
+                }
+                FrameFault::BadBlock { place: _ } => {
+                    let reply = LineReply::BadBlock;
+                    Err(self.shut(fault, Told::Lease { reply }))
+                }
+                FrameFault::BigBlock { place: _ } => {
+                    let reply = LineReply::BigBlock;
+                    Err(self.shut(fault, Told::Lease { reply }))
+                }
                 FrameFault::Memory => Err(LineEnd::Memory),
             },
         }
     }
 
-    /// Counts a command that was answered, lets the desk take a step of its sweep, and puts the reply
+    /// Counts a command that was answered, lets the desk take a step of its sweep, and puts what is told
     /// behind those that stand to be written.
-    fn tell<D: Desk>(&mut self, desk: &mut D, reply: LineReply) -> Result<bool, LineEnd>
+    fn tell<D: Desk>(&mut self, desk: &mut D, told: Told) -> Result<bool, LineEnd>
         requires { self.old.count < 1000000 }
-        ensures tells { Tells result reply self.old self.new }
+        ensures tells { Tells result told self.old self.new }
         ensures framer { self.new.framer ≡ self.old.framer }
         ensures client { self.new.client ≡ self.old.client }
         ensures counts { self.new.count ≡ self.old.count + 1 }
@@ -199,7 +258,7 @@ impl Serving {
     {
         desk.tend();
         self.count += 1;
-        if write_reply(&mut self.out, &reply).is_err() {
+        if write_told(&mut self.out, &told).is_err() {
             return Err(LineEnd::Memory);
         }
         if self.count == BUDGET {
@@ -209,12 +268,12 @@ impl Serving {
     }
 
     /// Puts what is told of a fault that lasts behind the replies, and tells the end.
-    fn shut(&mut self, fault: FrameFault, last: LineReply) -> LineEnd
+    fn shut(&mut self, fault: FrameFault, last: Told) -> LineEnd
         ensures shuts { Shuts result fault last self.old.out.items self.new.out.items }
         ensures framer { self.new.framer ≡ self.old.framer }
         ensures client { self.new.client ≡ self.old.client }
     {
-        if write_reply(&mut self.out, &last).is_err() {
+        if write_told(&mut self.out, &last).is_err() {
             return LineEnd::Memory;
         }
         LineEnd::Shut { fault }

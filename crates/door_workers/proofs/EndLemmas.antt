@@ -3,6 +3,7 @@ use Rattle.std.proofs.Common.{ℕ, ◌≡◌, ◌++◌, List, [], ◌∷◌, Opt
 use Rattle.std.specs.Option.{option_map, ForSome}
 use Rattle.iq_outside.specs.Outside.{Gains, HandedBack, IsFresh, LineRecord, ReadSide, WriteSide}
 use Rattle.session_client.specs.Desks.{Call}
+use Rattle.plain_ops.specs.Desks.{PlainCall}
 use Rattle.conn_server.specs.declared.ends.LineEnd.{LineEnd}
 use Rattle.conn_server.specs.Service.{IsServed, Served}
 use Rattle.door_workers.specs.Ends.{IsEnded, AreEnded, AreHandedBack}
@@ -49,19 +50,23 @@ given-all (Some first) after bytes gains none = λ given is.
     let alone : Some bytes ≡ Some given = subst (λ (l : List ℕ). Some (l ++ bytes) ≡ Some given) (none first refl) all in
     cc
 
-both : (given taken : Option (List ℕ)) (all all_taken : List ℕ) (calls : List Call) (end : LineEnd)
-    → ForSome given (λ bytes. bytes ≡ all) → ForSome taken (λ bytes. bytes ≡ all_taken) → Served all all_taken calls end
-    → ForSome given (λ bytes. ForSome taken (λ took. (asked : List Call) × Served bytes took asked end))
-both given taken all all_taken calls end g t served = λ bytes is took are.
-    (calls, subst (λ (b : List ℕ). Served b took calls end) (sym (g bytes is)) (subst (λ (b : List ℕ). Served all b calls end) (sym (t took are)) served))
+both : (given taken : Option (List ℕ)) (all all_taken : List ℕ) (calls : List Call) (plains : List PlainCall) (end : LineEnd)
+    → ForSome given (λ bytes. bytes ≡ all) → ForSome taken (λ bytes. bytes ≡ all_taken) → Served all all_taken calls plains end
+    → ForSome given (λ bytes. ForSome taken (λ took. (asked : List Call) × (others : List PlainCall) × Served bytes took asked others end))
+both given taken all all_taken calls plains end g t served = λ bytes is took are. (
+  calls,
+  plains,
+  subst (λ (b : List ℕ). Served b took calls plains end) (sym (g bytes is))
+      (subst (λ (b : List ℕ). Served all b calls plains end) (sym (t took are)) served),
+)
 
 -- a line that had given and taken nothing was served to its end
-pub ended-fresh : (reads reads_new : ReadSide) (writes writes_new : WriteSide) (old new : Option (List Call))
+pub ended-fresh : (reads reads_new : ReadSide) (writes writes_new : WriteSide) (old new : Option (List Call)) (plain plain_new : Option (List PlainCall))
     (tends tends_new : Option ℕ) (end : LineEnd)
-    → IsServed reads reads_new writes writes_new old new tends tends_new end → IsFresh reads.given writes.taken
+    → IsServed reads reads_new writes writes_new old new plain plain_new tends tends_new end → IsFresh reads.given writes.taken
     → IsEnded (record { reads = reads_new; writes = writes_new }) end
-ended-fresh reads reads_new writes writes_new old new tends tends_new end served fresh = record {
-  served = both reads_new.given writes_new.taken served.given served.taken served.calls end
+ended-fresh reads reads_new writes writes_new old new plain plain_new tends tends_new end served fresh = record {
+  served = both reads_new.given writes_new.taken served.given served.taken served.calls served.plains end
       (given-all reads.given reads_new.given served.given served.adds fresh.0)
       (given-all writes.taken writes_new.taken served.taken served.takes fresh.1) served.served;
   none_left = served.none_left;
@@ -98,11 +103,13 @@ fresh-sides reads writes left given taken reads_failed writes_failed r w fresh =
 
 -- a line that had given and taken nothing, was served and then finished
 pub line-ended : (reads reads_new reads_end : ReadSide) (writes writes_new writes_end : WriteSide) (old new : Option (List Call))
-    (tends tends_new : Option ℕ) (end : LineEnd)
-    → IsServed reads reads_new writes writes_new old new tends tends_new end → IsFresh reads.given writes.taken → reads_end ≡ reads_new → writes_end ≡ writes_new
+    (plain plain_new : Option (List PlainCall)) (tends tends_new : Option ℕ) (end : LineEnd)
+    → IsServed reads reads_new writes writes_new old new plain plain_new tends tends_new end → IsFresh reads.given writes.taken
+    → reads_end ≡ reads_new → writes_end ≡ writes_new
     → IsEnded (record { reads = reads_end; writes = writes_end }) end
-line-ended reads reads_new reads_end writes writes_new writes_end old new tends tends_new end served fresh r w =
-    ended-same reads_new reads_end writes_new writes_end end r w (ended-fresh reads reads_new writes writes_new old new tends tends_new end served fresh)
+line-ended reads reads_new reads_end writes writes_new writes_end old new plain plain_new tends tends_new end served fresh r w =
+    ended-same reads_new reads_end writes_new writes_end end r w
+    (ended-fresh reads reads_new writes writes_new old new plain plain_new tends tends_new end served fresh)
 
 -- what was handed back stays so, where ends and door tell the same
 pub handed-same : (ends ends_new : List LineEnd) (before closed closed_new : Option (List LineRecord)) → ends_new ≡ ends → closed_new ≡ closed

@@ -3,13 +3,15 @@ use Rattle.std.specs.Prelude.{◌≡◌, ◌⊎◌, List, [], ◌∷◌, ◌++�
 use Rattle.std.specs.Option.{option_map, ForSome}
 use Rattle.iq_outside.specs.Outside.{LineRecord}
 use Rattle.session_client.specs.Desks.{Call}
+use Rattle.plain_ops.specs.Desks.{PlainCall}
 use Rattle.conn_server.specs.Service.{Served, NoneLeft}
 use Rattle.conn_server.specs.declared.ends.LineEnd.{LineEnd}
 
 -- A line that tells this at its end, and had given and taken nothing at first, was served to that end: what it gave and
 -- what it took are what a connection gives and takes that ends so. Where its input ended it has no byte left.
 pub record IsEnded (line : LineRecord) (end : LineEnd) : Type 0 where
-  pub served : ForSome line.reads.given (λ given. ForSome line.writes.taken (λ taken. (calls : List Call) × Served given taken calls end))
+  pub served : ForSome line.reads.given (λ given. ForSome line.writes.taken
+      (λ taken. (calls : List Call) × (plains : List PlainCall) × Served given taken calls plains end))
   pub none_left : NoneLeft end line.reads.left
 
 -- As many lines as ends, and each was served to its end.

@@ -12,6 +12,7 @@ use crate::names::DoorName;
 use crate::progress::Progress;
 use conn_server::{LineEnd, serve_line};
 use iq_outside::{Door, Line};
+use plain_ops::PlainBox;
 use session_client::Desk;
 use std::alloc::Global;
 use std::marker::Brand;
@@ -31,8 +32,8 @@ pub struct Attended {
 
 /// Accepts connections from the door until so many were accepted, or no more come, or the door fails.
 /// Each is served and handed back to the door. As many workers as there are desks do so at the same
-/// time, each on its desk and in a thread of its own, and all are joined. The door has a lock, under
-/// which a worker accepts a line or hands one back; it serves a line and ends it for the peer without
+/// time, each on its desk and in a thread of its own, and all are joined. All share the plain map. The
+/// door has a lock, under which a worker accepts a line or hands one back; it serves a line and ends it for the peer without
 /// the lock. The caller works at the last desk itself, and does the work for which no thread can be
 /// started. It may wait.
 ///
@@ -44,6 +45,7 @@ pub fn serve_all<D: Door, K: Desk + Send, R: Threads + Wait + Sync>(
     rt: &R,
     alloc: Global,
     desks: &mut [K],
+    plain: &PlainBox,
     door: &mut D,
     conns: u32,
     ends: Vec<LineEnd>,
@@ -68,7 +70,7 @@ pub fn serve_all<D: Door, K: Desk + Send, R: Threads + Wait + Sync>(
     let mut so_far = Progress::new(conns, ends);
     let ledger = Blank::new(desks.len() as u64);
     let lent = Lent { door };
-    let lent = attend::<D, K, Brand, R>(rt, alloc, desks, ledger, lent, &mut so_far);
+    let lent = attend::<D, K, Brand, R>(rt, alloc, desks, plain, ledger, lent, &mut so_far);
     let Lent { door: _ } = lent;
     Attended {
         ends: so_far.ends,
@@ -82,6 +84,7 @@ fn attend<'a, D: Door, K: Desk + Send, N: DoorName + Send + Sync, R: Threads + W
     rt: &R,
     alloc: Global,
     desks: &mut [K],
+    plain: &PlainBox,
     ledger: Blank,
     lent: Lent<'a, D>,
     so_far: &mut Progress,
@@ -111,9 +114,9 @@ fn attend<'a, D: Door, K: Desk + Send, N: DoorName + Send + Sync, R: Threads + W
         so_far: begun,
     };
     let lock = Mutex::new(Kept { at, out });
-    let all = work_from(rt, &alloc, &lock, conns, mine, desks);
+    let all = work_from(rt, &alloc, &lock, conns, mine, desks, plain);
     let mut at = lock.into_inner().into_attending(all);
-    attend_alone(alloc, &mut at, &mut desks[0]);
+    attend_alone(rt, alloc, &mut at, &mut desks[0], plain);
     let Attending { lent, so_far: done } = at;
     *so_far = done;
     lent
@@ -128,6 +131,7 @@ fn work_from<D: Door, K: Desk + Send, N: DoorName + Send + Sync, R: Threads + Wa
     conns: u32,
     mine: Share<N>,
     desks: &mut [K],
+    plain: &PlainBox,
 ) -> Share<N>
     requires some { 1 ≤ length desks.old }
     requires parts { length desks.old ≤ mine.parts }
@@ -137,7 +141,7 @@ fn work_from<D: Door, K: Desk + Send, N: DoorName + Send + Sync, R: Threads + Wa
 {
     let mut mine = mine;
     if desks.len() < 2 {
-        work(rt, *alloc, lock, conns, &mut mine, &mut desks[0]);
+        work(rt, *alloc, lock, conns, &mut mine, &mut desks[0], plain);
         return mine;
     }
     let part = mine.split_off(1, 0);
@@ -147,12 +151,12 @@ fn work_from<D: Door, K: Desk + Send, N: DoorName + Send + Sync, R: Threads + Wa
         move || -> Share<N>
             requires { (part.parts ≡ 1) × (part.amount ≡ 0) × (1 ≤ length front.now) }
             ensures { (result.parts ≡ 1) × (result.amount ≡ 0) }
-        { work_one(rt, *alloc, lock, conns, part, front) },
+        { work_one(rt, *alloc, lock, conns, part, front, plain) },
         move || -> Share<N>
             requires { IsSync R.row × (mine.amount ≡ 0) × (1 ≤ length back.now)
                 × (length back.now ≤ mine.parts) }
             ensures { (result.parts ≡ mine.parts) × (result.amount ≡ 0) }
-        { work_from(rt, alloc, lock, conns, mine, back) },
+        { work_from(rt, alloc, lock, conns, mine, back, plain) },
     );
     all.merge(others);
     all
@@ -166,6 +170,7 @@ fn work_one<D: Door, K: Desk, N: DoorName, R: Wait>(
     conns: u32,
     mine: Share<N>,
     desks: &mut [K],
+    plain: &PlainBox,
 ) -> Share<N>
     requires some { 1 ≤ length desks.old }
     requires part { 1 ≤ mine.parts }
@@ -174,7 +179,7 @@ fn work_one<D: Door, K: Desk, N: DoorName, R: Wait>(
     ensures none { result.amount ≡ 0 }
 {
     let mut mine = mine;
-    work(rt, alloc, lock, conns, &mut mine, &mut desks[0]);
+    work(rt, alloc, lock, conns, &mut mine, &mut desks[0], plain);
     mine
 }
 
@@ -186,25 +191,33 @@ fn work<D: Door, K: Desk, N: DoorName, R: Wait>(
     conns: u32,
     mine: &mut Share<N>,
     desk: &mut K,
+    plain: &PlainBox,
 )
     requires part { 1 ≤ mine.old.parts }
     requires none { mine.old.amount ≡ 0 }
     ensures part { mine.new.parts ≡ mine.old.parts }
     ensures none { mine.new.amount ≡ 0 }
 {
+    let mut seat = plain.desk(rt);
     for _ in 0..conns {
         let accepted = lock.lock(rt).accept(mine);
         let Some(mut line) = accepted else {
             return;
         };
-        let end = serve_line(alloc, &mut line, desk);
+        let end = serve_line(alloc, &mut line, desk, &mut seat);
         line.finish();
         lock.lock(rt).hand_back(line, end, mine);
     }
 }
 
 /// Accepts lines and serves them, with no lock, until none is to be accepted.
-fn attend_alone<D: Door, K: Desk>(alloc: Global, at: &mut Attending<'_, D>, desk: &mut K)
+fn attend_alone<D: Door, K: Desk, R: Wait>(
+    rt: &R,
+    alloc: Global,
+    at: &mut Attending<'_, D>,
+    desk: &mut K,
+    plain: &PlainBox,
+)
     requires stands { (first : Told) × (most : ℕ) × Stands first most
         (told D.lines D.faults D.ended D.closed at.old.lent.door.now) at.old.so_far 0 }
     ensures same_door { at.new.lent.door.ghost_name ≡ at.old.lent.door.ghost_name }
@@ -220,9 +233,10 @@ fn attend_alone<D: Door, K: Desk>(alloc: Global, at: &mut Attending<'_, D>, desk
         AreHandedBack at.old.so_far.ends.items before (D.closed at.old.lent.door.now) →
         AreHandedBack at.new.so_far.ends.items before (D.closed at.new.lent.door.now) }
 {
+    let mut seat = plain.desk(rt);
     while let Some(line) = at.accept() {
         let mut line = line;
-        let end = serve_line(alloc, &mut line, desk);
+        let end = serve_line(alloc, &mut line, desk, &mut seat);
         line.finish();
         at.hand_back(line, end);
     }

@@ -12,7 +12,7 @@ use Rattle.mc_text.proofs.TellLemmas.{words_once}
 use Rattle.mc_text.proofs.FrontLemmas.{line_once, some_once, same_bytes}
 
 -- a CR LF stays where it is
-ends_more : (stream more : List ℕ) (place : ℕ) → EndsAt stream place → EndsAt (stream ++ more) place
+pub ends_more : (stream more : List ℕ) (place : ℕ) → EndsAt stream place → EndsAt (stream ++ more) place
 ends_more stream more place h = record {
   whole = omega (arith, length-append stream more, h.whole);
   cr = get_or_append_left stream more 0 place (omega (arith, h.whole)) ∙ h.cr;
@@ -20,14 +20,14 @@ ends_more stream more place h = record {
 }
 
 -- and none comes about in bytes that are there
-ends_less : (stream more : List ℕ) (place : ℕ) → place + 1 < length stream → EndsAt (stream ++ more) place → EndsAt stream place
+pub ends_less : (stream more : List ℕ) (place : ℕ) → place + 1 < length stream → EndsAt (stream ++ more) place → EndsAt stream place
 ends_less stream more place inside h = record {
   whole = inside;
   cr = sym (get_or_append_left stream more 0 place (omega (arith, inside))) ∙ h.cr;
   lf = sym (get_or_append_left stream more 0 (place + 1) inside) ∙ h.lf;
 }
 
-line_more : (stream more : List ℕ) (long : ℕ) → IsLine stream long → IsLine (stream ++ more) long
+pub line_more : (stream more : List ℕ) (long : ℕ) → IsLine stream long → IsLine (stream ++ more) long
 line_more stream more long h = record {
   ends = ends_more stream more long h.ends;
   first = λ place l e. h.first place l (ends_less stream more place (omega (arith, h.ends.whole, l)) e);
@@ -35,14 +35,14 @@ line_more stream more long h = record {
 }
 
 -- the first line's bytes
-line_bytes : (stream more : List ℕ) (long : ℕ) → IsLine stream long → take long (stream ++ more) ≡ take long stream
+pub line_bytes : (stream more : List ℕ) (long : ℕ) → IsLine stream long → take long (stream ++ more) ≡ take long stream
 line_bytes stream more long h = take-append-le long stream more (omega (arith, h.ends.whole))
 
-words_more : (P : List (List ℕ) → Type 0) (stream more : List ℕ) (long : ℕ)
+pub words_more : (P : List (List ℕ) → Type 0) (stream more : List ℕ) (long : ℕ)
     → IsLine stream long → P (words_in (take long stream)) → P (words_in (take long (stream ++ more)))
 words_more P stream more long h p = subst (λ (bytes : List ℕ). P (words_in bytes)) (sym (line_bytes stream more long h)) p
 
-block_more : (stream more : List ℕ) (behind : ℕ) (found : Option ℕ) (block : List ℕ)
+pub block_more : (stream more : List ℕ) (behind : ℕ) (found : Option ℕ) (block : List ℕ)
     → IsBlock stream behind found block → IsBlock (stream ++ more) behind found block
 block_more stream more behind None block h = h
 block_more stream more behind (Some bytes) block h =
@@ -99,7 +99,7 @@ stands_more stream more big_block taken h =
     (record { long = b.long; bytes = b.bytes; line = announces_more stream more b.long b.bytes b.line; big = b.big }, h.1)
 
 -- it takes no more bytes than there are
-block_fits : (stream : List ℕ) (behind : ℕ) (found : Option ℕ) (block : List ℕ)
+pub block_fits : (stream : List ℕ) (behind : ℕ) (found : Option ℕ) (block : List ℕ)
     → behind ≤ length stream → IsBlock stream behind found block → behind + block_size found ≤ length stream
 block_fits stream behind None block l h = omega arith
 block_fits stream behind (Some bytes) block l h = let inside = h.1.whole in omega arith
@@ -151,7 +151,7 @@ announced_not_bad stream long bytes n h k =
     k.says.none h.command (same_words (λ ws. AreWords h.command ws) stream k.long long k.line h.line h.says)
 
 -- a line isn't too long
-not_long : (stream : List ℕ) (long : ℕ) → IsLine stream long → IsLong stream → ⊥
+pub not_long : (stream : List ℕ) (long : ℕ) → IsLine stream long → IsLong stream → ⊥
 not_long stream long h k = k.endless long h.short h.ends
 
 -- a line announces one size

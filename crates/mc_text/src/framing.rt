@@ -87,8 +87,27 @@ impl Framer {
         (self.bytes.len() - self.taken) as u64
     }
 
-    // So many bytes are taken.
-    fn take(&mut self, taken: usize)
+    /// The allocator that it was made with.
+    pub fn alloc(&self) -> Global {
+        self.alloc
+    }
+
+    /// The bytes that were fed and not taken. It takes no memory.
+    pub fn rest(&self) -> &[u8]
+        ensures { result.now ≡ self.now.rest }
+    {
+        &self.bytes[self.taken..]
+    }
+
+    /// Where in the stream they begin, stopping at 2^64-1. It takes no memory.
+    pub fn place(&self) -> u64
+        ensures { result ≡ self.now.place }
+    {
+        self.place
+    }
+
+    /// Takes so many of them off the front. It takes no memory.
+    pub fn take(&mut self, taken: usize)
         requires { taken ≤ length self.old.rest }
         ensures { self.new ≡ past self.old taken }
     {

@@ -46,8 +46,8 @@ pub(crate) fn front_of(alloc: Global, stream: &[u8]) -> Result<Front, Memory>
     }
 }
 
-// How long the first line is: where the first CR LF begins, if that is within the longest line.
-fn line_end(stream: &[u8]) -> Option<usize>
+/// How long the first line is: where the first CR LF begins, if that is within the longest line.
+pub fn line_end(stream: &[u8]) -> Option<usize>
     ensures found { IfSome result (λ long. IsLine stream.now long) }
     ensures none { IfNone result (IsEndless stream.now 2049) }
 {
@@ -75,8 +75,8 @@ fn is_behind_return(bytes: &[u8], place: usize) -> bool
     place > 0 && bytes[place - 1] == b'\r'
 }
 
-// Whether a CR LF begins at this place.
-fn ends_at(stream: &[u8], place: usize) -> bool
+/// Whether a CR LF begins at this place.
+pub fn ends_at(stream: &[u8], place: usize) -> bool
     requires { place < length stream.now }
     ensures { MatchBool result (EndsAt stream.now place) (EndsAt stream.now place → ⊥) }
 {

@@ -5,6 +5,7 @@
 pub use commands::{Command, Role};
 pub use faults::FrameFault;
 pub use framing::Framer;
+pub use items::{ends_at, line_end};
 pub use laws::streams_tell_items;
 pub use plain_commands::PlainCommand;
 pub use plain_keys::{PlainKey, PlainKeys};
@@ -16,6 +17,7 @@ pub use plain_verb_words::{PlainVerb, plain_verb};
 pub use plain_words::KeyWord;
 pub use replies::{LineReply, reply_text, write_reply};
 pub use verbs::{VerbRow, Verbs, lease_verbs, plain_verbs};
+pub use words::next_word;
 
 pub mod commands;
 pub mod faults;

@@ -8,7 +8,7 @@ use crate::numbers::{by_of, flags_of, key_of, number_of, sid_of};
 use rows_model::{QKey, Sid};
 
 /// The first word of a text, and what stands behind it; `None` exactly where there is no word.
-pub(crate) fn next_word(text: &[u8]) -> Option<(&[u8], &[u8])>
+pub fn next_word(text: &[u8]) -> Option<(&[u8], &[u8])>
     ensures found { IfSome result (λ read. words_in text.now ≡ read.0.now ∷ words_in read.1.now) }
     ensures none { IfNone result (words_in text.now ≡ []) }
 {

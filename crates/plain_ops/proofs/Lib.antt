@@ -1,3 +1,4 @@
 pub mod EntryLemmas
 pub mod FitLemmas
 pub mod DifferLemmas
+pub mod BelongLemmas

@@ -2,3 +2,4 @@ pub mod Entries
 pub mod Tables
 pub mod Steps
 pub mod Laws
+pub mod Desks

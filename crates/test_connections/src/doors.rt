@@ -2,6 +2,7 @@ use crate::test_desk::TestDesk;
 use conn_server::LineEnd;
 use door_workers::{Attended, serve_all};
 use iq_outside::{Door, ListDoor, MemLine, MemSink, MemSource};
+use plain_ops::{Plain, PlainBox};
 use rows_model::Memory;
 use std::alloc::Global;
 use std::sync::Wait;
@@ -36,7 +37,8 @@ fn attend<R: Threads + Wait + Sync>(
     desks.push(TestDesk::new(alloc, &[])?)?;
     desks.push(TestDesk::new(alloc, &[])?)?;
     let ends = Vec::with_capacity(alloc, conns as usize)?;
-    Ok(serve_all(rt, alloc, desks.as_mut_slice(), door, conns, ends))
+    let plain = PlainBox::new(Plain::new(alloc, 1));
+    Ok(serve_all(rt, alloc, desks.as_mut_slice(), &plain, door, conns, ends))
 }
 
 /// How many lines were handed back with this text and end.

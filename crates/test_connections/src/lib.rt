@@ -13,6 +13,8 @@ mod lines;
 #[cfg(test)]
 mod outside;
 #[cfg(test)]
+mod plains;
+#[cfg(test)]
 mod talks;
 #[cfg(test)]
 mod test_desk;

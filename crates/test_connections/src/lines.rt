@@ -4,6 +4,7 @@ use crate::test_desk::TestDesk;
 use conn_server::{LineEnd, serve_line};
 use iq_outside::{Failed, Line, MemLine, MemSink, MemSource, Sink, Source};
 use mc_text::FrameFault;
+use plain_ops::Plain;
 use std::alloc::{AllocError, Global};
 use std::process::Abort;
 use std::test::Fail;
@@ -47,7 +48,8 @@ pub fn served(
     mut line: MemLine,
     desk: &mut TestDesk,
 ) -> (String, LineEnd) {
-    let end = serve_line(alloc, &mut line, desk);
+    let mut plain = Plain::new(alloc, 1);
+    let end = serve_line(alloc, &mut line, desk, &mut plain);
     let told = String::from_utf8_lossy(alloc, line.taken()).expect(rt, "memory");
     (told, end)
 }
@@ -125,6 +127,30 @@ const INPUTS: &[(&[u8], &str, LineEnd)] = &[
         b"iqset profile:2 0 0 12 1 0\r\nbegin read\r\n\r\nquit\r\nbegin read\r\n",
         "NOT_STORED\r\n",
         LineEnd::Quit,
+    ),
+    (
+        b"set a 0 0 2 noreply\r\nhi\r\nget a",
+        "",
+        LineEnd::Closed { left: 5 },
+    ),
+    (
+        b"set a 0 0 2 noreply\r\nhi\r",
+        "",
+        LineEnd::Closed { left: 24 },
+    ),
+    (
+        b"set a 0 0 2 noreply\r\nhixxquit\r\n",
+        "CLIENT_ERROR bad block\r\n",
+        LineEnd::Shut {
+            fault: FrameFault::BadBlock { place: 0 },
+        },
+    ),
+    (
+        b"get a\r\nset profile:2 0 0 1048577\r\nquit\r\n",
+        "END\r\nCLIENT_ERROR big block\r\n",
+        LineEnd::Shut {
+            fault: FrameFault::BigBlock { place: 7 },
+        },
     ),
     (
         b"begin\r\nquit\r\nwhat\r\n",
@@ -316,7 +342,8 @@ fn answers_first(rt: &impl Abort, alloc: Global, at_once: usize, piece: usize) -
         read_faults: 0,
         write_faults: 0,
     };
-    let end = serve_line(alloc, &mut line, &mut desk);
+    let mut plain = Plain::new(alloc, 1);
+    let end = serve_line(alloc, &mut line, &mut desk, &mut plain);
     assert!(rt; end == LineEnd::Closed { left: 0 });
     assert!(rt; (line.given, line.told(), line.early) == (12, 12, 0));
     Ok(())

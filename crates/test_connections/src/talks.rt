@@ -51,7 +51,7 @@ fn told_of(
 }
 
 /// A client says what stands in each pair, and is told what stands beside it.
-fn talks(
+pub fn talks(
     rt: &impl Abort,
     alloc: Global,
     turns: &'static [(u64, Turn)],

@@ -12,6 +12,7 @@ use bound_hub::{BoundHub, BoundName};
 use conn_server::{LineEnd, serve_line};
 use iq_outside::{Line, ListClock, MemLine, MemSink, MemSource, OpenGate};
 use log_word::Pass;
+use plain_ops::Plain;
 use session_client::{Desk, Shape, Wanted};
 use sql_keeper::{MapKeeper, Store};
 use std::alloc::Global;
@@ -96,7 +97,8 @@ fn is_served<H: BoundName + Send + Sync, R: Wait + Abort>(
     gone.call(writer, Wanted::QaReg { key }).let_go();
     let mut desk = desk_of(rt, alloc, hub, pass, 1, clock, &OpenGate);
     let mut line = line_of(alloc, ASKS)?;
-    let end = serve_line(alloc, &mut line, &mut desk);
+    let mut plain = Plain::new(alloc, 1);
+    let end = serve_line(alloc, &mut line, &mut desk, &mut plain);
     Ok(end == LineEnd::Quit && line.taken() == TOLD)
 }
 
@@ -115,7 +117,8 @@ fn gives_up_first<H: BoundName + Send + Sync, R: Wait + Abort>(
     };
     let mut desk = desk_of(rt, alloc, hub, pass, 0, clock, &gate);
     let mut line = WatchedLine::new(line_of(alloc, GOES)?, &gate);
-    let end = serve_line(alloc, &mut line, &mut desk);
+    let mut plain = Plain::new(alloc, 1);
+    let end = serve_line(alloc, &mut line, &mut desk, &mut plain);
     line.finish();
     let times = gate.times.load(Ordering::SeqCst);
     Ok(end == LineEnd::Quit && line.passed() == Some(4) && times == 4)

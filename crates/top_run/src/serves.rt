@@ -27,6 +27,7 @@ use iq_outside::{Clock, Door, Gate, Sink};
 use itoa::Buffer;
 use key_shard::Shard;
 use log_word::Pass;
+use plain_ops::{Plain, PlainBox};
 use rows_model::Memory;
 use run_words::ServeSpec;
 use session_client::{Desk, Shape};
@@ -318,7 +319,7 @@ fn serve_over<
 }
 
 /// Opens the door, lets the workers serve, of whom there is one for each desk, and tells how many lines were
-/// served.
+/// served. The workers share a new plain map, which takes no memory until it has an item.
 fn serve_with<W: Sink, K: Desk + Send, D: Door, R: Threads + Wait + Sync>(
     rt: &R,
     alloc: Global,
@@ -345,7 +346,8 @@ fn serve_with<W: Sink, K: Desk + Send, D: Door, R: Threads + Wait + Sync>(
             written,
         };
     }
-    let Attended { ends, failed } = serve_all(rt, alloc, desks, door, spec.conns, ends);
+    let plain = PlainBox::new(Plain::new(alloc, 1));
+    let Attended { ends, failed } = serve_all(rt, alloc, desks, &plain, door, spec.conns, ends);
     let status = if failed {
         Status::DoorFault
     } else {

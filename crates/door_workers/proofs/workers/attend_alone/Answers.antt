@@ -24,7 +24,7 @@ loop-line-preserved g c = (
       let reads = reads-same _ _ _ _ _ _ _ _ (laws.reading served) (laws.reading finished) c.finish.ensures.keeps_left c.finish.ensures.keeps_given
       c.finish.ensures.no_read_fault in
       let writes = writes-same _ _ _ _ _ _ (laws.writing served) (laws.writing finished) c.finish.ensures.keeps_taken c.finish.ensures.no_write_fault in
-      let ended = line-ended _ _ _ _ _ _ _ _ _ _ c.serve_line-end.result c.serve_line-end.ensures.served sides reads writes in
+      let ended = line-ended _ _ _ _ _ _ _ _ _ _ _ _ c.serve_line-end.result c.serve_line-end.ensures.served sides reads writes in
       handed-next _ _ before _ _ _ _ c.hand_back.ensures.noted
       (handed-same _ _ before _ _ c.accept.ensures.keeps_ends c.accept.ensures.keeps_closed (c.loop-line.invariant.3 fresh before are))
       c.hand_back.ensures.handed_back ended,

@@ -11,4 +11,4 @@ hand_back-requires-clause-ended g c κs outlives = λ fresh.
     let reads = reads-same _ _ _ _ _ _ _ _ (laws.reading served) (laws.reading finished) c.finish.ensures.keeps_left c.finish.ensures.keeps_given
     c.finish.ensures.no_read_fault in
     let writes = writes-same _ _ _ _ _ _ (laws.writing served) (laws.writing finished) c.finish.ensures.keeps_taken c.finish.ensures.no_write_fault in
-    line-ended _ _ _ _ _ _ _ _ _ _ c.serve_line-end.result c.serve_line-end.ensures.served sides reads writes
+    line-ended _ _ _ _ _ _ _ _ _ _ _ _ c.serve_line-end.result c.serve_line-end.ensures.served sides reads writes

@@ -25,7 +25,7 @@ loop-self-preserved-in_ok-flush g c = record {
       flushed_goes_on (Ok c.in_ok-flush.field-0) (g.L.Sink.read_side c.loop-self.line) (g.L.Sink.read_side c.flush.new.line)
       (g.L.Source.write_side c.loop-self.line) (g.L.Source.write_side c.flush.new.line) c.answer_next.new.self c.flush.new.self
       c.in_ok-flush.ensures.flushes c.in_ok-flush.ensures.keeps_reading c.in_ok-flush.ensures.none c.in_ok-flush.ensures.framer
-      c.in_ok-flush.ensures.client c.in_ok-flush.ensures.count start rounds (desk_side g.D.Desk.record_of g.D.Desk.tends c.answer_next.new.desk)
+      c.in_ok-flush.ensures.client c.in_ok-flush.ensures.count start rounds (desk_side g.D.Desk.record_of g.D.Desk.tends g.P.PlainDesk.record_of c.answer_next.new.desk c.answer_next.new.plain)
       (c.in_ok-answer_next.ensures.goes_on start rounds (g.L.Sink.read_side c.loop-self.line) (g.L.Source.write_side c.loop-self.line)
       (c.loop-self.invariant.goes start rounds course));
 }
@@ -46,7 +46,7 @@ returns-in_err-flush-clause-ends g c =
     IfErr-at_err _ c.in_err-flush.was (flushed_ends c.flush.result (g.L.Sink.read_side c.loop-self.line) (g.L.Sink.read_side c.flush.new.line)
     (g.L.Source.write_side c.loop-self.line) (g.L.Source.write_side c.flush.new.line) c.answer_next.new.self c.flush.new.self
     c.flush.ensures.flushes c.flush.ensures.keeps_reading c.flush.ensures.none c.flush.ensures.client) start rounds
-    (desk_side g.D.Desk.record_of g.D.Desk.tends c.answer_next.new.desk)
+    (desk_side g.D.Desk.record_of g.D.Desk.tends g.P.PlainDesk.record_of c.answer_next.new.desk c.answer_next.new.plain)
     (c.in_ok-answer_next.ensures.goes_on start rounds (g.L.Sink.read_side c.loop-self.line) (g.L.Source.write_side c.loop-self.line)
     (c.loop-self.invariant.goes start rounds course)))
 

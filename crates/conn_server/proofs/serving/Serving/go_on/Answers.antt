@@ -11,26 +11,26 @@ returns-in_err-flush-clause-ends g c =
     IfErr-at_err _ c.in_err-flush.was (flushed_ends c.flush.result (g.L.Sink.read_side c.answer_all.new.line) (g.L.Sink.read_side c.flush.new.line)
     (g.L.Source.write_side c.answer_all.new.line) (g.L.Source.write_side c.flush.new.line) c.answer_all.new.self c.flush.new.self
     c.flush.ensures.flushes c.flush.ensures.keeps_reading c.flush.ensures.none c.flush.ensures.client) start rounds
-    (desk_side g.D.Desk.record_of g.D.Desk.tends c.answer_all.new.desk) (c.in_ok-answer_all.ensures.goes_on start rounds course))
+    (desk_side g.D.Desk.record_of g.D.Desk.tends g.P.PlainDesk.record_of c.answer_all.new.desk c.answer_all.new.plain) (c.in_ok-answer_all.ensures.goes_on start rounds course))
 
 pub returns-clause-goes_on : goal.returns-clause-goes_on
 returns-clause-goes_on g c =
     on_ok_weaker c.read_more.result (λ goes. λ start rounds course.
-    goes start rounds (desk_side g.D.Desk.record_of g.D.Desk.tends c.answer_all.new.desk)
+    goes start rounds (desk_side g.D.Desk.record_of g.D.Desk.tends g.P.PlainDesk.record_of c.answer_all.new.desk c.answer_all.new.plain)
     (flushed_goes_on (Ok c.in_ok-flush.field-0) (g.L.Sink.read_side c.answer_all.new.line) (g.L.Sink.read_side c.flush.new.line)
     (g.L.Source.write_side c.answer_all.new.line) (g.L.Source.write_side c.flush.new.line) c.answer_all.new.self c.flush.new.self
     c.in_ok-flush.ensures.flushes c.in_ok-flush.ensures.keeps_reading c.in_ok-flush.ensures.none c.in_ok-flush.ensures.framer
-    c.in_ok-flush.ensures.client c.in_ok-flush.ensures.count start rounds (desk_side g.D.Desk.record_of g.D.Desk.tends c.answer_all.new.desk)
+    c.in_ok-flush.ensures.client c.in_ok-flush.ensures.count start rounds (desk_side g.D.Desk.record_of g.D.Desk.tends g.P.PlainDesk.record_of c.answer_all.new.desk c.answer_all.new.plain)
     (c.in_ok-answer_all.ensures.goes_on start rounds course))) c.read_more.ensures.goes_on
 
 pub returns-clause-ends : goal.returns-clause-ends
 returns-clause-ends g c =
     IfErr-weaker c.read_more.result _ _ (λ end ends. λ start rounds course.
-    ends start rounds (desk_side g.D.Desk.record_of g.D.Desk.tends c.answer_all.new.desk)
+    ends start rounds (desk_side g.D.Desk.record_of g.D.Desk.tends g.P.PlainDesk.record_of c.answer_all.new.desk c.answer_all.new.plain)
     (flushed_goes_on (Ok c.in_ok-flush.field-0) (g.L.Sink.read_side c.answer_all.new.line) (g.L.Sink.read_side c.flush.new.line)
     (g.L.Source.write_side c.answer_all.new.line) (g.L.Source.write_side c.flush.new.line) c.answer_all.new.self c.flush.new.self
     c.in_ok-flush.ensures.flushes c.in_ok-flush.ensures.keeps_reading c.in_ok-flush.ensures.none c.in_ok-flush.ensures.framer
-    c.in_ok-flush.ensures.client c.in_ok-flush.ensures.count start rounds (desk_side g.D.Desk.record_of g.D.Desk.tends c.answer_all.new.desk)
+    c.in_ok-flush.ensures.client c.in_ok-flush.ensures.count start rounds (desk_side g.D.Desk.record_of g.D.Desk.tends g.P.PlainDesk.record_of c.answer_all.new.desk c.answer_all.new.plain)
     (c.in_ok-answer_all.ensures.goes_on start rounds course))) c.read_more.ensures.ends
 
 pub returns-in_err-answer_all-clause-waits : goal.returns-in_err-answer_all-clause-waits

@@ -7,7 +7,7 @@ pub loop-init : goal.loop-init
 loop-init g c = record {
   within = omega (arith, c.requires.count);
   few = omega (arith, ap (λ (xs : List ℕ). length xs) c.requires.out);
-  course = course_begins (g.L.Sink.read_side c.args.line.now) (g.L.Source.write_side c.args.line.now) (desk_side g.D.Desk.record_of g.D.Desk.tends c.args.desk.now)
+  course = course_begins (g.L.Sink.read_side c.args.line.now) (g.L.Source.write_side c.args.line.now) (desk_side g.D.Desk.record_of g.D.Desk.tends g.P.PlainDesk.record_of c.args.desk.now c.args.plain.now)
       c.args.self.now c.requires;
 }
 

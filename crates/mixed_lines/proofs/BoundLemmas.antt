@@ -1,5 +1,5 @@
--- How many bytes items take, and how many stand at most where nothing whole does.
-use Rattle.std.proofs.Common.{ℕ, ◌+◌, ◌*◌, ◌≡◌, ◌<◌, ◌≤◌, ◌⊎◌, inl, inr, List, [], ◌∷◌, length, take, drop, Option, Some, None, arith, refl, sym, subst, ◌∙◌}
+-- How many bytes stand at most where nothing whole does, by the grammar of lease commands.
+use Rattle.std.proofs.Common.{ℕ, ◌+◌, ◌≡◌, ◌<◌, ◌≤◌, ◌⊎◌, inl, inr, List, [], ◌∷◌, length, take, drop, Option, Some, None, arith, refl, sym, subst, ◌∙◌}
 use Rattle.std.specs.Prelude.{zero, suc, slice_index}
 use Rattle.std.proofs.lemmas.Bool.{cases_eq, cases_lt}
 use Rattle.mc_text.specs.declared.commands.Command.{Command}
@@ -7,14 +7,14 @@ use Rattle.mc_text.specs.declared.commands.Command.TheVariants.{IqSet, Sar, Unkn
 use Rattle.mc_text.specs.Words.{words_in}
 use Rattle.mc_text.specs.Commands.{AreWords, AreUnknown, announced, block_of}
 use Rattle.mc_text.specs.Streams.{EndsAt, IsLine, IsBlock, block_size, Announces, HaveVerb, Item, command, bad_line, long_line, bad_block, big_block}
-use Rattle.mc_text.specs.Streams.{Stands, IsOpen, AreFirst}
+use Rattle.mc_text.specs.Streams.{Stands, IsOpen}
 
 -- a block that may be has no more bytes than this
 block_bound : (stream : List ℕ) (behind : ℕ) (found : Option ℕ) (block : List ℕ) → IsBlock stream behind found block → block_size found ≤ 1048578
 block_bound stream behind None block h = omega arith
 block_bound stream behind (Some bytes) block h = let small = h.0 in omega arith
 
-stands_bound : (stream : List ℕ) (item : Item) (taken : ℕ) → Stands stream item taken → taken ≤ 1050628
+pub stands_bound : (stream : List ℕ) (item : Item) (taken : ℕ) → Stands stream item taken → taken ≤ 1050628
 stands_bound stream (command said) taken h =
     let short = h.line.short in
     let small = block_bound stream (h.long + 2) (announced said) (block_of said) h.block in
@@ -24,17 +24,8 @@ stands_bound stream long_line taken h = omega (arith, h.1)
 stands_bound stream bad_block taken h = omega (arith, h.1)
 stands_bound stream big_block taken h = omega (arith, h.1)
 
--- so many items take no more bytes than this
-pub first_bound : (stream : List ℕ) (items : List Item) (size : ℕ) → AreFirst stream items size → size ≤ length items * 1050628
-first_bound stream [] size h = omega (arith, h)
-first_bound stream (item ∷ items) size h =
-    let (one, others, stands, rest, sum) = h in
-    let here = stands_bound stream item one stands in
-    let there = first_bound (drop one stream) items others rest in
-    omega arith
-
 -- a CR LF begins at a place or doesn't
-ends_or_not : (stream : List ℕ) (place : ℕ) → EndsAt stream place ⊎ (EndsAt stream place → ⊥)
+pub ends_or_not : (stream : List ℕ) (place : ℕ) → EndsAt stream place ⊎ (EndsAt stream place → ⊥)
 ends_or_not stream place = by (cases_lt (place + 1) (length stream)) (cases_eq (slice_index stream place) 13) (cases_eq (slice_index stream (place + 1)) 10)
   where
     by : ((place + 1 < length stream) ⊎ (length stream ≤ place + 1))

@@ -1,0 +1,48 @@
+// What a client is told, and what is written of it.
+ghost use Rattle.std.specs.Prelude.{◌≡◌, ◌++◌, OnOk, OnErr};
+ghost use Rattle.plain_ops.specs.Desks.{with_plain_calls};
+ghost use Rattle.conn_server.specs.Outgoing.{told_text, IsPlainReply, plain_call};
+
+use mc_text::{LineReply, PlainReply, PlainSaid, write_plain_reply, write_reply};
+use plain_ops::PlainDesk;
+use rows_model::Memory;
+
+/// What a client is told of a command.
+#[derive(Drop)]
+pub enum Told {
+    /// A reply to a lease command or to what is none, or what is told of a fault.
+    Lease { reply: LineReply },
+    /// A reply to a plain command. It isn't written where none is wanted.
+    Plain { reply: PlainReply, noreply: bool },
+}
+
+/// What a plain command is told: by the desk, or by an error.
+pub(crate) fn reply_to<P: PlainDesk>(plain: &mut P, said: &PlainSaid) -> PlainReply
+    ensures belongs { IsPlainReply said.now result }
+    ensures recorded { P.record_of plain.new
+        ≡ with_plain_calls (plain_call said.now result) (P.record_of plain.old) }
+{
+    match said {
+        PlainSaid::Asks { command } => plain.plain(command),
+        PlainSaid::QueryKey => PlainReply::QueryKey,
+        PlainSaid::Exptime => PlainReply::Exptime,
+    }
+}
+
+/// Writes what is told behind what is to go out. After want of memory that is as before.
+pub(crate) fn write_told(out: &mut Vec<u8>, told: &Told) -> Result<(), Memory>
+    ensures ok { OnOk result (out.new.items ≡ out.old.items ++ told_text told.now) }
+    ensures err { OnErr result (out.new.items ≡ out.old.items) }
+{
+    match told {
+        Told::Lease { reply } => write_reply(out, reply),
+        Told::Plain {
+            reply: _,
+            noreply: true,
+        } => Ok(()),
+        Told::Plain {
+            reply,
+            noreply: false,
+        } => write_plain_reply(out, reply),
+    }
+}

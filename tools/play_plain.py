@@ -1,0 +1,116 @@
+#!/usr/bin/env python3
+"""Plays plain memcached commands against a server over the loopback.
+
+    python3 tools/play_plain.py PROGRAM
+
+PROGRAM is `iq`. Each conversation is played with sockets, and the same commands with the clients that are installed:
+pymemcache, python-memcached and pylibmc. One that isn't is left out with a line. The status is 0 where the server does
+what it must; else a line on standard error says what it did.
+"""
+import importlib
+import sys
+
+from play_clients import Server, expect, receive
+
+BIG = 1_048_576
+
+# What is sent, and what comes back.
+TALK = [
+    (b"set a 5 0 2\r\nhi\r\n", b"STORED\r\n"),
+    (b"get a\r\n", b"VALUE a 5 2\r\nhi\r\nEND\r\n"),
+    (b"gets a\r\n", b"VALUE a 5 2 1\r\nhi\r\nEND\r\n"),
+    (b"incr a 1\r\n", b"CLIENT_ERROR not a number\r\n"),
+    (b"delete a\r\nget a\r\n", b"DELETED\r\nEND\r\n"),
+    (b"set n 7 -0 20\r\n18446744073709551615\r\n", b"STORED\r\n"),
+    (b"incr n 2\r\ndecr n 5\r\n", b"1\r\n0\r\n"),
+    (b"add n 0 0 1\r\nx\r\nreplace m 0 0 1\r\nx\r\n", b"NOT_STORED\r\nNOT_STORED\r\n"),
+    (b"cas n 0 0 1 9\r\ny\r\ncas m 0 0 1 9\r\ny\r\n", b"EXISTS\r\nNOT_FOUND\r\n"),
+    (b"gets n\r\ncas n 8 0 1 4\r\ny\r\ngets n\r\n", b"VALUE n 7 1 4\r\n0\r\nEND\r\nSTORED\r\nVALUE n 8 1 5\r\ny\r\nEND\r\n"),
+    (b"set profile:2 0 0 1\r\nz\r\nget n profile:2\r\n", b"CLIENT_ERROR query key\r\n" * 2),
+    (b"set q 0 60 1\r\nz\r\nset q 0 0 1 noreply\r\nk\r\nget q\r\n", b"CLIENT_ERROR exptime\r\nVALUE q 0 1\r\nk\r\nEND\r\n"),
+    (b"get n none q n\r\n", b"VALUE n 8 1\r\ny\r\nVALUE q 0 1\r\nk\r\nVALUE n 8 1\r\ny\r\nEND\r\n"),
+    (b"begin read\r\niqget profile:2 1 0\r\nget q\r\n", b"SESSION 1\r\nLEASE 1\r\nVALUE q 0 1\r\nk\r\nEND\r\n"),
+    (b"incr n\r\ndelete n 0\r\nget\r\n", b"CLIENT_ERROR bad line\r\n" * 3),
+    (b"delete none noreply\r\ndelete none\r\n", b"NOT_FOUND\r\n"),
+    (b"set big 0 0 %d\r\n%s\r\n" % (BIG, b"b" * BIG), b"STORED\r\n"),
+    (b"get big\r\n", b"VALUE big 0 %d\r\n%s\r\nEND\r\n" % (BIG, b"b" * BIG)),
+    (b"set %s 0 0 0\r\n\r\nget %s\r\n" % (b"k" * 250, b"k" * 250), b"STORED\r\nVALUE %s 0 0\r\n\r\nEND\r\n" % (b"k" * 250)),
+    (b"set %s 0 0 0\r\n" % (b"k" * 251), b"CLIENT_ERROR bad line\r\n"),
+    (b"set a 0 0 2 noreply\r\nhixxquit\r\n", b"ERROR\r\nCLIENT_ERROR bad block\r\n"),
+]
+
+
+def talk(program):
+    """Two lines share the map, and each command is answered as it must be, at once or one after another."""
+    server = Server(program, (2, 1, 1, 3))
+    with server.connect() as stream:
+        for sent, wanted in TALK[:-1]:
+            stream.sendall(sent)
+            expect(receive(stream, len(wanted)), wanted)
+        # (the empty line behind what was sent last is no command)
+        stream.sendall(b"\r\n" + TALK[-1][0])
+        expect(receive(stream, len(TALK[-1][1]) + 1), TALK[-1][1])
+    with server.connect() as stream:
+        stream.sendall(b"get q\r\nquit\r\n")
+        expect(receive(stream, 100), b"VALUE q 0 1\r\nk\r\nEND\r\n")
+    server.served(2)
+
+
+def with_pymemcache(module, port):
+    client = module.Client(("127.0.0.1", port), default_noreply=False)
+    expect(client.set("p", b"1"), True)
+    expect(client.add("p", b"2"), False)
+    expect(client.replace("p", b"10"), True)
+    expect(client.incr("p", 5), 15)
+    expect(client.decr("p", 50), 0)
+    value, unique = client.gets("p")
+    expect((value, client.cas("p", b"x", unique), client.cas("p", b"y", unique)), (b"0", True, False))
+    expect(client.get_many(["p", "none"]), {"p": b"x"})
+    expect((client.delete("p"), client.delete("p"), client.get("p")), (True, False, None))
+    client.set("p", b"b" * 1_000_000, noreply=True)
+    expect(client.get("p"), b"b" * 1_000_000)
+    client.quit()
+
+
+def with_memcache(module, port):
+    client = module.Client([f"127.0.0.1:{port}"], cache_cas=True)
+    expect(bool(client.set("p", "1")), True)
+    expect(bool(client.add("p", "2")), False)
+    expect(bool(client.replace("p", "10")), True)
+    expect((client.incr("p", 5), client.decr("p", 50)), (15, 0))
+    expect(client.gets("p"), "0")
+    expect(bool(client.cas("p", "x")), True)
+    expect(client.get_multi(["p", "none"]), {"p": "x"})
+    expect((bool(client.delete("p")), client.get("p")), (True, None))
+    client.disconnect_all()
+
+
+def with_pylibmc(module, port):
+    client = module.Client([f"127.0.0.1:{port}"], binary=False, behaviors={"cas": True})
+    expect((client.set("p", "1"), client.add("p", "2"), client.replace("p", 10)), (True, False, True))
+    expect((client.incr("p", 5), client.decr("p", 50)), (15, 0))
+    value, unique = client.gets("p")
+    expect((client.cas("p", "x", unique), client.get("p"), client.delete("p"), client.get("p")), (True, "x", True, None))
+    client.disconnect_all()
+
+
+def main(program):
+    talk(program)
+    for name, play in (("pymemcache", with_pymemcache), ("memcache", with_memcache), ("pylibmc", with_pylibmc)):
+        try:
+            module = importlib.import_module(name)
+        except ImportError:
+            print(f"{name} isn't here, and is left out")
+            continue
+        server = Server(program, (1, 1, 1, 3))
+        play(module, server.port)
+        server.served(1)
+        print(f"{name} is served")
+
+
+if __name__ == "__main__":
+    try:
+        main(*sys.argv[1:])
+    except AssertionError as wrong:
+        print(f"plain: {wrong}", file=sys.stderr)
+        sys.exit(1)
