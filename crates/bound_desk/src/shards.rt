@@ -151,7 +151,8 @@ impl<H: BoundName> BoundBook<H> {
     /// reply tells is shown by what the desk has seen then. A release puts or shifts the value as asked for,
     /// where the grant's mode, and of a shift the key, are fit for that, and else drops it. One that keeps the
     /// value is Gone where the desk hasn't seen that the grant's session was ended without a commit. A raise
-    /// of a grant that isn't to invalidate is Shared.
+    /// of a grant that isn't to invalidate is Shared. Else what is made of a grant that is out there is the
+    /// shard's own step.
     pub fn on_shard(
         &mut self,
         word: &LogWord,
