@@ -33,9 +33,9 @@ pub struct Attended {
 /// Accepts connections from the door until so many were accepted, or no more come, or the door fails.
 /// Each is served and handed back to the door. As many workers as there are desks do so at the same
 /// time, each on its desk and in a thread of its own, and all are joined. All share the plain map. The
-/// door has a lock, under which a worker accepts a line or hands one back; it serves a line and ends it for the peer without
-/// the lock. The caller works at the last desk itself, and does the work for which no thread can be
-/// started. It may wait.
+/// door has a lock, under which a worker accepts a line or hands one back; it serves a line and ends it
+/// for the peer without the lock. The caller works at the last desk itself, and does the work for which
+/// no thread can be started. It may wait.
 ///
 /// `ends` is empty and has room for an entry for each connection. It becomes the list of the ends, in the
 /// order in which the lines were handed back: a connection that ends by a fault is an entry like any

@@ -2,7 +2,7 @@
 use Rattle.std.proofs.Common.{ℕ, ◌+◌, ◌*◌, ◌≡◌, ◌<◌, ◌≤◌, ◌⊎◌, inl, inr, Bool, List, [], ◌∷◌, ◌++◌, length, take, drop, Some, arith, refl, sym, ap, subst, ◌∙◌}
 use Rattle.std.specs.Prelude.{◌==◌, if◌then◌else◌}
 use Rattle.std.proofs.lemmas.Bool.{cases_lt}
-use Rattle.std.proofs.lemmas.List.{drop-append-le, length-append, length-drop}
+use Rattle.std.proofs.lemmas.List.{drop-append-le, length-append}
 use Rattle.mc_text.specs.Words.{words_in}
 use Rattle.mc_text.specs.PlainVerbs.{text_of}
 use Rattle.mc_text.specs.PlainLines.{said_with, verb_of, IsHead, SayWhole}
@@ -16,7 +16,7 @@ use Rattle.mc_text.specs.Streams as leases
 use Rattle.mc_text.proofs.FrontLemmas.{line_once}
 use Rattle.mc_text.proofs.StreamLemmas.{ends_less, line_more, line_bytes, words_more, block_more, not_long, stands_more, stands_fit}
 use Rattle.mc_text.proofs.VerbLemmas.{letters}
-use Rattle.mixed_lines.specs.Items.{IsPlainLine, IsNoPlainLine, IsWhole, IsHeaded, IsWithBlock, IsBadPlain, HasBigPlain, HasBadPlain, AwaitsBlock, IsOther}
+use Rattle.mixed_lines.specs.Items.{IsPlainLine, IsNoPlainLine, IsWhole, IsHeaded, IsBadPlain, AwaitsBlock, IsOther}
 use Rattle.mixed_lines.specs.Items.{Item, command, plain, bad_line, long_line, bad_block, big_block, Stands, IsOpen, AreFirst}
 use Rattle.mixed_lines.proofs.OnceLemmas.{head_once}
 use Rattle.mixed_lines.proofs.BoundLemmas.{ends_or_not, stands_bound, open_bound}

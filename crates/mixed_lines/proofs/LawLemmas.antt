@@ -1,5 +1,5 @@
 -- What a stream says doesn't depend on the pieces in which it comes.
-use Rattle.std.proofs.Common.{ℕ, ◌+◌, ◌≡◌, ◌<◌, ◌≤◌, ◌⊎◌, inl, inr, Bool, List, [], ◌∷◌, ◌++◌, length, take, drop, Some, arith, refl, sym, ap, subst, ◌∙◌}
+use Rattle.std.proofs.Common.{ℕ, ◌+◌, ◌≡◌, ◌<◌, ◌≤◌, ◌⊎◌, inl, inr, Bool, List, [], ◌∷◌, ◌++◌, take, drop, Some, arith, refl, sym, ap, subst, ◌∙◌}
 use Rattle.std.proofs.lemmas.List.{drop-append-le, drop-drop}
 use Rattle.mc_text.specs.PlainLines.{said_with, IsHead, SayWhole}
 use Rattle.mc_text.specs.declared.plain_lines.PlainHead.{PlainHead}
@@ -7,7 +7,7 @@ use Rattle.mc_text.specs.declared.plain_lines.PlainSaid.{PlainSaid}
 use Rattle.mc_text.specs.declared.plain_verb_words.PlainVerb.{PlainVerb}
 use Rattle.mc_text.specs.Streams as leases
 use Rattle.mc_text.proofs.StreamLemmas.{streams_tell}
-use Rattle.mixed_lines.specs.Items.{IsPlainLine, IsNoPlainLine, IsWhole, IsHeaded, IsWithBlock, IsBadPlain, IsOther}
+use Rattle.mixed_lines.specs.Items.{IsWhole, IsHeaded, IsBadPlain, IsOther}
 use Rattle.mixed_lines.specs.Items.{Item, command, plain, bad_line, long_line, bad_block, big_block, Stands, IsOpen, AreFirst}
 use Rattle.mixed_lines.specs.Laws.{StreamsTellItems}
 use Rattle.mixed_lines.proofs.OnceLemmas.{whole_once, head_once}
@@ -172,10 +172,7 @@ heads_same stream a b m n h k =
     blocked_same stream k.long h.head k.head a b m n same.bytes same.noreply same.said
     (subst (λ (l : ℕ). Blocked stream l h.head a m) line.long h.blocked) k.blocked
 
--- a line of a plain command stands first, or none does
-no_plain : (stream : List ℕ) (a : Item) (m : ℕ) → OfLease stream a m → IsNoPlainLine stream
-no_plain stream a m h = h.stands.1
-
+-- what stands first is the same, of whichever kind
 split_same : (stream : List ℕ) (a b : Item) (m n : ℕ) → Split stream a m → Split stream b n → Same a b m n
 split_same stream a b m n (inl h) (inl k) = leases_same stream a b m n h k
 split_same stream a b m n (inl h) (inr (inl k)) = absurd (h.stands.1 k.whole.long k.whole.verb k.whole.args k.whole.line)

@@ -1,12 +1,12 @@
 -- One item stands first in a stream.
-use Rattle.std.proofs.Common.{ℕ, ◌+◌, ◌≡◌, ◌<◌, ◌≤◌, ◌⊎◌, inl, inr, Bool, true, false, cond, List, [], ◌∷◌, length, take, drop, Some, arith, refl, sym, ap, subst, ◌∙◌}
-use Rattle.std.specs.Prelude.{◌==◌, not, codes, All, Contains}
+use Rattle.std.proofs.Common.{ℕ, ◌≡◌, Bool, true, false, cond, List, [], ◌∷◌, refl, sym, ap, subst, ◌∙◌}
+use Rattle.std.specs.Prelude.{◌==◌, not, codes}
 use Rattle.std.proofs.lemmas.List.Elements.{All-contains}
 use Rattle.mc_text.specs.Words.{IsNumber, IsFlags}
 use Rattle.mc_text.specs.Commands.{Then}
 use Rattle.mc_text.specs.PlainKeys.{IsPlainKey}
 use Rattle.mc_text.specs.PlainWords.{IsQueryKey, IsKeyWord, unsigned, IsExptime, IsLast}
-use Rattle.mc_text.specs.PlainLines.{stored, said_with, on_key, IsKeyOf, AreFields, IsTail, verb_of, IsHead, AreKeys, IsOnKey, SayWhole}
+use Rattle.mc_text.specs.PlainLines.{stored, said_with, on_key, IsKeyOf, IsTail, verb_of, IsHead, AreKeys, IsOnKey, SayWhole}
 use Rattle.mc_text.specs.declared.plain_commands.PlainCommand.{PlainCommand}
 use Rattle.mc_text.specs.declared.plain_commands.PlainCommand.TheVariants as command
 use Rattle.mc_text.specs.declared.plain_lines.Storing.{Storing}

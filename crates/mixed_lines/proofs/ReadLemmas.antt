@@ -1,5 +1,5 @@
 -- What is read of a stream.
-use Rattle.std.proofs.Common.{ℕ, ◌+◌, ◌-◌, ◌≡◌, ◌<◌, ◌≤◌, ◌⊎◌, inl, inr, Bool, List, [], ◌∷◌, length, take, drop, Some, arith, refl, sym, ap, subst, ◌∙◌}
+use Rattle.std.proofs.Common.{ℕ, ◌+◌, ◌≡◌, ◌<◌, ◌≤◌, ◌⊎◌, inl, inr, Bool, List, [], ◌∷◌, length, take, drop, arith, refl, sym, ap, ◌∙◌}
 use Rattle.mc_text.specs.Words.{words_in}
 use Rattle.mc_text.specs.Telling.{IsEndless}
 use Rattle.mc_text.specs.PlainVerbs.{text_of}
@@ -15,7 +15,7 @@ use Rattle.mc_text.specs.declared.commands.Command.{Command}
 use Rattle.mc_text.specs.declared.faults.FrameFault.{FrameFault}
 use Rattle.mc_text.specs.declared.faults.FrameFault.TheVariants as frame
 use Rattle.mixed_lines.specs.Fronts.{Takes, Faults}
-use Rattle.mixed_lines.specs.Items.{IsPlainLine, IsNoPlainLine, IsWhole, IsHeaded, IsWithBlock, IsBadPlain, HasBigPlain, HasBadPlain, AwaitsBlock}
+use Rattle.mixed_lines.specs.Items.{IsNoPlainLine, IsWhole, IsHeaded, IsWithBlock, IsBadPlain, HasBigPlain, HasBadPlain, AwaitsBlock}
 use Rattle.mixed_lines.specs.Items.{command, plain, bad_line}
 use Rattle.mixed_lines.proofs.ItemLemmas.{first_once}
 

@@ -1,8 +1,6 @@
 -- The reply of each step belongs to its command.
-use Rattle.std.proofs.Common.{ℕ, ◌≡◌, ◌⊎◌, inl, inr, Bool, true, false, cond, List, [], ◌∷◌, Option, Some, None, refl, sym, ap, subst, ◌∙◌}
-use Rattle.std.specs.Prelude.{⊤, ◌==◌, ◌%◌, ◌+◌, ◌-◌, ◌^◌, option_map}
-use Rattle.std.specs.Option.{option_map_or}
-use Rattle.std.specs.List.{filter_map}
+use Rattle.std.proofs.Common.{ℕ, ◌≡◌, ◌⊎◌, inl, inr, Bool, true, false, cond, List, [], ◌∷◌, Option, Some, None, refl, sym, subst}
+use Rattle.std.specs.Prelude.{◌==◌, ◌%◌, ◌+◌, ◌-◌, ◌^◌}
 use Rattle.mc_text.specs.PlainNumbers.{plain_number}
 use Rattle.mc_text.specs.declared.plain_commands.PlainCommand.{PlainCommand}
 use Rattle.mc_text.specs.declared.plain_commands.PlainCommand.TheVariants.{Get, Gets, Set, Add, Replace, Cas, Delete, Incr, Decr}
@@ -10,8 +8,8 @@ use Rattle.mc_text.specs.declared.plain_replies.Found.{Found}
 use Rattle.mc_text.specs.declared.plain_replies.PlainReply.{PlainReply}
 use Rattle.mc_text.specs.declared.plain_replies.PlainReply.TheVariants as reply
 use Rattle.plain_ops.specs.declared.items.Item.{Item}
-use Rattle.plain_ops.specs.Entries.{item_at, told_of, found_in}
-use Rattle.plain_ops.specs.Steps.{PlainMap, Effect, tells, drops, stores, counts, effect_of, IsRefused, IsTold, ComesOf, PlainStep}
+use Rattle.plain_ops.specs.Entries.{item_at, found_in}
+use Rattle.plain_ops.specs.Steps.{PlainMap, tells, stores, counts, IsRefused, IsTold, ComesOf, PlainStep}
 use Rattle.plain_ops.specs.Desks.{AreOf, IsUnstored, Belongs}
 
 -- items that are found at some of the keys are found at those of more keys

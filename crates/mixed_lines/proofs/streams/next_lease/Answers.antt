@@ -1,6 +1,5 @@
 use Rattle.std.proofs.Common.{◌≡◌, Some, None}
-use Rattle.std.specs.Prelude.{Ok, Err}
-use Rattle.mc_text.specs.Framing.{Answers}
+use Rattle.std.specs.Prelude.{Ok}
 use Rattle.mixed_lines.proofs.ItemLemmas.{open_by}
 use Rattle.mixed_lines.proofs.ReadLemmas.{lease_taken, lease_fault}
 use Rattle.mixed_lines.proofs.streams.next_lease.Goals as goal

@@ -4,7 +4,6 @@ use Rattle.session_client.specs.Desks.{one_more}
 use Rattle.mc_text.specs.declared.commands.Command.TheVariants.{Quit}
 use Rattle.mc_text.specs.declared.faults.FrameFault.TheVariants as frame
 use Rattle.mc_text.specs.declared.replies.LineReply.TheVariants as reply
-use Rattle.plain_ops.specs.Desks.{with_plain_calls}
 use Rattle.conn_server.specs.declared.clients.Client.{Client}
 use Rattle.conn_server.specs.declared.outgoing.Told.TheVariants as told
 use Rattle.mixed_lines.specs.declared.streams.Said.TheVariants as said
