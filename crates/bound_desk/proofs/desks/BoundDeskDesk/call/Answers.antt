@@ -4,8 +4,8 @@ use Rattle.log_word.specs.Events.{is_over}
 use Rattle.bound_desk.specs.Safe.{IsSafelyMade}
 use Rattle.bound_desk.proofs.desks.BoundDeskDesk.call.Goals as goal
 
-pub drop_value-requires-clause-over : goal.drop_value-requires-clause-over
-drop_value-requires-clause-over g c =
+pub drop_value-told-requires-clause-over : goal.drop_value-told-requires-clause-over
+drop_value-told-requires-clause-over g c =
     let made = c.in-Ok-EndDrop in
     let own = subst (IsSafelyMade c.self.inside.told.book.book c.args.who) made.field-0-is made.ensures.safe in
     inr (subst (λ (s : Sid). is_over s.number c.close-is_over.new.self.seen.events ≡ true) own (c.close-is_over.ensures.over c.if-not-is_over.false))
