@@ -61,7 +61,8 @@ pub fn hub_of<H: BoundName>(
 ) -> Result<(BoundHub<MapKeeper, H>, Pass), Fail>
     requires shape { IsShape shape.now }
     requires made { IsMadeFor shape.now.shards made }
-    requires named { IsNewHub H.BoundName H.HubName H.name H.parts shape.now store made }
+    requires named { IsNewHub H.word H.before H.begun H.failed H.terms H.opening H.cap
+        H.told H.start H.name H.parts shape.now store made }
     ensures pass { IfOk result (λ told. told.1.word ≡ H.word) }
 {
     let shards = new_shards(alloc, shape.shards, shape.room, shape.life, None)?;

@@ -69,7 +69,8 @@ fn goes_well<H: BoundName + Send + Sync, R: Wait + Abort>(
 ) -> Result<bool, Fail>
     requires shape { IsShape shape.now }
     requires made { IsMadeFor shape.now.shards made }
-    requires named { IsNewHub H.BoundName H.HubName H.name H.parts shape.now store made }
+    requires named { IsNewHub H.word H.before H.begun H.failed H.terms H.opening H.cap
+        H.told H.start H.name H.parts shape.now store made }
 {
     let (hub, mut pass) = hub_of::<H>(rt, alloc, shape, store, made)?;
     let well = match trial {

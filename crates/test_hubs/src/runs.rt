@@ -102,7 +102,8 @@ fn run_on<'x, H: BoundName + Send + Sync, G: Gate, R: Threads + Wait + Abort + S
 ) -> Result<Ran, Fail>
     requires shape { IsShape shape.now }
     requires made { IsMadeFor shape.now.shards made }
-    requires named { IsNewHub H.BoundName H.HubName H.name H.parts shape.now store made }
+    requires named { IsNewHub H.word H.before H.begun H.failed H.terms H.opening H.cap
+        H.told H.start H.name H.parts shape.now store made }
     requires plans { All (λ list. All IsPlan list.items) plans.now }
 {
     let (hub, mut pass) = hub_of::<H>(rt, alloc, shape, store, made)?;

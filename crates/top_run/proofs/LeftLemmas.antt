@@ -1,9 +1,9 @@
 -- The histories that a bound hub leaves of whole shards are fresh, and cover its log.
-use Rattle.std.proofs.Common.{ℕ, ◌≡◌, ◌<◌, ◌≤◌, true, List, [], ◌∷◌, ◌++◌, All, length, length-map, map, reverse, sym, ap, subst, ◌∙◌}
-use Rattle.std.specs.Prelude.{Option, Some, None, IsSome, IsTrue, slice_get, get_or, option_map}
+use Rattle.std.proofs.Common.{ℕ, ◌≡◌, ◌<◌, ◌≤◌, true, List, [], ◌∷◌, ◌++◌, All, length, map, reverse, sym, ap, subst, ◌∙◌}
+use Rattle.std.specs.Prelude.{Bool, Option, Some, None, IsSome, IsTrue, slice_get, get_or, option_map}
 use Rattle.std.specs.List.{list_any}
 use Rattle.std.proofs.lemmas.Bool.{false≢true}
-use Rattle.std.proofs.lemmas.List.{append-nil, reverse-reverse}
+use Rattle.std.proofs.lemmas.List.{append-nil, length-map}
 use Rattle.std.proofs.lemmas.List.Elements.{All-get_or, All-map}
 use Rattle.std.proofs.lemmas.List.Sorted.{list_any-IsPermutation, IsPermutation-reverse}
 use Rattle.std.proofs.lemmas.Option.{slice_get-map, slice_get_within, get_or_from_slice_get}
@@ -23,6 +23,7 @@ use Rattle.key_freshness.proofs.KnownLemmas.{stands-within}
 use Rattle.log_word.specs.declared.seen.Seen.{Seen}
 use Rattle.shard_lock.specs.Names.{AreAll}
 use Rattle.bound_hub.specs.Parts.{IsLeft}
+use Rattle.bound_hub.specs.Ties.{IsNewShard}
 use Rattle.run_audit.specs.Findings.{histories_in}
 
 module _ (opening : Tables) (before : ℕ → List Step) (none : (place : ℕ) → before place ≡ []) (store : StoreView) (seen : Seen) where
@@ -71,12 +72,9 @@ module _ (opening : Tables) (before : ℕ → List Step) (none : (place : ℕ) �
           subst P (get_or_from_slice_get shards place shard shard is) (All-get_or P shards place shard (slice_get_within shards place shard is) all)
 
 -- a hub that was never made leaves nothing
-pub none_covered : (store : StoreView) (histories : List (List Step)) → store.ledger.log ≡ [] → Covered store.ledger.log histories
-none_covered store histories none = λ place commit key at touched.
-    let gone : slice_get [] place ≡ Some commit = subst (λ (log : List Commit). slice_get log place ≡ Some commit) none at in absurd cc
-
-pub none_fresh : (opening : Tables) (log : List Commit) (shards : List ShardView) → All (λ shard. reverse shard.history ≡ []) shards
-    → Fresh opening log (histories_in shards)
-none_fresh opening log shards none =
+pub new_fresh : (opening first : Tables) (before : ℕ → List Step) (stopped : Bool) (log : List Commit) (shards : List ShardView)
+    → ((place : ℕ) → before place ≡ []) → All (IsNewShard first before stopped) shards → Fresh opening log (histories_in shards)
+new_fresh opening first before stopped log shards none new =
     All-map (λ (history : List Step). IsFreshPast opening log (reverse history)) (λ (shard : ShardView). shard.history) shards
-    (λ place default below. subst (λ (past : List Step). IsFreshPast opening log past) (sym (none place default below)) tt)
+    (λ place default below.
+    subst (λ (past : List Step). IsFreshPast opening log past) (sym ((new place default below).past_is ∙ none (get_or shards place default).terms.no)) tt)

@@ -1,5 +1,5 @@
 -- What is there before a run over a hub begins.
-use Rattle.std.specs.Prelude.{ℕ, ◌≡◌, ◌<◌, ◌≤◌, Bool, List, [], length, map, All, IfSome, slice_get, vec_capacity}
+use Rattle.std.specs.Prelude.{ℕ, ◌≡◌, ◌≤◌, Bool, List, [], length, map, All, Some, slice_get, vec_capacity}
 use Rattle.rows_model.specs.Rows.{Tables}
 use Rattle.key_shard.specs.declared.steps.Step.{Step}
 use Rattle.key_shard.specs.Past.{Terms}
@@ -65,7 +65,7 @@ pub record MakeHub (terms : ℕ → Terms) (opening : Tables) (before : ℕ → 
 
 -- Each desk has its place for its worker's number.
 abbrev pub HaveTheirPlaces : List BoundDeskView → Type 0
-HaveTheirPlaces desks = (place : ℕ) → place < length desks → IfSome (slice_get desks place) (λ desk. desk.worker ≡ place)
+HaveTheirPlaces desks = (place : ℕ) (desk : BoundDeskView) → slice_get desks place ≡ Some desk → desk.worker ≡ place
 
 -- There are the plans of the load for each of its workers, and the parts of its hub.
 pub record IsReady (spec : WorkSpec) (terms : ℕ → Terms) (ready : Ready) : Type 0 where

@@ -235,6 +235,7 @@ fn serve_hub<
     requires new { IsNewStore H.begun H.failed store }
     requires parts { MakeHub H.terms H.opening H.before (is_none store.told)
         H.name H.parts H.word parts }
+    requires none_before { (place : ℕ) → H.before place ≡ [] }
     requires none { ends.items ≡ [] }
     requires room { spec.now.conns ≤ vec_capacity ends }
     ensures store { IsNamedStore H.opening H.cap H.told H.start result.store }
@@ -281,7 +282,8 @@ fn unserved(ends: Vec<LineEnd>) -> Served
     }
 }
 
-/// Serves with a desk over the hub for each worker.
+/// Serves with a desk over the hub for each worker. All share a new plain map, which takes no memory until
+/// it has an item.
 fn serve_over<
     H: BoundName + Send + Sync,
     W: Sink,
@@ -312,20 +314,25 @@ fn serve_over<
         AreHandedBack result.ends.items (D.closed door.old) (D.closed door.new) }
 {
     let mut pass = pass;
+    let plain = PlainBox::new(Plain::new(alloc, 1));
     match desks_over(rt, alloc, hub, &mut pass, spec.workers, clock, gate) {
-        Ok(mut desks) => serve_with(rt, alloc, spec, sink, desks.as_mut_slice(), door, ends),
+        Ok(mut desks) => {
+            let desks = desks.as_mut_slice();
+            serve_with(rt, alloc, spec, sink, desks, &plain, door, ends)
+        }
         Err(Memory) => unserved(ends),
     }
 }
 
 /// Opens the door, lets the workers serve, of whom there is one for each desk, and tells how many lines were
-/// served. The workers share a new plain map, which takes no memory until it has an item.
+/// served.
 fn serve_with<W: Sink, K: Desk + Send, D: Door, R: Threads + Wait + Sync>(
     rt: &R,
     alloc: Global,
     spec: &ServeSpec,
     sink: &mut W,
     desks: &mut [K],
+    plain: &PlainBox,
     door: &mut D,
     ends: Vec<LineEnd>,
 ) -> Served
@@ -346,8 +353,7 @@ fn serve_with<W: Sink, K: Desk + Send, D: Door, R: Threads + Wait + Sync>(
             written,
         };
     }
-    let plain = PlainBox::new(Plain::new(alloc, 1));
-    let Attended { ends, failed } = serve_all(rt, alloc, desks, &plain, door, spec.conns, ends);
+    let Attended { ends, failed } = serve_all(rt, alloc, desks, plain, door, spec.conns, ends);
     let status = if failed {
         Status::DoorFault
     } else {

@@ -3,4 +3,9 @@ use Rattle.top_run.specs.Ready.{HaveTheirPlaces}
 use Rattle.top_run.proofs.hubs.desks_over.Given as goal
 
 abbrev pub invariant-loop-worker : goal.invariant-loop-worker
-invariant-loop-worker g l = (length l.desks.items ≡ l.worker) × HaveTheirPlaces l.desks.items × (l.workers ≤ vec_capacity l.desks)
+invariant-loop-worker g l = record {
+  many : length l.desks.items ≡ l.worker;
+  placed : HaveTheirPlaces l.desks.items;
+  room : l.workers ≤ vec_capacity l.desks;
+  word : l.caller.word ≡ g.H.BoundName.word;
+}

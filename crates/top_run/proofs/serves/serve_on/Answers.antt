@@ -21,7 +21,8 @@ serve_hub-store-requires-clause-parts g c =
 
 pub serve_hub-store-requires-clause-new : goal.serve_hub-store-requires-clause-new
 serve_hub-store-requires-clause-new g c =
-    λ κs outlives. opened_is_new c.args.store g.H.BoundName.begun g.H.BoundName.failed log_cap c.requires.new c.requires.parts.none_begun c.requires.parts.none_failed
+    λ κs outlives. rw c.named.ensures
+    (opened_is_new c.args.store g.H.BoundName.begun g.H.BoundName.failed log_cap c.requires.new c.requires.parts.none_begun c.requires.parts.none_failed)
 
 pub returns-clause-ended : goal.returns-clause-ended
 returns-clause-ended g c = λ unread rows held opens.

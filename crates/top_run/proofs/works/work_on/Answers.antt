@@ -24,7 +24,8 @@ run_plans-store-requires-clause-parts g c =
 
 pub run_plans-store-requires-clause-new : goal.run_plans-store-requires-clause-new
 run_plans-store-requires-clause-new g c =
-    λ κs outlives. opened_is_new c.args.store g.H.BoundName.begun g.H.BoundName.failed log_cap c.requires.new c.requires.parts.none_begun c.requires.parts.none_failed
+    λ κs outlives. rw c.named.ensures
+    (opened_is_new c.args.store g.H.BoundName.begun g.H.BoundName.failed log_cap c.requires.new c.requires.parts.none_begun c.requires.parts.none_failed)
 
 pub summed_up-made-requires-clause-numbered : goal.summed_up-made-requires-clause-numbered
 summed_up-made-requires-clause-numbered g c =
