@@ -1,21 +1,19 @@
 -- The histories that a bound hub leaves of whole shards are fresh, and cover its log.
-use Rattle.std.proofs.Common.{ℕ, ◌≡◌, ◌<◌, ◌≤◌, true, List, [], ◌∷◌, ◌++◌, All, length, map, reverse, sym, ap, subst, ◌∙◌}
-use Rattle.std.specs.Prelude.{Bool, Option, Some, None, IsSome, IsTrue, slice_get, get_or, option_map}
+use Rattle.std.proofs.Common.{ℕ, ◌≡◌, true, List, [], ◌++◌, All, length, reverse, sym, ap, subst, ◌∙◌}
+use Rattle.std.specs.Prelude.{Bool, Option, Some, IsSome, slice_get, get_or, option_map}
 use Rattle.std.specs.List.{list_any}
-use Rattle.std.proofs.lemmas.Bool.{false≢true}
 use Rattle.std.proofs.lemmas.List.{append-nil, length-map}
 use Rattle.std.proofs.lemmas.List.Elements.{All-get_or, All-map}
 use Rattle.std.proofs.lemmas.List.Sorted.{list_any-IsPermutation, IsPermutation-reverse}
 use Rattle.std.proofs.lemmas.Option.{slice_get-map, slice_get_within, get_or_from_slice_get}
 use Rattle.rows_model.specs.declared.keys.QKey.{QKey}
-use Rattle.rows_model.specs.declared.keys.Sid.{Sid}
 use Rattle.rows_model.specs.Rows.{Tables}
 use Rattle.rows_model.specs.Changes.{touches}
 use Rattle.rows_model.specs.Placement.{shard_of}
 use Rattle.rows_model.proofs.PlacementLemmas.{shard_below}
 use Rattle.key_shard.specs.declared.steps.Step.{Step}
 use Rattle.key_shard.specs.Past.{Terms}
-use Rattle.key_shard.specs.Shards.{ShardView, past_of}
+use Rattle.key_shard.specs.Shards.{ShardView}
 use Rattle.sql_keeper.specs.declared.stores.Commit.{Commit}
 use Rattle.sql_keeper.specs.Fresh.{Fresh, Covered, HasGranted, IsFreshPast, quarantines}
 use Rattle.sql_keeper.specs.Stores.{StoreView}

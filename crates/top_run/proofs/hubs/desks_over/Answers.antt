@@ -1,4 +1,4 @@
-use Rattle.std.proofs.Common.{◌≡◌, ◌+◌, List, [], ◌∷◌, ◌++◌, length, length-append, sym, ap, subst, arith, ◌∙◌}
+use Rattle.std.proofs.Common.{List, [], ◌∷◌, length, length-append, sym, ap, subst, arith, ◌∙◌}
 use Rattle.log_word.specs.Passes.{PassView}
 use Rattle.bound_desk.specs.Bound.{BoundDeskView}
 use Rattle.top_run.specs.Ready.{HaveTheirPlaces}
