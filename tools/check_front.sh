@@ -156,6 +156,8 @@ check_served() {
     count "served: drawn streams, as the model" $?
     python3 tools/lying_clients.py out/iq 100
     count "served: clients that lie" $?
+    python3 tools/play_plain.py out/iq
+    count "served: plain commands" $?
 }
 
 # A picture is well-formed, and has a row for each line of the output but the last.
