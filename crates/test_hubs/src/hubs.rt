@@ -29,7 +29,8 @@ impl MadeOf {
     pub fn new(alloc: Global, shards: u32) -> Result<MadeOf, Fail>
         requires some { 1 ≤ shards }
         requires few { shards ≤ 64 }
-        ensures { IfOk result (IsMadeFor shards) }
+        ensures { IfOk result (λ made. IsMadeFor shards made.ledger.parts
+            made.word.0 made.word.1 made.word.2.items made.word.3) }
     {
         Ok(MadeOf {
             ledger: Blank::new(shards as u64),
@@ -60,9 +61,11 @@ pub fn hub_of<H: BoundName>(
     made: MadeOf,
 ) -> Result<(BoundHub<MapKeeper, H>, Pass), Fail>
     requires shape { IsShape shape.now }
-    requires made { IsMadeFor shape.now.shards made }
+    requires made { IsMadeFor shape.now.shards made.ledger.parts
+        made.word.0 made.word.1 made.word.2.items made.word.3 }
+    requires ledger { (made.ledger.name ≡ H.name) × (made.ledger.parts ≡ H.parts) }
     requires named { IsNewHub H.word H.before H.begun H.failed H.terms H.opening H.cap
-        H.told H.start H.name H.parts shape.now store made }
+        H.told H.start shape.now store made.word.0 }
     ensures pass { IfOk result (λ told. told.1.word ≡ H.word) }
 {
     let shards = new_shards(alloc, shape.shards, shape.room, shape.life, None)?;

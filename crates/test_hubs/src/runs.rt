@@ -101,9 +101,11 @@ fn run_on<'x, H: BoundName + Send + Sync, G: Gate, R: Threads + Wait + Abort + S
     gate: &'x G,
 ) -> Result<Ran, Fail>
     requires shape { IsShape shape.now }
-    requires made { IsMadeFor shape.now.shards made }
+    requires made { IsMadeFor shape.now.shards made.ledger.parts
+        made.word.0 made.word.1 made.word.2.items made.word.3 }
+    requires ledger { (made.ledger.name ≡ H.name) × (made.ledger.parts ≡ H.parts) }
     requires named { IsNewHub H.word H.before H.begun H.failed H.terms H.opening H.cap
-        H.told H.start H.name H.parts shape.now store made }
+        H.told H.start shape.now store made.word.0 }
     requires plans { All (λ list. All IsPlan list.items) plans.now }
 {
     let (hub, mut pass) = hub_of::<H>(rt, alloc, shape, store, made)?;
