@@ -21,7 +21,7 @@ use rows_model::{Memory, Sid};
 /// the desk tells nothing of it.
 ///
 /// A desk may tell `tends`, the number of steps of its sweep so far, from its making on. Only `tend`
-/// takes one.
+/// takes one. It may tell `worker`, the number of the worker whose desk it is, which never changes.
 pub trait Desk {
     ghost begun: { Self → Option (List Sid) };
 
@@ -35,6 +35,8 @@ pub trait Desk {
 
     ghost tends: { Self → Option ℕ } = { λ desk. None };
 
+    ghost worker: { Self → Option ℕ } = { λ desk. None };
+
     /// Begins a session and gives its number, which no session had that the desk began before. One
     /// that writes may commit once; another never does. For want of memory no session begins.
     fn begin(&mut self, writes: bool) -> Result<Sid, Memory>
@@ -45,6 +47,7 @@ pub trait Desk {
         ensures err { OnErr result (begun self.new ≡ begun self.old) }
         ensures err_recorded { OnErr result (record_of self.new ≡ record_of self.old) }
         ensures tends { tends self.new ≡ tends self.old }
+        ensures worker { worker self.new ≡ worker self.old }
         ensures latest { IfOk result (λ sid. IsLatest sid writes (seen self.new) (latest self.new)) }
         ensures seen_kept { AreIn (seen self.old) (seen self.new) }
         ensures seen_begun { AreIn (seen self.new) (begun self.new) }
@@ -58,6 +61,7 @@ pub trait Desk {
         ensures recorded { record_of self.new
             ≡ with_member (Asked sid wanted result) (record_of self.old) }
         ensures tends { tends self.new ≡ tends self.old }
+        ensures worker { worker self.new ≡ worker self.old }
         ensures first { BeginsSeen (latest self.old) sid wanted result (seen self.new) }
         ensures seen_kept { AreIn (seen self.old) (seen self.new) }
         ensures seen_begun { AreIn (seen self.new) (begun self.new) }
@@ -69,6 +73,7 @@ pub trait Desk {
         ensures begun { begun self.new ≡ begun self.old }
         ensures recorded { record_of self.new ≡ record_of self.old }
         ensures tended { tends self.new ≡ one_more (tends self.old) }
+        ensures worker { worker self.new ≡ worker self.old }
         ensures seen_kept { AreIn (seen self.old) (seen self.new) }
         ensures seen_begun { AreIn (seen self.new) (begun self.new) }
         ensures spent_kept { is_spent self.old ≡ true → is_spent self.new ≡ true };
