@@ -13,7 +13,7 @@ use Rattle.log_word.specs.Passes.{WordView, blind_pass, blind_shard_passes}
 use Rattle.bound_hub.proofs.NewLemmas.{unused_is_new}
 use Rattle.top_run.specs.declared.hubs.Parts.{Parts}
 use Rattle.bound_desk.specs.Bound.{BoundDeskView}
-use Rattle.top_run.specs.Ready.{AreParts, MakeHub, NamesParts, HaveTheirPlaces}
+use Rattle.top_run.specs.Ready.{AreParts, MakeHub, NamesParts, AreNewDesks}
 use Rattle.top_run.specs.Works.{hub_terms}
 
 -- one list for each worker
@@ -46,20 +46,9 @@ make_hub shape keep terms opening before stopped name parts word begun failed ma
       caller = are.word.caller ∙ ap blind_pass names.word_is;
     }
 
--- desks have the numbers from some on, and one more behind them has the next
-placed_from : (desks : List BoundDeskView) (new : BoundDeskView) (i : ℕ)
-    → ((place : ℕ) (desk : BoundDeskView) → slice_get desks place ≡ Some desk → desk.worker ≡ i + place) → new.worker ≡ i + length desks
-    → (place : ℕ) (desk : BoundDeskView) → slice_get (desks ++ new ∷ []) place ≡ Some desk → desk.worker ≡ i + place
-placed_from [] new i placed next zero desk at =
-    let same : new.worker ≡ desk.worker = ap (λ (o : Option BoundDeskView). (unwrap_or o new).worker) at in omega (arith, same, next)
-placed_from [] new i placed next (suc place) desk at = absurd (false≢true (ap (λ (o : Option BoundDeskView). is_some o) at))
-placed_from (first ∷ rest) new i placed next zero desk at = placed zero desk at
-placed_from (first ∷ rest) new i placed next (suc place) desk at =
-    let all : (p : ℕ) (d : BoundDeskView) → slice_get rest p ≡ Some d → d.worker ≡ suc i + p = λ p d e. let is = placed (suc p) d e in omega (arith, is) in
-    let is = placed_from rest new (suc i) all (omega (arith, next)) place desk at in omega (arith, is)
-
--- so desks in their places have one more behind them
-pub desk_placed : (desks : List BoundDeskView) (new : BoundDeskView) → HaveTheirPlaces desks → new.worker ≡ length desks → HaveTheirPlaces (desks ++ new ∷ [])
-desk_placed desks new placed next = λ place desk at.
-    let all : (p : ℕ) (d : BoundDeskView) → slice_get desks p ≡ Some d → d.worker ≡ 0 + p = λ p d e. let is = placed p d e in omega (arith, is) in
-    let is = placed_from desks new 0 all (omega (arith, next)) place desk at in omega (arith, is)
+-- new desks have one more behind them, with the next number
+pub one_more_desk : (desks : List BoundDeskView) (new : BoundDeskView) (place : ℕ) → AreNewDesks place desks → new.worker ≡ place + length desks
+    → new.calls ≡ [] → AreNewDesks place (desks ++ new ∷ [])
+one_more_desk [] new place all next none = (omega (arith, next), none, tt)
+one_more_desk (first ∷ rest) new place all next none =
+    (all.0, all.1, one_more_desk rest new (suc place) all.2 (omega (arith, next)) none)

@@ -1,14 +1,21 @@
 -- What is there before a run over a hub begins.
-use Rattle.std.specs.Prelude.{ℕ, ◌≡◌, ◌≤◌, Bool, List, [], length, map, All, Some, slice_get, vec_capacity}
+use Rattle.std.specs.Prelude.{ℕ, suc, ◌≡◌, ◌≤◌, Bool, List, [], ◌∷◌, length, map, All, Some, vec_capacity}
+use Rattle.std.specs.Option.{ForSome}
+use Rattle.rows_model.specs.Changes.{IsTxn}
 use Rattle.rows_model.specs.Rows.{Tables}
 use Rattle.key_shard.specs.declared.steps.Step.{Step}
 use Rattle.key_shard.specs.Past.{Terms}
+use Rattle.session_client.specs.declared.plans.Plan.{Plan}
+use Rattle.session_client.specs.declared.plans.Plan.TheVariants.{Read, Write}
 use Rattle.session_client.specs.declared.plans.Shape.{Shape}
 use Rattle.session_client.specs.Plans.{IsPlan}
 use Rattle.shard_lock.specs.Names.{AreAll}
-use Rattle.log_word.specs.Passes.{WordView, blind_pass, blind_shard_passes}
+use Rattle.log_word.specs.declared.seen.Seen.{Seen}
+use Rattle.log_word.specs.Passes.{PassView, WordView, blind_pass, blind_shard_passes}
 use Rattle.bound_hub.specs.Ties.{IsNewShard}
 use Rattle.bound_desk.specs.Bound.{BoundDeskView}
+use Rattle.bound_desk.specs.Records.{IsRecordSeen}
+use Rattle.gate_workers.specs.Rows.{DeskView, RowView, AllWork}
 use Rattle.run_inputs.specs.declared.loads.WorkSpec.{WorkSpec}
 use Rattle.run_inputs.specs.Loads.{load}
 use Rattle.top_run.specs.declared.hubs.HubParts.{HubParts}
@@ -63,9 +70,39 @@ pub record MakeHub (terms : ℕ → Terms) (opening : Tables) (before : ℕ → 
   pub shard_passes : made.word.2.items ≡ blind_shard_passes word (length made.shards.items)
   pub caller : made.word.3 ≡ blind_pass word
 
--- Each desk has its place for its worker's number.
-abbrev pub HaveTheirPlaces : List BoundDeskView → Type 0
-HaveTheirPlaces desks = (place : ℕ) (desk : BoundDeskView) → slice_get desks place ≡ Some desk → desk.worker ≡ place
+-- Each desk has its place, from this one on, for its worker's number, and has answered no call.
+abbrev pub AreNewDesks : ℕ → List BoundDeskView → Type 0
+AreNewDesks place [] = Unit {0}
+AreNewDesks place (desk ∷ desks) = (desk.worker ≡ place) × (desk.calls ≡ []) × AreNewDesks (suc place) desks
+
+-- Each of these desks tells a record and a worker, and of each of those calls is seen what it left.
+abbrev pub AreRecorded : (ℕ → Terms) → (ℕ → List Step) → ℕ → Seen → List DeskView → Type 0
+AreRecorded terms before shards seen [] = Unit {0}
+AreRecorded terms before shards seen (desk ∷ desks) =
+    ForSome desk.calls (λ calls. ForSome desk.worker (λ worker. IsRecordSeen terms before shards worker calls seen))
+    × AreRecorded terms before shards seen desks
+
+-- These desks tell that they have answered no call, and places for their workers' numbers, from this one on.
+abbrev pub AreNewViews : ℕ → List DeskView → Type 0
+AreNewViews place [] = Unit {0}
+AreNewViews place (desk ∷ desks) = (desk.calls ≡ Some []) × (desk.worker ≡ Some place) × AreNewViews (suc place) desks
+
+-- Each worker has run its plans on a desk of its own, which was new, and one pass has seen what each desk's calls left.
+pub record HaveWorked (terms : ℕ → Terms) (before : ℕ → List Step) (shards : ℕ) (plans : List (List Plan)) (transcripts : List (List RowView))
+    (passes : List PassView) : Type 0 where
+  pub olds : List DeskView
+  pub news : List DeskView
+  pub work : AllWork plans olds news transcripts
+  pub new : AreNewViews 0 olds
+  pub pass : PassView
+  pub one : passes ≡ pass ∷ []
+  pub recorded : AreRecorded terms before shards pass.seen news
+
+-- A session of the plan asks for a key first: it reads one, or quarantines the first that its transaction touches.
+abbrev pub AsksFirst : Plan → Type 0
+AsksFirst (Read key floor) = Unit {0}
+AsksFirst (Write mode txn) = IsTxn txn
+AsksFirst other = ⊥
 
 -- There are the plans of the load for each of its workers, and the parts of its hub.
 pub record IsReady (spec : WorkSpec) (terms : ℕ → Terms) (ready : Ready) : Type 0 where

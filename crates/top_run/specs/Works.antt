@@ -1,8 +1,10 @@
 -- What the run of a load prints and keeps.
-use Rattle.std.specs.Prelude.{ℕ, ◌≡◌, ◌≢◌, ◌≤◌, ◌-◌, ◌^◌, ◌==◌, ◌⊎◌, nat_lt, min, Bool, true, false, List, [], ◌∷◌, ◌++◌, length, position, count_by}
-use Rattle.std.specs.Prelude.{sum_by, Option, Some, None, IsSome, Result, Ok, Err, slice_get, codes, decimal}
+use Rattle.std.specs.Prelude.{ℕ, ◌≡◌, ◌≢◌, ◌≤◌, ◌<◌, ◌-◌, ◌^◌, ◌==◌, ◌⊎◌, nat_lt, min, Bool, true, false, List, [], ◌∷◌, ◌++◌, length, position, count_by}
+use Rattle.std.specs.Prelude.{All, sum_by, Option, Some, None, IsSome, Result, Ok, Err, slice_get, codes, decimal}
+use Rattle.std.specs.List.{AllByRecursion, IsDistinct, list_any}
 use Rattle.std.specs.Option.{ForSome}
 use Rattle.iq_outside.specs.Outside.{Rose}
+use Rattle.rows_model.specs.declared.keys.Sid.{Sid}
 use Rattle.rows_model.specs.Key.{key_text}
 use Rattle.rows_model.specs.Rows.{Tables}
 use Rattle.key_shard.specs.declared.steps.Step.{Step}
@@ -120,11 +122,48 @@ pub record IsNameOf (shape : Shape) (keep : Option ℕ) (store : StoreView) (ter
   pub told_is : told ≡ store.told
   pub start_is : start ≡ Some store.faults
 
--- Each worker has run its plans on a desk of its own, and these are their transcripts: a row for each plan.
-pub record HaveRun (plans : List (List Plan)) (transcripts : List (List RowView)) : Type 0 where
+-- Whether a step names this session: one that follows a set names none.
+abbrev pub names : Sid → Step → Bool
+names who (step.Hit on sid floor value stamp) = sid.number == who.number
+names who (step.Lease on sid floor now token deadline) = sid.number == who.number
+names who (step.Again on sid floor now stands) = sid.number == who.number
+names who (step.Own on sid) = sid.number == who.number
+names who (step.Stored on token now value stamp evicted) = false
+names who (step.Void on token now) = false
+names who (step.Granted on sid mode shift now token deadline) = sid.number == who.number
+names who (step.Held on sid mode) = sid.number == who.number
+names who (step.Refused on sid mode holder held) = sid.number == who.number
+names who (step.Released on sid token how) = sid.number == who.number
+names who (step.Gone on sid token) = sid.number == who.number
+names who (step.Raised on sid token) = sid.number == who.number
+names who (step.Shared on sid token holder) = sid.number == who.number
+names who (step.Renewed on sid token now deadline) = sid.number == who.number
+
+-- A step of one of these histories names the session.
+pub record IsNamedIn (histories : List (List Step)) (who : Sid) : Type 0 where
+  pub place : ℕ
+  pub history : List Step
+  pub there : slice_get histories place ≡ Some history
+  pub named : list_any (names who) history ≡ true
+
+-- As many sessions as there are plans, no two of the same number, and a step of these histories names each.
+pub record HaveSessions (plans : List (List Plan)) (histories : List (List Step)) : Type 0 where
+  pub sids : List Sid
+  pub as_many : length sids ≡ sum_by (λ (list : List Plan). length list) plans
+  pub differ : IsDistinct (λ (one other : Sid). one.number == other.number) sids
+  pub named : AllByRecursion (IsNamedIn histories) sids
+
+-- No shard with such a history has drawn its last token.
+abbrev pub AreUnspent : List (List Step) → Type 0
+AreUnspent histories = All (λ (history : List Step). count_by draws history < 2 ^ 64 - 2) histories
+
+-- Each worker has run its plans on a desk of its own, and these are their transcripts: a row for each plan. Each plan has had a
+-- session of its own, which the histories tell of, unless a shard has drawn its last token.
+pub record HaveRun (plans : List (List Plan)) (histories : List (List Step)) (transcripts : List (List RowView)) : Type 0 where
   pub before : List DeskView
   pub after : List DeskView
   pub work : AllWork plans before after transcripts
+  pub sessions : AreUnspent histories → HaveSessions plans histories
 
 -- How many readers had no lease, by all transcripts. The number stops at its type's end.
 abbrev pub bypasses_in : List (List RowView) → ℕ
@@ -139,7 +178,7 @@ rejected_in transcripts = min (sum_by (λ (rows : List RowView). (tally_of rows)
 pub record IsSummary (spec : WorkSpec) (opening : Tables) (log : List Commit) (histories : List (List Step)) (found : Finding) (text : List ℕ) : Type 0 where
   pub is_finding : IsFinding opening log histories found
   pub transcripts : List (List RowView)
-  pub ran : HaveRun (load spec) transcripts
+  pub ran : HaveRun (load spec) histories transcripts
   pub text_is : text ≡ summary spec log histories (bypasses_in transcripts) (rejected_in transcripts) found
 
 -- The summary was written.

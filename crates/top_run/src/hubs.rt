@@ -1,10 +1,11 @@
 // What runs over a hub have in common: the parts of which it is made, the desks, and the end.
-ghost use Rattle.std.specs.Prelude.{◌≡◌, ◌≤◌, [], List, Option, Some, IfOk, IfSome, length, vec_capacity};
+ghost use Rattle.std.specs.Prelude.{◌≡◌, ◌≤◌, [], All, List, Option, Some, IfOk, IfSome, length, vec_capacity};
 ghost use Rattle.std.specs.Option.{ForSome};
 ghost use Rattle.sql_keeper.specs.Faults.{FailedSince};
 ghost use Rattle.sql_keeper.specs.Stores.{rows_of};
+ghost use Rattle.bound_desk.specs.Records.{IsRecordSeen};
 ghost use Rattle.run_audit.specs.Findings.{histories_in, AreWhole};
-ghost use Rattle.top_run.specs.Ready.{AreParts, HaveTheirPlaces};
+ghost use Rattle.top_run.specs.Ready.{AreParts, AreNewDesks};
 ghost use Rattle.top_run.specs.Runs.{histories_at, kept_in};
 ghost use Rattle.top_run.specs.Works.{hub_terms};
 
@@ -66,8 +67,8 @@ pub(crate) fn parts_for(alloc: Global, shape: &Shape, keep: Option<u32>) -> Resu
     })
 }
 
-/// A desk over the hub for each worker, each with its place for its number. Each has a pass of its own, which
-/// has seen what the caller's has.
+/// A desk over the hub for each worker, each with its place for its number, which has answered no call. Each
+/// has a pass of its own, which has seen what the caller's has.
 pub(crate) fn desks_over<'a, H: BoundName, K: Keeper, C: Clock, G: Gate, R: Wait>(
     rt: &'a R,
     alloc: Global,
@@ -79,7 +80,7 @@ pub(crate) fn desks_over<'a, H: BoundName, K: Keeper, C: Clock, G: Gate, R: Wait
 ) -> Result<Vec<BoundDesk<'a, K, H, C, G, R>>, Memory>
     requires word { caller.old.word ≡ H.word }
     ensures count { IfOk result (λ desks. length desks.items ≡ workers) }
-    ensures numbered { IfOk result (λ desks. HaveTheirPlaces desks.items) }
+    ensures new { IfOk result (λ desks. AreNewDesks 0 desks.items) }
 {
     let mut desks = Vec::with_capacity(alloc, workers as usize)?;
     for worker in 0..workers {
@@ -87,6 +88,27 @@ pub(crate) fn desks_over<'a, H: BoundName, K: Keeper, C: Clock, G: Gate, R: Wait
         desks.push_reserved(BoundDesk::new(rt, alloc, hub, pass, worker, clock, gate));
     }
     Ok(desks)
+}
+
+/// The caller's pass, once it has seen what each of these desks has.
+pub(crate) fn heard<H: BoundName, K: Keeper, C: Clock, G: Gate, R: Wait>(
+    hub: &BoundHub<K, H>,
+    pass: Pass,
+    desks: Vec<BoundDesk<'_, K, H, C, G, R>>,
+) -> Pass
+    requires word { pass.word ≡ H.word }
+    ensures word { result.word ≡ H.word }
+    ensures recorded { All (λ desk. IsRecordSeen H.terms H.before H.word.shards desk.worker
+        desk.calls result.seen) desks.items }
+{
+    let word = hub.word();
+    let mut pass = pass;
+    let mut desks = desks;
+    while let Some(desk) = desks.pop() {
+        let mut theirs = desk.into_pass();
+        pass.join(word, theirs.note(word));
+    }
+    pass
 }
 
 /// The end of a run over a hub that began. It hands out the steps that the shards have in memory: of whole

@@ -2,6 +2,7 @@
 // the summary.
 ghost use Rattle.std.specs.Prelude.{◌≡◌, ◌≢◌, ◌≤◌, ◌<◌, ℕ, [], List, Option, Some, None, All, IfOk, IfErr, OnErr, IsErr, IsSome, is_none, Ok, Err, map, count_by, length, vec_capacity, nat_lt};
 ghost use Rattle.std.specs.Bool.{IsFalse};
+ghost use Rattle.std.specs.List.{AllByRecursion};
 ghost use Rattle.std.specs.Option.{ForSome};
 ghost use Rattle.rows_model.specs.Rows.{Tables};
 ghost use Rattle.key_shard.specs.Past.{draws};
@@ -19,10 +20,10 @@ ghost use Rattle.run_audit.specs.Findings.{histories_in, AreNumbered, AreWhole};
 ghost use Rattle.run_inputs.specs.Loads.{IsWork, load};
 ghost use Rattle.top_run.specs.Runs.{Held, Input, moment, seen, held_at, histories_at, left_at, IsOpened, RoseWhere, CountsWhere, is_read_fault, is_write_fault};
 ghost use Rattle.top_run.specs.Works.{work_shape, hub_terms, has_spent, first_spent, work_status, end_status, at_write_told, IsNameOf, HaveRun, IsSummary, IsTold, IsHalted, WorkEnded};
-ghost use Rattle.top_run.specs.Ready.{IsReady, MakeHub, NamesParts};
+ghost use Rattle.top_run.specs.Ready.{AsksFirst, HaveWorked, IsReady, MakeHub, NamesParts};
 
 use crate::endings::{not_started, start_status};
-use crate::hubs::{CAP, HubParts, LIFE, Parts, desks_over, ended_hub, parts_for};
+use crate::hubs::{CAP, HubParts, LIFE, Parts, desks_over, ended_hub, heard, parts_for};
 use crate::plays::Stop;
 use crate::printing::print;
 use crate::runs::{RunEnd, Status};
@@ -207,10 +208,13 @@ fn run_plans<
     requires parts { MakeHub H.terms H.opening H.before (is_none store.told)
         H.name H.parts H.word parts }
     requires none_before { (place : ℕ) → H.before place ≡ [] }
+    requires from_one { (place : ℕ) → (H.terms place).first ≡ 1 }
     requires plans { All (λ list. All IsPlan list.items) plans.now }
+    requires ask { AllByRecursion (AllByRecursion AsksFirst) (map (λ list. list.items) plans.now) }
     requires few_workers { length plans.now ≤ 1024 }
     ensures ran { IfOk result.transcripts (λ transcripts.
-        HaveRun (map (λ list. list.items) plans.now) transcripts.items) }
+        HaveRun (map (λ list. list.items) plans.now) (histories_in result.shards.items)
+        transcripts.items) }
     ensures store { IsNamedStore H.opening H.cap H.told H.start result.store }
     ensures as_many { length result.shards.items ≡ length parts.shards.items }
     ensures all { AreAll H.terms result.shards.items }
@@ -226,8 +230,8 @@ fn run_plans<
     } = parts;
     match BoundHub::new(alloc, store, shards, ledger, word) {
         Ok((hub, pass)) => {
-            let transcripts = run_over(rt, alloc, &hub, pass, plans, clock, gate);
-            let (store, shards) = hub.into_parts(Vec::new(alloc));
+            let (transcripts, passes) = run_over(rt, alloc, &hub, pass, plans, clock, gate);
+            let (store, shards) = hub.into_parts(passes);
             Ran {
                 store,
                 shards,
@@ -242,7 +246,8 @@ fn run_plans<
     }
 }
 
-/// Runs the plans of each worker on a desk of its own over the hub.
+/// Runs the plans of each worker on a desk of its own over the hub. The pass that is left has seen what each
+/// desk has.
 fn run_over<
     H: BoundName + Send + Sync,
     K: Keeper + Send,
@@ -257,17 +262,25 @@ fn run_over<
     plans: &[Vec<Plan>],
     clock: &C,
     gate: &G,
-) -> Result<Vec<Transcript>, Memory>
+) -> (Result<Vec<Transcript>, Memory>, Vec<Pass>)
     requires word { pass.word ≡ H.word }
     requires plans { All (λ list. All IsPlan list.items) plans.now }
     requires few { length plans.now ≤ 1024 }
-    ensures { IfOk result (λ transcripts.
-        HaveRun (map (λ list. list.items) plans.now) transcripts.items) }
+    ensures words { All (λ pass. pass.word ≡ H.word) result.1.items }
+    ensures worked { IfOk result.0 (λ transcripts. HaveWorked H.terms H.before H.word.shards
+        (map (λ list. list.items) plans.now) transcripts.items result.1.items) }
 {
+    let Ok(mut passes) = Vec::with_capacity(alloc, 1) else {
+        return (Err(Memory), Vec::new(alloc));
+    };
     let mut pass = pass;
     let workers = plans.len() as u32;
-    let mut desks = desks_over(rt, alloc, hub, &mut pass, workers, clock, gate)?;
-    work_all(rt, alloc, desks.as_mut_slice(), plans, gate)
+    let Ok(mut desks) = desks_over(rt, alloc, hub, &mut pass, workers, clock, gate) else {
+        return (Err(Memory), passes);
+    };
+    let transcripts = work_all(rt, alloc, desks.as_mut_slice(), plans, gate);
+    passes.push_reserved(heard(hub, pass, desks));
+    (transcripts, passes)
 }
 
 /// A summary, and what its audit found.
@@ -290,7 +303,8 @@ fn summed_up(
     requires few { length shards.now ≤ 64 }
     requires numbered { AreNumbered shards.now }
     requires whole { AreWhole shards.now }
-    requires ran { IfOk transcripts (λ transcripts. HaveRun (load spec.now) transcripts.items) }
+    requires ran { IfOk transcripts (λ transcripts.
+        HaveRun (load spec.now) (histories_in shards.now) transcripts.items) }
     ensures summary { IfOk result (λ made. IsSummary spec.now opening.now log.now
         (histories_in shards.now) made.finding made.text.items) }
     ensures memory { OnErr transcripts (IsErr result) }

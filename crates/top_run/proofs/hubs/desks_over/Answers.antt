@@ -1,8 +1,8 @@
 use Rattle.std.proofs.Common.{List, [], ◌∷◌, length, length-append, sym, ap, subst, arith, ◌∙◌}
 use Rattle.log_word.specs.Passes.{PassView}
 use Rattle.bound_desk.specs.Bound.{BoundDeskView}
-use Rattle.top_run.specs.Ready.{HaveTheirPlaces}
-use Rattle.top_run.proofs.ReadyLemmas.{desk_placed}
+use Rattle.top_run.specs.Ready.{AreNewDesks}
+use Rattle.top_run.proofs.ReadyLemmas.{one_more_desk}
 use Rattle.top_run.proofs.hubs.desks_over.Goals as goal
 
 pub loop-worker-preserved : goal.loop-worker-preserved
@@ -16,7 +16,8 @@ loop-worker-preserved g c =
           let longer = ap (λ (l : List BoundDeskView). length l) is in
           let one_more = length-append desks (new ∷ []) in
           let many = before.many in omega (arith, longer, one_more, many);
-      placed = subst (λ (l : List BoundDeskView). HaveTheirPlaces l) (sym is) (desk_placed desks new before.placed (c.new.ensures.worker ∙ sym before.many));
+      new = subst (λ (l : List BoundDeskView). AreNewDesks 0 l) (sym is)
+          (let many = before.many in let number = c.new.ensures.worker in one_more_desk desks new 0 before.new (omega (arith, many, number)) c.new.ensures.calls);
       room = grind (arith, before.room, c.push_reserved.ensures.capacity);
       word = ap (λ (p : PassView). p.word) c.pass-pass.ensures.same ∙ before.word;
     }
