@@ -216,21 +216,21 @@ refused_by shard key step token e =
     let out = drawn_out (shard_of key shard.terms.count == shard.terms.no) (draws step && (next == 2 ^ 64 - 1)) next (shard_of key shard.terms.count) token e in
     eqb-true next (2 ^ 64 - 1) (and_parts (draws step) (next == 2 ^ 64 - 1) out).1
 
-same_fault : {X : Type 0} (a b : ShardFault) → Err {X} a ≡ Err b → a ≡ b
-same_fault a b e = cc
+same_fault : {X : Type 0} (a b : ShardFault) (x y : Result X ShardFault) → x ≡ Err a → y ≡ Err b → x ≡ y → a ≡ b
+same_fault a b x y e f g = cc
 
-refused_as : {X : Type 0} (shard : ShardView) (fault : ShardFault) (found : Option ShardFault)
+refused_as : (X : Type 0) (shard : ShardView) (fault : ShardFault) (found : Option ShardFault)
     → ((token : ℕ) → found ≡ Some (faults.Spent token) → next_token shard.terms (past_of shard) ≡ 2 ^ 64 - 1)
-    → Refuses {X} found (Err fault) → HasNoToken shard fault
-refused_as shard (faults.Spent next) (Some cause) gives e = gives next (ap (λ f. Some f) (sym (same_fault (faults.Spent next) cause e)))
-refused_as shard (faults.Spent next) None gives e = absurd e
-refused_as shard faults.Memory found gives e = tt
-refused_as shard (faults.Stranger place) found gives e = tt
+    → Refuses {X = X} found (Err fault) → HasNoToken shard fault
+refused_as X shard (faults.Spent next) (Some cause) gives e = gives next (ap (λ f. Some f) (sym (same_fault (faults.Spent next) cause (Err (faults.Spent next)) (Err cause) refl refl e)))
+refused_as X shard (faults.Spent next) None gives e = absurd e
+refused_as X shard faults.Memory found gives e = tt
+refused_as X shard (faults.Stranger place) found gives e = tt
 
 pub none_is_left : {X : Type 0} (shard : ShardView) (key : QKey) (step : Step) (result : Result X ShardFault)
     → Refuses (refusal shard key step) result → IfErr result (HasNoToken shard)
 none_is_left shard key step (Ok answer) h = tt
-none_is_left shard key step (Err fault) h = refused_as shard fault (refusal shard key step) (refused_by shard key step) h
+none_is_left {X} shard key step (Err fault) h = refused_as X shard fault (refusal shard key step) (refused_by shard key step) h
 
 -- and that is seen, once each of its steps is
 pub spent_is_seen : (terms : ℕ → Terms) (before : ℕ → List Step) (shard : ShardView) (seen : Seen) (fault : ShardFault)
@@ -239,7 +239,7 @@ pub spent_is_seen : (terms : ℕ → Terms) (before : ℕ → List Step) (shard 
 spent_is_seen terms before shard seen (faults.Spent next) named all none = record {
   more = all.more;
   told = start_is (shorts_of (before shard.terms.no) all.more) (steps_of shard.terms.no seen.steps) (sym all.told);
-  last = (λ i. next_token (named (~ i)) (all.goes_on (~ i))) ∙ none;
+  last = ap (λ (t : Terms). next_token t (all.more ++ before shard.terms.no)) (sym named) ∙ ap (next_token shard.terms) (sym all.goes_on) ∙ none;
 }
 spent_is_seen terms before shard seen faults.Memory named all none = tt
 spent_is_seen terms before shard seen (faults.Stranger place) named all none = tt
