@@ -113,7 +113,7 @@ begun_by who worker writes [] h = absurd h
 begun_by who worker writes (event ∷ events) h =
     ⊎_elim
     (λ here. subst (λ e. list_any (begins who.number) (e ∷ events) ≡ true) (sym here)
-        (or_left (begins who.number (Begin who worker writes)) (list_any (begins who.number) events) (eq-eqb who.number who.number refl)))
+    (or_left (begins who.number (Begin who worker writes)) (list_any (begins who.number) events) (eq-eqb who.number who.number refl)))
     (λ there. or_right (begins who.number event) (list_any (begins who.number) events) (begun_by who worker writes events there))
     h
 
