@@ -5,7 +5,7 @@ use Rattle.std.specs.List.{IsDistinct, AllByRecursion, list_any}
 use Rattle.std.specs.Option.{ForSome}
 use Rattle.std.proofs.lemmas.Bool.{false≢true, and_parts, cases_Bool, eq-eqb, eqb-true, or_left, or_right}
 use Rattle.std.proofs.lemmas.Map.Keys.{IsDistinct-cons}
-use Rattle.std.proofs.lemmas.Option.{none-some}
+use Rattle.std.proofs.lemmas.Option.{none-some, same_Some}
 use Rattle.rows_model.specs.declared.keys.QKey.{QKey}
 use Rattle.rows_model.specs.declared.keys.Sid.{Sid}
 use Rattle.rows_model.specs.Placement.{shard_of}
@@ -268,3 +268,41 @@ no_put_at_first true (wanted.QaRead key) h put = put
 no_put_at_first true (wanted.Delta key by) h put = put
 no_put_at_first true request h put = absurd h
 no_put_at_first false request h put = absurd h
+
+-- before its first call a desk has nothing to be seen, and a fresh book
+pub nothing_recorded : (terms : ℕ → Terms) (before : ℕ → List Step) (shards worker : ℕ) (calls : List Call) (seen : Seen) → calls ≡ []
+    → IsRecordSeen terms before shards worker calls seen
+unfolding IsDistinct
+nothing_recorded terms before shards worker calls seen none =
+    subst (λ l. IsRecordSeen terms before shards worker l seen) (sym none) (record { each = tt; once = tt })
+
+pub nothing_begun : (calls : List Call) (book : Book) → calls ≡ [] → IsFreshBook calls book
+nothing_begun calls book none = λ first is. absurd (none-some first (sym (ap latest_in none) ∙ is))
+
+-- behind a request its book isn't said to be fresh
+pub asked_since : (calls earlier : List Call) (who : Sid) (request : Wanted) (told : Reply) (book : Book) → calls ≡ Asked who request told ∷ earlier
+    → IsFreshBook calls book
+asked_since calls earlier who request told book e = λ first is. absurd (none-some first (sym (ap latest_in e) ∙ is))
+
+-- behind a begin it is
+pub begun_since : (calls earlier : List Call) (who : Sid) (writes : Bool) (book : Book) → calls ≡ Began writes who ∷ earlier → book ≡ begun who writes
+    → IsFreshBook calls book
+begun_since calls earlier who writes book e fresh = λ first is.
+    let same : (who, writes) ≡ first = same_Some (who, writes) first (sym (ap latest_in e) ∙ is) in
+    fresh ∙ ap (λ (one : Sid × Bool). begun one.0 one.1) same
+
+-- a request with its reply, in a record that is said to have it in front
+pub record_as_asked : (terms : ℕ → Terms) (before : ℕ → List Step) (shards worker : ℕ) (calls now : List Call) (old new : Seen) (who : Sid) (request : Wanted) (told : Reply)
+    → now ≡ Asked who request told ∷ calls → IsBeginning old new
+    → ForSome (latest_in calls) (λ first. first.0 ≡ who → IsFirst first.1 request → ShowsFirst terms before shards who told new)
+    → IsRecordSeen terms before shards worker calls old → IsRecordSeen terms before shards worker now new
+record_as_asked terms before shards worker calls now old new who request told is goes shows h =
+    subst (λ l. IsRecordSeen terms before shards worker l new) (sym is)
+    (record_with_reply terms before shards worker calls old new who request told goes shows h)
+
+-- the first request of a session that has just begun leaves what it shows, where it was made as it is asked for
+pub shows_where_fresh : (terms : ℕ → Terms) (before : ℕ → List Step) (shards : ℕ) (calls : List Call) (book : Book) (new : Seen) (who : Sid) (request : Wanted) (told : Reply)
+    → IsFreshBook calls book → ((writes : Bool) → book ≡ begun who writes → IsFirst writes request → ShowsFirst terms before shards who told new)
+    → ForSome (latest_in calls) (λ first. first.0 ≡ who → IsFirst first.1 request → ShowsFirst terms before shards who told new)
+shows_where_fresh terms before shards calls book new who request told fresh shows = λ first is same asked.
+    shows first.1 (fresh first is ∙ ap (λ (s : Sid). begun s first.1) same) asked

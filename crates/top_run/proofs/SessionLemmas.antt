@@ -165,7 +165,7 @@ has_heard who plan short (last ∷ heard) calls asks h over = has_asked who plan
 -- ---- where memory ran out at once
 
 failed_same : (a b : Outcome) → Some a ≡ Some b → b ≡ a
-failed_same a b e = sym (same_Some e)
+failed_same a b e = sym (same_Some a b e)
 
 -- a reader that is told of a fault wants nothing more
 read_alone : (who : Sid) (key : QKey) (floor : ℕ) (cause : Fault) (short : Bool) (last : Reply) (heard : List Reply) (calls : List Call)
@@ -626,8 +626,8 @@ pub recorded_views : {D : Type 0} (record_of : D → Option (List Call)) (tends 
 recorded_views record_of tends worker view terms before shards seen [] calls at h = tt
 recorded_views record_of tends worker view terms before shards seen (desk ∷ desks) calls at h = (
   λ told is number there.
-      let same : (view desk).calls ≡ told = same_Some (sym (calls desk) ∙ is) in
-      let same_number : (view desk).worker ≡ number = same_Some (sym (at desk) ∙ there) in
+      let same : (view desk).calls ≡ told = same_Some (view desk).calls told (sym (calls desk) ∙ is) in
+      let same_number : (view desk).worker ≡ number = same_Some (view desk).worker number (sym (at desk) ∙ there) in
       subst (λ n. IsRecordSeen terms before shards n told seen) same_number
       (subst (λ l. IsRecordSeen terms before shards (view desk).worker l seen) same
       (All-head (λ (d : BoundDeskView). IsRecordSeen terms before shards d.worker d.calls seen) (view desk) (map view desks) h)),
