@@ -18,6 +18,7 @@ use Rattle.key_shard.specs.declared.replies.ShardFault.{ShardFault}
 use Rattle.key_shard.specs.declared.replies.ShardFault.TheVariants as faults
 use Rattle.key_shard.specs.declared.steps.Step.{Step}
 use Rattle.key_shard.specs.Past.{Terms, draws, next_token}
+use Rattle.key_shard.specs.Permit.{Permit}
 use Rattle.key_shard.specs.Shards.{ShardView, past_of, refusal, Refuses}
 use Rattle.session_client.specs.declared.replies.Fault.TheVariants as fault
 use Rattle.session_client.specs.declared.replies.Reply.{Reply}
@@ -26,6 +27,7 @@ use Rattle.session_client.specs.declared.replies.Wanted.{Wanted}
 use Rattle.session_client.specs.declared.replies.Wanted.TheVariants as wanted
 use Rattle.session_client.specs.Desks.{Call, Began, Asked, IsFirst}
 use Rattle.executor.specs.OnShard.{fault_of}
+use Rattle.executor.specs.Requests.{key_of}
 use Rattle.log_word.specs.declared.events.Short.{Short}
 use Rattle.log_word.specs.declared.events.StoreEvent.{StoreEvent}
 use Rattle.log_word.specs.declared.events.StoreEvent.TheVariants.{Begin}
@@ -43,6 +45,7 @@ use Rattle.desk_book.specs.Books.{Book, begun}
 use Rattle.desk_book.specs.Borne.{IsBorne, IsForm, IsPut}
 use Rattle.desk_book.specs.Made.{made_in}
 use Rattle.desk_book.specs.declared.forms.Form.{Form}
+use Rattle.desk_book.specs.declared.made.Made.{Made}
 use Rattle.desk_book.specs.declared.made.Made.TheVariants as made
 use Rattle.bound_desk.specs.Records.{has_session, IsNamed, ShowsFirst, latest_in, began_in, IsCallSeen, AreCallsSeen, IsRecordSeen, IsFreshBook}
 
@@ -306,3 +309,28 @@ pub shows_where_fresh : (terms : ℕ → Terms) (before : ℕ → List Step) (sh
     → ForSome (latest_in calls) (λ first. first.0 ≡ who → IsFirst first.1 request → ShowsFirst terms before shards who told new)
 shows_where_fresh terms before shards calls book new who request told fresh shows = λ first is same asked.
     shows first.1 (fresh first is ∙ ap (λ (s : Sid). begun s first.1) same) asked
+
+-- what is made as it is asked for is that request, and nothing else
+pub one_is : (one other : Wanted) (result : Result Made Wanted) → result ≡ Ok (made.One one) → result ≡ Ok (made.One other) → one ≡ other
+one_is one other result e f = cc
+
+-- nor is it dropped, told at once or refused
+pub not_dropped : (session : Sid) (grant : Permit) (other : Wanted) (made_of : Made) (result : Result Made Wanted) → result ≡ Ok made_of
+    → made_of ≡ made.EndDrop session grant → result ≡ Ok (made.One other) → ⊥
+not_dropped session grant other made_of result e f h = cc
+
+pub not_told : (told : Reply) (other : Wanted) (made_of : Made) (result : Result Made Wanted) → result ≡ Ok made_of → made_of ≡ made.Told told
+    → result ≡ Ok (made.One other) → ⊥
+not_told told other made_of result e f h = cc
+
+pub not_back : (back other : Wanted) (result : Result Made Wanted) → result ≡ Err back → result ≡ Ok (made.One other) → ⊥
+not_back back other result e h = cc
+
+-- a first request is of a key
+pub first_has_key : (writes : Bool) (request : Wanted) → IsFirst writes request → key_of request ≡ None → ⊥
+first_has_key writes (wanted.Get key floor) h e = none-some key (sym e)
+first_has_key true (wanted.QaReg key) h e = none-some key (sym e)
+first_has_key true (wanted.QaRead key) h e = none-some key (sym e)
+first_has_key true (wanted.Delta key by) h e = none-some key (sym e)
+first_has_key true request h e = absurd h
+first_has_key false request h e = absurd h
