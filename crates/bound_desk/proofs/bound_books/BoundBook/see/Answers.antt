@@ -1,6 +1,3 @@
-use Rattle.std.proofs.Common.{subst}
-use Rattle.key_shard.specs.Shards.{ShardView}
-use Rattle.bound_hub.specs.Spent.{SeesSpent}
 use Rattle.bound_desk.proofs.BoundLemmas.{book_goes_on}
 use Rattle.bound_desk.proofs.RecordLemmas.{spent_is_seen}
 use Rattle.bound_desk.proofs.WriteLemmas.{quit_goes_on}

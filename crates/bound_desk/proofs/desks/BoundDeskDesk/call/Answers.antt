@@ -32,29 +32,29 @@ invariant_of-self g c =
     let is = c.asked-self-inside.ensures who request (c.and-asked.ensures ∙ ap (λ l. l ++ (who, request) ∷ []) c.new.ensures) in
     let asks = c.made.ensures.first in
     let Fits : (s : Inside g.row.K.Denot g.row.H.Denot g.row.C.Denot g.row.G.Denot g.row.R.Denot) → Type 0 = λ s.
-        (shards_of s.sweeper ≡ s.hub.now) × IsRecordSeen terms before shards s.worker now s.told.seen × IsFreshBook now s.told.book.book in
+    (shards_of s.sweeper ≡ s.hub.now) × IsRecordSeen terms before shards s.worker now s.told.seen × IsFreshBook now s.told.book.book in
     let fits : (s : Inside g.row.K.Denot g.row.H.Denot g.row.C.Denot g.row.G.Denot g.row.R.Denot) → c.match-made.self-inside ≡ s
-        → shards_of s.sweeper ≡ s.hub.now → s.worker ≡ old.worker → s.calls ≡ old.calls → IsBeginning old.told.seen s.told.seen
-        → ((writes : Bool) → old.told.book.book ≡ begun who writes → IsFirst writes request → ShowsFirst terms before shards who told s.told.seen)
-        → Fits c.match-made.self-inside =
-        λ s at sweep worker calls goes shows.
-        let here : now ≡ Asked who request told ∷ old.calls =
-        is ∙ ap (λ (x : Inside g.row.K.Denot g.row.H.Denot g.row.C.Denot g.row.G.Denot g.row.R.Denot). Asked who request told ∷ x.calls) at ∙ ap (λ (l : List Call). Asked who request told ∷ l) calls in
-        subst Fits (sym at) (
-          sweep,
-          subst (λ n. IsRecordSeen terms before shards n now s.told.seen) (sym worker)
-              (record_as_asked terms before shards old.worker old.calls now old.told.seen s.told.seen who request told here goes
-              (shows_where_fresh terms before shards old.calls old.told.book.book s.told.seen who request told c.self.invariant.2 shows) c.self.invariant.1),
-          asked_since now old.calls who request told s.told.book.book here,
-        ) in
+    → shards_of s.sweeper ≡ s.hub.now → s.worker ≡ old.worker → s.calls ≡ old.calls → IsBeginning old.told.seen s.told.seen
+    → ((writes : Bool) → old.told.book.book ≡ begun who writes → IsFirst writes request → ShowsFirst terms before shards who told s.told.seen)
+    → Fits c.match-made.self-inside =
+    λ s at sweep worker calls goes shows.
+    let here : now ≡ Asked who request told ∷ old.calls =
+    is ∙ ap (λ (x : Inside g.row.K.Denot g.row.H.Denot g.row.C.Denot g.row.G.Denot g.row.R.Denot). Asked who request told ∷ x.calls) at ∙ ap (λ (l : List Call). Asked who request told ∷ l) calls in
+    subst Fits (sym at) (
+      sweep,
+      subst (λ n. IsRecordSeen terms before shards n now s.told.seen) (sym worker)
+          (record_as_asked terms before shards old.worker old.calls now old.told.seen s.told.seen who request told here goes
+          (shows_where_fresh terms before shards old.calls old.told.book.book s.told.seen who request told c.self.invariant.2 shows) c.self.invariant.1),
+      asked_since now old.calls who request told s.told.book.book here,
+    ) in
     elim c.match-made.branch [
       | in-Ok-One+in-Some w ↦
           let shows : (writes : Bool) → old.told.book.book ≡ begun who writes → IsFirst writes request
-              → ShowsFirst terms before shards who told w.on_shard-reply.new.self.seen =
-              λ writes fresh first.
-              subst (λ r. ShowsFirst terms before shards who r w.on_shard-reply.new.self.seen) (sym w.reply-is)
-              (w.on_shard-reply.ensures.first writes
-              (subst (IsFirst writes) (one_is request w.in-Ok-One.request c.made.result (asks writes fresh first) (w.in-Ok-One.is ∙ ap (λ m. Ok m) w.in-Ok-One.field-0-is)) first)) in
+          → ShowsFirst terms before shards who told w.on_shard-reply.new.self.seen =
+          λ writes fresh first.
+          subst (λ r. ShowsFirst terms before shards who r w.on_shard-reply.new.self.seen) (sym w.reply-is)
+          (w.on_shard-reply.ensures.first writes
+          (subst (IsFirst writes) (one_is request w.in-Ok-One.request c.made.result (asks writes fresh first) (w.in-Ok-One.is ∙ ap (λ m. Ok m) w.in-Ok-One.field-0-is)) first)) in
           elim w.if-is_held_up.branch [
             | then-is_held_up+then-due-now w' ↦
                 fits _ (w.self-inside-is ∙ w'.self-inside-is) (w'.turned-self-inside.ensures ∙ c.self.invariant.0) refl refl w.on_shard-reply.ensures.seen shows
