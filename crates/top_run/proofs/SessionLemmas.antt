@@ -191,11 +191,11 @@ write_alone who mode txn cause short last [] calls is h first = inl refl
 write_alone who mode txn cause short last (next ∷ heard) calls is h first =
     ⊎_elim
     (λ alone.
-        let told : next ≡ reply.Fault cause = subst (λ l. FirstHeard (reply.Fault cause) (next ∷ l)) alone first in
-        let asked : wants (Write mode txn) h.0 (next ∷ heard) ≡ wanted.End =
-        (λ i. wants (Write mode txn) h.0 (told i ∷ alone i)) ∙ ap (λ b. after_fault b (writing_of (Write mode txn)) []) (none_had txn mode is) in
-        let was = ended_only who last (subst (λ w. Belongs who w last) asked h.4) in
-        inr (was.0, λ i. was.1 i ∷ told i ∷ alone i))
+    let told : next ≡ reply.Fault cause = subst (λ l. FirstHeard (reply.Fault cause) (next ∷ l)) alone first in
+    let asked : wants (Write mode txn) h.0 (next ∷ heard) ≡ wanted.End =
+    (λ i. wants (Write mode txn) h.0 (told i ∷ alone i)) ∙ ap (λ b. after_fault b (writing_of (Write mode txn)) []) (none_had txn mode is) in
+    let was = ended_only who last (subst (λ w. Belongs who w last) asked h.4) in
+    inr (was.0, λ i. was.1 i ∷ told i ∷ alone i))
     (λ two. absurd (h.3 (ap (wants (Write mode txn) h.0) two.1)))
     (write_alone who mode txn cause h.0 next heard h.1 is h.2 first)
 
@@ -212,15 +212,15 @@ memory_ended who (Write mode txn) short (last ∷ heard) calls over asks h none 
     let writing = writing_of (Write mode txn) in
     ⊎_elim
     (λ alone.
-        let told : last ≡ reply.Fault fault.Memory = subst (λ l. FirstHeard (reply.Fault fault.Memory) (last ∷ l)) alone first in
-        let ends : wants (Write mode txn) short (last ∷ heard) ≡ wanted.End =
-        (λ i. wants (Write mode txn) short (told i ∷ alone i)) ∙ ap (λ b. after_fault b writing []) (none_had txn mode asks) in
-        let no : wanted.End ≡ wanted.Nothing = sym ends ∙ none in
-        absurd (false≢true (ap is_nothing no)))
+    let told : last ≡ reply.Fault fault.Memory = subst (λ l. FirstHeard (reply.Fault fault.Memory) (last ∷ l)) alone first in
+    let ends : wants (Write mode txn) short (last ∷ heard) ≡ wanted.End =
+    (λ i. wants (Write mode txn) short (told i ∷ alone i)) ∙ ap (λ b. after_fault b writing []) (none_had txn mode asks) in
+    let no : wanted.End ≡ wanted.Nothing = sym ends ∙ none in
+    absurd (false≢true (ap is_nothing no)))
     (λ two.
-        let outcome_is : done_by (Write mode txn) short (last ∷ heard) ≡ Some short_of_memory =
-        ap (done_by (Write mode txn) short) two.1 ∙ ap (λ b. fault_outcome b short_of_memory None) (none_had txn mode asks) in
-        failed_same short_of_memory over (sym outcome_is ∙ done))
+    let outcome_is : done_by (Write mode txn) short (last ∷ heard) ≡ Some short_of_memory =
+    ap (done_by (Write mode txn) short) two.1 ∙ ap (λ b. fault_outcome b short_of_memory None) (none_had txn mode asks) in
+    failed_same short_of_memory over (sym outcome_is ∙ done))
     (write_alone who mode txn fault.Memory short last heard calls asks h first)
 memory_ended who plan short (last ∷ heard) calls over asks h none done first = absurd asks
 
@@ -248,8 +248,8 @@ step_names before [] who short h kind is = absurd h
 step_names before (s ∷ more) who short h kind is =
     ⊎_elim
     (λ here.
-        or_left (names who s) (list_any (names who) more)
-        (short_names s _ who (subst (λ (x : Short). has_session x.kind ≡ true) (sym here) kind) (ap (λ (x : Short). x.sid) here ∙ is)))
+    or_left (names who s) (list_any (names who) more)
+    (short_names s _ who (subst (λ (x : Short). has_session x.kind ≡ true) (sym here) kind) (ap (λ (x : Short). x.sid) here ∙ is)))
     (λ there. or_right (names who s) (list_any (names who) more) (step_names before more who short there kind is))
     h
 
@@ -490,7 +490,7 @@ module _ (opening : Tables) (terms : ℕ → Terms) (before : ℕ → List Step)
   has_one who worker writing (event ∷ events) h =
       ⊎_elim
       (λ here. subst (λ e. list_any (begins who.number) (e ∷ events) ≡ true) (sym here)
-          (or_left (begins who.number (Begin who worker writing)) (list_any (begins who.number) events) (eq-eqb who.number who.number refl)))
+      (or_left (begins who.number (Begin who worker writing)) (list_any (begins who.number) events) (eq-eqb who.number who.number refl)))
       (λ there. or_right (begins who.number event) (list_any (begins who.number) events) (has_one who worker writing events there))
       h
 
@@ -504,15 +504,15 @@ module _ (opening : Tables) (terms : ℕ → Terms) (before : ℕ → List Step)
   one_worker one other a b x y same (event ∷ events) order h k =
       ⊎_elim
       (λ here. ⊎_elim
-          (λ there. of_begin one other a b x y (sym here ∙ there))
-          (λ later. absurd (false≢true (sym (subst (λ e. MayFollow events e) here order.0)
-              ∙ ap (λ n. has_begun n events) same ∙ has_one other b y events later)))
-          k)
+      (λ there. of_begin one other a b x y (sym here ∙ there))
+      (λ later. absurd (false≢true (sym (subst (λ e. MayFollow events e) here order.0)
+      ∙ ap (λ n. has_begun n events) same ∙ has_one other b y events later)))
+      k)
       (λ later. ⊎_elim
-          (λ there. absurd (false≢true (sym (subst (λ e. MayFollow events e) there order.0)
-              ∙ ap (λ n. has_begun n events) (sym same) ∙ has_one one a x events later)))
-          (λ still. one_worker one other a b x y same events order.1 later still)
-          k)
+      (λ there. absurd (false≢true (sym (subst (λ e. MayFollow events e) there order.0)
+      ∙ ap (λ n. has_begun n events) (sym same) ∙ has_one one a x events later)))
+      (λ still. one_worker one other a b x y same events order.1 later still)
+      k)
       h
 
   apart_from : AreInOrder seen.events → (least : ℕ) (who : Sid) (writing : Bool) → Among (Begin who least writing) seen.events
@@ -520,13 +520,13 @@ module _ (opening : Tables) (terms : ℕ → Terms) (before : ℕ → List Step)
   apart_from order least who writing begin others h =
       all_mono
       (λ other one.
-          ⊎_elim
-          (λ same.
-              let above = one.above in
-              let is = one_worker who other least one.worker writing one.writes_it (eqb-true who.number other.number same) seen.events order begin one.begin in
-              absurd (omega (arith, above, is)))
-          (λ differ. differ)
-          (cases_Bool (who.number == other.number)))
+      ⊎_elim
+      (λ same.
+      let above = one.above in
+      let is = one_worker who other least one.worker writing one.writes_it (eqb-true who.number other.number same) seen.events order begin one.begin in
+      absurd (omega (arith, above, is)))
+      (λ differ. differ)
+      (cases_Bool (who.number == other.number)))
       others h
 
   both_distinct : AreInOrder seen.events → (least : ℕ) (sids others : List Sid)
@@ -649,28 +649,28 @@ all_recorded terms before shards old new desks begins h =
     (λ (desk : BoundDeskView). IsRecordSeen terms before shards desk.worker desk.calls new)
     (λ desk. record_goes_on terms before shards desk.worker desk.calls old new begins) desks h
 
--- each plan of a load asks for a key first
+-- a plan of a load reads or writes
+IsDrawn : Plan → Type 0
+IsDrawn (Read key floor) = Unit {0}
+IsDrawn (Write mode txn) = Unit {0}
+IsDrawn other = ⊥
+
+drawn_by_share : (b : Bool) (key : QKey) (mode : Mode) (txn : List Change) → IsDrawn (cond b (Read key 0) (Write mode txn))
+drawn_by_share true key mode txn = tt
+drawn_by_share false key mode txn = tt
+
+is_drawn : (spec : WorkSpec) (session : ℕ) → IsDrawn (plan_at spec session)
+unfolding plan_at
+is_drawn spec session = drawn_by_share _ _ _ _
+
+-- so it asks for a key first
+drawn_asks : (plan : Plan) → IsPlan plan → IsDrawn plan → AsksFirst plan
+drawn_asks (Read key floor) is d = tt
+drawn_asks (Write mode txn) is d = is
+drawn_asks other is d = absurd d
+
 plan_asks : (spec : WorkSpec) (session : ℕ) → IsWork spec → AsksFirst (plan_at spec session)
-plan_asks spec session h = by (plan_at spec session) (plan_at_is spec session h) (drawn spec session)
-  where
-    -- a plan of a load reads or writes
-    IsDrawn : Plan → Type 0
-    IsDrawn (Read key floor) = Unit {0}
-    IsDrawn (Write mode txn) = Unit {0}
-    IsDrawn other = ⊥
-
-    by_share : (b : Bool) (key : QKey) (mode : Mode) (txn : List Change) → IsDrawn (cond b (Read key 0) (Write mode txn))
-    by_share true key mode txn = tt
-    by_share false key mode txn = tt
-
-    drawn : (spec : WorkSpec) (session : ℕ) → IsDrawn (plan_at spec session)
-    unfolding plan_at
-    drawn spec session = by_share _ _ _ _
-
-    by : (plan : Plan) → IsPlan plan → IsDrawn plan → AsksFirst plan
-    by (Read key floor) is d = tt
-    by (Write mode txn) is d = is
-    by other is d = absurd d
+plan_asks spec session h = drawn_asks (plan_at spec session) (plan_at_is spec session h) (is_drawn spec session)
 
 pub load_asks : (spec : WorkSpec) → IsWork spec → AllByRecursion (AllByRecursion AsksFirst) (load spec)
 unfolding load
