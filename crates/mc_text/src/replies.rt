@@ -367,6 +367,15 @@ pub(crate) fn push_decimal(out: &mut Vec<u8>, number: u64) -> Result<(), AllocEr
         let ones = b'0' + (number % 10) as u8;
         return out.extend_from_slice(&[tens, ones]);
     }
+    push_long_decimal(out, number)
+}
+
+// The same. It is a function of its own, since its buffer costs the short ones time.
+#[inline(never)]
+fn push_long_decimal(out: &mut Vec<u8>, number: u64) -> Result<(), AllocError>
+    ensures ok { OnOk result (out.new.items ≡ out.old.items ++ decimal number) }
+    ensures err { OnErr result (out.new.items ≡ out.old.items) }
+{
     let mut buffer = Buffer::new();
     out.extend_from_slice(buffer.format(number).as_bytes())
 }

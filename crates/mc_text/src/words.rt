@@ -28,6 +28,7 @@ pub(crate) fn has_ended(text: &[u8]) -> bool
 }
 
 /// The key that the first word names, and what stands behind it.
+#[inline(always)]
 pub(crate) fn take_key(args: &[u8]) -> Option<(Option<QKey>, &[u8])>
     ensures found { IfSome result
         (λ read. IsFirst IsKey (words_in args.now) read.0 (words_in read.1.now)) }
@@ -39,6 +40,7 @@ pub(crate) fn take_key(args: &[u8]) -> Option<(Option<QKey>, &[u8])>
 }
 
 /// The session whose number the first word is, and what stands behind it.
+#[inline(always)]
 pub(crate) fn take_sid(args: &[u8]) -> Option<(Sid, &[u8])>
     ensures found { IfSome result
         (λ read. IsFirst IsSid (words_in args.now) read.0 (words_in read.1.now)) }
@@ -50,6 +52,7 @@ pub(crate) fn take_sid(args: &[u8]) -> Option<(Sid, &[u8])>
 }
 
 /// The number below 2^64 that the first word is, and what stands behind it.
+#[inline(always)]
 pub(crate) fn take_number(args: &[u8]) -> Option<(u64, &[u8])>
     ensures found { IfSome result
         (λ read. IsFirst IsNumber (words_in args.now) read.0 (words_in read.1.now)) }
