@@ -229,46 +229,46 @@ ending_one : (end : LineEnd) (start : Start) (rounds : ℕ) (reads : ReadSide) (
     (old new : Serving) (reply : Told)
     → Answered before after old new reply → Tells (Err end) reply writes new_writes old.out new
     → Course start rounds reads writes before old → Ending end start reads new_writes after new
-ending_one ends.Budget start rounds reads writes new_writes before after old new reply a told c =
+ending_one ends.Budget start rounds reads writes new_writes before after old new reply a stops c =
     let stands = subst (λ (bytes : List ℕ). Stands bytes a.item a.taken) c.rest a.stands in
-    let s = told.1 in
+    let s = stops.1 in
     record {
       done = done_sent start reads writes new_writes after new.client s.sent s.gains (omega (arith, s.no_fault))
           (done_one start reads writes before after old.client new.client c.done a.item a.taken a.calls reply stands a.asks a.tended a.plains a.answers);
       ends = (
-        omega (arith, length-append c.done.items (a.item ∷ []), a.count, c.count, told.0),
+        omega (arith, length-append c.done.items (a.item ∷ []), a.count, c.count, stops.0),
         sym (due_more c.done.told reply c.done.sent old.out c.due ∙ due_sent c.done.sent s.sent new.out (old.out ++ told_text reply) s.all),
       );
       counts = (c.no_read_fault, s.no_fault ∙ c.no_write_fault);
       none_left = tt;
     }
-ending_one ends.Memory start rounds reads writes new_writes before after old new reply a told c =
+ending_one ends.Memory start rounds reads writes new_writes before after old new reply a stops c =
     let stands = subst (λ (bytes : List ℕ). Stands bytes a.item a.taken) c.rest a.stands in
     let within = c.within in
     record {
-      done = done_sent start reads writes new_writes after new.client told.0.sent told.0.gains (omega (arith, told.1))
+      done = done_sent start reads writes new_writes after new.client stops.0.sent stops.0.gains (omega (arith, stops.1))
           (done_one start reads writes before after old.client new.client c.done a.item a.taken a.calls reply stands a.asks a.tended a.plains a.answers);
       ends = (
         omega (arith, length-append c.done.items (a.item ∷ [])),
-        inl (some_due c.done.told reply c.done.sent old.out writes new_writes new.out c.due told.0),
+        inl (some_due c.done.told reply c.done.sent old.out writes new_writes new.out c.due stops.0),
       );
-      counts = (c.no_read_fault, told.1 ∙ c.no_write_fault);
+      counts = (c.no_read_fault, stops.1 ∙ c.no_write_fault);
       none_left = tt;
     }
-ending_one ends.WriteFault start rounds reads writes new_writes before after old new reply a told c =
+ending_one ends.WriteFault start rounds reads writes new_writes before after old new reply a stops c =
     let stands = subst (λ (bytes : List ℕ). Stands bytes a.item a.taken) c.rest a.stands in
     let within = c.within in
     record {
-      done = done_sent start reads writes new_writes after new.client told.0.sent told.0.gains told.2
+      done = done_sent start reads writes new_writes after new.client stops.0.sent stops.0.gains stops.2
           (done_one start reads writes before after old.client new.client c.done a.item a.taken a.calls reply stands a.asks a.tended a.plains a.answers);
       ends = (
         omega (arith, length-append c.done.items (a.item ∷ [])),
-        inl (some_due c.done.told reply c.done.sent old.out writes new_writes new.out c.due told.0),
+        inl (some_due c.done.told reply c.done.sent old.out writes new_writes new.out c.due stops.0),
       );
-      counts = (c.done.read_faults, Rose-later start.writes.faults writes.faults new_writes.faults c.done.write_faults told.1);
+      counts = (c.done.read_faults, Rose-later start.writes.faults writes.faults new_writes.faults c.done.write_faults stops.1);
       none_left = tt;
     }
-ending_one other start rounds reads writes new_writes before after old new reply a told c = absurd told
+ending_one other start rounds reads writes new_writes before after old new reply a stops c = absurd stops
 
 pub tells_within : (result : Result Bool LineEnd) (reply : Told) (before after : WriteSide) (waited : List ℕ) (new : Serving)
     → Tells result reply before after waited new → OnOk result (new.count < 1000000)

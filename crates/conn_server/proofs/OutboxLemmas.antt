@@ -34,8 +34,8 @@ waits_piece old new piece short is p = (old, short, inr (piece, p, is))
 pub waits_item : (is_told : Bool) (item : Found) (old new : List ℕ) → length old < 65536 → new ≡ old ++ item_text is_told item → WaitsFew new
 waits_item is_told item old new short is = waits_piece old new (item_text is_told item) short is (inl (item, is_told, refl))
 
-pub waits_whole : (told : Told) (old new : List ℕ) → length old < 65536 → HasNoItem told → new ≡ old ++ told_text told → WaitsFew new
-waits_whole told old new short none is = waits_piece old new (told_text told) short is (inr (told, none, refl))
+pub waits_whole : (heard : Told) (old new : List ℕ) → length old < 65536 → HasNoItem heard → new ≡ old ++ told_text heard → WaitsFew new
+waits_whole heard old new short none is = waits_piece old new (told_text heard) short is (inr (heard, none, refl))
 
 -- the line behind the last item is what is told where none was found
 no_items_text : end_text ≡ told_text (Plain (reply.Values []) false)
@@ -188,9 +188,9 @@ none_of (reply.Values found) not_values not_uniques = absurd (not_values found r
 none_of (reply.Uniques found) not_values not_uniques = absurd (not_uniques found refl)
 none_of answer not_values not_uniques = tt
 
-pub no_item : (told : Told) (answer : PlainReply) (noreply : Bool) → told ≡ Plain answer noreply → noreply ≡ false
-    → ((found : List Found) → answer ≢ reply.Values found) → ((found : List Found) → answer ≢ reply.Uniques found) → HasNoItem told
-no_item told answer noreply is silent not_values not_uniques =
+pub no_item : (heard : Told) (answer : PlainReply) (noreply : Bool) → heard ≡ Plain answer noreply → noreply ≡ false
+    → ((found : List Found) → answer ≢ reply.Values found) → ((found : List Found) → answer ≢ reply.Uniques found) → HasNoItem heard
+no_item heard answer noreply is silent not_values not_uniques =
     subst (λ (t : Told). HasNoItem t) (sym (is ∙ ap (λ (b : Bool). Plain answer b) silent)) (none_of answer not_values not_uniques)
 
 -- the text of what was found
@@ -198,9 +198,9 @@ values_so : (found : List Found) → items_text false found ≡ told_text (Plain
 unfolding plain_text
 values_so found = refl
 
-pub values_text : (told : Told) (answer : PlainReply) (found items : List Found) (noreply : Bool)
-    → told ≡ Plain answer noreply → answer ≡ reply.Values found → noreply ≡ false → items ≡ found → items_text false items ≡ told_text told
-values_text told answer found items noreply is by_reply silent same =
+pub values_text : (heard : Told) (answer : PlainReply) (found items : List Found) (noreply : Bool)
+    → heard ≡ Plain answer noreply → answer ≡ reply.Values found → noreply ≡ false → items ≡ found → items_text false items ≡ told_text heard
+values_text heard answer found items noreply is by_reply silent same =
     values_so items
     ∙ (ap (λ (fs : List Found). told_text (Plain (reply.Values fs) false)) same
     ∙ sym (ap told_text is ∙ (ap (λ (a : PlainReply). told_text (Plain a noreply)) by_reply
@@ -210,9 +210,9 @@ uniques_so : (found : List Found) → items_text true found ≡ told_text (Plain
 unfolding plain_text
 uniques_so found = refl
 
-pub uniques_text : (told : Told) (answer : PlainReply) (found items : List Found) (noreply : Bool)
-    → told ≡ Plain answer noreply → answer ≡ reply.Uniques found → noreply ≡ false → items ≡ found → items_text true items ≡ told_text told
-uniques_text told answer found items noreply is by_reply silent same =
+pub uniques_text : (heard : Told) (answer : PlainReply) (found items : List Found) (noreply : Bool)
+    → heard ≡ Plain answer noreply → answer ≡ reply.Uniques found → noreply ≡ false → items ≡ found → items_text true items ≡ told_text heard
+uniques_text heard answer found items noreply is by_reply silent same =
     uniques_so items
     ∙ (ap (λ (fs : List Found). told_text (Plain (reply.Uniques fs) false)) same
     ∙ sym (ap told_text is ∙ (ap (λ (a : PlainReply). told_text (Plain a noreply)) by_reply

@@ -1,8 +1,10 @@
 ghost use Rattle.std.specs.Prelude.{◌≡◌, ◌++◌, ◌<◌, [], length, OnOk};
 ghost use Rattle.mc_text.specs.PlainReplies.{item_text, items_text};
+ghost use Rattle.conn_server.specs.Closing.{HoldsNothing};
 ghost use Rattle.conn_server.specs.Outgoing.{told_text, end_text, HasNoItem};
 ghost use Rattle.conn_server.specs.Outbox.{Puts, Flushes, Finishes};
 
+use crate::closing::Gone;
 use crate::ends::LineEnd;
 use crate::outgoing::{Told, write_end, write_told};
 use iq_outside::{Line, write_all};
@@ -152,11 +154,14 @@ impl Outbox {
         }
     }
 
-    /// Sends what waits at the end of a connection, and tells the end: a fault of that write where it failed.
-    pub(crate) fn flush_last<L: Line>(self, line: &mut L, end: LineEnd) -> LineEnd
+    /// Sends what waits at the end of a connection, whose client holds nothing any more. The end is the one
+    /// that was due, or the fault of that write where it failed.
+    pub(crate) fn flush_last<L: Line>(self, line: &mut L, gone: Gone, end: LineEnd) -> LineEnd
+        requires holds_nothing { HoldsNothing gone.client }
         ensures finishes { Finishes end result (L.write_side line.old) (L.write_side line.new) self }
         ensures keeps_reading { L.read_side line.new ≡ L.read_side line.old }
     {
+        gone.let_go();
         match write_all(line, &self.bytes) {
             Ok(()) => end,
             Err(_) => LineEnd::WriteFault,

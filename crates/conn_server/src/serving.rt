@@ -314,7 +314,7 @@ impl Serving {
             client,
             count: _,
         } = self;
-        client.leave(desk);
-        out.flush_last(line, end)
+        let gone = client.leave(desk);
+        out.flush_last(line, gone, end)
     }
 }
