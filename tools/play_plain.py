@@ -4,7 +4,8 @@
     python3 tools/play_plain.py PROGRAM
 
 PROGRAM is `iq`. Each conversation is played with sockets, and the same commands with the clients that are installed:
-pymemcache, python-memcached and pylibmc. One that isn't is left out with a line. The status is 0 where the server does
+pymemcache, python-memcached and pylibmc. One that isn't is left out with a line. A `get` of 40 items of 1 MiB must not
+take the memory of them all. The status is 0 where the server does
 what it must; else a line on standard error says what it did.
 """
 import importlib
@@ -13,6 +14,10 @@ import sys
 from play_clients import Server, expect, receive
 
 BIG = 1_048_576
+
+# So many big items are asked for at once, and the server may take so many KiB more for that.
+MANY = 40
+MORE = 8_192
 
 # What is sent, and what comes back.
 TALK = [
@@ -56,6 +61,33 @@ def talk(program):
     server.served(2)
 
 
+def long_reply(program):
+    """Many big items are told one by one, and the memory of the server grows by little, also while nobody reads."""
+    keys = [b"item%d" % number for number in range(MANY)]
+    server = Server(program, (1, 1, 1, 3))
+    with server.connect() as stream:
+        for key in keys:
+            stream.sendall(b"set %s 3 0 %d\r\n%s\r\n" % (key, BIG, key[-1:] * BIG))
+            expect(receive(stream, 8), b"STORED\r\n")
+        before = server.resident()
+        stream.sendall(b"get %s\r\n" % b" ".join(keys))
+        expect(receive(stream, 6), b"VALUE ")
+        during = server.resident()
+        expect(receive(stream, 1), b"i")
+        rest = b"tem0 3 %d\r\n%s\r\n" % (BIG, b"0" * BIG)
+        expect(receive(stream, len(rest)) == rest, True)
+        for key in keys[1:]:
+            item = b"VALUE %s 3 %d\r\n%s\r\n" % (key, BIG, key[-1:] * BIG)
+            expect(receive(stream, len(item)) == item, True)
+        expect(receive(stream, 5), b"END\r\n")
+        grown = max(during, server.resident()) - before
+        if grown > MORE:
+            raise AssertionError(f"a get of {MANY} MiB took {grown} KiB")
+        stream.sendall(b"quit\r\n")
+    server.served(1)
+    print(f"a get of {MANY} MiB took {grown} KiB")
+
+
 def with_pymemcache(module, port):
     client = module.Client(("127.0.0.1", port), default_noreply=False)
     expect(client.set("p", b"1"), True)
@@ -96,6 +128,7 @@ def with_pylibmc(module, port):
 
 def main(program):
     talk(program)
+    long_reply(program)
     for name, play in (("pymemcache", with_pymemcache), ("memcache", with_memcache), ("pylibmc", with_pylibmc)):
         try:
             module = importlib.import_module(name)
