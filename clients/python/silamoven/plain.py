@@ -23,7 +23,7 @@ LONGEST_LINE = 2048
 """So many bytes a line has at most, without its end."""
 
 MOST_KEYS = 64
-"""So many keys one command asks for at most. The server makes the reply to it whole before it writes it."""
+"""So many keys one command asks for at most. The server keeps the items of a reply until it is written."""
 
 _NO_KEY_BYTE = re.compile(rb"[\x00-\x20\x7f]")
 
