@@ -42,7 +42,11 @@ LINES: List[Tuple[plain.PlainCommand[object], bytes, bytes]] = [
     (plain.set("a", b"hi"), b"set a 0 0 2\r\nhi\r\n", b"set a 0 0 2 noreply\r\nhi\r\n"),
     (plain.set(b"a", b"", 7), b"set a 7 0 0\r\n\r\n", b"set a 7 0 0 noreply\r\n\r\n"),
     (plain.set("a", 17), b"set a 0 0 2\r\n17\r\n", b"set a 0 0 2 noreply\r\n17\r\n"),
-    (plain.set("\u00e9", "\u00fc"), b"set \xc3\xa9 0 0 2\r\n\xc3\xbc\r\n", b"set \xc3\xa9 0 0 2 noreply\r\n\xc3\xbc\r\n"),
+    (
+        plain.set("\u00e9", "\u00fc"),
+        b"set \xc3\xa9 0 0 2\r\n\xc3\xbc\r\n",
+        b"set \xc3\xa9 0 0 2 noreply\r\n\xc3\xbc\r\n",
+    ),
     (plain.add("a", b"\r\n"), b"add a 0 0 2\r\n\r\n\r\n", b"add a 0 0 2 noreply\r\n\r\n\r\n"),
     (plain.replace("a", b"x"), b"replace a 0 0 1\r\nx\r\n", b"replace a 0 0 1 noreply\r\nx\r\n"),
     (plain.cas("a", b"x", 9, 17), b"cas a 17 0 1 9\r\nx\r\n", b"cas a 17 0 1 9 noreply\r\nx\r\n"),

@@ -15,11 +15,13 @@ from silamoven import (
     FullError,
     Item,
     Mode,
+    NetworkError,
     NotANumberError,
     Origin,
     Pool,
     QueryKeyError,
     ReplyError,
+    UnknownOutcomeError,
     plain,
 )
 from silamoven.commands import BIGGEST_BLOCK, Command
@@ -333,3 +335,34 @@ class Races(WithServer):
         self.assertEqual(pool.read(key).origin, Origin.HIT)
         number = pool.write("rename 200 bob", Mode.REFRESH)
         self.assertEqual((pool.read(key, number).text, pool.get(self.id())), ("bob 0 0", None))
+
+
+class Restart(WithServer):
+    def test_items_go_with_the_server_and_a_pool_comes_back(self) -> None:
+        key = self.id()
+        first = Server(members=3)
+        self.addCleanup(first.stop)
+        pool, lone = self.pool(2, first.address), self.connect(first.address)
+        self.assertEqual((pool.set(key, 41), pool.incr(key, 1), lone.get(key)), (True, 42, b"42"))
+        first.stop()
+        with ThreadPoolExecutor(2) as threads:
+            # Both wait until there is a server. What was sent to none may be sent to this one.
+            got, counted = threads.submit(pool.get, key), threads.submit(pool.incr, key, 1)
+            second = Server(members=3, port=first.port)
+            self.addCleanup(second.stop)
+            self.assertEqual((got.result(20), counted.result(20)), (None, None))
+        self.assertEqual((pool.add(key, b"1"), pool.get(key)), (True, b"1"))
+        with self.assertRaises(NetworkError):
+            lone.get(key)
+        self.assertTrue(lone.is_closed)
+
+    def test_a_change_that_a_killed_server_was_sent(self) -> None:
+        key = self.id()
+        with Server(members=3) as gone:
+            connection = self.connect(gone.address)
+            self.assertEqual(connection.set(key, b"1"), True)
+            gone.stop()
+            with self.assertRaises(UnknownOutcomeError):
+                connection.incr(key, 1)
+            with self.assertRaises(NetworkError):
+                connection.incr(key, 1)  # It is closed by now, so nothing was sent.
