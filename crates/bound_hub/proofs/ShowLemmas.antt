@@ -5,6 +5,7 @@ use Rattle.std.proofs.lemmas.Bool.{false≢true}
 use Rattle.rows_model.specs.declared.keys.QKey.{QKey}
 use Rattle.rows_model.specs.declared.keys.Sid.{Sid}
 use Rattle.rows_model.specs.declared.changes.Change.{Change}
+use Rattle.rows_model.specs.declared.refusals.Memory.{Memory}
 use Rattle.rows_model.specs.Rows.{Tables}
 use Rattle.rows_model.specs.Changes.{apply_all}
 use Rattle.rows_model.specs.Query as query
@@ -24,9 +25,11 @@ use Rattle.shard_lock.specs.Names.{IsNamedStore}
 use Rattle.executor.specs.OnStore.{Goes, IsAnswer, IsStaged, IsCommitted, IsRefused}
 use Rattle.log_word.specs.declared.events.StoreEvent.TheVariants as event
 use Rattle.log_word.specs.declared.seen.Seen.{Seen}
+use Rattle.log_word.specs.Events.{begins, has_begun}
 use Rattle.log_word.specs.Steps.{IsBeginning}
 use Rattle.log_word.specs.Views.{with_event, with_failure, with_stop}
 use Rattle.log_word.specs.Passes.{WordView, PassView}
+use Rattle.log_word.proofs.StartLemmas.{any_goes_on}
 use Rattle.log_word.proofs.ViewLemmas.{beginning_same, beginning_trans, event_goes_on, failure_goes_on, stop_goes_on}
 use Rattle.key_freshness.proofs.KnownLemmas.{take-whole}
 use Rattle.bound_hub.specs.Knowns.{commits_of}
@@ -207,3 +210,16 @@ pub caller_goes_on : (caller : PassView) (note : PassView) (here made now : Seen
 caller_goes_on caller note here made now same told goes is =
     subst (IsBeginning caller.seen) (sym is)
     (beginning_trans caller.seen here made (subst (λ (p : PassView). IsBeginning p.seen here) same told) goes)
+
+-- a session that hasn't begun by what is seen hadn't by what was seen before
+none_begun_before : (old new : Seen) (who : ℕ) (was : Bool) → has_begun who old.events ≡ was → IsBeginning old new
+    → has_begun who new.events ≡ false → has_begun who old.events ≡ false
+none_begun_before old new who false is goes none = is
+none_begun_before old new who true is goes none =
+    absurd (false≢true (sym none ∙ any_goes_on (begins who) old.events new.events goes.events is))
+
+-- so where a session begins, a caller that had seen less hadn't seen its Begin
+pub not_begun_before : (old new : Seen) (result : Result Sid Memory) → IsBeginning old new
+    → IfOk result (λ sid. has_begun sid.number new.events ≡ false) → IfOk result (λ sid. has_begun sid.number old.events ≡ false)
+not_begun_before old new (Ok sid) goes none = none_begun_before old new sid.number (has_begun sid.number old.events) refl goes none
+not_begun_before old new (Err cause) goes none = tt

@@ -5,6 +5,7 @@ pub mod Facts
 pub mod Ties
 pub mod Names
 pub mod Gets
+pub mod Spent
 pub mod Stores
 pub mod Parts
 pub mod Told

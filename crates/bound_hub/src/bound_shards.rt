@@ -12,6 +12,7 @@ ghost use Rattle.log_word.specs.Steps.{IsBeginning, IsSound};
 ghost use Rattle.log_word.specs.Passes.{IsTogether};
 ghost use Rattle.shard_lock.specs.Names.{IsNamed, IsTokenOf};
 ghost use Rattle.bound_hub.specs.Ties.{IsNewShard};
+ghost use Rattle.bound_hub.specs.Spent.{HasSeenAll};
 
 use crate::names::BoundName;
 use crate::shorts::got_short;
@@ -170,6 +171,35 @@ impl<H: BoundName> BoundShard<H> {
         ensures same { self.new ≡ self.old }
         ensures word { result.word ≡ H.word }
         ensures seen { result.seen ≡ self.old.seen }
+    {
+        self.pass.note(word)
+    }
+
+    /// The caller with this pass has then seen all that was seen here, and of this shard each step that it
+    /// made since the hub was. The shard stays. It is three loads of the word.
+    pub fn tell(&mut self, word: &LogWord, pass: &mut Pass)
+        requires word { word.now ≡ H.word }
+        requires pass { pass.old.word ≡ H.word }
+        ensures shard { self.new.shard ≡ self.old.shard }
+        ensures named { IsNamed H.terms self.old.shard }
+        ensures word { pass.new.word ≡ H.word }
+        ensures seen { IsBeginning pass.old.seen pass.new.seen }
+        ensures whole { let no = self.old.shard.terms.no in
+            HasSeenAll (H.before no) self.old.shard pass.new.seen }
+    {
+        self.join(word, pass.note(word));
+        *pass = self.whole_note(word).into_pass();
+    }
+
+    // A note of what its pass has seen, with each step that the shard made since the hub was.
+    fn whole_note(&mut self, word: &LogWord) -> Note
+        requires word { word.now ≡ H.word }
+        ensures same { self.new ≡ self.old }
+        ensures word { result.word ≡ H.word }
+        ensures seen { result.seen ≡ self.old.seen }
+        ensures named { IsNamed H.terms self.old.shard }
+        ensures whole { let no = self.old.shard.terms.no in
+            HasSeenAll (H.before no) self.old.shard result.seen }
     {
         self.pass.note(word)
     }

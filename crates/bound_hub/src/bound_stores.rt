@@ -5,6 +5,7 @@ ghost use Rattle.sql_keeper.specs.Sessions.{has_committed, is_open};
 ghost use Rattle.sql_keeper.specs.Stores.{with_end, with_session};
 ghost use Rattle.executor.specs.OnStore.{Goes};
 ghost use Rattle.log_word.specs.declared.events.StoreEvent.TheVariants.{Begin};
+ghost use Rattle.log_word.specs.Events.{has_begun};
 ghost use Rattle.log_word.specs.Steps.{IsBeginning};
 ghost use Rattle.log_word.specs.Views.{with_event};
 ghost use Rattle.log_word.specs.Passes.{IsTogether, blind_pass};
@@ -78,6 +79,7 @@ impl<K: Keeper, H: BoundName> BoundStore<K, H> {
             sid.number ≡ length self.new.store.ledger.sessions) }
         ensures seen { IfOk result (λ sid.
             self.new.seen ≡ with_event (Begin sid worker writes) self.old.seen) }
+        ensures first { IfOk result (λ sid. has_begun sid.number self.old.seen.events ≡ false) }
         ensures goes_on { IsBeginning self.old.seen self.new.seen }
         ensures shows { IfOk result (ShowsBegin H.begun worker writes self.new.seen) }
         ensures err { OnErr result (self.new ≡ self.old) }

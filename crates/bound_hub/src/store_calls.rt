@@ -5,6 +5,7 @@ ghost use Rattle.sql_keeper.specs.Faults.{is_failure, keep_failed, staged_failed
 ghost use Rattle.sql_keeper.specs.Sessions.{has_committed, is_open};
 ghost use Rattle.sql_keeper.specs.Stores.{with_call, with_end, with_session};
 ghost use Rattle.executor.specs.OnStore.{Goes, IsAnswer, IsCommitted, IsRefused, IsStaged};
+ghost use Rattle.log_word.specs.Events.{has_begun};
 ghost use Rattle.log_word.specs.Steps.{IsBeginning};
 ghost use Rattle.key_freshness.specs.Known.{IsLogged};
 ghost use Rattle.bound_hub.specs.Knowns.{commits_of};
@@ -22,7 +23,8 @@ use sql_keeper::{AfterFault, Answer, Closed, CommitFault, KeepFault, Keeper};
 /// what the caller had.
 impl<K: Keeper, H: BoundName> BoundStore<K, H> {
     /// Begins a session, as the store does, by this worker's desk. Its Begin is the last event that the
-    /// caller has seen then. For want of memory there is none, and the store is as before.
+    /// caller has seen then, and the first of that number. For want of memory there is none, and the store
+    /// is as before.
     pub fn begin(
         &mut self,
         word: &LogWord,
@@ -39,6 +41,7 @@ impl<K: Keeper, H: BoundName> BoundStore<K, H> {
         ensures seen { IsBeginning pass.old.seen pass.new.seen }
         ensures all { pass.new.seen ≡ self.new.seen }
         ensures shows { IfOk result (ShowsBegin H.begun worker writes pass.new.seen) }
+        ensures first { IfOk result (λ sid. has_begun sid.number pass.old.seen.events ≡ false) }
     {
         self.join(word, pass.note(word));
         let begun = self.make_begin(word, worker, writes);

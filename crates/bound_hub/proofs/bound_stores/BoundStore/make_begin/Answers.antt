@@ -1,6 +1,7 @@
-use Rattle.std.proofs.Common.{sym, subst}
+use Rattle.std.proofs.Common.{◌≡◌, false, sym, subst}
 use Rattle.log_word.specs.declared.events.StoreEvent.TheVariants as event
 use Rattle.log_word.specs.declared.seen.Seen.{Seen}
+use Rattle.log_word.specs.Events.{has_begun}
 use Rattle.log_word.specs.Steps.{IsBeginning}
 use Rattle.log_word.proofs.ViewLemmas.{event_goes_on}
 use Rattle.bound_hub.specs.Ties.{BoundStoreView}
@@ -36,3 +37,10 @@ returns-clause-shows g c =
     let made = c.in_ok-sid.ensures in
     begin_shows g.H.BoundName.word g.H.BoundName.begun g.H.BoundName.failed c.self.inside.store c.begin.new.self c.self.inside.pass c.self.invariant.1
     c.in_ok-sid.sid c.args.worker c.args.writes c.add.new.self.seen made.ledger made.number c.add.ensures.seen
+
+pub returns-clause-first : goal.returns-clause-first
+returns-clause-first g c =
+    let made = c.in_ok-sid.ensures in
+    subst (λ (v : BoundStoreView). has_begun c.in_ok-sid.sid.number v.seen.events ≡ false) c.self.view_is
+    (begin_may_follow g.H.BoundName.word g.H.BoundName.begun g.H.BoundName.failed c.self.inside.store c.begin.new.self.ledger c.self.inside.pass c.args.writes c.in_ok-sid.sid
+    c.self.invariant.1 made.ledger made.number)
