@@ -59,10 +59,10 @@ runs_to_end who plan copy writing session before now after notes notes' ended of
     drives who plan before (subst (λ (n : Option (List Mark)). IsUnderWay who plan session before now n) (sym none) fresh)
 
 -- calls and steps that a desk tells of are its work
-told_by : (calls : List Call) (steps : ℕ) (before after : Option (List Call)) (count now : Option ℕ)
-    → after ≡ with_calls calls before → now ≡ with_steps steps count
-    → record { calls = after; steps = now } ≡ with_work calls steps (record { calls = before; steps = count })
-told_by calls steps before after count now e f = λ i. record { calls = e i; steps = f i }
+told_by : (calls : List Call) (steps : ℕ) (before after : Option (List Call)) (count now : Option ℕ) (at at' : Option ℕ)
+    → after ≡ with_calls calls before → now ≡ with_steps steps count → at' ≡ at
+    → record { calls = after; steps = now; worker = at' } ≡ with_work calls steps (record { calls = before; steps = count; worker = at })
+told_by calls steps before after count now at at' e f same = λ i. record { calls = e i; steps = f i; worker = same i }
 
 no_step : (count : Option ℕ) → count ≡ with_steps 0 count
 no_step (Some n) = ap (λ (m : ℕ). Some m) (omega arith)
@@ -73,7 +73,7 @@ one_step (Some n) = refl
 one_step None = refl
 
 nothing_done : (now : DeskView) → now ≡ with_work [] 0 now
-nothing_done now = λ i. record { calls = no_more now.calls i; steps = no_step now.steps i }
+nothing_done now = λ i. record { calls = no_more now.calls i; steps = no_step now.steps i; worker = now.worker }
 
 -- a row is left where memory didn't run out for the session, and its marks are kept
 record IsLeft (who : Sid) (ended : Outcome) (notes : Option (List Mark)) (row : RowView) : Type 0 where
@@ -122,18 +122,18 @@ lacks_by : (who : Sid) (ended : Outcome) (notes : Option (List Mark)) (calls : L
 lacks_by who ended notes calls e h = lacks_where who ended (is_short ended) notes calls refl e h
 
 -- a session that has ended leaves its row, where memory didn't run out for it
-row_from : (who : Sid) (plan : Plan) (ended : Outcome) (before after later : Option (List Call)) (count now : Option ℕ)
+row_from : (who : Sid) (plan : Plan) (ended : Outcome) (before after later : Option (List Call)) (count now : Option ℕ) (at at' : Option ℕ)
     (notes : Option (List Mark)) (row : RowView) → HasEnded who plan ended before after notes → row_of who ended notes ≡ Some row
-    → later ≡ after → now ≡ one_more count
-    → AddsRow plan (record { calls = before; steps = count }) (record { calls = later; steps = now }) row
-row_from who plan ended before after later count now notes row e left same tended =
+    → later ≡ after → now ≡ one_more count → at' ≡ at
+    → AddsRow plan (record { calls = before; steps = count; worker = at }) (record { calls = later; steps = now; worker = at' }) row
+row_from who plan ended before after later count now at at' notes row e left same tended stays =
     let l : IsLeft who ended notes row = left_by who ended notes row left in
     let noted : l.marks ≡ marks_of e.calls = subst (λ (n : Option (List Mark)). AreNoted n e.calls) l.kept e.noted in
     let view : RowView = record { sid = who; outcome = ended; marks = l.marks } in
     let made : IsRow plan e.calls view = record { has_run = e.has_run; had_memory = l.had; marks = noted } in (
       e.calls,
       subst (λ (r : RowView). IsRow plan e.calls r) (sym l.is) made,
-      told_by e.calls 1 before later count now (same ∙ e.recorded) (tended ∙ one_step count),
+      told_by e.calls 1 before later count now at at' (same ∙ e.recorded) (tended ∙ one_step count) stays,
     )
 
 -- what holds anyway holds where there was an error
@@ -146,33 +146,33 @@ pub stops_before : (plan : Plan) (now : DeskView) → AddsStop plan now now
 stops_before plan now = ([], 0, inl (refl, refl), nothing_done now)
 
 -- it stops where none can begin
-pub stops_unbegun : (plan : Plan) (before now : Option (List Call)) (count count' : Option ℕ) → now ≡ before → count' ≡ count
-    → AddsStop plan (record { calls = before; steps = count }) (record { calls = now; steps = count' })
-stops_unbegun plan before now count count' same idle =
-    ([], 0, inl (refl, refl), told_by [] 0 before now count count' (same ∙ no_more before) (idle ∙ no_step count))
+pub stops_unbegun : (plan : Plan) (before now : Option (List Call)) (count count' at at' : Option ℕ) → now ≡ before → count' ≡ count → at' ≡ at
+    → AddsStop plan (record { calls = before; steps = count; worker = at }) (record { calls = now; steps = count'; worker = at' })
+stops_unbegun plan before now count count' at at' same idle stays =
+    ([], 0, inl (refl, refl), told_by [] 0 before now count count' at at' (same ∙ no_more before) (idle ∙ no_step count) stays)
 
 -- it stops where a session that has begun is ended at once
-pub stops_at_once : (plan : Plan) (who : Sid) (told : Reply) (before now after : Option (List Call)) (count count' : Option ℕ)
+pub stops_at_once : (plan : Plan) (who : Sid) (told : Reply) (before now after : Option (List Call)) (count count' at at' : Option ℕ)
     → now ≡ with_member (Began (writes plan) who) before → after ≡ with_member (Asked who wanted.End told) now
-    → Belongs who wanted.End told → count' ≡ count
-    → AddsStop plan (record { calls = before; steps = count }) (record { calls = after; steps = count' })
-stops_at_once plan who told before now after count count' begun asked belongs idle =
+    → Belongs who wanted.End told → count' ≡ count → at' ≡ at
+    → AddsStop plan (record { calls = before; steps = count; worker = at }) (record { calls = after; steps = count'; worker = at' })
+stops_at_once plan who told before now after count count' at at' begun asked belongs idle stays =
     let calls : List Call = Asked who wanted.End told ∷ Began (writes plan) who ∷ [] in
     let recorded : after ≡ with_calls calls before =
     with_more (Asked who wanted.End told) (Began (writes plan) who ∷ []) before now after
     (with_more (Began (writes plan) who) [] before before now (no_more before) begun) asked in
-    (calls, 0, inr (inl (who, told, belongs, refl, refl)), told_by calls 0 before after count count' recorded (idle ∙ no_step count))
+    (calls, 0, inr (inl (who, told, belongs, refl, refl)), told_by calls 0 before after count count' at at' recorded (idle ∙ no_step count) stays)
 
 -- it stops where a session has run and leaves no row
-stops_after : (who : Sid) (plan : Plan) (ended : Outcome) (before after later : Option (List Call)) (count now : Option ℕ)
+stops_after : (who : Sid) (plan : Plan) (ended : Outcome) (before after later : Option (List Call)) (count now at at' : Option ℕ)
     (notes : Option (List Mark)) → HasEnded who plan ended before after notes → row_of who ended notes ≡ None
-    → later ≡ after → now ≡ one_more count
-    → AddsStop plan (record { calls = before; steps = count }) (record { calls = later; steps = now })
-stops_after who plan ended before after later count now notes e none same tended = (
+    → later ≡ after → now ≡ one_more count → at' ≡ at
+    → AddsStop plan (record { calls = before; steps = count; worker = at }) (record { calls = later; steps = now; worker = at' })
+stops_after who plan ended before after later count now at at' notes e none same tended stays = (
   e.calls,
   1,
   inr (inr (who, ended, e.has_run, lacks_by who ended notes e.calls none e.noted, refl)),
-  told_by e.calls 1 before later count now (same ∙ e.recorded) (tended ∙ one_step count),
+  told_by e.calls 1 before later count now at at' (same ∙ e.recorded) (tended ∙ one_step count) stays,
 )
 
 -- what a session leaves that has ended: its row, or the worker's stop
@@ -180,15 +180,15 @@ pub record Leaves (plan : Plan) (before after : DeskView) (result : Result RowVi
   pub row : IfOk result (λ row. AddsRow plan before after row)
   pub stop : OnErr result (AddsStop plan before after)
 
-pub leaves : (who : Sid) (plan : Plan) (ended : Outcome) (before after later : Option (List Call)) (count now : Option ℕ)
+pub leaves : (who : Sid) (plan : Plan) (ended : Outcome) (before after later : Option (List Call)) (count now at at' : Option ℕ)
     (notes : Option (List Mark)) (result : Result RowView Memory) → HasEnded who plan ended before after notes
     → MatchResult result (λ row. row_of who ended notes ≡ Some row) (λ _. row_of who ended notes ≡ None)
-    → later ≡ after → now ≡ one_more count
-    → Leaves plan (record { calls = before; steps = count }) (record { calls = later; steps = now }) result
-leaves who plan ended before after later count now notes (Ok row) e left same tended =
-    record { row = row_from who plan ended before after later count now notes row e left same tended; stop = tt }
-leaves who plan ended before after later count now notes (Err x) e none same tended =
-    record { row = tt; stop = stops_after who plan ended before after later count now notes e none same tended }
+    → later ≡ after → now ≡ one_more count → at' ≡ at
+    → Leaves plan (record { calls = before; steps = count; worker = at }) (record { calls = later; steps = now; worker = at' }) result
+leaves who plan ended before after later count now at at' notes (Ok row) e left same tended stays =
+    record { row = row_from who plan ended before after later count now at at' notes row e left same tended stays; stop = tt }
+leaves who plan ended before after later count now at at' notes (Err x) e none same tended stays =
+    record { row = tt; stop = stops_after who plan ended before after later count now at at' notes e none same tended stays }
 
 calls_twice : (first later : List Call) (told : Option (List Call)) → with_calls later (with_calls first told) ≡ with_calls (later ++ first) told
 calls_twice first later (Some told) = ap (λ (calls : List Call). Some calls) (sym (append_assoc later first told))
@@ -203,7 +203,7 @@ with_later : (first later : List Call) (some more : ℕ) (before now after : Des
     → now ≡ with_work first some before → after ≡ with_work later more now → after ≡ with_work (later ++ first) (some + more) before
 with_later first later some more before now after e f =
     f ∙ (ap (with_work later more) e
-    ∙ λ i. record { calls = calls_twice first later before.calls i; steps = steps_twice some more before.steps i })
+    ∙ λ i. record { calls = calls_twice first later before.calls i; steps = steps_twice some more before.steps i; worker = before.worker })
 
 -- one row more
 more_rows : (plans : List Plan) (calls : List Call) (rows : List RowView) (plan : Plan) (last : List Call) (row : RowView)

@@ -90,18 +90,23 @@ abbrev pub with_steps : ℕ → Option ℕ → Option ℕ
 with_steps steps (Some count) = Some (count + steps)
 with_steps steps None = None
 
--- What contracts see of a desk: its record, and how many steps of its sweep it took.
+-- What contracts see of a desk: its record, how many steps of its sweep it took, and the number of its worker.
 pub record DeskView : Type 0 where
   pub calls : Option (List Call)
   pub steps : Option ℕ
+  pub worker : Option ℕ
 
 -- What this desk tells of them.
-abbrev pub desk_view : {D : Type 0} → (D → Option (List Call)) → (D → Option ℕ) → D → DeskView
-desk_view record_of tends desk = record { calls = record_of desk; steps = tends desk }
+abbrev pub desk_view : {D : Type 0} → (D → Option (List Call)) → (D → Option ℕ) → (D → Option ℕ) → D → DeskView
+desk_view record_of tends worker desk = record { calls = record_of desk; steps = tends desk; worker = worker desk }
 
--- These calls and so many steps more.
+-- These calls and so many steps more, by the same worker.
 abbrev pub with_work : List Call → ℕ → DeskView → DeskView
-with_work calls steps told = record { calls = with_calls calls told.calls; steps = with_steps steps told.steps }
+with_work calls steps told = record {
+  calls = with_calls calls told.calls;
+  steps = with_steps steps told.steps;
+  worker = told.worker;
+}
 
 -- These are the rows of the plans. Where the desk tells it, exactly their calls were added to its
 -- record, and it took one step of its sweep for each plan.

@@ -34,9 +34,9 @@ pub(crate) fn run_session<R: Wait, D: Desk, G: Gate>(
 ) -> Result<Row, Memory>
     requires { IsPlan plan.now }
     ensures row { IfOk result (λ row. AddsRow plan.now
-        (desk_view D.record_of D.tends desk.old) (desk_view D.record_of D.tends desk.new) row) }
+        (desk_view D.record_of D.tends D.worker desk.old) (desk_view D.record_of D.tends D.worker desk.new) row) }
     ensures stop { OnErr result (AddsStop plan.now
-        (desk_view D.record_of D.tends desk.old) (desk_view D.record_of D.tends desk.new)) }
+        (desk_view D.record_of D.tends D.worker desk.old) (desk_view D.record_of D.tends D.worker desk.new)) }
 {
     let copy = plan.copy()?;
     let mut notes = Notes::new(alloc)?;
@@ -67,6 +67,7 @@ fn drive<R: Wait, D: Desk, G: Gate>(
         IsUnderWay who plan session.old before (D.record_of desk.old) notes.old →
         HasEnded who plan result before (D.record_of desk.new) notes.new }
     ensures tends { D.tends desk.new ≡ D.tends desk.old }
+    ensures worker { D.worker desk.new ≡ D.worker desk.old }
 {
     for _ in rt.forever() {
         if let Some(outcome) = session.done() {
@@ -94,6 +95,7 @@ fn step<D: Desk, G: Gate>(
         IsUnderWay who plan session.old before (D.record_of desk.old) notes.old →
         IsUnderWay who plan session.new before (D.record_of desk.new) notes.new }
     ensures tends { D.tends desk.new ≡ D.tends desk.old }
+    ensures worker { D.worker desk.new ≡ D.worker desk.old }
 {
     let sid = session.sid();
     let wanted = session.wants();

@@ -34,11 +34,11 @@ pub fn work_all<R: Threads + Wait + Sync, D: Desk + Send, G: Gate>(
     requires as_many { length plans.now ≡ length desks.old }
     requires plans { All (λ list. All IsPlan list.items) plans.now }
     ensures work { IfOk result (λ transcripts. AllWork (map (λ list. list.items) plans.now)
-        (map (desk_view D.record_of D.tends) desks.old)
-        (map (desk_view D.record_of D.tends) desks.new) transcripts.items) }
+        (map (desk_view D.record_of D.tends D.worker) desks.old)
+        (map (desk_view D.record_of D.tends D.worker) desks.new) transcripts.items) }
     ensures worked { AllWorked (map (λ list. list.items) plans.now)
-        (map (desk_view D.record_of D.tends) desks.old)
-        (map (desk_view D.record_of D.tends) desks.new) }
+        (map (desk_view D.record_of D.tends D.worker) desks.old)
+        (map (desk_view D.record_of D.tends D.worker) desks.new) }
 {
     work_from(rt, &alloc, plans, plans, gate, desks)
 }
@@ -57,11 +57,11 @@ fn work_from<R: Threads + Wait + Sync, D: Desk + Send, G: Gate>(
     requires as_many { length left.now ≡ length desks.old }
     requires plans { All (λ list. All IsPlan list.items) left.now }
     ensures work { IfOk result (λ transcripts. AllWork (map (λ list. list.items) left.now)
-        (map (desk_view D.record_of D.tends) desks.old)
-        (map (desk_view D.record_of D.tends) desks.new) transcripts.items) }
+        (map (desk_view D.record_of D.tends D.worker) desks.old)
+        (map (desk_view D.record_of D.tends D.worker) desks.new) transcripts.items) }
     ensures worked { AllWorked (map (λ list. list.items) left.now)
-        (map (desk_view D.record_of D.tends) desks.old)
-        (map (desk_view D.record_of D.tends) desks.new) }
+        (map (desk_view D.record_of D.tends D.worker) desks.old)
+        (map (desk_view D.record_of D.tends D.worker) desks.new) }
 {
     if desks.len() < 2 {
         return work_one(rt, alloc, all, left, left, gate, desks);
@@ -75,22 +75,22 @@ fn work_from<R: Threads + Wait + Sync, D: Desk + Send, G: Gate>(
                 × All (λ list. All IsPlan list.items) first.now }
             ensures work { IfOk result (λ transcripts. AllWork
                 (map (λ list. list.items) first.entry.now)
-                (map (desk_view D.record_of D.tends) front.entry.now)
-                (map (desk_view D.record_of D.tends) front.exit.now) transcripts.items) }
+                (map (desk_view D.record_of D.tends D.worker) front.entry.now)
+                (map (desk_view D.record_of D.tends D.worker) front.exit.now) transcripts.items) }
             ensures worked { AllWorked (map (λ list. list.items) first.entry.now)
-                (map (desk_view D.record_of D.tends) front.entry.now)
-                (map (desk_view D.record_of D.tends) front.exit.now) }
+                (map (desk_view D.record_of D.tends D.worker) front.entry.now)
+                (map (desk_view D.record_of D.tends D.worker) front.exit.now) }
         { work_one(rt, alloc, all, left, first, gate, front) },
         &mut ||
             requires { IsSync R.row × (length rest.now ≡ length back.now)
                 × All (λ list. All IsPlan list.items) rest.now }
             ensures work { IfOk result (λ transcripts. AllWork
                 (map (λ list. list.items) rest.entry.now)
-                (map (desk_view D.record_of D.tends) back.entry.now)
-                (map (desk_view D.record_of D.tends) back.exit.now) transcripts.items) }
+                (map (desk_view D.record_of D.tends D.worker) back.entry.now)
+                (map (desk_view D.record_of D.tends D.worker) back.exit.now) transcripts.items) }
             ensures worked { AllWorked (map (λ list. list.items) rest.entry.now)
-                (map (desk_view D.record_of D.tends) back.entry.now)
-                (map (desk_view D.record_of D.tends) back.exit.now) }
+                (map (desk_view D.record_of D.tends D.worker) back.entry.now)
+                (map (desk_view D.record_of D.tends D.worker) back.exit.now) }
         { work_from(rt, alloc, all, rest, gate, back) },
     );
     joined(first, rest)
@@ -123,11 +123,11 @@ fn work_one<R: Wait, D: Desk, G: Gate>(
     requires few { length desks.old < 2 }
     requires plans { All (λ list. All IsPlan list.items) plans.now }
     ensures work { IfOk result (λ transcripts. AllWork (map (λ list. list.items) plans.now)
-        (map (desk_view D.record_of D.tends) desks.old)
-        (map (desk_view D.record_of D.tends) desks.new) transcripts.items) }
+        (map (desk_view D.record_of D.tends D.worker) desks.old)
+        (map (desk_view D.record_of D.tends D.worker) desks.new) transcripts.items) }
     ensures worked { AllWorked (map (λ list. list.items) plans.now)
-        (map (desk_view D.record_of D.tends) desks.old)
-        (map (desk_view D.record_of D.tends) desks.new) }
+        (map (desk_view D.record_of D.tends D.worker) desks.old)
+        (map (desk_view D.record_of D.tends D.worker) desks.new) }
 {
     let mut transcripts = Vec::new(*alloc);
     if desks.is_empty() {
@@ -151,10 +151,10 @@ fn run_plans<R: Wait, D: Desk, G: Gate>(
 ) -> Result<Transcript, Memory>
     requires { All IsPlan plans.now }
     ensures work { IfOk result (λ rows.
-        IsWork plans.now (desk_view D.record_of D.tends desk.old)
-        (desk_view D.record_of D.tends desk.new) rows) }
-    ensures worked { HasWorked plans.now (desk_view D.record_of D.tends desk.old)
-        (desk_view D.record_of D.tends desk.new) }
+        IsWork plans.now (desk_view D.record_of D.tends D.worker desk.old)
+        (desk_view D.record_of D.tends D.worker desk.new) rows) }
+    ensures worked { HasWorked plans.now (desk_view D.record_of D.tends D.worker desk.old)
+        (desk_view D.record_of D.tends D.worker desk.new) }
 {
     let mut rows = Vec::with_capacity(alloc, plans.len())?;
     for plan in plans {

@@ -8,21 +8,22 @@ use Rattle.gate_workers.proofs.sessions.run_session.Goals as goal
 
 pub returns-in_err-copy-clause-stop : goal.returns-in_err-copy-clause-stop
 returns-in_err-copy-clause-stop g c =
-    let view = desk_view g.D.Desk.record_of g.D.Desk.tends c.args.desk.now in
+    let view = desk_view g.D.Desk.record_of g.D.Desk.tends g.D.Desk.worker c.args.desk.now in
     on_err_by c.from_residual.result (AddsStop c.args.plan.now view view) (stops_before c.args.plan.now view)
 
 pub returns-in_err-notes-clause-stop : goal.returns-in_err-notes-clause-stop
 returns-in_err-notes-clause-stop g c =
-    let view = desk_view g.D.Desk.record_of g.D.Desk.tends c.args.desk.now in
+    let view = desk_view g.D.Desk.record_of g.D.Desk.tends g.D.Desk.worker c.args.desk.now in
     on_err_by c.from_residual-in_err-notes.result (AddsStop c.args.plan.now view view) (stops_before c.args.plan.now view)
 
 pub returns-in_err-sid-clause-stop : goal.returns-in_err-sid-clause-stop
 returns-in_err-sid-clause-stop g c =
-    let old = desk_view g.D.Desk.record_of g.D.Desk.tends c.args.desk.now in
-    let new = desk_view g.D.Desk.record_of g.D.Desk.tends c.begin.new.self in
+    let old = desk_view g.D.Desk.record_of g.D.Desk.tends g.D.Desk.worker c.args.desk.now in
+    let new = desk_view g.D.Desk.record_of g.D.Desk.tends g.D.Desk.worker c.begin.new.self in
     on_err_by c.from_residual-in_err-sid.result (AddsStop c.args.plan.now old new)
     (stops_unbegun c.args.plan.now (g.D.Desk.record_of c.args.desk.now) (g.D.Desk.record_of c.begin.new.self)
-    (g.D.Desk.tends c.args.desk.now) (g.D.Desk.tends c.begin.new.self) c.in_err-sid.ensures.err_recorded c.begin.ensures.tends)
+    (g.D.Desk.tends c.args.desk.now) (g.D.Desk.tends c.begin.new.self) (g.D.Desk.worker c.args.desk.now) (g.D.Desk.worker c.begin.new.self)
+    c.in_err-sid.ensures.err_recorded c.begin.ensures.tends c.begin.ensures.worker)
 
 pub returns-in_default-clause-stop : goal.returns-in_default-clause-stop
 returns-in_default-clause-stop g c =
@@ -32,7 +33,8 @@ returns-in_default-clause-stop g c =
     let now = g.D.Desk.record_of c.begin.new.self in
     let begun : now ≡ with_member (Began (writes plan) who) before = cc (c.in_ok-sid.ensures.recorded, c.writes.ensures) in
     stops_at_once plan who c.call.result before now (g.D.Desk.record_of c.call.new.self) (g.D.Desk.tends c.args.desk.now)
-    (g.D.Desk.tends c.call.new.self) begun c.call.ensures.recorded c.call.ensures.belongs (c.call.ensures.tends ∙ c.begin.ensures.tends)
+    (g.D.Desk.tends c.call.new.self) (g.D.Desk.worker c.args.desk.now) (g.D.Desk.worker c.call.new.self) begun c.call.ensures.recorded c.call.ensures.belongs
+    (c.call.ensures.tends ∙ c.begin.ensures.tends) (c.call.ensures.worker ∙ c.begin.ensures.worker)
 
 pub returns : goal.returns
 returns g c =
@@ -46,5 +48,6 @@ returns g c =
     let tended : g.D.Desk.tends c.tend.new.self ≡ one_more count =
     c.tend.ensures.tended ∙ ap one_more (c.drive-outcome.ensures.tends ∙ c.begin.ensures.tends) in
     let l = leaves c.in_ok-sid.sid c.args.plan.now c.drive-outcome.result before driven (g.D.Desk.record_of c.tend.new.self)
-    count (g.D.Desk.tends c.tend.new.self) c.drive-outcome.new.notes c.of.result ended c.of.ensures c.tend.ensures.recorded tended in
+    count (g.D.Desk.tends c.tend.new.self) (g.D.Desk.worker c.args.desk.now) (g.D.Desk.worker c.tend.new.self) c.drive-outcome.new.notes c.of.result ended c.of.ensures
+    c.tend.ensures.recorded tended (c.tend.ensures.worker ∙ c.drive-outcome.ensures.worker ∙ c.begin.ensures.worker) in
     record { row = l.row; stop = l.stop }

@@ -6,7 +6,7 @@ use Rattle.gate_workers.proofs.workers.+fn-work_from-join_mut+arg3+work_from.Goa
 
 pub returns : goal.returns
 returns g t c =
-    let view = desk_view g.D.Desk.record_of g.D.Desk.tends in
+    let view = desk_view g.D.Desk.record_of g.D.Desk.tends g.D.Desk.worker in
     let first = c.split_at.result.0.now in
     let rest = c.split_at.result.1.now in
     let front = c.split_at_mut-front.result.0.now in

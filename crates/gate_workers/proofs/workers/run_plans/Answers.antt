@@ -7,7 +7,7 @@ use Rattle.gate_workers.proofs.workers.run_plans.Goals as goal
 
 pub loop-plan-preserved : goal.loop-plan-preserved
 loop-plan-preserved g c =
-    let view = desk_view g.D.Desk.record_of g.D.Desk.tends in
+    let view = desk_view g.D.Desk.record_of g.D.Desk.tends g.D.Desk.worker in
     let plans = c.args.plans.now in
     let i = c.loop-plan.plan-index in
     let plan = c.plan-item.result in
@@ -31,7 +31,7 @@ loop-plan-preserved g c =
 
 pub returns-in_err-row-clause-worked : goal.returns-in_err-row-clause-worked
 returns-in_err-row-clause-worked g c =
-    let view = desk_view g.D.Desk.record_of g.D.Desk.tends in
+    let view = desk_view g.D.Desk.record_of g.D.Desk.tends g.D.Desk.worker in
     let plans = c.args.plans.now in
     let i = c.loop-plan.plan-index in
     has_stopped plans (take i plans) (drop (i + 1) plans) c.plan-item.result (view c.args.desk.now) (view c.loop-plan.desk)
@@ -40,7 +40,7 @@ returns-in_err-row-clause-worked g c =
 
 pub returns-clause-worked : goal.returns-clause-worked
 returns-clause-worked g c =
-    let view = desk_view g.D.Desk.record_of g.D.Desk.tends in
+    let view = desk_view g.D.Desk.record_of g.D.Desk.tends g.D.Desk.worker in
     let plans = c.args.plans.now in
     let before = view c.args.desk.now in
     let after = view c.loop-plan.desk in
@@ -49,4 +49,4 @@ returns-clause-worked g c =
     (subst (λ (some : List Plan). IsWork some before after c.loop-plan.rows.items) all c.loop-plan.invariant.0)
 
 pub returns-in_err-rows-clause-worked : goal.returns-in_err-rows-clause-worked
-returns-in_err-rows-clause-worked g c = idle c.args.plans.now (desk_view g.D.Desk.record_of g.D.Desk.tends c.args.desk.now)
+returns-in_err-rows-clause-worked g c = idle c.args.plans.now (desk_view g.D.Desk.record_of g.D.Desk.tends g.D.Desk.worker c.args.desk.now)
