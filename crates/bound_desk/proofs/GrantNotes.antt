@@ -1,5 +1,5 @@
 -- The pass has seen what the book says of grants, of a commit and of an end.
-use Rattle.std.proofs.Common.{ℕ, ℤ, ◌≡◌, ◌≢◌, ◌⊎◌, ◌<◌, ◌==◌, ◌||◌, Bool, true, false, cond, List, [], ◌∷◌, ◌++◌, length, filter, All, get_or, Option, Some, None, Result, Ok, Err, IfOk, is_some, refl, sym, ap, subst, ◌∙◌, inl, inr, ⊎_elim}
+use Rattle.std.proofs.Common.{ℕ, ℤ, ◌≡◌, ◌⊎◌, ◌==◌, ◌||◌, Bool, true, false, cond, List, [], ◌∷◌, filter, All, get_or, Option, Some, None, Result, Ok, Err, IfOk, is_some, refl, sym, ap, subst, ◌∙◌, ⊎_elim}
 use Rattle.std.specs.List.{list_all, list_any}
 use Rattle.std.specs.Option.{ForSome}
 use Rattle.std.proofs.lemmas.Bool.{false≢true, and_from, eq-eqb, eqb-true, or_left}
@@ -13,15 +13,12 @@ use Rattle.rows_model.specs.Placement.{shard_of}
 use Rattle.rows_model.proofs.SameKey.{same_key-refl}
 use Rattle.lease_table.specs.declared.records.Mode.{Mode}
 use Rattle.key_shard.specs.declared.replies.QAnswer.{QAnswer}
-use Rattle.key_shard.specs.declared.replies.Rel.{Rel}
-use Rattle.key_shard.specs.declared.replies.Rel.TheVariants as rel
 use Rattle.key_shard.specs.declared.steps.Step.{Step}
 use Rattle.key_shard.specs.Past.{Terms, entry}
 use Rattle.key_shard.specs.Answers.{quarantine_step}
 use Rattle.key_shard.specs.Permit.{Permit, same_permit}
 use Rattle.key_shard.specs.Replies.{old_value, ShowsQuarantine}
 use Rattle.key_shard.proofs.CaseLemmas.{quarantine_cases}
-use Rattle.log_word.specs.declared.events.Short.{Short}
 use Rattle.log_word.specs.declared.seen.Seen.{Seen}
 use Rattle.log_word.specs.Events.{may_write, is_over}
 use Rattle.log_word.specs.Lists.{steps_of}

@@ -5,3 +5,4 @@ pub mod SweepLemmas
 pub mod WritingLemmas
 pub mod WriteLemmas
 pub mod RaiseLemmas
+pub mod RecordLemmas

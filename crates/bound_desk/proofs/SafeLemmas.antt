@@ -1,10 +1,9 @@
 -- What is made in place of a request, by its form, is safe.
-use Rattle.std.proofs.Common.{ℕ, ◌≡◌, ◌⊎◌, ◌&&◌, Bool, true, false, cond, List, Option, Some, None, is_some, refl, sym, ap, subst, ◌∙◌, inl, inr, ⊎_elim, arith}
+use Rattle.std.proofs.Common.{ℕ, ◌≡◌, ◌⊎◌, ◌&&◌, true, cond, List, Option, Some, None, is_some, refl, sym, subst, inl, inr, ⊎_elim, arith}
 use Rattle.std.specs.Prelude.{IsSomeAnd}
 use Rattle.std.proofs.lemmas.Bool.{and_parts}
 use Rattle.rows_model.specs.declared.keys.Sid.{Sid}
 use Rattle.key_shard.specs.Permit.{Permit}
-use Rattle.key_shard.specs.declared.replies.Rel.{Rel}
 use Rattle.session_client.specs.Belongs.{Belongs}
 use Rattle.session_client.specs.declared.replies.Reply.{Reply}
 use Rattle.session_client.specs.declared.replies.Reply.TheVariants as reply
@@ -18,7 +17,7 @@ use Rattle.desk_book.specs.declared.facts.Committed.{Committed}
 use Rattle.desk_book.specs.declared.forms.Form.{Form}
 use Rattle.desk_book.specs.declared.forms.Form.TheVariants as form
 use Rattle.bound_desk.specs.Bound.{HasCommitted}
-use Rattle.bound_desk.specs.Safe.{drop_reply, is_raise, IsSafe, IsSafelyMade, MadeBelongs}
+use Rattle.bound_desk.specs.Safe.{IsSafe, IsSafelyMade, MadeBelongs}
 
 -- a request is made as it is asked for, since the book bears it out, or in its safe form
 which : (book : Book) (who : Sid) (request : Wanted) (found : Form) → IsForm book who request found

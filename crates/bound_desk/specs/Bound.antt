@@ -8,6 +8,7 @@ use Rattle.rows_model.specs.Rows.{Tables}
 use Rattle.key_shard.specs.declared.replies.Got.{Got}
 use Rattle.key_shard.specs.declared.replies.Got.TheVariants as got
 use Rattle.sql_keeper.specs.declared.stores.Answer.{Answer}
+use Rattle.session_client.specs.Desks.{Call}
 use Rattle.log_word.specs.declared.events.Short.{Short}
 use Rattle.log_word.specs.declared.seen.Seen.{Seen}
 use Rattle.log_word.specs.Events.{may_write, is_over}
@@ -31,11 +32,13 @@ pub record BoundBookView : Type 0 where
   pub seen : Seen
   pub quit : Option Sid
 
--- What contracts see of a desk: its book, what its pass has seen, and the number of its worker.
+-- What contracts see of a desk: its book, what its pass has seen, the number of its worker, and the calls that it answered,
+-- the latest first.
 pub record BoundDeskView : Type 0 where
   pub book : BookView
   pub seen : Seen
   pub worker : ℕ
+  pub calls : List Call
 
 -- The answer was given since a pass had seen the earlier: its stamp is at least the number of commits that had been
 -- seen then, and at most that of those that are seen now. It is right for the key, unless it is seen that the store has

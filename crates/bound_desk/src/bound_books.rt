@@ -1,5 +1,6 @@
 //! The book of a desk, and the pass that has seen what it says.
-ghost use Rattle.std.specs.Prelude.{◌≡◌, IfOk, OnErr};
+ghost use Rattle.std.specs.Prelude.{◌≡◌, false, IfOk, OnErr};
+ghost use Rattle.log_word.specs.Events.{has_begun};
 ghost use Rattle.log_word.specs.Steps.{IsBeginning};
 ghost use Rattle.desk_book.specs.Books.{empty_book, begun};
 ghost use Rattle.bound_hub.specs.Stores.{ShowsBegin};
@@ -63,8 +64,8 @@ impl<H: BoundName> BoundBook<H> {
     }
 
     /// Begins a session at the store that is lent, by this worker's desk. It is the present one from
-    /// now on, and its Begin is the last event that the pass has seen then. For want of memory there is
-    /// none, and the book stays.
+    /// now on, and its Begin is the last event that the pass has seen then, and the first of that number.
+    /// For want of memory there is none, and the book stays.
     pub fn begin<K: Keeper>(
         &mut self,
         word: &LogWord,
@@ -75,6 +76,7 @@ impl<H: BoundName> BoundBook<H> {
         requires { word.now ≡ H.word }
         ensures seen { IsBeginning self.old.seen self.new.seen }
         ensures shows { IfOk result (ShowsBegin H.begun worker writes self.new.seen) }
+        ensures first { IfOk result (λ sid. has_begun sid.number self.old.seen.events ≡ false) }
         ensures book { IfOk result (λ sid. self.new.book.book ≡ begun sid writes) }
         ensures err { OnErr result (self.new.book ≡ self.old.book) }
     {

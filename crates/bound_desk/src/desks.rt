@@ -1,15 +1,18 @@
 //! The desk of a worker over a bound hub: each call takes the lock of the key's shard or that of the
 //! store, makes one request there with the desk's book, and lets go.
-ghost use Rattle.std.specs.Prelude.{◌≡◌};
+ghost use Rattle.std.specs.Prelude.{◌≡◌, ◌∷◌, []};
 ghost use Rattle.session_client.specs.Belongs.{Belongs};
+ghost use Rattle.session_client.specs.Desks.{Asked};
 ghost use Rattle.session_client.specs.declared.replies.Wanted.TheVariants as wanted;
 ghost use Rattle.log_word.specs.Steps.{IsBeginning};
 ghost use Rattle.desk_book.specs.Books.{empty_book};
 ghost use Rattle.desk_book.specs.Borne.{IsPut};
+ghost use Rattle.bound_desk.specs.Records.{IsRecordSeen};
 ghost use Rattle.bound_desk.specs.Safe.{drop_reply};
 ghost use Rattle.bound_desk.specs.Shown.{ShowsReply};
 
 use crate::bound_books::BoundBook;
+use crate::records::Record;
 use crate::requests::is_raise;
 use crate::sweeps::BoundSweep;
 use crate::turns::{is_held_up, is_timed, turned};
@@ -17,6 +20,7 @@ use bound_hub::{BoundHub, BoundName};
 use desk_book::Made;
 use executor::key_of;
 use expiry_sweeper::{SweepReply, SweepWanted, Sweeper};
+use http_server::Log;
 use iq_outside::{Clock, Gate, Point};
 use key_shard::{Raising, Rel};
 use log_word::Pass;
@@ -28,7 +32,11 @@ use std::marker::Model;
 use std::sync::Wait;
 
 /// A worker's desk over a bound hub. It keeps a book of what it told for its present session, and a pass
-/// that has seen what the book says. Contracts see the book and what the pass has seen.
+/// that has seen what the book says. Contracts see the book, what the pass has seen, and the calls that the
+/// desk answered.
+///
+/// The pass has seen the Begin of each session that the desk began. A session's first get or quarantine has
+/// left a step that names it, unless memory ran out or no token was left.
 ///
 /// A request that the book bears out is made as it is asked for, and any other in its safe form. A release
 /// that keeps the value is Gone where the desk hasn't seen that the grant's session was ended without a
@@ -43,6 +51,7 @@ pub struct BoundDesk<'a, K: Keeper, H: BoundName, C: Clock, G: Gate, R: Wait> {
     clock: &'a C,
     gate: &'a G,
     told: BoundBook<H>,
+    calls: Record,
     sweeper: Sweeper,
     sweep: BoundSweep<H>,
 }
@@ -52,6 +61,7 @@ impl<'a, K: Keeper, H: BoundName, C: Clock, G: Gate, R: Wait> Model
     ghost use Rattle.std.specs.Prelude.{◌≡◌};
     ghost use Rattle.expiry_sweeper.specs.Follows.{shards_of};
     ghost use Rattle.bound_desk.specs.Bound.{BoundDeskView};
+    ghost use Rattle.bound_desk.specs.Records.{IsFreshBook, IsRecordSeen};
 
     ghost Value = { BoundDeskView };
 
@@ -59,9 +69,12 @@ impl<'a, K: Keeper, H: BoundName, C: Clock, G: Gate, R: Wait> Model
       book = desk.told.book;
       seen = desk.told.seen;
       worker = desk.worker;
+      calls = desk.calls;
     } };
 
-    ghost invariant = { λ desk. shards_of desk.sweeper ≡ desk.hub.now };
+    ghost invariant = { λ desk. (shards_of desk.sweeper ≡ desk.hub.now)
+        × IsRecordSeen H.terms H.before H.word.shards desk.worker desk.calls desk.told.seen
+        × IsFreshBook desk.calls desk.told.book.book };
 }
 
 impl<'a, K: Keeper, H: BoundName, C: Clock, G: Gate, R: Wait> BoundDesk<'a, K, H, C, G, R> {
@@ -80,6 +93,7 @@ impl<'a, K: Keeper, H: BoundName, C: Clock, G: Gate, R: Wait> BoundDesk<'a, K, H
         ensures book { result.book.book ≡ empty_book }
         ensures seen { result.seen ≡ pass.seen }
         ensures worker { result.worker ≡ worker }
+        ensures calls { result.calls ≡ [] }
     {
         let mut pass = pass;
         let other = hub.pass(&mut pass);
@@ -91,6 +105,7 @@ impl<'a, K: Keeper, H: BoundName, C: Clock, G: Gate, R: Wait> BoundDesk<'a, K, H
             clock,
             gate,
             told: BoundBook::new(alloc, pass),
+            calls: Record::new(),
             sweeper: Sweeper::new(hub.shards()),
             sweep: BoundSweep::new(other),
         }
@@ -104,21 +119,32 @@ impl<'a, K: Keeper, H: BoundName, C: Clock, G: Gate, R: Wait> BoundDesk<'a, K, H
         ensures seen { IsBeginning self.old.seen self.new.seen }
         ensures shows { ShowsReply H.opening H.before H.word.shards who (wanted.Get key floor)
             result self.new.seen }
+        ensures recorded { self.new.calls
+            ≡ Asked who (wanted.Get key floor) result ∷ self.old.calls }
     {
+        let request = Wanted::Get { key, floor };
+        let asked = Log::new().and(&who, &request);
+        request.let_go();
         let word = self.hub.word();
         let mut shard = self.hub.lock_of(self.rt, &key);
         self.gate
             .at(self.worker, Point::Inside { shard: shard.no() });
         let now = self.clock.now();
-        self.told
-            .reply_to_get(word, &mut *shard, who, key, floor, now)
+        let reply = self
+            .told
+            .reply_to_get(word, &mut *shard, who, key, floor, now);
+        self.calls = self.calls.asked(&asked, &reply);
+        reply
     }
 
-    /// The pass of the desk's word, which has seen what the desk has. The book goes, and so do the sweeper
-    /// and what it has seen.
+    /// The pass of the desk's word, which has seen what the desk has: of each session that the desk began its
+    /// Begin, and of its first request a step that names it. The book goes, and so do the sweeper and what it
+    /// has seen.
     pub fn into_pass(self) -> Pass
         ensures word { result.word ≡ H.word }
         ensures seen { result.seen ≡ self.entry.seen }
+        ensures recorded { IsRecordSeen H.terms H.before H.word.shards self.entry.worker
+            self.entry.calls result.seen }
     {
         let BoundDesk {
             rt: _,
@@ -128,6 +154,7 @@ impl<'a, K: Keeper, H: BoundName, C: Clock, G: Gate, R: Wait> BoundDesk<'a, K, H
             clock: _,
             gate: _,
             told,
+            calls: _,
             sweeper: _,
             sweep: _,
         } = self;
@@ -137,76 +164,82 @@ impl<'a, K: Keeper, H: BoundName, C: Clock, G: Gate, R: Wait> BoundDesk<'a, K, H
 
 impl<'a, K: Keeper, H: BoundName, C: Clock, G: Gate, R: Wait> Desk
     for BoundDesk<'a, K, H, C, G, R> {
-    ghost use Rattle.std.specs.Prelude.{None};
+    ghost use Rattle.std.specs.Prelude.{None, Some};
 
     ghost begun = { λ desk. None };
 
-    ghost record_of = { λ desk. None };
+    ghost record_of = { λ desk. Some desk.calls };
+
+    ghost worker = { λ desk. Some desk.worker };
 
     fn begin(&mut self, writes: bool) -> Result<Sid, Memory> {
         let word = self.hub.word();
         let mut store = self.hub.lock_store(self.rt);
         self.gate.at(self.worker, Point::AtStore);
-        self.told.begin(word, &mut *store, self.worker, writes)
+        let sid = self.told.begin(word, &mut *store, self.worker, writes)?;
+        self.calls = self.calls.began(sid, writes);
+        Ok(sid)
     }
 
     /// Makes a session's request as its book bears it out, and else in its safe form. Where a reader is told
     /// that a quarantine stands, and one is due on that shard, the worker's sweeper looks there next.
     fn call(&mut self, who: Sid, request: Wanted) -> Reply {
+        let asked = Log::new().and(&who, &request);
         let word = self.hub.word();
         let raises = is_raise(&request);
-        match self.told.made(who, request) {
-            Ok(Made::One { request }) => {
-                if matches!(&request, Wanted::Nothing) {
+        let reply = match self.told.made(who, request) {
+            Ok(Made::One { request }) => match key_of(&request) {
+                Some(key) => {
+                    let mut shard = self.hub.lock_of(self.rt, &key);
+                    let place = shard.no();
+                    self.gate.at(self.worker, Point::Inside { shard: place });
+                    let now = if is_timed(&request) {
+                        self.clock.now()
+                    } else {
+                        0
+                    };
+                    let reply = self.told.on_shard(word, &mut *shard, who, request, now);
+                    let due = shard.next_due();
+                    self.hub.note_due(place, due);
+                    if is_held_up(&reply) && due <= now {
+                        self.sweeper = turned(self.sweeper, place);
+                    }
+                    reply
+                }
+                None if matches!(&request, Wanted::Nothing) => {
                     request.let_go();
-                    return Reply::Nothing;
+                    Reply::Nothing
                 }
-                match key_of(&request) {
-                    Some(key) => {
-                        let mut shard = self.hub.lock_of(self.rt, &key);
-                        let place = shard.no();
-                        self.gate.at(self.worker, Point::Inside { shard: place });
-                        let now = if is_timed(&request) {
-                            self.clock.now()
-                        } else {
-                            0
-                        };
-                        let reply = self.told.on_shard(word, &mut *shard, who, request, now);
-                        let due = shard.next_due();
-                        self.hub.note_due(place, due);
-                        if is_held_up(&reply) && due <= now {
-                            self.sweeper = turned(self.sweeper, place);
-                        }
-                        reply
-                    }
-                    None => {
-                        let mut store = self.hub.lock_store(self.rt);
-                        self.gate.at(self.worker, Point::AtStore);
-                        self.told
-                            .at_store(word, self.alloc, &mut *store, who, request)
-                    }
+                None => {
+                    let mut store = self.hub.lock_store(self.rt);
+                    self.gate.at(self.worker, Point::AtStore);
+                    self.told
+                        .at_store(word, self.alloc, &mut *store, who, request)
                 }
-            }
+            },
             Ok(Made::EndDrop { session, grant }) => {
                 let is_over = {
                     let mut store = self.hub.lock_store(self.rt);
                     self.gate.at(self.worker, Point::AtStore);
                     self.told.close(word, &mut *store, session)
                 };
-                if !is_over {
+                if is_over {
+                    let mut shard = self.hub.lock_of(self.rt, &grant.key());
+                    let place = shard.no();
+                    self.gate.at(self.worker, Point::Inside { shard: place });
+                    let told = self.told.drop_value(word, &mut *shard, who, grant);
+                    self.hub.note_due(place, shard.next_due());
+                    dropped(raises, told)
+                } else {
                     grant.let_go();
-                    return dropped(raises, Rel::Gone);
+                    dropped(raises, Rel::Gone)
                 }
-                let mut shard = self.hub.lock_of(self.rt, &grant.key());
-                let place = shard.no();
-                self.gate.at(self.worker, Point::Inside { shard: place });
-                let told = self.told.drop_value(word, &mut *shard, who, grant);
-                self.hub.note_due(place, shard.next_due());
-                dropped(raises, told)
             }
             Ok(Made::Told { reply }) => reply,
             Err(request) => back(request),
-        }
+        };
+        self.calls = self.calls.asked(&asked, &reply);
+        reply
     }
 
     /// One step of the worker's own sweeper, under one lock. A shard on which no quarantine can be due yet

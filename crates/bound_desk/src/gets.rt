@@ -1,12 +1,14 @@
 //! A get for a desk: the book notes a lease.
-ghost use Rattle.std.specs.Prelude.{◌≡◌, ◌≢◌, ℕ, Bool, Err, IfOk, OnErr};
+ghost use Rattle.std.specs.Prelude.{◌≡◌, ◌≢◌, ℕ, Bool, Err, IfErr, IfOk, OnErr};
 ghost use Rattle.rows_model.specs.Placement.{shard_of};
 ghost use Rattle.key_shard.specs.Answers.{IsAtHome};
+ghost use Rattle.key_shard.specs.declared.replies.ShardFault.{ShardFault};
 ghost use Rattle.key_shard.specs.declared.replies.ShardFault.TheVariants as faults;
 ghost use Rattle.session_client.specs.Belongs.{IsGotOf};
 ghost use Rattle.log_word.specs.Steps.{IsBeginning};
 ghost use Rattle.desk_book.specs.Books.{noted_for};
 ghost use Rattle.bound_hub.specs.Gets.{got_short, IsGotFresh, IsLastStep};
+ghost use Rattle.bound_hub.specs.Spent.{HasNoToken, SeesSpent};
 ghost use Rattle.bound_desk.specs.Bound.{with_got};
 
 use crate::bound_books::BoundBook;
@@ -19,7 +21,8 @@ impl<H: BoundName> BoundBook<H> {
     /// Gets a key for a session on its shard, which is lent. The get's own step is the last of that shard
     /// that the desk has seen then. A hit is fresh against what the desk has seen then, unless that tells
     /// that the store has stopped telling its rows, and its stamp is at least the floor. A lease is
-    /// noted. Refused, for want of memory or of tokens alone, the book stays.
+    /// noted. Refused, for want of memory or of tokens alone, the book stays; that no token is left is seen
+    /// then.
     pub fn get(
         &mut self,
         word: &LogWord,
@@ -41,11 +44,20 @@ impl<H: BoundName> BoundBook<H> {
         ensures book { IfOk result (λ got.
             self.new.book.book ≡ noted_for who (with_got key got) self.old.book.book) }
         ensures err { OnErr result (self.new.book ≡ self.old.book) }
+        ensures spent { IfErr result (SeesSpent H.terms H.before (shard_of key H.word.shards)
+            self.new.seen) }
         ensures no_stranger { (place : ℕ) → result ≢ Err (faults.Stranger place) }
     {
-        let got = self.make_get(word, shard, key, who, floor, now)?;
-        self.note_got(who, key, &got);
-        Ok(got)
+        match self.make_get(word, shard, key, who, floor, now) {
+            Ok(got) => {
+                self.note_got(who, key, &got);
+                Ok(got)
+            }
+            Err(fault) => {
+                self.see(word, shard);
+                Err(fault)
+            }
+        }
     }
 
     // The get alone: the book stays.
@@ -68,9 +80,24 @@ impl<H: BoundName> BoundBook<H> {
             IsGotFresh H.opening (H.before no) no self.new.seen key got) }
         ensures floor { IfOk result (IsGotOf floor) }
         ensures book { self.new.book ≡ self.old.book }
+        ensures same { OnErr result (shard.new.shard ≡ shard.old.shard) }
+        ensures none_left { IfErr result (HasNoToken shard.old.shard) }
         ensures no_stranger { (place : ℕ) → result ≢ Err (faults.Stranger place) }
     {
         shard.get(word, &mut self.pass, key, who, floor, now)
+    }
+
+    /// The pass sees each step of a shard that refused, and so that it has no token left, where it has none.
+    /// The book stays, and so does the shard.
+    pub(crate) fn see(&mut self, word: &LogWord, shard: &mut BoundShard<H>)
+        requires { word.now ≡ H.word }
+        ensures book { self.new.book ≡ self.old.book }
+        ensures seen { IsBeginning self.old.seen self.new.seen }
+        ensures shard { shard.new.shard ≡ shard.old.shard }
+        ensures spent { (fault : ShardFault) → HasNoToken shard.old.shard fault
+            → SeesSpent H.terms H.before shard.old.shard.terms.no self.new.seen fault }
+    {
+        shard.tell(word, &mut self.pass);
     }
 
     // Notes what a get was answered, where its step is the last that was seen of the key's shard.

@@ -19,6 +19,7 @@ pub mod keeps;
 pub mod puts;
 pub mod quarantines;
 pub mod raises;
+mod records;
 pub mod requests;
 pub mod sets;
 pub mod shards;

@@ -1,5 +1,5 @@
 //! A quarantine for a desk: the book notes the grant.
-ghost use Rattle.std.specs.Prelude.{◌≡◌, ◌≢◌, ◌<◌, ℕ, Bool, Err, IfOk, None, OnErr, length, true};
+ghost use Rattle.std.specs.Prelude.{◌≡◌, ◌≢◌, ◌<◌, ℕ, Bool, Err, IfErr, IfOk, None, OnErr, length, true};
 ghost use Rattle.rows_model.specs.Placement.{shard_of};
 ghost use Rattle.key_shard.specs.Answers.{FitsShift, IsAtHome};
 ghost use Rattle.key_shard.specs.Past.{entry};
@@ -12,6 +12,7 @@ ghost use Rattle.desk_book.specs.Books.{noted_for, with_grant};
 ghost use Rattle.desk_book.specs.Borne.{MayQuarantine};
 ghost use Rattle.bound_hub.specs.Gets.{IsLastStep};
 ghost use Rattle.bound_hub.specs.Olds.{IsGrantHeld};
+ghost use Rattle.bound_hub.specs.Spent.{HasNoToken, SeesSpent};
 ghost use Rattle.bound_hub.specs.Stores.{IsGrantSeen};
 ghost use Rattle.bound_hub.specs.Told.{quarantine_short};
 ghost use Rattle.bound_hub.specs.Shorts.{is_alone};
@@ -33,7 +34,8 @@ impl<H: BoundName> BoundBook<H> {
     /// own step is the last of that shard that the desk has seen then. An old value that comes along is
     /// held by what the desk has seen then, and right, unless that tells that the store has stopped
     /// telling its rows. A grant is noted, with its old value. Room for it and a copy of the old value
-    /// are taken first. Refused by the shard or for want of memory, the book says what it said.
+    /// are taken first. Refused by the shard or for want of memory, the book says what it said; that no token
+    /// is left is seen then.
     pub fn quarantine(
         &mut self,
         word: &LogWord,
@@ -59,15 +61,24 @@ impl<H: BoundName> BoundBook<H> {
             self.new.book.book ≡ noted_for who (with_granted by told) self.old.book.book) }
         ensures belongs { IfOk result (IsQuarantineOf who key mode) }
         ensures err { OnErr result (self.new.book.book ≡ self.old.book.book) }
+        ensures spent { IfErr result (SeesSpent H.terms H.before (shard_of key H.word.shards)
+            self.new.seen) }
         ensures no_stranger { (place : ℕ) → result ≢ Err (faults.Stranger place) }
     {
         self.book.room_for_grant()?;
         let old = old_copy(shard, &key, mode)?;
-        let told = self.make_quarantine(word, shard, who, key, mode, by, now)?;
-        if let QAnswer::Granted { grant, old: _ } = &told {
-            self.note_grant(who, Ticket::of(grant), old, by);
+        match self.make_quarantine(word, shard, who, key, mode, by, now) {
+            Ok(told) => {
+                if let QAnswer::Granted { grant, old: _ } = &told {
+                    self.note_grant(who, Ticket::of(grant), old, by);
+                }
+                Ok(told)
+            }
+            Err(fault) => {
+                self.see(word, shard);
+                Err(fault)
+            }
         }
-        Ok(told)
     }
 
     // The quarantine alone: the book stays.
@@ -98,6 +109,8 @@ impl<H: BoundName> BoundBook<H> {
             (IsGrantAlone H.opening H.before H.word.shards by self.new.seen) }
         ensures belongs { IfOk result (IsQuarantineOf who key mode) }
         ensures book { self.new.book ≡ self.old.book }
+        ensures same { OnErr result (shard.new.shard ≡ shard.old.shard) }
+        ensures none_left { IfErr result (HasNoToken shard.old.shard) }
         ensures no_stranger { (place : ℕ) → result ≢ Err (faults.Stranger place) }
     {
         shard.quarantine(word, &mut self.pass, key, who, mode, by, now)

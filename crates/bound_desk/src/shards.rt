@@ -1,8 +1,9 @@
 //! The requests on a shard that is lent, each by one method of the book.
-ghost use Rattle.std.specs.Prelude.{◌≡◌, ◌≢◌, ℕ, IfSome};
+ghost use Rattle.std.specs.Prelude.{◌≡◌, ◌≢◌, ℕ, Bool, IfSome};
 ghost use Rattle.rows_model.specs.Placement.{shard_of};
 ghost use Rattle.key_shard.specs.Answers.{IsAtHome};
 ghost use Rattle.session_client.specs.Belongs.{Belongs};
+ghost use Rattle.session_client.specs.Desks.{IsFirst};
 ghost use Rattle.session_client.specs.declared.replies.Reply.TheVariants as reply;
 ghost use Rattle.session_client.specs.declared.replies.Wanted.TheVariants as wanted;
 ghost use Rattle.executor.specs.OnShard.{IsFor, fault_of};
@@ -11,6 +12,7 @@ ghost use Rattle.log_word.specs.Steps.{IsBeginning};
 ghost use Rattle.desk_book.specs.Borne.{MayQuarantine};
 ghost use Rattle.bound_desk.specs.Safe.{IsSafe};
 ghost use Rattle.bound_desk.specs.Made.{IsMade};
+ghost use Rattle.bound_desk.specs.Records.{ShowsFirst};
 ghost use Rattle.bound_desk.specs.Shown.{ShowsReply};
 
 use crate::bound_books::BoundBook;
@@ -39,6 +41,7 @@ impl<H: BoundName> BoundBook<H> {
         ensures seen { IsBeginning self.old.seen self.new.seen }
         ensures shows { ShowsReply H.opening H.before H.word.shards who (wanted.Get key floor)
             result self.new.seen }
+        ensures first { ShowsFirst H.terms H.before H.word.shards who result self.new.seen }
     {
         match self.get(word, shard, key, who, floor, now) {
             Ok(got) => Reply::Got { got },
@@ -63,6 +66,7 @@ impl<H: BoundName> BoundBook<H> {
         ensures seen { IsBeginning self.old.seen self.new.seen }
         ensures shows { ShowsReply H.opening H.before H.word.shards who (wanted.QaReg key)
             result self.new.seen }
+        ensures first { ShowsFirst H.terms H.before H.word.shards who result self.new.seen }
     {
         match self.quarantine(word, shard, who, key, Mode::Invalidate, 0, now) {
             Ok(told) => Reply::Quar { told },
@@ -87,6 +91,7 @@ impl<H: BoundName> BoundBook<H> {
         ensures seen { IsBeginning self.old.seen self.new.seen }
         ensures shows { ShowsReply H.opening H.before H.word.shards who (wanted.QaRead key)
             result self.new.seen }
+        ensures first { ShowsFirst H.terms H.before H.word.shards who result self.new.seen }
     {
         match self.quarantine(word, shard, who, key, Mode::Refresh, 0, now) {
             Ok(told) => Reply::Quar { told },
@@ -112,6 +117,7 @@ impl<H: BoundName> BoundBook<H> {
         ensures seen { IsBeginning self.old.seen self.new.seen }
         ensures shows { ShowsReply H.opening H.before H.word.shards who (wanted.Delta key by)
             result self.new.seen }
+        ensures first { ShowsFirst H.terms H.before H.word.shards who result self.new.seen }
     {
         match self.quarantine(word, shard, who, key, Mode::Delta, by, now) {
             Ok(told) => Reply::Quar { told },
@@ -148,7 +154,8 @@ impl<H: BoundName> BoundBook<H> {
     }
 
     /// Makes a session's request, which is safe by the book, on the shard of its key, which is lent. What the
-    /// reply tells is shown by what the desk has seen then. A release puts or shifts the value as asked for,
+    /// reply tells is shown by what the desk has seen then. A get and a quarantine leave a step that names the
+    /// session, unless memory ran out or no token is left. A release puts or shifts the value as asked for,
     /// where the grant's mode, and of a shift the key, are fit for that, and else drops it. One that keeps the
     /// value is Gone where the desk hasn't seen that the grant's session was ended without a commit. A raise
     /// of a grant that isn't to invalidate is Shared. Else what is made of a grant that is out there is the
@@ -170,6 +177,8 @@ impl<H: BoundName> BoundBook<H> {
         ensures seen { IsBeginning self.old.seen self.new.seen }
         ensures shows { ShowsReply H.opening H.before H.word.shards who request result
             self.new.seen }
+        ensures first { (writes : Bool) → IsFirst writes request
+            → ShowsFirst H.terms H.before H.word.shards who result self.new.seen }
         ensures made { IsMade self.old.quit shard.old.shard request result }
     {
         match request {

@@ -1,4 +1,4 @@
-use Rattle.std.proofs.Common.{◌≡◌, ◌||◌, false, true, sym, ap, subst, ◌∙◌}
+use Rattle.std.proofs.Common.{◌||◌, false, sym, ap, subst, ◌∙◌}
 use Rattle.std.proofs.lemmas.Bool.{false≢true}
 use Rattle.log_word.specs.Passes.{WordView}
 use Rattle.log_word.specs.Steps.{IsSound}

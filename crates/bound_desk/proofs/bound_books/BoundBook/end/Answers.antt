@@ -1,5 +1,4 @@
 use Rattle.std.proofs.Common.{◌≡◌, sym, ap, subst, ◌∙◌}
-use Rattle.log_word.specs.declared.seen.Seen.{Seen}
 use Rattle.log_word.specs.Passes.{PassView, WordView}
 use Rattle.log_word.specs.Steps.{IsBeginning, IsSound}
 use Rattle.bound_hub.specs.Stores.{ShowsEnd}

@@ -8,6 +8,7 @@ use Rattle.desk_book.proofs.ListLemmas.{ok_gives}
 use Rattle.bound_desk.specs.Writing.{IsGrantAlone}
 use Rattle.bound_desk.proofs.BoundLemmas.{book_goes_on}
 use Rattle.bound_desk.proofs.GrantNotes.{answer_brings}
+use Rattle.bound_desk.proofs.RecordLemmas.{none_is_left}
 use Rattle.bound_desk.proofs.WriteLemmas.{quit_goes_on}
 use Rattle.bound_desk.proofs.WritingLemmas.{answer_stood, ready_goes_on}
 use Rattle.bound_desk.proofs.bound_books.BoundBook.make_quarantine.Goals as goal
@@ -42,3 +43,6 @@ returns-clause-belongs g c =
     let past = past_of shard in
     ok_gives _ (IsQuarantineOf a.who a.key a.mode) c.quarantine.result
     (λ told shows. quarantine_belongs shard.terms past a.key a.who a.mode _ a.now told shows) c.quarantine.ensures.shows
+
+pub returns-clause-none_left : goal.returns-clause-none_left
+returns-clause-none_left g c = none_is_left c.args.shard.now.shard c.args.key _ c.quarantine.result c.quarantine.ensures.refusal

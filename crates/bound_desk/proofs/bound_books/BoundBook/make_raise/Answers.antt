@@ -1,4 +1,4 @@
-use Rattle.std.proofs.Common.{IfOk, is_some}
+use Rattle.std.proofs.Common.{is_some}
 use Rattle.key_shard.specs.Past.{entry}
 use Rattle.key_shard.specs.Shards.{is_out, past_of}
 use Rattle.desk_book.proofs.ListLemmas.{ok_gives}
