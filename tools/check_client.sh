@@ -1,6 +1,6 @@
 #!/bin/sh
 # Runs the tests of clients/python against the program that ./iq has ready, or against the one that $IQ names.
-# The last line is 'N passed, M failed', and the status is 1 where one failed. Takes 15 to 25 seconds; IQ_SECONDS in
+# The last line is 'N passed, M failed', and the status is 1 where one failed. Takes 20 to 50 seconds; IQ_SECONDS in
 # the environment says for how many of them eight threads read and write. Without python3 nothing is tried,
 # and there are no counts.
 top=$(cd "$(dirname "$0")/.." && pwd) || exit 1

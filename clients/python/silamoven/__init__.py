@@ -7,8 +7,9 @@
         me.write("rename 2 bob")
         print(me.read("profile:2").text)
 
-`Pool` reads and writes; `silamoven.errors` lists what can go wrong. A module `commands` has the single commands
-of the protocol, for a connection that a pool lends.
+`Pool` reads and writes, and has memcached's own commands by the names of pymemcache. `silamoven.errors` lists what
+can go wrong. The modules `commands` and `plain` have the single commands of the protocol, for a connection that a
+pool lends.
 """
 
 from .changes import Accept, Block, Change, Invite, Reject, Rename, Thaw, Txn
@@ -18,13 +19,17 @@ from .errors import (
     ConnectError,
     ConnectionLostError,
     EndedError,
+    ExpiryError,
+    FullError,
     InvalidInputError,
     NetworkError,
+    NotANumberError,
     OutOfMemoryError,
     PoolClosedError,
     PoolError,
     PoolTimeoutError,
     ProtocolError,
+    QueryKeyError,
     ReadTimeoutError,
     RefusedError,
     RejectedError,
@@ -39,6 +44,7 @@ from .errors import (
 from .keys import Key, Kind
 from .modes import Mode
 from .own_reads import OwnReads
+from .plain import Item
 from .pool import Pool
 from .reading import Answer, Origin
 from .values import Profile, parse_count, parse_ids
@@ -55,12 +61,16 @@ __all__ = [
     "Connection",
     "ConnectionLostError",
     "EndedError",
+    "ExpiryError",
+    "FullError",
     "InvalidInputError",
     "Invite",
+    "Item",
     "Key",
     "Kind",
     "Mode",
     "NetworkError",
+    "NotANumberError",
     "Origin",
     "OutOfMemoryError",
     "OwnReads",
@@ -70,6 +80,7 @@ __all__ = [
     "PoolTimeoutError",
     "Profile",
     "ProtocolError",
+    "QueryKeyError",
     "ReadTimeoutError",
     "ReadTries",
     "RefusedError",

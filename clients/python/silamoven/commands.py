@@ -2,12 +2,13 @@
 
 from __future__ import annotations
 
+from abc import ABC, abstractmethod
 from dataclasses import dataclass
 from enum import Enum
-from typing import Generic, Optional, Tuple, TypeVar, Union
+from typing import Generic, Optional, Tuple, TypeVar, Union, cast
 
 from .changes import Txn
-from .errors import InvalidInputError
+from .errors import InvalidInputError, ProtocolError, ReplyError, reply_error
 from .keys import Key
 from .replies import (
     Again,
@@ -15,6 +16,7 @@ from .replies import (
     Committed,
     Deleted,
     Ended,
+    Failure,
     Granted,
     Held,
     Lease,
@@ -25,10 +27,12 @@ from .replies import (
     Rejected,
     Released,
     Reply,
+    Source,
     Staged,
     Stored,
     Uncovered,
     Value,
+    read_reply,
 )
 
 BIGGEST_BLOCK = 1_048_576
@@ -48,8 +52,32 @@ class Role(Enum):
 
 
 @dataclass(frozen=True)
-class Command(Generic[_R]):
-    """A command.
+class Request(ABC, Generic[_R]):
+    """What can be sent on a connection: a `Command`, or a plain one.
+
+    Attributes:
+        data: the bytes to send.
+    """
+
+    data: bytes
+
+    @abstractmethod
+    def read(self, source: Source) -> Union[_R, Failure]:
+        """Reads its reply.
+
+        Raises:
+            ProtocolError: what came is no reply to it.
+            NetworkError: the source has no more bytes, or none in time.
+        """
+
+    @abstractmethod
+    def error(self, reply: str) -> ReplyError:
+        """The exception for a line by which it is answered an error."""
+
+
+@dataclass(frozen=True)
+class Command(Request[_R]):
+    """A command of leases and sessions.
 
     Attributes:
         data: the bytes to send.
@@ -59,7 +87,6 @@ class Command(Generic[_R]):
         begins: what it begins a session for, if it begins one.
     """
 
-    data: bytes
     replies: Tuple[type, ...]
     key: Optional[Key] = None
     with_old: bool = False
@@ -71,6 +98,17 @@ class Command(Generic[_R]):
         if isinstance(told, (Value, Staged)) and told.key != str(self.key):
             return False
         return isinstance(reply, self.replies)
+
+    def read(self, source: Source) -> Union[_R, Failure]:
+        reply: Reply = read_reply(source, with_old=self.with_old)
+        if isinstance(reply, Failure):
+            return reply
+        if not self.accepts(reply):
+            raise ProtocolError(f"{reply} to {self.data[:40]!r}")
+        return cast(_R, reply)
+
+    def error(self, reply: str) -> ReplyError:
+        return reply_error(reply)
 
 
 def _line(*words: object) -> bytes:

@@ -5,10 +5,10 @@ from __future__ import annotations
 import socket
 from dataclasses import dataclass
 from time import monotonic
-from typing import List, Optional, Sequence, Tuple, Type, TypeVar, Union, cast
+from typing import Callable, List, Optional, Sequence, Tuple, Type, TypeVar, Union
 
 from . import commands
-from .commands import Command, Role
+from .commands import Command, Request, Role
 from .errors import (
     ConnectError,
     ConnectionLostError,
@@ -16,12 +16,13 @@ from .errors import (
     ProtocolError,
     ReadTimeoutError,
     SilamovenError,
-    reply_error,
 )
 from .keys import is_decimal
-from .replies import Begun, Failure, Reply, read_reply
+from .plain_client import PlainClient
+from .replies import Begun, Failure
 
 _R = TypeVar("_R")
+_T = TypeVar("_T")
 _C = TypeVar("_C", bound="Connection")
 
 Address = Union[str, Tuple[str, int]]
@@ -110,10 +111,11 @@ class _Incoming:
         self._bytes += piece
 
 
-class Connection:
+class Connection(PlainClient):
     """A connection to a server, and the session that is present on it.
 
-    After a `NetworkError` it is closed. After a `ReplyError` it may be used again.
+    After a `NetworkError` it is closed. After a `ReplyError` it may be used again. Plain commands leave the session
+    as it is.
     """
 
     def __init__(self, sock: socket.socket, timeouts: Timeouts = Timeouts()) -> None:
@@ -199,7 +201,7 @@ class Connection:
         except SilamovenError:
             self.close()  # Then the server does the same.
 
-    def call(self, command: Command[_R]) -> _R:
+    def call(self, command: Request[_R]) -> _R:
         """Sends a command, and returns its reply.
 
         Raises:
@@ -208,25 +210,43 @@ class Connection:
         """
         (reply,) = self.exchange([command])
         if isinstance(reply, Failure):
-            raise reply_error(reply.line)
+            raise command.error(reply.line)
         return reply
 
-    def exchange(self, several: Sequence[Command[_R]]) -> List[Union[_R, Failure]]:
+    def exchange(self, several: Sequence[Request[_R]]) -> List[Union[_R, Failure]]:
         """Sends commands in one go, and returns their replies in the same order, errors among them.
 
         Raises:
             NetworkError: not all replies came. The connection is closed.
         """
-        if self._is_closed:
-            raise ConnectionLostError("the connection is closed")
-        try:
+        def replies() -> List[Union[_R, Failure]]:
             self._send(b"".join(command.data for command in several))
             self._incoming.deadline = monotonic() + self._timeouts.read
             return [self._reply_to(command) for command in several]
+
+        return self._or_close(replies)
+
+    def send(self, data: bytes) -> None:
+        """Sends a command that is told nothing.
+
+        Raises:
+            NetworkError: it couldn't be sent as a whole. The connection is closed.
+        """
+        self._or_close(lambda: self._send(data))
+
+    def _or_close(self, work: Callable[[], _T]) -> _T:
+        """Does the work on the open connection, and closes it where that fails."""
+        if self._is_closed:
+            raise ConnectionLostError("the connection is closed")
+        try:
+            return work()
         except BaseException:
             # Also where the caller was interrupted: what comes next would be taken for another reply.
             self.close()
             raise
+
+    def _on_connection(self, work: Callable[[Connection], _T]) -> _T:
+        return work(self)
 
     def _send(self, data: bytes) -> None:
         try:
@@ -237,12 +257,8 @@ class Connection:
         except OSError as broken:
             raise ConnectionLostError(f"the connection broke: {broken}") from broken
 
-    def _reply_to(self, command: Command[_R]) -> Union[_R, Failure]:
-        reply: Reply = read_reply(self._incoming, with_old=command.with_old)
-        if isinstance(reply, Failure):
-            return reply
-        if not command.accepts(reply):
-            raise ProtocolError(f"{reply} to {command.data[:40]!r}")
-        if isinstance(reply, Begun) and command.begins is not None:
+    def _reply_to(self, command: Request[_R]) -> Union[_R, Failure]:
+        reply = command.read(self._incoming)
+        if isinstance(reply, Begun) and isinstance(command, Command) and command.begins is not None:
             self._present = (command.begins, reply.sid)
-        return cast(_R, reply)
+        return reply

@@ -2,21 +2,25 @@
 
     SilamovenError
         InvalidInputError        a key, a transaction or an address of the wrong form (also a ValueError)
+            ExpiryError          a time of expiry other than 0
         NetworkError             the connection can't be used any more, and is closed
             ConnectError         no connection could be made
             ConnectionLostError  the server closed it, perhaps in the middle of a reply
             ReadTimeoutError     no whole reply came in time
             ProtocolError        what came is no reply to what was sent
-        UnknownOutcomeError      it broke after a commit was sent: it may have been committed
+        UnknownOutcomeError      it broke after a commit or a plain change was sent: that may have been done
         PoolError                the pool can't lend a connection
             PoolTimeoutError     none became free in time
             PoolClosedError      the pool was closed
         ReplyError               the server answered by an error
             CommandError         ERROR or CLIENT_ERROR: a fault of the client
+                QueryKeyError    a plain command for a key of the cache
+                NotANumberError  incr or decr of a value that is no number
             ServerError          SERVER_ERROR: a fault of the server
                 StoreError       the store failed in this command, which wasn't done
                 OutOfMemoryError memory ran out in this command, which wasn't done
                 SpentError       the server has to be started anew
+                FullError        there is no room for the plain item
         WriteError               nothing was committed
             RefusedError         other writers held a key, at every try
             EndedError           the server ended the session, at every try
@@ -36,6 +40,10 @@ class SilamovenError(Exception):
 
 class InvalidInputError(SilamovenError, ValueError):
     """A key, a transaction, a value or an address isn't of its form. Nothing was sent."""
+
+
+class ExpiryError(InvalidInputError):
+    """A plain item was to expire. The server keeps none that does, so nothing was sent."""
 
 
 class NetworkError(SilamovenError):
@@ -63,6 +71,9 @@ class UnknownOutcomeError(SilamovenError):
 
     The transaction may have been committed. `Pool.ask` tells what the store answers now; a read may still hit the
     value before it, since no floor follows from a number that wasn't told.
+
+    It is the same with a plain command that may change an item: it may have been done. `Pool.get` tells what the
+    item is now.
     """
 
 
@@ -94,6 +105,14 @@ class CommandError(ReplyError):
     """`ERROR` or `CLIENT_ERROR`: the command was wrong. Nothing was changed."""
 
 
+class QueryKeyError(CommandError):
+    """A plain command named a key of the cache, as ``profile:2``. That is read by `Pool.read`."""
+
+
+class NotANumberError(CommandError):
+    """`incr` or `decr` of an item whose value is no number below 2^64."""
+
+
 class ServerError(ReplyError):
     """`SERVER_ERROR`: the server couldn't do the command. Nothing was changed."""
 
@@ -107,7 +126,11 @@ class OutOfMemoryError(ServerError):
 
 
 class SpentError(ServerError):
-    """The log is full, or a shard has no token left. The server has to be started anew."""
+    """The log is full, or there is no token or no unique left. The server has to be started anew."""
+
+
+class FullError(ServerError):
+    """The server has no room for the plain item: 65,536 keys, or 268,435,456 bytes. Delete some, or store less."""
 
 
 class WriteError(SilamovenError):
@@ -148,16 +171,31 @@ class RejectedError(WriteError):
         self.index = index
 
 
-_SERVER_ERRORS: Dict[str, Type[ServerError]] = {
+_ERRORS: Dict[str, Type[ReplyError]] = {
     "SERVER_ERROR store": StoreError,
     "SERVER_ERROR memory": OutOfMemoryError,
     "SERVER_ERROR spent": SpentError,
     "SERVER_ERROR full": SpentError,
 }
 
+_PLAIN_ERRORS: Dict[str, Type[ReplyError]] = {
+    **_ERRORS,
+    "SERVER_ERROR full": FullError,
+    "CLIENT_ERROR query key": QueryKeyError,
+    "CLIENT_ERROR not a number": NotANumberError,
+}
+
 
 def reply_error(reply: str) -> ReplyError:
     """The exception for a line by which the server answers an error."""
-    if reply.startswith("SERVER_ERROR"):
-        return _SERVER_ERRORS.get(reply, ServerError)(reply)
-    return CommandError(reply)
+    return _error_of(reply, _ERRORS)
+
+
+def plain_error(reply: str) -> ReplyError:
+    """The exception for such a line where a plain command was sent."""
+    return _error_of(reply, _PLAIN_ERRORS)
+
+
+def _error_of(reply: str, known: Dict[str, Type[ReplyError]]) -> ReplyError:
+    other = ServerError if reply.startswith("SERVER_ERROR") else CommandError
+    return known.get(reply, other)(reply)

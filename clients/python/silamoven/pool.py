@@ -13,22 +13,26 @@ from .errors import (
     CommandError,
     ConnectError,
     ConnectionLostError,
+    NotANumberError,
     PoolClosedError,
     PoolTimeoutError,
+    QueryKeyError,
 )
 from .keys import Key, check_number
 from .modes import Mode
 from .own_reads import OwnReads
+from .plain_client import PlainClient
 from .reading import Answer
 from .waits import Backoff, ReadTries, WriteTries, again
 
 _T = TypeVar("_T")
 
 
-class Pool:
+class Pool(PlainClient):
     """Connections to one server, made as they are needed and used again.
 
-    All methods may be called by many threads at once. A process that forks needs a pool in each child.
+    `read` and `write` go by leases. `get`, `set` and the others of `PlainClient` are memcached's own commands. All
+    methods may be called by many threads at once. A process that forks needs a pool in each child.
 
     A server serves as many connections at once as it has workers, and an idle one holds a worker too. So the
     sizes of all pools together should be no more than the server's workers.
@@ -151,6 +155,8 @@ class Pool:
         connection = self._backing_off(self._take)
         try:
             yield connection
+        except (QueryKeyError, NotANumberError):
+            raise
         except CommandError:
             connection.close()  # A fault of the client, so nothing is known for sure.
             raise
@@ -167,6 +173,8 @@ class Pool:
             connection = self._take()
             try:
                 return work(connection)
+            except (QueryKeyError, NotANumberError):
+                raise
             except CommandError:
                 connection.close()
                 raise
@@ -174,6 +182,9 @@ class Pool:
                 self._give_back(connection)
 
         return self._backing_off(once)
+
+    def _on_connection(self, work: Callable[[Connection], _T]) -> _T:
+        return self._try(work)
 
     def _backing_off(self, once: Callable[[], _T]) -> _T:
         return again(once, self._backoff.waits(), (ConnectError, ConnectionLostError))

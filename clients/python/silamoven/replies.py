@@ -230,7 +230,14 @@ _BY_WORD: Dict[str, Callable[[List[str]], Reply]] = {
     "RELEASED": _of_one(Released, _number),
 }
 
-_FAILURES = ("ERROR", "CLIENT_ERROR", "SERVER_ERROR")
+_FAILURES = (b"ERROR", b"CLIENT_ERROR", b"SERVER_ERROR")
+
+
+def failure_of(line: bytes) -> Optional[Failure]:
+    """The error that the line tells, if it tells one."""
+    if line.split(b" ")[0] in _FAILURES and line.isascii():
+        return Failure(line.decode("ascii"))
+    return None
 
 
 def read_reply(source: Source, *, with_old: bool = False) -> Reply:
@@ -245,10 +252,11 @@ def read_reply(source: Source, *, with_old: bool = False) -> Reply:
         NetworkError: the source has no more bytes, or none in time.
     """
     line = source.line()
+    failure = failure_of(line)
+    if failure is not None:
+        return failure
     try:
         word, *words = line.decode("ascii").split(" ")
-        if word in _FAILURES:
-            return Failure(line.decode("ascii"))
         if word == "VALUE":
             return _read_value(source, words)
         reply = _BY_WORD[word](words)

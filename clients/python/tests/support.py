@@ -73,6 +73,10 @@ class Hang(str):
     """A reply behind which the server says no more."""
 
 
+class Nothing(str):
+    """No reply, and the conversation goes on."""
+
+
 class Drip(str):
     """A reply that comes byte by byte, each after a twentieth of a second."""
 
@@ -157,7 +161,9 @@ class FakeServer:
     def _tell(self, stream: socket.socket, reply: str) -> bool:
         """Sends a reply, and tells whether the conversation goes on."""
         try:
-            if isinstance(reply, Drip):
+            if isinstance(reply, Nothing):
+                pass
+            elif isinstance(reply, Drip):
                 for byte in _bytes(reply):
                     stream.sendall(bytes([byte]))
                     if self._is_over.wait(0.05):

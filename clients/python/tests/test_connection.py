@@ -114,7 +114,7 @@ class Broken(unittest.TestCase):
         with FakeServer([BEGIN, (LINE, "LEASE 1")]) as server:
             connection = Connection.open(server.address)
             connection.begin(Role.READ)
-            with mock.patch("silamoven.connection.read_reply", side_effect=KeyboardInterrupt):
+            with mock.patch("silamoven.commands.read_reply", side_effect=KeyboardInterrupt):
                 with self.assertRaises(KeyboardInterrupt):
                     connection.call(GET)
             self.assertTrue(connection.is_closed)

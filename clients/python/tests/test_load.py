@@ -27,7 +27,7 @@ from silamoven import (
     reading,
     writing,
 )
-from silamoven.commands import Command, Role
+from silamoven.commands import Request, Role
 from silamoven.replies import Ended, Granted, Lease, NotFound, NotStored, Released
 
 from .support import Server
@@ -120,7 +120,7 @@ def late_write() -> Any:
     tries: List[int] = []
 
     class Slow(Connection):
-        def call(self, command: Command[Any]) -> Any:
+        def call(self, command: Request[Any]) -> Any:
             if command.data.startswith(b"sql "):
                 tries.append(1)
                 if len(tries) == 1:

@@ -26,7 +26,8 @@ use Rattle.conn_server.specs.Outgoing.{told_text, plain_calls_of, plain_calls}
 use Rattle.conn_server.specs.Clients.{newcomer}
 use Rattle.conn_server.specs.Answers.{ItemAnswers, AllAnswer, GivenUp, with_calls}
 use Rattle.conn_server.specs.Service.{budget, texts, IsWithin, Lasts, place_of, TookSome, TookToFault, EndsSo, NoneLeft, IsServed, CountsWrites, tended_by}
-use Rattle.conn_server.specs.Course.{most_reads, DeskSide, IsUnserved, WaitsFew, Start, Done, Course, CountsAt, Ending, Tells, Flushes, Shuts, Finishes}
+use Rattle.conn_server.specs.Outbox.{Sends, SendsSome, Stops, Flushes, Finishes}
+use Rattle.conn_server.specs.Course.{most_reads, DeskSide, IsUnserved, Start, Done, Course, CountsAt, Ending, Tells, Shuts}
 use Rattle.conn_server.proofs.ClosingLemmas.{with_calls-append}
 use Rattle.mixed_lines.proofs.ItemLemmas.{item_fits, first_more, first_bound, item_open_bound}
 
@@ -98,12 +99,21 @@ texts_one [] reply = append-nil (told_text reply)
 texts_one (t ∷ told) reply =
     ap (λ (xs : List ℕ). told_text t ++ xs) (texts_one told reply) ∙ sym (append_assoc (told_text t) (texts told) (told_text reply))
 
--- what is told once more stands behind what was to be written
-due_one : (told : List Told) (sent old new : List ℕ) (reply : Told)
-    → texts told ≡ sent ++ old → new ≡ old ++ told_text reply → texts (told ++ reply ∷ []) ≡ sent ++ new
-due_one told sent old new reply due is =
-    texts_one told reply
-    ∙ (ap (λ (xs : List ℕ). xs ++ told_text reply) due ∙ (append_assoc sent old (told_text reply) ∙ ap (λ (xs : List ℕ). sent ++ xs) (sym is)))
+-- what is told once more is due behind what was sent
+due_more : (told : List Told) (reply : Told) (sent old : List ℕ)
+    → texts told ≡ sent ++ old → texts (told ++ reply ∷ []) ≡ sent ++ (old ++ told_text reply)
+due_more told reply sent old due =
+    texts_one told reply ∙ (ap (λ (xs : List ℕ). xs ++ told_text reply) due ∙ append_assoc sent old (told_text reply))
+
+-- more of it was sent
+due_sent : (front sent waits due : List ℕ) → due ≡ sent ++ waits → front ++ due ≡ (front ++ sent) ++ waits
+due_sent front sent waits due all = ap (λ (xs : List ℕ). front ++ xs) all ∙ sym (append_assoc front sent waits)
+
+-- and some was lost
+due_lost : (front sent waits lost due : List ℕ) → due ≡ (sent ++ waits) ++ lost → front ++ due ≡ ((front ++ sent) ++ waits) ++ lost
+due_lost front sent waits lost due some =
+    ap (λ (xs : List ℕ). front ++ xs) some
+    ∙ (sym (append_assoc front (sent ++ waits) lost) ∙ ap (λ (xs : List ℕ). xs ++ lost) (sym (append_assoc front sent waits)))
 
 -- a place that stops at the end of its type
 place_more : (size taken place end : ℕ) → place ≡ min size end → min (place + taken) end ≡ min (size + taken) end
@@ -152,6 +162,29 @@ done_one start reads writes before after client new done item taken calls reply 
   write_faults = done.write_faults;
 }
 
+-- what stands to be written was taken
+abbrev done_sent : (start : Start) (reads : ReadSide) (old new : WriteSide) (desk : DeskSide) (client : Client) (bytes : List ℕ)
+    → Gains old.taken new.taken bytes → old.faults ≤ new.faults
+    → Done start reads old desk client → Done start reads new desk client
+done_sent start reads old new desk client bytes gains up done = record {
+  given = done.given;
+  items = done.items;
+  size = done.size;
+  told = done.told;
+  asked = done.asked;
+  sent = done.sent ++ bytes;
+  gives = done.gives;
+  adds = done.adds;
+  takes = Gains-append start.writes.taken old.taken new.taken done.sent bytes done.takes gains;
+  asks = done.asks;
+  tended = done.tended;
+  asks_plain = done.asks_plain;
+  first = done.first;
+  answers = done.answers;
+  read_faults = done.read_faults;
+  write_faults = let before = done.write_faults in omega arith;
+}
+
 -- an item that stood first was taken and answered
 pub record Answered (before after : DeskSide) (old new : Serving) (reply : Told) : Type 0 where
   pub item : Item
@@ -165,88 +198,107 @@ pub record Answered (before after : DeskSide) (old new : Serving) (reply : Told)
   pub answers : ItemAnswers old.client item calls reply new.client
   pub count : new.count ≡ old.count + 1
 
-course_one : (start : Start) (rounds : ℕ) (reads : ReadSide) (writes : WriteSide) (before after : DeskSide) (old new : Serving) (reply : Told)
-    → Answered before after old new reply → new.count < budget → new.out.items ≡ old.out.items ++ told_text reply
-    → Course start rounds reads writes before old → Course start rounds reads writes after new
-course_one start rounds reads writes before after old new reply a few out c =
+course_one : (start : Start) (rounds : ℕ) (reads : ReadSide) (writes new_writes : WriteSide) (before after : DeskSide) (old new : Serving) (reply : Told)
+    → Answered before after old new reply → new.count < budget → Sends writes new_writes (old.out ++ told_text reply) new.out
+    → Course start rounds reads writes before old → Course start rounds reads new_writes after new
+course_one start rounds reads writes new_writes before after old new reply a few s c =
     let stands = subst (λ (bytes : List ℕ). Stands bytes a.item a.taken) c.rest a.stands in
     record {
-      done = done_one start reads writes before after old.client new.client c.done a.item a.taken a.calls reply stands a.asks a.tended a.plains a.answers;
+      done = done_sent start reads writes new_writes after new.client s.sent s.gains (omega (arith, s.no_fault))
+          (done_one start reads writes before after old.client new.client c.done a.item a.taken a.calls reply stands a.asks a.tended a.plains a.answers);
       within = omega (arith, length-append c.done.items (a.item ∷ []), a.count, c.count);
       count = omega (arith, length-append c.done.items (a.item ∷ []), a.count, c.count);
-      due = due_one c.done.told c.done.sent old.out.items new.out.items reply c.due out;
+      due = due_more c.done.told reply c.done.sent old.out c.due ∙ due_sent c.done.sent s.sent new.out (old.out ++ told_text reply) s.all;
       rest = ap (λ (f : Frames). f.rest) a.framer ∙ (ap (λ (bytes : List ℕ). drop a.taken bytes) c.rest ∙ drop-drop a.taken c.done.size c.done.given);
       place = ap (λ (f : Frames). f.place) a.framer ∙ place_more c.done.size a.taken old.framer.place (2 ^ 64 - 1) c.place;
       fed = c.fed;
       few = c.few;
       no_read_fault = c.no_read_fault;
-      no_write_fault = c.no_write_fault;
+      no_write_fault = s.no_fault ∙ c.no_write_fault;
     }
+
+-- a beginning of what is due was sent or waits
+some_due : (told : List Told) (reply : Told) (front old : List ℕ) (writes new_writes : WriteSide) (waits : List ℕ)
+    → texts told ≡ front ++ old → (s : SendsSome writes new_writes (old ++ told_text reply) waits)
+    → TookSome ((front ++ s.sent) ++ waits) (told ++ reply ∷ [])
+some_due told reply front old writes new_writes waits due s =
+    (s.lost, due_more told reply front old due ∙ due_lost front s.sent waits s.lost (old ++ told_text reply) s.some)
 
 -- behind its last item a connection ends
-ending_one : (end : LineEnd) (start : Start) (rounds : ℕ) (reads : ReadSide) (writes : WriteSide) (before after : DeskSide)
+ending_one : (end : LineEnd) (start : Start) (rounds : ℕ) (reads : ReadSide) (writes new_writes : WriteSide) (before after : DeskSide)
     (old new : Serving) (reply : Told)
-    → Answered before after old new reply → Tells (Err end) reply old new
-    → Course start rounds reads writes before old → Ending end start reads writes after new
-ending_one ends.Budget start rounds reads writes before after old new reply a told c =
+    → Answered before after old new reply → Tells (Err end) reply writes new_writes old.out new
+    → Course start rounds reads writes before old → Ending end start reads new_writes after new
+ending_one ends.Budget start rounds reads writes new_writes before after old new reply a stops c =
     let stands = subst (λ (bytes : List ℕ). Stands bytes a.item a.taken) c.rest a.stands in
+    let s = stops.1 in
     record {
-      done = done_one start reads writes before after old.client new.client c.done a.item a.taken a.calls reply stands a.asks a.tended a.plains a.answers;
+      done = done_sent start reads writes new_writes after new.client s.sent s.gains (omega (arith, s.no_fault))
+          (done_one start reads writes before after old.client new.client c.done a.item a.taken a.calls reply stands a.asks a.tended a.plains a.answers);
       ends = (
-        omega (arith, length-append c.done.items (a.item ∷ []), a.count, c.count, told.0),
-        sym (due_one c.done.told c.done.sent old.out.items new.out.items reply c.due told.1),
+        omega (arith, length-append c.done.items (a.item ∷ []), a.count, c.count, stops.0),
+        sym (due_more c.done.told reply c.done.sent old.out c.due ∙ due_sent c.done.sent s.sent new.out (old.out ++ told_text reply) s.all),
       );
-      counts = (c.no_read_fault, c.no_write_fault);
+      counts = (c.no_read_fault, s.no_fault ∙ c.no_write_fault);
       none_left = tt;
     }
-ending_one ends.Memory start rounds reads writes before after old new reply a told c =
+ending_one ends.Memory start rounds reads writes new_writes before after old new reply a stops c =
     let stands = subst (λ (bytes : List ℕ). Stands bytes a.item a.taken) c.rest a.stands in
     let within = c.within in
-    let all : texts c.done.told ≡ c.done.sent ++ new.out.items = c.due ∙ ap (λ (xs : List ℕ). c.done.sent ++ xs) (sym told) in
     record {
-      done = done_one start reads writes before after old.client new.client c.done a.item a.taken a.calls reply stands a.asks a.tended a.plains a.answers;
+      done = done_sent start reads writes new_writes after new.client stops.0.sent stops.0.gains (omega (arith, stops.1))
+          (done_one start reads writes before after old.client new.client c.done a.item a.taken a.calls reply stands a.asks a.tended a.plains a.answers);
       ends = (
         omega (arith, length-append c.done.items (a.item ∷ [])),
-        inl (told_text reply, texts_one c.done.told reply ∙ ap (λ (xs : List ℕ). xs ++ told_text reply) all),
+        inl (some_due c.done.told reply c.done.sent old.out writes new_writes new.out c.due stops.0),
       );
-      counts = (c.no_read_fault, c.no_write_fault);
+      counts = (c.no_read_fault, stops.1 ∙ c.no_write_fault);
       none_left = tt;
     }
-ending_one other start rounds reads writes before after old new reply a told c = absurd told
+ending_one ends.WriteFault start rounds reads writes new_writes before after old new reply a stops c =
+    let stands = subst (λ (bytes : List ℕ). Stands bytes a.item a.taken) c.rest a.stands in
+    let within = c.within in
+    record {
+      done = done_sent start reads writes new_writes after new.client stops.0.sent stops.0.gains stops.2
+          (done_one start reads writes before after old.client new.client c.done a.item a.taken a.calls reply stands a.asks a.tended a.plains a.answers);
+      ends = (
+        omega (arith, length-append c.done.items (a.item ∷ [])),
+        inl (some_due c.done.told reply c.done.sent old.out writes new_writes new.out c.due stops.0),
+      );
+      counts = (c.done.read_faults, Rose-later start.writes.faults writes.faults new_writes.faults c.done.write_faults stops.1);
+      none_left = tt;
+    }
+ending_one other start rounds reads writes new_writes before after old new reply a stops c = absurd stops
 
--- where replies stand is all that matters of what was before
-tells_from : (result : Result Bool LineEnd) (reply : Told) (mid old new : Serving)
-    → mid.out.items ≡ old.out.items → Tells result reply mid new → Tells result reply old new
-tells_from (Ok more) reply mid old new same t = (t.0, t.1, t.2 ∙ ap (λ (xs : List ℕ). xs ++ told_text reply) same)
-tells_from (Err ends.Budget) reply mid old new same t = (t.0, t.1 ∙ ap (λ (xs : List ℕ). xs ++ told_text reply) same)
-tells_from (Err ends.Memory) reply mid old new same t = t ∙ same
-tells_from (Err other) reply mid old new same t = absurd t
+pub tells_within : (result : Result Bool LineEnd) (reply : Told) (before after : WriteSide) (waited : List ℕ) (new : Serving)
+    → Tells result reply before after waited new → OnOk result (new.count < 1000000)
+tells_within (Ok more) reply before after waited new t = t.1
+tells_within (Err end) reply before after waited new t = tt
 
-pub tells_within : (result : Result Bool LineEnd) (reply : Told) (old new : Serving) → Tells result reply old new → OnOk result (new.count < 1000000)
-tells_within (Ok more) reply old new t = t.1
-tells_within (Err end) reply old new t = tt
+pub tells_more : (result : Result Bool LineEnd) (reply : Told) (before after : WriteSide) (waited : List ℕ) (new : Serving)
+    → Tells result reply before after waited new → result ≡ Ok false → ⊥
+tells_more (Ok more) reply before after waited new t e = let is = t.0 in absurd cc
+tells_more (Err end) reply before after waited new t e = absurd cc
 
-pub tells_more : (result : Result Bool LineEnd) (reply : Told) (old new : Serving) → Tells result reply old new → result ≡ Ok false → ⊥
-tells_more (Ok more) reply old new t e = let is = t.0 in absurd cc
-tells_more (Err end) reply old new t e = absurd cc
+pub answered_goes_on : (result : Result Bool LineEnd) (reads new_reads : ReadSide) (writes new_writes : WriteSide) (before after : DeskSide)
+    (old new : Serving) (reply : Told)
+    → Tells result reply writes new_writes old.out new → new_reads ≡ reads → Answered before after old new reply
+    → OnOk result ((start : Start) (rounds : ℕ)
+    → Course start rounds reads writes before old → Course start rounds new_reads new_writes after new)
+answered_goes_on (Ok more) reads new_reads writes new_writes before after old new reply t apart a =
+    λ start rounds c. subst (λ (r : ReadSide). Course start rounds r new_writes after new) (sym apart)
+    (course_one start rounds reads writes new_writes before after old new reply a t.1 t.2 c)
+answered_goes_on (Err end) reads new_reads writes new_writes before after old new reply t apart a = tt
 
-pub answered_goes_on : (result : Result Bool LineEnd) (before after : DeskSide) (old mid new : Serving) (reply : Told)
-    → mid.out.items ≡ old.out.items → Tells result reply mid new → Answered before after old new reply
-    → OnOk result ((start : Start) (rounds : ℕ) (reads : ReadSide) (writes : WriteSide)
-    → Course start rounds reads writes before old → Course start rounds reads writes after new)
-answered_goes_on (Ok more) before after old mid new reply same t a =
-    let told = tells_from (Ok more) reply mid old new same t in
-    λ start rounds reads writes c. course_one start rounds reads writes before after old new reply a told.1 told.2 c
-answered_goes_on (Err end) before after old mid new reply same t a = tt
-
-pub answered_ends : (result : Result Bool LineEnd) (before after : DeskSide) (old mid new : Serving) (reply : Told)
-    → mid.out.items ≡ old.out.items → Tells result reply mid new → Answered before after old new reply
-    → IfErr result (λ end. (start : Start) (rounds : ℕ) (reads : ReadSide) (writes : WriteSide)
-    → Course start rounds reads writes before old → Ending end start reads writes after new)
-answered_ends (Ok more) before after old mid new reply same t a = tt
-answered_ends (Err end) before after old mid new reply same t a =
-    λ start rounds reads writes c.
-    ending_one end start rounds reads writes before after old new reply a (tells_from (Err end) reply mid old new same t) c
+pub answered_ends : (result : Result Bool LineEnd) (reads new_reads : ReadSide) (writes new_writes : WriteSide) (before after : DeskSide)
+    (old new : Serving) (reply : Told)
+    → Tells result reply writes new_writes old.out new → new_reads ≡ reads → Answered before after old new reply
+    → IfErr result (λ end. (start : Start) (rounds : ℕ)
+    → Course start rounds reads writes before old → Ending end start new_reads new_writes after new)
+answered_ends (Ok more) reads new_reads writes new_writes before after old new reply t apart a = tt
+answered_ends (Err end) reads new_reads writes new_writes before after old new reply t apart a =
+    λ start rounds c. subst (λ (r : ReadSide). Ending end start r new_writes after new) (sym apart)
+    (ending_one end start rounds reads writes new_writes before after old new reply a t c)
 
 -- what was read
 pub next_said : (old new : Frames) (r : Result (Option Said) FrameFault) (said : Said)
@@ -289,7 +341,7 @@ course_same : (start : Start) (rounds : ℕ) (reads : ReadSide) (writes new_writ
     → new_writes.faults ≡ writes.faults → new.framer ≡ old.framer → new.client ≡ old.client → new.count ≡ old.count
     → (course : Course start rounds reads writes desk old)
     → done.given ≡ course.done.given → done.items ≡ course.done.items → done.size ≡ course.done.size
-    → texts done.told ≡ done.sent ++ new.out.items
+    → texts done.told ≡ done.sent ++ new.out
     → Course start rounds reads new_writes desk new
 course_same start rounds reads writes new_writes desk old new done same framer client count c given items size due =
     subst (λ (x : Client). Course start rounds reads new_writes desk (with_client new x)) (sym client) (record {
@@ -308,44 +360,21 @@ course_same start rounds reads writes new_writes desk old new done same framer c
 
 -- nothing whole stands next
 pub course_open : (start : Start) (rounds : ℕ) (reads : ReadSide) (writes : WriteSide) (desk : DeskSide) (old new : Serving)
-    → new.framer ≡ old.framer → new.out.items ≡ old.out.items → new.client ≡ old.client → new.count ≡ old.count
+    → new.framer ≡ old.framer → new.out ≡ old.out → new.client ≡ old.client → new.count ≡ old.count
     → Course start rounds reads writes desk old → Course start rounds reads writes desk new
 course_open start rounds reads writes desk old new framer out client count c =
     course_same start rounds reads writes writes desk old new c.done refl framer client count c refl refl refl
     (c.due ∙ ap (λ (xs : List ℕ). c.done.sent ++ xs) (sym out))
 
--- what stands to be written was taken
-abbrev done_sent : (start : Start) (reads : ReadSide) (old new : WriteSide) (desk : DeskSide) (client : Client) (bytes : List ℕ)
-    → Gains old.taken new.taken bytes → old.faults ≤ new.faults
-    → Done start reads old desk client → Done start reads new desk client
-done_sent start reads old new desk client bytes gains up done = record {
-  given = done.given;
-  items = done.items;
-  size = done.size;
-  told = done.told;
-  asked = done.asked;
-  sent = done.sent ++ bytes;
-  gives = done.gives;
-  adds = done.adds;
-  takes = Gains-append start.writes.taken old.taken new.taken done.sent bytes done.takes gains;
-  asks = done.asks;
-  tended = done.tended;
-  asks_plain = done.asks_plain;
-  first = done.first;
-  answers = done.answers;
-  read_faults = done.read_faults;
-  write_faults = let before = done.write_faults in omega arith;
-}
-
 course_flushed : (start : Start) (rounds : ℕ) (reads : ReadSide) (writes new_writes : WriteSide) (desk : DeskSide) (old new : Serving)
-    → Gains writes.taken new_writes.taken old.out.items → new_writes.faults ≡ writes.faults
-    → new.out.items ≡ [] → new.framer ≡ old.framer → new.client ≡ old.client → new.count ≡ old.count
+    → Gains writes.taken new_writes.taken old.out → new_writes.faults ≡ writes.faults
+    → new.out ≡ [] → new.framer ≡ old.framer → new.client ≡ old.client → new.count ≡ old.count
     → Course start rounds reads writes desk old → Course start rounds reads new_writes desk new
 course_flushed start rounds reads writes new_writes desk old new gains same none framer client count c =
     course_same start rounds reads writes new_writes desk old new
-    (done_sent start reads writes new_writes desk old.client old.out.items gains (omega (arith, same)) c.done)
+    (done_sent start reads writes new_writes desk old.client old.out gains (omega (arith, same)) c.done)
     same framer client count c refl refl refl
-    (c.due ∙ (sym (append-nil (c.done.sent ++ old.out.items)) ∙ ap (λ (xs : List ℕ). (c.done.sent ++ old.out.items) ++ xs) (sym none)))
+    (c.due ∙ (sym (append-nil (c.done.sent ++ old.out)) ∙ ap (λ (xs : List ℕ). (c.done.sent ++ old.out) ++ xs) (sym none)))
 
 -- a beginning of what stands to be written was taken
 some_of : (told : List Told) (sent out : List ℕ) (written : ℕ) → texts told ≡ sent ++ out → TookSome ((sent ++ take written out) ++ []) told
@@ -357,24 +386,24 @@ some_of told sent out written due = (
 )
 
 ending_write : (start : Start) (rounds : ℕ) (reads : ReadSide) (writes new_writes : WriteSide) (desk : DeskSide) (old new : Serving) (written : ℕ)
-    → Gains writes.taken new_writes.taken (take written old.out.items) → Rose writes.faults new_writes.faults → writes.faults ≤ new_writes.faults
-    → new.out.items ≡ [] → new.client ≡ old.client
+    → Gains writes.taken new_writes.taken (take written old.out) → Rose writes.faults new_writes.faults → writes.faults ≤ new_writes.faults
+    → new.out ≡ [] → new.client ≡ old.client
     → Course start rounds reads writes desk old → Ending ends.WriteFault start reads new_writes desk new
 ending_write start rounds reads writes new_writes desk old new written gains rose up none client c =
     let within = c.within in
     subst (λ (x : Client). Ending ends.WriteFault start reads new_writes desk (with_client new x)) (sym client) (record {
-      done = done_sent start reads writes new_writes desk old.client (take written old.out.items) gains up c.done;
+      done = done_sent start reads writes new_writes desk old.client (take written old.out) gains up c.done;
       ends = (
         omega arith,
-        inl (subst (λ (xs : List ℕ). TookSome ((c.done.sent ++ take written old.out.items) ++ xs) c.done.told) (sym none)
-            (some_of c.done.told c.done.sent old.out.items written c.due)),
+        inl (subst (λ (xs : List ℕ). TookSome ((c.done.sent ++ take written old.out) ++ xs) c.done.told) (sym none)
+            (some_of c.done.told c.done.sent old.out written c.due)),
       );
       counts = (c.done.read_faults, Rose-later start.writes.faults writes.faults new_writes.faults c.done.write_faults rose);
       none_left = tt;
     })
 
 pub flushed_goes_on : {X : Type 0} (result : Result X LineEnd) (reads new_reads : ReadSide) (writes new_writes : WriteSide) (old new : Serving)
-    → Flushes result writes new_writes old.out.items → new_reads ≡ reads → new.out.items ≡ []
+    → Flushes result writes new_writes old.out → new_reads ≡ reads → new.out ≡ []
     → new.framer ≡ old.framer → new.client ≡ old.client → new.count ≡ old.count
     → OnOk result ((start : Start) (rounds : ℕ) (desk : DeskSide)
     → Course start rounds reads writes desk old → Course start rounds new_reads new_writes desk new)
@@ -384,14 +413,14 @@ flushed_goes_on (Ok x) reads new_reads writes new_writes old new f apart none fr
 flushed_goes_on (Err end) reads new_reads writes new_writes old new f apart none framer client count = tt
 
 flush_ends : (end : LineEnd) (reads : ReadSide) (writes new_writes : WriteSide) (old new : Serving) (start : Start) (rounds : ℕ) (desk : DeskSide)
-    → Flushes {X = Bool} (Err end) writes new_writes old.out.items → new.out.items ≡ [] → new.client ≡ old.client
+    → Flushes {X = Bool} (Err end) writes new_writes old.out → new.out ≡ [] → new.client ≡ old.client
     → Course start rounds reads writes desk old → Ending end start reads new_writes desk new
 flush_ends ends.WriteFault reads writes new_writes old new start rounds desk f none client c =
     ending_write start rounds reads writes new_writes desk old new f.0.0 f.0.1 f.1 f.2 none client c
 flush_ends other reads writes new_writes old new start rounds desk f none client c = absurd f
 
 pub flushed_ends : {X : Type 0} (result : Result X LineEnd) (reads new_reads : ReadSide) (writes new_writes : WriteSide) (old new : Serving)
-    → Flushes result writes new_writes old.out.items → new_reads ≡ reads → new.out.items ≡ [] → new.client ≡ old.client
+    → Flushes result writes new_writes old.out → new_reads ≡ reads → new.out ≡ [] → new.client ≡ old.client
     → IfErr result (λ end. (start : Start) (rounds : ℕ) (desk : DeskSide)
     → Course start rounds reads writes desk old → Ending end start new_reads new_writes desk new)
 flushed_ends (Ok x) reads new_reads writes new_writes old new f apart none client = tt
@@ -401,8 +430,8 @@ flushed_ends (Err end) reads new_reads writes new_writes old new f apart none cl
 
 -- a connection ends without a further reply
 ending_here : (end : LineEnd) (start : Start) (rounds : ℕ) (reads : ReadSide) (writes : WriteSide) (desk : DeskSide) (old new : Serving)
-    → new.out.items ≡ old.out.items → new.client ≡ old.client → (c : Course start rounds reads writes desk old)
-    → EndsSo end c.done.items c.done.size (drop c.done.size c.done.given) (c.done.sent ++ old.out.items) c.done.told
+    → new.out ≡ old.out → new.client ≡ old.client → (c : Course start rounds reads writes desk old)
+    → EndsSo end c.done.items c.done.size (drop c.done.size c.done.given) (c.done.sent ++ old.out) c.done.told
     → CountsAt end start reads writes → NoneLeft end reads.left
     → Ending end start reads writes desk new
 ending_here end start rounds reads writes desk old new out client c e counts none =
@@ -414,7 +443,7 @@ ending_here end start rounds reads writes desk old new out client c e counts non
     })
 
 pub ending_quit : (start : Start) (rounds : ℕ) (reads : ReadSide) (writes : WriteSide) (desk : DeskSide) (old new : Serving) (taken : ℕ)
-    → Stands old.framer.rest (command Quit) taken → new.out.items ≡ old.out.items → new.client ≡ old.client
+    → Stands old.framer.rest (command Quit) taken → new.out ≡ old.out → new.client ≡ old.client
     → Course start rounds reads writes desk old → Ending ends.Quit start reads writes desk new
 ending_quit start rounds reads writes desk old new taken stands out client c =
     ending_here ends.Quit start rounds reads writes desk old new out client c
@@ -425,51 +454,78 @@ all_due : (told : List Told) (taken : List ℕ) → texts told ≡ taken → Too
 all_due told taken due = ([], due ∙ sym (append-nil taken))
 
 pub ending_memory : (start : Start) (rounds : ℕ) (reads : ReadSide) (writes : WriteSide) (desk : DeskSide) (old new : Serving)
-    → new.out.items ≡ old.out.items → new.client ≡ old.client
+    → new.out ≡ old.out → new.client ≡ old.client
     → Course start rounds reads writes desk old → Ending ends.Memory start reads writes desk new
 ending_memory start rounds reads writes desk old new out client c =
     let within = c.within in
     ending_here ends.Memory start rounds reads writes desk old new out client c
-    (omega arith, inl (all_due c.done.told (c.done.sent ++ old.out.items) c.due)) (c.no_read_fault, c.no_write_fault) tt
+    (omega arith, inl (all_due c.done.told (c.done.sent ++ old.out) c.due)) (c.no_read_fault, c.no_write_fault) tt
 
-ending_shut : (fault : FrameFault) (last : Told) (start : Start) (rounds : ℕ) (reads : ReadSide) (writes : WriteSide)
+-- a fault that lasts was told, or a beginning of that
+shut_ends : (end : LineEnd) (fault : FrameFault) (last : Told) (start : Start) (rounds : ℕ) (reads : ReadSide) (writes new_writes : WriteSide)
     (desk : DeskSide) (old new : Serving)
-    → Lasts old.framer.rest fault last → place_of fault ≡ old.framer.place → new.out.items ≡ old.out.items ++ told_text last → new.client ≡ old.client
-    → Course start rounds reads writes desk old → Ending (ends.Shut fault) start reads writes desk new
-ending_shut fault last start rounds reads writes desk old new lasts place out client c =
-    subst (λ (x : Client). Ending (ends.Shut fault) start reads writes desk (with_client new x)) (sym client) (record {
-      done = c.done;
+    → Lasts old.framer.rest fault last → place_of fault ≡ old.framer.place → Shuts end fault last writes new_writes old.out new.out → new.client ≡ old.client
+    → Course start rounds reads writes desk old → Ending end start reads new_writes desk new
+shut_ends (ends.Shut found) fault last start rounds reads writes new_writes desk old new lasts place shuts client c =
+    let s = shuts.1 in
+    subst (λ (f : FrameFault). Ending (ends.Shut f) start reads new_writes desk new) (sym shuts.0)
+    (subst (λ (x : Client). Ending (ends.Shut fault) start reads new_writes desk (with_client new x)) (sym client) (record {
+      done = done_sent start reads writes new_writes desk old.client s.sent s.gains (omega (arith, s.no_fault)) c.done;
       ends = (
         c.within,
         place ∙ c.place,
         (
           last,
           subst (λ (bytes : List ℕ). Lasts bytes fault last) c.rest lasts,
-          sym (due_one c.done.told c.done.sent old.out.items new.out.items last c.due out),
+          sym (due_more c.done.told last c.done.sent old.out c.due ∙ due_sent c.done.sent s.sent new.out (old.out ++ told_text last) s.all),
         ),
       );
-      counts = (c.no_read_fault, c.no_write_fault);
+      counts = (c.no_read_fault, s.no_fault ∙ c.no_write_fault);
+      none_left = tt;
+    }))
+shut_ends ends.Memory fault last start rounds reads writes new_writes desk old new lasts place shuts client c =
+    let within = c.within in
+    subst (λ (x : Client). Ending ends.Memory start reads new_writes desk (with_client new x)) (sym client) (record {
+      done = done_sent start reads writes new_writes desk old.client shuts.0.sent shuts.0.gains (omega (arith, shuts.1)) c.done;
+      ends = (
+        omega arith,
+        inr (record {
+          fault = fault;
+          last = last;
+          lasts = subst (λ (bytes : List ℕ). Lasts bytes fault last) c.rest lasts;
+          some = some_due c.done.told last c.done.sent old.out writes new_writes new.out c.due shuts.0;
+        }),
+      );
+      counts = (c.no_read_fault, shuts.1 ∙ c.no_write_fault);
       none_left = tt;
     })
+shut_ends ends.WriteFault fault last start rounds reads writes new_writes desk old new lasts place shuts client c =
+    let within = c.within in
+    subst (λ (x : Client). Ending ends.WriteFault start reads new_writes desk (with_client new x)) (sym client) (record {
+      done = done_sent start reads writes new_writes desk old.client shuts.0.sent shuts.0.gains shuts.2 c.done;
+      ends = (
+        omega arith,
+        inr (record {
+          fault = fault;
+          last = last;
+          lasts = subst (λ (bytes : List ℕ). Lasts bytes fault last) c.rest lasts;
+          some = some_due c.done.told last c.done.sent old.out writes new_writes new.out c.due shuts.0;
+        }),
+      );
+      counts = (c.done.read_faults, Rose-later start.writes.faults writes.faults new_writes.faults c.done.write_faults shuts.1);
+      none_left = tt;
+    })
+shut_ends other fault last start rounds reads writes new_writes desk old new lasts place shuts client c = absurd shuts
 
-pub shut_ends : (end : LineEnd) (fault : FrameFault) (last : Told) (start : Start) (rounds : ℕ) (reads : ReadSide) (writes : WriteSide)
-    (desk : DeskSide) (old new : Serving)
-    → Lasts old.framer.rest fault last → place_of fault ≡ old.framer.place → Shuts end fault last old.out.items new.out.items → new.client ≡ old.client
-    → Course start rounds reads writes desk old → Ending end start reads writes desk new
-shut_ends (ends.Shut found) fault last start rounds reads writes desk old new lasts place s client c =
-    subst (λ (f : FrameFault). Ending (ends.Shut f) start reads writes desk new) (sym s.0)
-    (ending_shut fault last start rounds reads writes desk old new lasts place s.1 client c)
-shut_ends ends.Memory fault last start rounds reads writes desk old new lasts place s client c =
-    ending_memory start rounds reads writes desk old new s client c
-shut_ends other fault last start rounds reads writes desk old new lasts place s client c = absurd s
-
-pub shut_by : (end : LineEnd) (fault found : FrameFault) (last : Told) (start : Start) (rounds : ℕ) (reads : ReadSide) (writes : WriteSide)
-    (desk : DeskSide) (old new : Serving)
-    → fault ≡ found → Lasts old.framer.rest found last → place_of found ≡ old.framer.place → Shuts end fault last old.out.items new.out.items
-    → new.client ≡ old.client → Course start rounds reads writes desk old → Ending end start reads writes desk new
-shut_by end fault found last start rounds reads writes desk old new is lasts place s client c =
-    shut_ends end fault last start rounds reads writes desk old new
-    (subst (λ (f : FrameFault). Lasts old.framer.rest f last) (sym is) lasts) (ap place_of is ∙ place) s client c
+pub shut_by : (end : LineEnd) (fault found : FrameFault) (last : Told) (start : Start) (rounds : ℕ) (reads new_reads : ReadSide)
+    (writes new_writes : WriteSide) (desk : DeskSide) (old new : Serving)
+    → fault ≡ found → Lasts old.framer.rest found last → place_of found ≡ old.framer.place
+    → Shuts end fault last writes new_writes old.out new.out → new_reads ≡ reads
+    → new.client ≡ old.client → Course start rounds reads writes desk old → Ending end start new_reads new_writes desk new
+shut_by end fault found last start rounds reads new_reads writes new_writes desk old new is lasts place s apart client c =
+    subst (λ (r : ReadSide). Ending end start r new_writes desk new) (sym apart)
+    (shut_ends end fault last start rounds reads writes new_writes desk old new
+    (subst (λ (f : FrameFault). Lasts old.framer.rest f last) (sym is) lasts) (ap place_of is ∙ place) s client c)
 
 -- more bytes were given
 abbrev done_fed : (start : Start) (old new : ReadSide) (writes : WriteSide) (desk : DeskSide) (client : Client) (bytes : List ℕ)
@@ -520,7 +576,7 @@ rounds_few given items size rounds first within is_open fed =
 pub course_fed : (start : Start) (rounds : ℕ) (reads new_reads : ReadSide) (writes : WriteSide) (desk : DeskSide) (old new : Serving)
     (bytes : List ℕ)
     → Reads reads new_reads bytes → 1 ≤ length bytes → IsOpen old.framer.rest
-    → new.framer ≡ fed old.framer bytes → new.out.items ≡ old.out.items → new.client ≡ old.client → new.count ≡ old.count
+    → new.framer ≡ fed old.framer bytes → new.out ≡ old.out → new.client ≡ old.client → new.count ≡ old.count
     → Course start rounds reads writes desk old → Course start (rounds + 1) new_reads writes desk new
 course_fed start rounds reads new_reads writes desk old new bytes r some is_open framer out client count c =
     let here : IsOpen (drop c.done.size c.done.given) = subst (λ (xs : List ℕ). IsOpen xs) c.rest is_open in
@@ -543,7 +599,7 @@ course_fed start rounds reads new_reads writes desk old new bytes r some is_open
 -- what was read was lost for want of memory, and nothing stood to be written
 pub ending_unfed : (start : Start) (rounds : ℕ) (reads new_reads : ReadSide) (writes : WriteSide) (desk : DeskSide) (old new : Serving)
     (bytes : List ℕ)
-    → Reads reads new_reads bytes → new.out.items ≡ old.out.items → new.client ≡ old.client
+    → Reads reads new_reads bytes → new.out ≡ old.out → new.client ≡ old.client
     → Course start rounds reads writes desk old → Ending ends.Memory start new_reads writes desk new
 ending_unfed start rounds reads new_reads writes desk old new bytes r out client c =
     let within = c.within in
@@ -551,7 +607,7 @@ ending_unfed start rounds reads new_reads writes desk old new bytes r out client
       done = done_fed start reads new_reads writes desk old.client bytes r.gives r.adds r.same c.done;
       ends = (
         omega arith,
-        inl (all_due c.done.told (c.done.sent ++ new.out.items) (c.due ∙ ap (λ (xs : List ℕ). c.done.sent ++ xs) (sym out))),
+        inl (all_due c.done.told (c.done.sent ++ new.out) (c.due ∙ ap (λ (xs : List ℕ). c.done.sent ++ xs) (sym out))),
       );
       counts = (r.same ∙ c.no_read_fault, c.no_write_fault);
       none_left = tt;
@@ -582,7 +638,7 @@ done_stays start old new writes desk client same given up done = record {
 
 pub ending_closed : (left : ℕ) (start : Start) (rounds : ℕ) (reads new_reads : ReadSide) (writes : WriteSide) (desk : DeskSide) (old new : Serving)
     → new_reads.left ≡ reads.left → new_reads.given ≡ reads.given → new_reads.faults ≡ reads.faults → AtEnd new_reads.left → IsOpen old.framer.rest → left ≡ length old.framer.rest
-    → old.out.items ≡ [] → new.out.items ≡ old.out.items → new.client ≡ old.client
+    → old.out ≡ [] → new.out ≡ old.out → new.client ≡ old.client
     → Course start rounds reads writes desk old → Ending (ends.Closed left) start new_reads writes desk new
 ending_closed left start rounds reads new_reads writes desk old new same given faults at_end is_open left_is none out client c =
     subst (λ (x : Client). Ending (ends.Closed left) start new_reads writes desk (with_client new x)) (sym client) (record {
@@ -599,7 +655,7 @@ ending_closed left start rounds reads new_reads writes desk old new same given f
 
 pub ending_read : (start : Start) (rounds : ℕ) (reads new_reads : ReadSide) (writes : WriteSide) (desk : DeskSide) (old new : Serving)
     → new_reads.left ≡ reads.left → new_reads.given ≡ reads.given → reads.faults ≤ new_reads.faults → Rose reads.faults new_reads.faults → IsOpen old.framer.rest
-    → new.out.items ≡ old.out.items → new.client ≡ old.client
+    → new.out ≡ old.out → new.client ≡ old.client
     → Course start rounds reads writes desk old → Ending ends.ReadFault start new_reads writes desk new
 ending_read start rounds reads new_reads writes desk old new same given up rose is_open out client c =
     subst (λ (x : Client). Ending ends.ReadFault start new_reads writes desk (with_client new x)) (sym client) (record {
@@ -744,18 +800,18 @@ counts_on end start reads old new same c = (c.0, subst (λ (n : ℕ). CountsWrit
 
 pub finished : (due end : LineEnd) (start : Start) (reads new_reads : ReadSide) (writes new_writes : WriteSide)
     (desk new_desk : DeskSide) (serving : Serving)
-    → Ending due start reads writes desk serving → Finishes due end writes new_writes serving.out.items → new_reads ≡ reads
+    → Ending due start reads writes desk serving → Finishes due end writes new_writes serving.out → new_reads ≡ reads
     → GivenUp desk.calls new_desk.calls serving.client → new_desk.tends ≡ desk.tends → new_desk.plains ≡ desk.plains
     → Finished start new_reads new_writes new_desk end
 finished due end start reads new_reads writes new_writes desk new_desk serving e (inl f) apart up untended unasked =
     subst (λ (r : ReadSide). Finished start r new_writes new_desk end) (sym apart)
     (subst (λ (x : LineEnd). Finished start reads new_writes new_desk x) (sym f.2)
-    (finished_by due start reads writes new_writes desk new_desk serving serving.out.items e.done f.0 (omega (arith, f.1)) e.ends
+    (finished_by due start reads writes new_writes desk new_desk serving serving.out e.done f.0 (omega (arith, f.1)) e.ends
     (counts_on due start reads writes new_writes f.1 e.counts) e.none_left up untended unasked))
 finished due end start reads new_reads writes new_writes desk new_desk serving e (inr f) apart up untended unasked =
-    let bytes = take f.0.0 serving.out.items in
-    let less = ends_less e.done.items e.done.size (drop e.done.size e.done.given) e.done.sent serving.out.items e.done.told f.0.0
-    (ends_some due e.done.items e.done.size (drop e.done.size e.done.given) (e.done.sent ++ serving.out.items) e.done.told e.ends) in
+    let bytes = take f.0.0 serving.out in
+    let less = ends_less e.done.items e.done.size (drop e.done.size e.done.given) e.done.sent serving.out e.done.told f.0.0
+    (ends_some due e.done.items e.done.size (drop e.done.size e.done.given) (e.done.sent ++ serving.out) e.done.told e.ends) in
     subst (λ (r : ReadSide). Finished start r new_writes new_desk end) (sym apart)
     (subst (λ (x : LineEnd). Finished start reads new_writes new_desk x) (sym f.3)
     (finished_by ends.WriteFault start reads writes new_writes desk new_desk serving bytes e.done f.0.1 f.2 less
@@ -797,13 +853,11 @@ never_served reads writes desk = record {
 pub record StillOn (old_reads new_reads : ReadSide) (old_writes new_writes : WriteSide) (old_desk new_desk : DeskSide)
     (old new : Serving) : Type 0 where
   pub within : new.count < 1000000
-  pub few : length new.out.items < 65536
   pub goes : (start : Start) (rounds : ℕ) → Course start rounds old_reads old_writes old_desk old → Course start rounds new_reads new_writes new_desk new
 
 -- a connection is on its course, after so many rounds
 pub record OnCourse (start : Start) (rounds : ℕ) (reads : ReadSide) (writes : WriteSide) (desk : DeskSide) (serving : Serving) : Type 0 where
   pub within : serving.count < 1000000
-  pub few : length serving.out.items < 65536
   pub course : Course start rounds reads writes desk serving
 
 -- what a line tells of its reading, in parts
@@ -848,7 +902,7 @@ given_same old new a b g h e f o n same = n.given_is ∙ (same ∙ sym o.given_i
 pub closed_by : (left : ℕ) (old_reads new_reads : ReadSide) (old_writes new_writes : WriteSide) (a b g h : Option (List ℕ)) (e f n : ℕ) (room : List ℕ)
     (old new : Serving)
     → IsSide old_reads a g e → IsSide new_reads b h f → Takes a b (take n room) → Gains g h (take n room) → ZeroAtEnd a n → n ≡ 0 → f ≡ e → new_writes ≡ old_writes
-    → IsOpen old.framer.rest → left ≡ length old.framer.rest → old.out.items ≡ [] → new.out.items ≡ old.out.items → new.client ≡ old.client
+    → IsOpen old.framer.rest → left ≡ length old.framer.rest → old.out ≡ [] → new.out ≡ old.out → new.client ≡ old.client
     → (start : Start) (rounds : ℕ) (desk : DeskSide)
     → Course start rounds old_reads old_writes desk old → Ending (ends.Closed left) start new_reads new_writes desk new
 closed_by left old_reads new_reads old_writes new_writes a b g h e f n room old new o p gives adds zero is same apart stops left_is none out client start
@@ -866,7 +920,7 @@ closed_by left old_reads new_reads old_writes new_writes a b g h e f n room old 
 -- a read failed
 pub read_failed : (old_reads new_reads : ReadSide) (old_writes new_writes : WriteSide) (a b g h : Option (List ℕ)) (e f : ℕ) (old new : Serving)
     → IsSide old_reads a g e → IsSide new_reads b h f → b ≡ a → h ≡ g → Rose e f → e ≤ f → new_writes ≡ old_writes
-    → IsOpen old.framer.rest → new.out.items ≡ old.out.items → new.client ≡ old.client
+    → IsOpen old.framer.rest → new.out ≡ old.out → new.client ≡ old.client
     → (start : Start) (rounds : ℕ) (desk : DeskSide)
     → Course start rounds old_reads old_writes desk old → Ending ends.ReadFault start new_reads new_writes desk new
 read_failed old_reads new_reads old_writes new_writes a b g h e f old new o p same given rose up apart stops out client start rounds desk c =
@@ -881,7 +935,7 @@ read_failed old_reads new_reads old_writes new_writes a b g h e f old new o p sa
 pub fed_by : (old_reads new_reads : ReadSide) (old_writes new_writes : WriteSide) (a b g h : Option (List ℕ)) (e f : ℕ) (bytes : List ℕ)
     (old new : Serving)
     → IsSide old_reads a g e → IsSide new_reads b h f → Takes a b bytes → Gains g h bytes → f ≡ e → new_writes ≡ old_writes
-    → 1 ≤ length bytes → IsOpen old.framer.rest → new.framer ≡ fed old.framer bytes → new.out.items ≡ old.out.items → new.client ≡ old.client
+    → 1 ≤ length bytes → IsOpen old.framer.rest → new.framer ≡ fed old.framer bytes → new.out ≡ old.out → new.client ≡ old.client
     → new.count ≡ old.count
     → (start : Start) (rounds : ℕ) (desk : DeskSide)
     → Course start rounds old_reads old_writes desk old → Course start (rounds + 1) new_reads new_writes desk new
@@ -895,35 +949,10 @@ fed_by old_reads new_reads old_writes new_writes a b g h e f bytes old new o p g
 pub unfed_by : (old_reads new_reads : ReadSide) (old_writes new_writes : WriteSide) (a b g h : Option (List ℕ)) (e f : ℕ) (bytes : List ℕ)
     (old new : Serving)
     → IsSide old_reads a g e → IsSide new_reads b h f → Takes a b bytes → Gains g h bytes → f ≡ e → new_writes ≡ old_writes
-    → new.out.items ≡ old.out.items → new.client ≡ old.client
+    → new.out ≡ old.out → new.client ≡ old.client
     → (start : Start) (rounds : ℕ) (desk : DeskSide)
     → Course start rounds old_reads old_writes desk old → Ending ends.Memory start new_reads new_writes desk new
 unfed_by old_reads new_reads old_writes new_writes a b g h e f bytes old new o p gives adds same apart out client start rounds desk c =
     subst (λ (w : WriteSide). Ending ends.Memory start new_reads w desk new) (sym apart)
     (ending_unfed start rounds old_reads new_reads old_writes desk old new bytes
     (reads_by old_reads new_reads a b g h e f bytes o p gives adds same) out client c)
-
--- what waits to be written at first and behind a write
-pub waits_none : (bytes : List ℕ) → bytes ≡ [] → WaitsFew bytes
-waits_none bytes none = (bytes, omega (arith, ap (λ (xs : List ℕ). length xs) none), inl refl)
-
-pub waits_short : (bytes : List ℕ) → length bytes < 65536 → WaitsFew bytes
-waits_short bytes short = (bytes, short, inl refl)
-
-pub waits_same : (old new : List ℕ) → length old < 65536 → new ≡ old → WaitsFew new
-waits_same old new short same = (old, short, inl same)
-
--- and where one reply was put behind it
-pub tells_waits : (result : Result Bool LineEnd) (reply : Told) (mid old new : Serving)
-    → length old.out.items < 65536 → mid.out.items ≡ old.out.items → Tells result reply mid new → WaitsFew new.out.items
-tells_waits (Ok more) reply mid old new short same t =
-    (old.out.items, short, inr (reply, t.2 ∙ ap (λ (xs : List ℕ). xs ++ told_text reply) same))
-tells_waits (Err ends.Budget) reply mid old new short same t =
-    (old.out.items, short, inr (reply, t.1 ∙ ap (λ (xs : List ℕ). xs ++ told_text reply) same))
-tells_waits (Err ends.Memory) reply mid old new short same t = (old.out.items, short, inl (t ∙ same))
-tells_waits (Err other) reply mid old new short same t = absurd t
-
-pub shuts_waits : (end : LineEnd) (fault : FrameFault) (last : Told) (old new : List ℕ) → length old < 65536 → Shuts end fault last old new → WaitsFew new
-shuts_waits (ends.Shut found) fault last old new short s = (old, short, inr (last, s.1))
-shuts_waits ends.Memory fault last old new short s = (old, short, inl s)
-shuts_waits other fault last old new short s = absurd s

@@ -3,4 +3,5 @@ pub mod RefusalLemmas
 pub mod TellingLemmas
 pub mod AnswerLemmas
 pub mod ClosingLemmas
+pub mod OutboxLemmas
 pub mod CourseLemmas

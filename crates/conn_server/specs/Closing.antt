@@ -11,7 +11,8 @@ use Rattle.session_client.specs.declared.replies.Wanted.TheVariants as wanted
 use Rattle.conn_server.specs.declared.clients.Present.{Present}
 use Rattle.conn_server.specs.declared.clients.Stage.{Stage}
 use Rattle.conn_server.specs.declared.clients.Stage.TheVariants.{Reading, Open, Aborted, Committed}
-use Rattle.conn_server.specs.Clients.{is_reading_stage}
+use Rattle.conn_server.specs.declared.clients.Client.{Client}
+use Rattle.conn_server.specs.Clients.{is_open, is_reading_stage}
 
 -- how many quarantines a release ended: none where it stood no longer
 abbrev pub ended_by : Rel → ℕ
@@ -55,6 +56,11 @@ aborted present = record { sid = present.sid; stage = aborted_stage present.stag
 abbrev pub MayAbort : Option Present → Type 0
 MayAbort (Some present) = is_reading_stage present.stage ≡ false
 MayAbort None = ⊥
+
+-- nothing is held: no session may commit any more, and none that writes has a grant; one that reads never has any
+pub record HoldsNothing (client : Client) : Type 0 where
+  pub ended : is_open client.present ≡ false
+  pub released : MayAbort client.present → client.grants.items ≡ []
 
 -- how the grants of a session are released: where it has committed, their values are dropped
 abbrev pub release_way : Bool → Permit → Wanted

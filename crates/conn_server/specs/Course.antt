@@ -1,6 +1,6 @@
 -- What was done so far on a connection that is served.
-use Rattle.std.specs.Prelude.{ℕ, ◌+◌, ◌-◌, ◌^◌, ◌≡◌, ◌<◌, ◌≤◌, ◌⊎◌, min, Bool, true, List, [], ◌++◌, length, take, drop, Option, Result, Ok, Err}
-use Rattle.iq_outside.specs.Outside.{Takes, Gains, Rose, ReadSide, WriteSide}
+use Rattle.std.specs.Prelude.{ℕ, ◌+◌, ◌-◌, ◌^◌, ◌≡◌, ◌<◌, ◌≤◌, min, Bool, true, List, [], ◌++◌, length, drop, Option, Result, Ok, Err}
+use Rattle.iq_outside.specs.Outside.{Takes, Gains, ReadSide, WriteSide}
 use Rattle.mc_text.specs.Framing.{begun}
 use Rattle.mc_text.specs.declared.faults.FrameFault.{FrameFault}
 use Rattle.session_client.specs.Desks.{Call}
@@ -12,6 +12,7 @@ use Rattle.conn_server.specs.declared.serving.Serving.{Serving}
 use Rattle.conn_server.specs.declared.outgoing.Told.{Told}
 use Rattle.mixed_lines.specs.Items.{Item, AreFirst}
 use Rattle.conn_server.specs.Outgoing.{told_text, plain_calls}
+use Rattle.conn_server.specs.Outbox.{Sends, Stops}
 use Rattle.conn_server.specs.Clients.{newcomer}
 use Rattle.conn_server.specs.Answers.{AllAnswer, with_calls}
 use Rattle.conn_server.specs.Service.{budget, texts, IsWithin, EndsSo, NoneLeft, CountsReads, CountsWrites, tended_by}
@@ -23,17 +24,9 @@ most_reads = 1050628000000
 -- nothing was read, answered or written
 pub record IsUnserved (serving : Serving) : Type 0 where
   pub framer : serving.framer ≡ begun
-  pub out : serving.out.items ≡ []
+  pub out : serving.out ≡ []
   pub client : serving.client ≡ newcomer
   pub count : serving.count ≡ 0
-
--- replies are written once they have so many bytes
-abbrev pub full : ℕ
-full = 65536
-
--- fewer bytes than that wait to be written, and then one reply at most
-abbrev pub WaitsFew : List ℕ → Type 0
-WaitsFew bytes = (front : List ℕ) × (length front < full) × ((bytes ≡ front) ⊎ ((last : Told) × (bytes ≡ front ++ told_text last)))
 
 -- what the desks tell: the calls that each records, and how many steps the sweep took
 pub record DeskSide : Type 0 where
@@ -75,7 +68,7 @@ pub record Course (start : Start) (rounds : ℕ) (reads : ReadSide) (writes : Wr
   pub done : Done start reads writes desk serving.client
   pub within : IsWithin done.items
   pub count : serving.count ≡ length done.items
-  pub due : texts done.told ≡ done.sent ++ serving.out.items
+  pub due : texts done.told ≡ done.sent ++ serving.out
   pub rest : serving.framer.rest ≡ drop done.size done.given
   pub place : serving.framer.place ≡ min done.size (2 ^ 64 - 1)
   pub fed : rounds ≤ length done.given
@@ -90,7 +83,7 @@ CountsAt end start reads writes = CountsReads end start.reads.faults reads.fault
 -- a connection ends so, once what stands to be written is written
 pub record Ending (end : LineEnd) (start : Start) (reads : ReadSide) (writes : WriteSide) (desk : DeskSide) (serving : Serving) : Type 0 where
   pub done : Done start reads writes desk serving.client
-  pub ends : EndsSo end done.items done.size (drop done.size done.given) (done.sent ++ serving.out.items) done.told
+  pub ends : EndsSo end done.items done.size (drop done.size done.given) (done.sent ++ serving.out) done.told
   pub counts : CountsAt end start reads writes
   pub none_left : NoneLeft end reads.left
 
@@ -124,29 +117,15 @@ EndsFrom old new end = (start : Start) (rounds : ℕ) →
     Course start rounds old.reads old.writes old.desk old.serving →
     Ending end start new.reads new.writes new.desk new.serving
 
--- a reply was counted and stands behind what is to be written, unless memory ran out for it; more is answered while the budget lasts
-abbrev pub Tells : Result Bool LineEnd → Told → Serving → Serving → Type 0
-Tells (Ok more) reply old new =
-    (more ≡ true) × (new.count < budget) × (new.out.items ≡ old.out.items ++ told_text reply)
-Tells (Err ends.Budget) reply old new = (new.count ≡ budget) × (new.out.items ≡ old.out.items ++ told_text reply)
-Tells (Err ends.Memory) reply old new = new.out.items ≡ old.out.items
-Tells (Err other) reply old new = ⊥
+-- a reply was counted and put behind what waits, unless memory ran out for it or a write failed; more is answered while the budget lasts
+abbrev pub Tells : Result Bool LineEnd → Told → WriteSide → WriteSide → List ℕ → Serving → Type 0
+Tells (Ok more) reply before after waited new =
+    (more ≡ true) × (new.count < budget) × Sends before after (waited ++ told_text reply) new.out
+Tells (Err ends.Budget) reply before after waited new =
+    (new.count ≡ budget) × Sends before after (waited ++ told_text reply) new.out
+Tells (Err end) reply before after waited new = Stops end before after (waited ++ told_text reply) new.out
 
--- the bytes were taken, or a beginning of them where a write failed
-abbrev pub Flushes : {X : Type 0} → Result X LineEnd → WriteSide → WriteSide → List ℕ → Type 0
-Flushes (Ok done) old new bytes = Gains old.taken new.taken bytes × (new.faults ≡ old.faults)
-Flushes (Err ends.WriteFault) old new bytes =
-    ((written : ℕ) × Gains old.taken new.taken (take written bytes)) × Rose old.faults new.faults × (old.faults ≤ new.faults)
-Flushes (Err other) old new bytes = ⊥
-
--- what is told of a fault stands behind what is to be written, unless memory ran out for it
-abbrev pub Shuts : LineEnd → FrameFault → Told → List ℕ → List ℕ → Type 0
-Shuts (ends.Shut found) fault last old new = (found ≡ fault) × (new ≡ old ++ told_text last)
-Shuts ends.Memory fault last old new = new ≡ old
-Shuts other fault last old new = ⊥
-
--- the bytes were taken and the end is the one that was due, or a beginning of them was taken and it is the fault of a write
-abbrev pub Finishes : LineEnd → LineEnd → WriteSide → WriteSide → List ℕ → Type 0
-Finishes due end old new bytes =
-    (Gains old.taken new.taken bytes × (new.faults ≡ old.faults) × (end ≡ due))
-    ⊎ (((written : ℕ) × Gains old.taken new.taken (take written bytes)) × Rose old.faults new.faults × (old.faults ≤ new.faults) × (end ≡ ends.WriteFault))
+-- what is told of a fault was put behind what waits, unless memory ran out for it or a write failed
+abbrev pub Shuts : LineEnd → FrameFault → Told → WriteSide → WriteSide → List ℕ → List ℕ → Type 0
+Shuts (ends.Shut found) fault last before after old new = (found ≡ fault) × Sends before after (old ++ told_text last) new
+Shuts end fault last before after old new = Stops end before after (old ++ told_text last) new

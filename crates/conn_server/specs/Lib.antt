@@ -1,4 +1,5 @@
 pub mod Outgoing
+pub mod Outbox
 pub mod Views
 pub mod Clients
 pub mod Refusals

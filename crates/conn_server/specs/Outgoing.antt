@@ -1,6 +1,6 @@
 -- What a client is told of a command, what is written of it, and which calls on the plain desk it rests on.
-use Rattle.std.specs.Prelude.{ℕ, ◌≡◌, Bool, true, false, List, [], ◌∷◌, ◌++◌}
-use Rattle.mc_text.specs.Replies.{text_of}
+use Rattle.std.specs.Prelude.{ℕ, ◌≡◌, ⊤, Bool, true, false, List, [], ◌∷◌, ◌++◌, codes}
+use Rattle.mc_text.specs.Replies.{text_of, line}
 use Rattle.mc_text.specs.PlainReplies.{plain_text}
 use Rattle.mc_text.specs.declared.plain_lines.PlainSaid.{PlainSaid}
 use Rattle.mc_text.specs.declared.plain_lines.PlainSaid.TheVariants.{Asks, QueryKey, Exptime}
@@ -16,6 +16,16 @@ abbrev pub told_text : Told → List ℕ
 told_text (Lease told) = text_of told
 told_text (Plain told true) = []
 told_text (Plain told false) = plain_text told
+
+-- the line behind the last of the items that were found
+abbrev pub end_text : List ℕ
+end_text = line (codes "END")
+
+-- no item is told, or none is written
+abbrev pub HasNoItem : Told → Type 0
+HasNoItem (Plain (reply.Values found) false) = found ≡ []
+HasNoItem (Plain (reply.Uniques found) false) = found ≡ []
+HasNoItem told = ⊤
 
 -- the reply belongs to the plain command; one that names a key of the cache, or whose item would expire, is told an error
 abbrev pub IsPlainReply : PlainSaid → PlainReply → Type 0

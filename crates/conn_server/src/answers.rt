@@ -333,7 +333,7 @@ fn committed(present: Option<Present>, number: u64) -> Option<Present>
 }
 
 /// A session that was aborted. A commit can't be undone.
-fn aborted(present: Option<Present>) -> Option<Present>
+pub(crate) fn aborted(present: Option<Present>) -> Option<Present>
     ensures { result ≡ option_map aborted present }
 {
     let mut present = present?;

@@ -3,22 +3,38 @@ ghost use Rattle.session_client.specs.Desks.{Call, IsProper};
 ghost use Rattle.session_client.specs.declared.replies.Reply.TheVariants as replies;
 ghost use Rattle.key_shard.specs.declared.replies.Rel.{Rel};
 ghost use Rattle.conn_server.specs.Answers.{GivenUp, with_calls};
-ghost use Rattle.conn_server.specs.Closing.{Leaves, MayAbort, Releases, ended_by, release_way};
+ghost use Rattle.conn_server.specs.Closing.{HoldsNothing, Leaves, MayAbort, Releases, ended_by, release_way};
 
+use crate::answers::aborted;
 use crate::clients::{Client, Stage};
 use key_shard::{Grant, Rel};
 use rows_model::Sid;
 use session_client::{Desk, Grants, Reply, Wanted};
 
+/// A client that was given up, and holds nothing any more. Only `Client::leave` makes one.
+pub struct Gone {
+    client: Client,
+}
+
+impl Gone {
+    /// Lets go of what is known of the client. It takes no memory.
+    pub(crate) fn let_go(self) {
+        let Gone { client } = self;
+        client.let_go();
+    }
+}
+
 impl Client {
     /// Gives the client's session up, and releases the grants that it holds. It takes no memory.
-    pub(crate) fn leave<D: Desk>(self, desk: &mut D)
+    pub(crate) fn leave<D: Desk>(self, desk: &mut D) -> Gone
         ensures given_up { GivenUp (D.record_of desk.old) (D.record_of desk.new) self }
         ensures untended { D.tends desk.new ≡ D.tends desk.old }
+        ensures nothing { HoldsNothing result.client }
     {
         let mut client = self;
         let _ = client.give_up(desk);
-        client.let_go();
+        client.present = aborted(client.present);
+        Gone { client }
     }
 
     /// Ends the session at the store unless it has committed, releases its grants in the order in

@@ -9,6 +9,7 @@ mod answers;
 pub mod clients;
 mod closing;
 pub mod ends;
+pub mod outbox;
 pub mod outgoing;
 mod refusals;
 pub mod serving;

@@ -1,7 +1,7 @@
 // What a client is told, and what is written of it.
 ghost use Rattle.std.specs.Prelude.{◌≡◌, ◌++◌, OnOk, OnErr};
 ghost use Rattle.plain_ops.specs.Desks.{with_plain_calls};
-ghost use Rattle.conn_server.specs.Outgoing.{told_text, IsPlainReply, plain_call};
+ghost use Rattle.conn_server.specs.Outgoing.{told_text, end_text, IsPlainReply, plain_call};
 
 use mc_text::{LineReply, PlainReply, PlainSaid, write_plain_reply, write_reply};
 use plain_ops::PlainDesk;
@@ -27,6 +27,15 @@ pub(crate) fn reply_to<P: PlainDesk>(plain: &mut P, said: &PlainSaid) -> PlainRe
         PlainSaid::QueryKey => PlainReply::QueryKey,
         PlainSaid::Exptime => PlainReply::Exptime,
     }
+}
+
+/// Writes that no more items come. After want of memory all is as before.
+pub(crate) fn write_end(out: &mut Vec<u8>) -> Result<(), Memory>
+    ensures ok { OnOk result (out.new.items ≡ out.old.items ++ end_text) }
+    ensures err { OnErr result (out.new.items ≡ out.old.items) }
+{
+    out.extend_from_slice(b"END\r\n")?;
+    Ok(())
 }
 
 /// Writes what is told behind what is to go out. After want of memory that is as before.

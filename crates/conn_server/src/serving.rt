@@ -3,14 +3,16 @@ ghost use Rattle.iq_outside.specs.Outside.{Rose, ReadSide, WriteSide};
 ghost use Rattle.mixed_lines.specs.Items.{IsOpen};
 ghost use Rattle.session_client.specs.Desks.{one_more};
 ghost use Rattle.conn_server.specs.Answers.{GivenUp};
-ghost use Rattle.conn_server.specs.Course.{Start, Course, Ending, DeskSide, WaitsFew, desk_side, moment, GoesOn, ReadsOn, EndsFrom, IsUnserved, Finishes, Flushes, Tells, Shuts};
+ghost use Rattle.conn_server.specs.Course.{Start, Course, Ending, DeskSide, desk_side, moment, GoesOn, ReadsOn, EndsFrom, IsUnserved, Tells, Shuts};
+ghost use Rattle.conn_server.specs.Outbox.{Finishes};
 ghost use Rattle.conn_server.specs.Service.{IsServed, CountsReads, CountsWrites};
 ghost use Rattle.conn_server.specs.declared.ends.LineEnd.TheVariants as ends;
 
 use crate::clients::Client;
 use crate::ends::LineEnd;
-use crate::outgoing::{Told, reply_to, write_told};
-use iq_outside::{Failed, Line, write_all};
+use crate::outbox::Outbox;
+use crate::outgoing::{Told, reply_to};
+use iq_outside::{Failed, Line};
 use mc_text::{Command, FrameFault, Framer, LineReply};
 use mixed_lines::{Said, next_said};
 use plain_ops::PlainDesk;
@@ -24,9 +26,6 @@ const BUDGET: u32 = 1_000_000;
 /// The most bytes that one read is asked for.
 const PIECE: usize = 65536;
 
-/// Replies are written once they have so many bytes, and before each read.
-const FULL: usize = 65536;
-
 /// More reads than one connection has: each gives a byte, and a command has at most 1,050,628, with its
 /// line, its block and the ends of both.
 const MORE_READS: u64 = 1_050_628_000_001;
@@ -34,8 +33,8 @@ const MORE_READS: u64 = 1_050_628_000_001;
 /// A connection that is served.
 struct Serving {
     framer: Framer,
-    /// The replies that weren't written yet.
-    out: Vec<u8>,
+    /// What waits to be written.
+    out: Outbox,
     client: Client,
     /// How many commands were answered.
     count: u32,
@@ -45,7 +44,8 @@ struct Serving {
 /// the desk, each plain one by the plain desk, or by an error. The desk takes a step of its sweep behind
 /// each, and the replies are written in their order. A plain command that ends with `noreply` and is of
 /// its verb's form is carried out, and nothing is written of it. What is due is written before each read,
-/// so no reply waits for further input. Never more than 64 KiB and one reply wait to be written.
+/// so no reply waits for further input. Never more than 64 KiB and one item or one other reply wait to be
+/// written.
 ///
 /// At every end the client's session is given up: one that writes and hasn't committed is ended at the
 /// store, and then its grants are released, which takes no memory. Only then are the last replies
@@ -84,14 +84,13 @@ impl Serving {
     {
         Ok(Serving {
             framer: Framer::new(alloc),
-            out: Vec::new(alloc),
+            out: Outbox::new(alloc),
             client: Client::new(alloc)?,
             count: 0,
         })
     }
 
-    /// Reads and answers until the connection ends, and tells how. Some replies may still stand to be
-    /// written: fewer bytes than those at which replies are written, and then one reply at most.
+    /// Reads and answers until the connection ends, and tells how. Some replies may still wait.
     fn serve<L: Line, D: Desk, P: PlainDesk>(
         &mut self,
         line: &mut L,
@@ -105,7 +104,6 @@ impl Serving {
           desk = desk_side D.record_of D.tends P.record_of desk.old plain.old;
         }) (L.read_side line.new) (L.write_side line.new)
             (desk_side D.record_of D.tends P.record_of desk.new plain.new) self.new }
-        ensures waits { WaitsFew self.new.out.items }
     {
         let mut room = [0u8; PIECE];
         for _ in 0..MORE_READS {
@@ -127,10 +125,7 @@ impl Serving {
     ) -> Result<(), LineEnd>
         requires within { self.old.count < 1000000 }
         requires room { 0 < length room.old }
-        requires few { length self.old.out.items < 65536 }
         ensures within { OnOk result (self.new.count < 1000000) }
-        ensures few { OnOk result (length self.new.out.items < 65536) }
-        ensures waits { WaitsFew self.new.out.items }
         ensures goes_on { OnOk result (ReadsOn
             (moment L.read_side L.write_side D.record_of D.tends P.record_of
             line.old desk.old plain.old self.old)
@@ -143,7 +138,7 @@ impl Serving {
             line.new desk.new plain.new self.new)) }
     {
         self.answer_all(line, desk, plain)?;
-        self.flush(line)?;
+        self.out.flush(line)?;
         self.read_more(line, room)
     }
 
@@ -155,8 +150,6 @@ impl Serving {
         plain: &mut P,
     ) -> Result<(), LineEnd>
         requires within { self.old.count < 1000000 }
-        requires few { length self.old.out.items < 65536 }
-        ensures waits { WaitsFew self.new.out.items }
         ensures within { OnOk result (self.new.count < 1000000) }
         ensures stops { OnOk result (IsOpen self.new.framer.rest) }
         ensures goes_on { OnOk result (GoesOn
@@ -171,39 +164,33 @@ impl Serving {
             line.new desk.new plain.new self.new)) }
     {
         loop {
-            if !self.answer_next(desk, plain)? {
+            if !self.answer_next(line, desk, plain)? {
                 return Ok(());
-            }
-            if self.out.len() >= FULL {
-                self.flush(line)?;
             }
         }
     }
 
     /// Answers the command that stands next, and tells whether a whole one did.
-    fn answer_next<D: Desk, P: PlainDesk>(
+    fn answer_next<L: Line, D: Desk, P: PlainDesk>(
         &mut self,
+        line: &mut L,
         desk: &mut D,
         plain: &mut P,
     ) -> Result<bool, LineEnd>
         requires within { self.old.count < 1000000 }
-        requires few { length self.old.out.items < 65536 }
-        ensures waits { WaitsFew self.new.out.items }
         ensures within { OnOk result (self.new.count < 1000000) }
         ensures counts { result ≡ Ok true → self.new.count ≡ self.old.count + 1 }
         ensures stops { result ≡ Ok false → IsOpen self.new.framer.rest }
-        ensures goes_on { OnOk result ((start : Start) (rounds : ℕ) (reads : ReadSide)
-            (writes : WriteSide) →
-            Course start rounds reads writes
-            (desk_side D.record_of D.tends P.record_of desk.old plain.old) self.old →
-            Course start rounds reads writes
-            (desk_side D.record_of D.tends P.record_of desk.new plain.new) self.new) }
-        ensures ends { IfErr result (λ end. (start : Start) (rounds : ℕ) (reads : ReadSide)
-            (writes : WriteSide) →
-            Course start rounds reads writes
-            (desk_side D.record_of D.tends P.record_of desk.old plain.old) self.old →
-            Ending end start reads writes
-            (desk_side D.record_of D.tends P.record_of desk.new plain.new) self.new) }
+        ensures goes_on { OnOk result (GoesOn
+            (moment L.read_side L.write_side D.record_of D.tends P.record_of
+            line.old desk.old plain.old self.old)
+            (moment L.read_side L.write_side D.record_of D.tends P.record_of
+            line.new desk.new plain.new self.new)) }
+        ensures ends { IfErr result (EndsFrom
+            (moment L.read_side L.write_side D.record_of D.tends P.record_of
+            line.old desk.old plain.old self.old)
+            (moment L.read_side L.write_side D.record_of D.tends P.record_of
+            line.new desk.new plain.new self.new)) }
     {
         let next = next_said(&mut self.framer);
         match next {
@@ -216,29 +203,29 @@ impl Serving {
             ) => Err(LineEnd::Quit),
             Ok(Some(Said::Lease { command })) => {
                 let reply = self.client.answer(desk, command);
-                self.tell(desk, Told::Lease { reply })
+                self.tell(line, desk, Told::Lease { reply })
             }
             Ok(Some(Said::Plain { said, noreply })) => {
                 let reply = reply_to(plain, &said);
-                self.tell(desk, Told::Plain { reply, noreply })
+                self.tell(line, desk, Told::Plain { reply, noreply })
             }
             Ok(None) => Ok(false),
             Err(fault) => match fault {
                 FrameFault::BadLine { place: _ } => {
                     let reply = LineReply::BadLine;
-                    self.tell(desk, Told::Lease { reply })
+                    self.tell(line, desk, Told::Lease { reply })
                 }
                 FrameFault::LongLine { place: _ } => {
                     let reply = LineReply::LongLine;
-                    Err(self.shut(fault, Told::Lease { reply }))
+                    Err(self.shut(line, fault, Told::Lease { reply }))
                 }
                 FrameFault::BadBlock { place: _ } => {
                     let reply = LineReply::BadBlock;
-                    Err(self.shut(fault, Told::Lease { reply }))
+                    Err(self.shut(line, fault, Told::Lease { reply }))
                 }
                 FrameFault::BigBlock { place: _ } => {
                     let reply = LineReply::BigBlock;
-                    Err(self.shut(fault, Told::Lease { reply }))
+                    Err(self.shut(line, fault, Told::Lease { reply }))
                 }
                 FrameFault::Memory => Err(LineEnd::Memory),
             },
@@ -246,10 +233,17 @@ impl Serving {
     }
 
     /// Counts a command that was answered, lets the desk take a step of its sweep, and puts what is told
-    /// behind those that stand to be written.
-    fn tell<D: Desk>(&mut self, desk: &mut D, told: Told) -> Result<bool, LineEnd>
+    /// behind what waits.
+    fn tell<L: Line, D: Desk>(
+        &mut self,
+        line: &mut L,
+        desk: &mut D,
+        told: Told,
+    ) -> Result<bool, LineEnd>
         requires { self.old.count < 1000000 }
-        ensures tells { Tells result told self.old self.new }
+        ensures tells { Tells result told (L.write_side line.old) (L.write_side line.new)
+            self.old.out self.new }
+        ensures keeps_reading { L.read_side line.new ≡ L.read_side line.old }
         ensures framer { self.new.framer ≡ self.old.framer }
         ensures client { self.new.client ≡ self.old.client }
         ensures counts { self.new.count ≡ self.old.count + 1 }
@@ -258,42 +252,24 @@ impl Serving {
     {
         desk.tend();
         self.count += 1;
-        if write_told(&mut self.out, &told).is_err() {
-            return Err(LineEnd::Memory);
-        }
+        self.out.tell(line, &told)?;
         if self.count == BUDGET {
             return Err(LineEnd::Budget);
         }
         Ok(true)
     }
 
-    /// Puts what is told of a fault that lasts behind the replies, and tells the end.
-    fn shut(&mut self, fault: FrameFault, last: Told) -> LineEnd
-        ensures shuts { Shuts result fault last self.old.out.items self.new.out.items }
-        ensures framer { self.new.framer ≡ self.old.framer }
-        ensures client { self.new.client ≡ self.old.client }
-    {
-        if write_told(&mut self.out, &last).is_err() {
-            return LineEnd::Memory;
-        }
-        LineEnd::Shut { fault }
-    }
-
-    /// Writes the replies that stand to be written. After a write that failed, none stand there either.
-    fn flush<L: Line>(&mut self, line: &mut L) -> Result<(), LineEnd>
-        ensures flushes { Flushes result (L.write_side line.old) (L.write_side line.new)
-            self.old.out.items }
+    /// Puts what is told of a fault that lasts behind what waits, and tells the end.
+    fn shut<L: Line>(&mut self, line: &mut L, fault: FrameFault, last: Told) -> LineEnd
+        ensures shuts { Shuts result fault last (L.write_side line.old) (L.write_side line.new)
+            self.old.out self.new.out }
         ensures keeps_reading { L.read_side line.new ≡ L.read_side line.old }
-        ensures none { self.new.out.items ≡ [] }
         ensures framer { self.new.framer ≡ self.old.framer }
         ensures client { self.new.client ≡ self.old.client }
-        ensures count { self.new.count ≡ self.old.count }
     {
-        let written = write_all(line, &self.out);
-        self.out.clear();
-        match written {
-            Ok(()) => Ok(()),
-            Err(_) => Err(LineEnd::WriteFault),
+        match self.out.tell(line, &last) {
+            Ok(()) => LineEnd::Shut { fault },
+            Err(end) => end,
         }
     }
 
@@ -301,9 +277,8 @@ impl Serving {
     fn read_more<L: Line>(&mut self, line: &mut L, room: &mut [u8]) -> Result<(), LineEnd>
         requires room { 0 < length room.old }
         requires stops { IsOpen self.old.framer.rest }
-        requires written { self.old.out.items ≡ [] }
+        requires written { self.old.out ≡ [] }
         ensures count { OnOk result (self.new.count ≡ self.old.count) }
-        ensures none { self.new.out.items ≡ [] }
         ensures goes_on { OnOk result ((start : Start) (rounds : ℕ) (desk : DeskSide) →
             Course start rounds (L.read_side line.old) (L.write_side line.old) desk self.old →
             Course start (rounds + 1) (L.read_side line.new) (L.write_side line.new) desk
@@ -329,7 +304,7 @@ impl Serving {
     fn finish<L: Line, D: Desk>(self, line: &mut L, desk: &mut D, end: LineEnd) -> LineEnd
         ensures keeps_reading { L.read_side line.new ≡ L.read_side line.old }
         ensures finishes { Finishes end result (L.write_side line.old) (L.write_side line.new)
-            self.out.items }
+            self.out }
         ensures given_up { GivenUp (D.record_of desk.old) (D.record_of desk.new) self.client }
         ensures untended { D.tends desk.new ≡ D.tends desk.old }
     {
@@ -339,10 +314,7 @@ impl Serving {
             client,
             count: _,
         } = self;
-        client.leave(desk);
-        match write_all(line, &out) {
-            Ok(()) => end,
-            Err(_) => LineEnd::WriteFault,
-        }
+        let gone = client.leave(desk);
+        out.flush_last(line, gone, end)
     }
 }

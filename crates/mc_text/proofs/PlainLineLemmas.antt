@@ -1,6 +1,6 @@
 -- The lines of plain commands, one word after another.
-use Rattle.std.proofs.Common.{cond, is_some, Option, Some, None, ℕ, ◌≡◌, ◌≤◌, ◌+◌, rules, Bool, true, false, List, [], ◌∷◌, ◌++◌, length, refl, sym, ap, subst, ◌∙◌, arith, append_assoc, append-nil}
-use Rattle.std.specs.Prelude.{⊤, All, Contains, IfSome, IfNone, MatchOption}
+use Rattle.std.proofs.Common.{cond, is_some, Option, Some, None, ℕ, ◌≡◌, ◌≤◌, rules, Bool, true, false, List, [], ◌∷◌, length, refl, sym, ap, subst, arith}
+use Rattle.std.specs.Prelude.{⊤, All, IfSome, IfNone, MatchOption}
 use Rattle.std.specs.Option.{unwrap_or}
 use Rattle.std.proofs.lemmas.Bool.{false≢true}
 use Rattle.std.proofs.lemmas.List.Elements.{All-nil, All-cons, All-head, All-tail, All-contains}
@@ -9,8 +9,8 @@ use Rattle.mc_text.specs.Words.{is_key, IsNumber, IsFlags}
 use Rattle.mc_text.specs.Commands.{Then}
 use Rattle.mc_text.specs.Parsing.{IsFirst, IsNoFirst}
 use Rattle.mc_text.specs.PlainWords.{IsKeyWord, IsExptime, IsLast}
-use Rattle.mc_text.specs.PlainLines.{IsKeyOf, AreFields, IsTail, IsHead, IsNoHead, AreKeys, IsOnKey, SayWhole, IsNoWhole, Tells, verb_of}
-use Rattle.mc_text.specs.PlainParts.{BeginWithFields, IsNoFields, IsKeyAlone, IsCounted}
+use Rattle.mc_text.specs.PlainLines.{IsKeyOf, AreFields, IsTail, IsNoHead, AreKeys, IsOnKey, SayWhole, IsNoWhole, Tells, verb_of}
+use Rattle.mc_text.specs.PlainParts.{BeginWithFields, IsNoFields, IsCounted}
 use Rattle.mc_text.specs.declared.plain_words.KeyWord.{KeyWord}
 use Rattle.mc_text.specs.declared.plain_verb_words.PlainVerb.{PlainVerb}
 use Rattle.mc_text.specs.declared.plain_verb_words.PlainVerb.TheVariants as verb
@@ -23,7 +23,6 @@ use Rattle.mc_text.specs.declared.plain_lines.Storing.{Storing}
 use Rattle.mc_text.specs.declared.plain_lines.Storing.TheVariants as storing
 use Rattle.mc_text.specs.declared.plain_lines.Fields.{Fields}
 use Rattle.mc_text.specs.declared.plain_lines.Counted.{Counted}
-use Rattle.mc_text.specs.declared.plain_lines.PlainHead.{PlainHead}
 use Rattle.mc_text.proofs.FirstLemmas.{no_then, behind_first}
 
 -- what stands behind may be said with less

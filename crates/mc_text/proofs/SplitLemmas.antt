@@ -1,6 +1,7 @@
 -- How the first word is taken off a text, and when there is none.
 use Rattle.std.proofs.Common.{ℕ, zero, suc, ◌+◌, ◌==◌, ◌≡◌, ◌<◌, ◌≤◌, Bool, true, false, not, cond, ltb, List, [], ◌∷◌, length, take, drop}
-use Rattle.std.proofs.Common.{get_or, position, get_or-drop, Option, Some, None, is_some, add-zero, arith, refl, sym, ap, ◌∙◌}
+use Rattle.std.proofs.lemmas.Bool.{cases_order}
+use Rattle.std.proofs.Common.{◌⊎◌, inl, inr, get_or, position, get_or-drop, Option, Some, None, is_some, add-zero, arith, refl, sym, ap, ◌∙◌}
 use Rattle.std.specs.List.{position_or_len, All, slice_split}
 use Rattle.std.specs.Prelude.{filter}
 use Rattle.std.specs.Bool.{MatchBool}
@@ -110,3 +111,34 @@ told_word text None true e f = no_word text (sym e)
 told_word text (Some from) false e f = some_word text from (sym e)
 told_word text None false e f = absurd (false≢true f)
 told_word text (Some from) true e f = absurd (false≢true (sym f))
+
+-- no space stands before this place
+abbrev pub NoneBefore : List ℕ → ℕ → Type 0
+NoneBefore text at = (place : ℕ) → place < at → get_or text place 0 ≡ 32 → ⊥
+
+-- a byte that isn't a space fails the test
+is_none : (byte : ℕ) → (byte ≡ 32 → ⊥) → is_space byte ≡ false
+is_none byte other = grind (arith, nat_tests)
+
+-- the first space
+pub space_found : (text : List ℕ) (at : ℕ) → at < length text → NoneBefore text at → get_or text at 0 ≡ 32 → Some at ≡ position is_space text
+space_found text at within none byte = on _ (position_or_len_is is_space text at 0 (omega arith) (λ k h. is_none _ (none k h)) (λ h. rw byte refl))
+  where
+    on : (found : ℕ) → found ≡ at → Some at ≡ cond (ltb found (length text)) (Some found) None
+    on found e = grind (arith, nat_tests)
+
+-- a text in which there is none
+pub no_space_found : (text : List ℕ) → NoneBefore text (length text) → None ≡ position is_space text
+no_space_found text none = on _ (position_or_len_is is_space text (length text) 0 (omega arith) (λ k h. is_none _ (none k h)) (λ h. absurd (omega arith)))
+  where
+    on : (found : ℕ) → found ≡ length text → None ≡ cond (ltb found (length text)) (Some found) None
+    on found e = grind (arith, nat_tests)
+
+-- one byte more that is none
+pub none_yet : (text : List ℕ) (at next : ℕ) → next ≡ at + 1 → NoneBefore text at → (get_or text at 0 ≡ 32 → ⊥) → NoneBefore text next
+none_yet text at next e none other place below byte = by (cases_order place at)
+  where
+    by : (place ≡ at) ⊎ ((place < at) ⊎ (at < place)) → ⊥
+    by (inl same) = other (rw same at byte)
+    by (inr (inl low)) = none place low byte
+    by (inr (inr high)) = absurd (omega arith)

@@ -15,10 +15,9 @@ use Rattle.mc_text.specs.declared.commands.Command.{Command}
 use Rattle.mc_text.specs.declared.commands.Command.TheVariants.{Begin, IqGet, Ask, Stage, IqSet, QaReg, QaRead, IqDelta, Sql, Dar, Sar}
 use Rattle.mc_text.specs.declared.commands.Command.TheVariants.{IqCommit, IqAbort, Quit, Unknown}
 use Rattle.mc_text.specs.Words.{Names, IsKey, is_numeral, IsBelow, IsNumber, IsFlags, IsSid, IsBy}
-use Rattle.mc_text.specs.Commands.{Then, role_word, AreArgs, AreWords, block_of}
-use Rattle.mc_text.specs.Parsing.{number_of}
+use Rattle.mc_text.specs.Commands.{Then, role_word, verb_of, AreArgs, AreWords, block_of}
 use Rattle.mc_text.proofs.NumberLemmas.{numeral_parts}
-use Rattle.mc_text.proofs.OnceLemmas.{IsStrange, Spells, spelled, apart, one_row}
+use Rattle.mc_text.proofs.OnceLemmas.{IsStrange, Spells, spelled, apart, one_verb}
 
 named_once : (word : List ℕ) (a b : Option QKey) → Names word a → Names word b → a ≡ b
 named_once word None None h k = refl
@@ -128,8 +127,8 @@ item_once key key' flags flags' exptime exptime' bytes bytes' R S words h k =
       right = w3.right;
     }
 
--- the words behind a verb say one command of its row
-pub args_once : (a b : Command) (words : List (List ℕ)) → number_of a ≡ number_of b → block_of a ≡ block_of b → AreArgs a words → AreArgs b words → a ≡ b
+-- the words behind a verb say one command of that verb
+pub args_once : (a b : Command) (words : List (List ℕ)) → verb_of a ≡ verb_of b → block_of a ≡ block_of b → AreArgs a words → AreArgs b words → a ≡ b
 args_once (Begin role) (Begin role') words e f h k =
     let w = both _ _ _ _ words h k in
     let same = role_once w.word role role' w.one w.two in
@@ -198,4 +197,4 @@ words_once a b words h k f = by (spelled a words h) (spelled b words k)
     by (inr s) (inl t) = absurd (apart b a words t s)
     by (inr s) (inr t) =
         let same : s.args ≡ t.args = ap (λ (ws : List (List ℕ)). drop 1 ws) (sym s.words_are ∙ t.words_are) in
-        args_once a b t.args (one_row a b words s t) f (subst (λ (ws : List (List ℕ)). AreArgs a ws) same s.says) t.says
+        args_once a b t.args (one_verb a b words s t) f (subst (λ (ws : List (List ℕ)). AreArgs a ws) same s.says) t.says

@@ -10,6 +10,7 @@ use Rattle.change_words.proofs.TakenLemmas.{HasTaken, taken_on, taken_all, no_ch
 use Rattle.mc_text.specs.Words.{IsKey, IsSid}
 use Rattle.mc_text.specs.Parsing.{IsFirst}
 use Rattle.mc_text.specs.Telling.{TellsTxn}
+use Rattle.mc_text.specs.declared.verb_words.LeaseVerb.TheVariants as lease
 use Rattle.mc_text.specs.declared.commands.Command.TheVariants.{Stage, Sql}
 
 -- so many changes were read off the front of the words, and these words are left
@@ -66,15 +67,15 @@ read_many words rest count h eight txn k =
 
 -- where memory is wanted for a transaction, its words make a command
 pub staged : {A B : Type 0} (read : Result A B) (words one others : List (List ℕ)) (key : Option QKey) (sid : Sid)
-    → IsFirst IsKey words key one → IsFirst IsSid one sid others → (txn : List Change) × AreTxnWords txn others → OnErr read (TellsTxn 4 words)
+    → IsFirst IsKey words key one → IsFirst IsSid one sid others → (txn : List Change) × AreTxnWords txn others → OnErr read (TellsTxn lease.Stage words)
 staged (Ok value) words one others key sid a b t = tt
 staged (Err fault) words one others key sid a b t = record {
   said = Stage key sid t.0;
-  is = record { row = refl; args = rw a.words_are (a.is, rw b.words_are (b.is, t.1)) };
+  is = record { verb_is = refl; args = rw a.words_are (a.is, rw b.words_are (b.is, t.1)) };
   txn = refl;
 }
 
 pub committed : {A B : Type 0} (read : Result A B) (words others : List (List ℕ)) (sid : Sid)
-    → IsFirst IsSid words sid others → (txn : List Change) × AreTxnWords txn others → OnErr read (TellsTxn 9 words)
+    → IsFirst IsSid words sid others → (txn : List Change) × AreTxnWords txn others → OnErr read (TellsTxn lease.Sql words)
 committed (Ok value) words others sid a t = tt
-committed (Err fault) words others sid a t = record { said = Sql sid t.0; is = record { row = refl; args = rw a.words_are (a.is, t.1) }; txn = refl }
+committed (Err fault) words others sid a t = record { said = Sql sid t.0; is = record { verb_is = refl; args = rw a.words_are (a.is, t.1) }; txn = refl }

@@ -1,6 +1,8 @@
 -- The commands: which words say which.
 use Rattle.std.specs.Prelude.{ℕ, ◌≡◌, ◌||◌, Bool, true, false, List, [], ◌∷◌, Option, Some, None, is_some, codes, ⊤}
-use Rattle.mc_text.specs.Verbs.{IsNoVerb, lease_rows}
+use Rattle.mc_text.specs.declared.verb_words.LeaseVerb.{LeaseVerb}
+use Rattle.mc_text.specs.declared.verb_words.LeaseVerb.TheVariants as lease
+use Rattle.mc_text.specs.Verbs.{lease_text, IsNoVerb, lease_rows}
 use Rattle.mc_text.specs.declared.commands.Role.{Role}
 use Rattle.mc_text.specs.declared.commands.Role.TheVariants.{Read, Write}
 use Rattle.mc_text.specs.declared.commands.Command.{Command}
@@ -23,23 +25,28 @@ abbrev pub role_word : Role → List ℕ
 role_word Read = codes "read"
 role_word Write = codes "write"
 
--- the verb of a command
-abbrev pub verb_of : Command → List ℕ
-verb_of (Begin role) = codes "begin"
-verb_of (IqGet key sid floor) = codes "iqget"
-verb_of (Ask key sid) = codes "ask"
-verb_of (Stage key sid txn) = codes "stage"
-verb_of (IqSet key flags exptime bytes token stamp block) = codes "iqset"
-verb_of (QaReg key sid) = codes "qareg"
-verb_of (QaRead key sid) = codes "qaread"
-verb_of (IqDelta key sid by) = codes "iqdelta"
-verb_of (Sql sid txn) = codes "sql"
-verb_of (Dar key sid) = codes "dar"
-verb_of (Sar key flags exptime bytes sid block) = codes "sar"
-verb_of (IqCommit key sid) = codes "iqcommit"
-verb_of (IqAbort sid) = codes "iqabort"
-verb_of Quit = codes "quit"
-verb_of Unknown = []
+-- the verb of a command, if it has one
+abbrev pub verb_of : Command → Option LeaseVerb
+verb_of (Begin role) = Some lease.Begin
+verb_of (IqGet key sid floor) = Some lease.IqGet
+verb_of (Ask key sid) = Some lease.Ask
+verb_of (Stage key sid txn) = Some lease.Stage
+verb_of (IqSet key flags exptime bytes token stamp block) = Some lease.IqSet
+verb_of (QaReg key sid) = Some lease.QaReg
+verb_of (QaRead key sid) = Some lease.QaRead
+verb_of (IqDelta key sid by) = Some lease.IqDelta
+verb_of (Sql sid txn) = Some lease.Sql
+verb_of (Dar key sid) = Some lease.Dar
+verb_of (Sar key flags exptime bytes sid block) = Some lease.Sar
+verb_of (IqCommit key sid) = Some lease.IqCommit
+verb_of (IqAbort sid) = Some lease.IqAbort
+verb_of Quit = Some lease.Quit
+verb_of Unknown = None
+
+-- how it is written
+abbrev pub written : Option LeaseVerb → List ℕ
+written (Some verb) = lease_text verb
+written None = []
 
 -- the words behind the verb
 abbrev pub AreArgs : Command → List (List ℕ) → Type 0
@@ -73,7 +80,7 @@ AreUnknown (word ∷ words) = IsNoVerb lease_rows word
 abbrev pub AreWords : Command → List (List ℕ) → Type 0
 AreWords Unknown words = AreUnknown words
 AreWords command [] = ⊥
-AreWords command (word ∷ words) = (word ≡ verb_of command) × AreArgs command words
+AreWords command (word ∷ words) = (word ≡ written (verb_of command)) × AreArgs command words
 
 -- how many bytes the line says that the block behind it has, if it has one
 abbrev pub announced : Command → Option ℕ

@@ -1,5 +1,5 @@
 -- The lines of plain commands: which words behind a verb say which command.
-use Rattle.std.specs.Prelude.{ℕ, ◌≡◌, ◌≤◌, ⊤, Bool, true, false, cond, List, [], ◌∷◌, length, All, Contains}
+use Rattle.std.specs.Prelude.{ℕ, ◌≡◌, ◌≤◌, ⊤, Bool, true, false, cond, List, length, All, Contains}
 use Rattle.mc_text.specs.Words.{is_key, IsNumber, IsFlags}
 use Rattle.mc_text.specs.Commands.{Then}
 use Rattle.mc_text.specs.PlainKeys.{IsPlainKey}

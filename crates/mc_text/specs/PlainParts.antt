@@ -1,5 +1,5 @@
 -- What the parts of the parser of plain commands answer.
-use Rattle.std.specs.Prelude.{ℕ, ◌≡◌, ◌≤◌, ⊤, Bool, true, List, [], ◌∷◌, length, All, Contains}
+use Rattle.std.specs.Prelude.{ℕ, ◌≡◌, ◌≤◌, ⊤, Bool, true, List, ◌∷◌, length, All, Contains}
 use Rattle.mc_text.specs.Words.{is_key, IsNumber, IsFlags}
 use Rattle.mc_text.specs.Commands.{Then}
 use Rattle.mc_text.specs.PlainKeys.{IsPlainKey}

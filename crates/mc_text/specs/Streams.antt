@@ -1,6 +1,6 @@
 -- What stands first in a stream of bytes: which command or fault, and how many bytes it takes.
 use Rattle.std.specs.Prelude.{ℕ, ◌+◌, true, ◌≡◌, ◌<◌, ◌≤◌, List, [], ◌∷◌, length, take, drop, slice_index, Option, Some, None}
-use Rattle.mc_text.specs.Verbs.{Verb, IsRowOf, lease_rows}
+use Rattle.mc_text.specs.Verbs.{TableRow, IsRowOf, lease_rows}
 use Rattle.mc_text.specs.declared.commands.Command.{Command}
 use Rattle.mc_text.specs.Words.{words_in}
 use Rattle.mc_text.specs.Commands.{AreWords, announced, block_of, has_body}
@@ -44,7 +44,7 @@ pub record IsCommand (stream : List ℕ) (command : Command) (taken : ℕ) : Typ
 -- the first word is a verb
 abbrev pub HaveVerb : List (List ℕ) → Type 0
 HaveVerb [] = ⊥
-HaveVerb (word ∷ words) = (row : Verb) × IsRowOf lease_rows word row
+HaveVerb (word ∷ words) = (row : TableRow) × IsRowOf lease_rows word row
 
 -- the first word is a verb, and the words say no command
 pub record AreBad (words : List (List ℕ)) : Type 0 where

@@ -1,5 +1,6 @@
 -- What a line and the front of a stream are told to be.
 use Rattle.std.specs.Prelude.{ℕ, ◌≡◌, ◌<◌, true, List, [], None}
+use Rattle.mc_text.specs.declared.verb_words.LeaseVerb.{LeaseVerb}
 use Rattle.mc_text.specs.declared.lines.Said.{Said}
 use Rattle.mc_text.specs.declared.lines.Said.TheVariants.{Whole, Headed, Bad}
 use Rattle.mc_text.specs.declared.items.Front.{Front}
@@ -9,16 +10,16 @@ use Rattle.mc_text.specs.declared.commands.Command.{Command}
 use Rattle.mc_text.specs.Streams.{AreBad, EndsAt, Stands, command, bad_line, long_line, bad_block, big_block, IsOpen}
 use Rattle.mc_text.specs.Parsing.{IsSaid, IsUnsaid, with_block}
 
--- what the words behind the verb of a row say
-abbrev pub Tells : ℕ → List (List ℕ) → Said → Type 0
-Tells number words (Whole said) = IsSaid number words said × (announced said ≡ None)
-Tells number words (Headed head) = IsSaid number words (with_block head [])
-Tells number words Bad = IsUnsaid number words
+-- what the words behind a verb say
+abbrev pub Tells : LeaseVerb → List (List ℕ) → Said → Type 0
+Tells verb words (Whole said) = IsSaid verb words said × (announced said ≡ None)
+Tells verb words (Headed head) = IsSaid verb words (with_block head [])
+Tells verb words Bad = IsUnsaid verb words
 
--- the words behind the verb of a row say a command with a transaction
-pub record TellsTxn (number : ℕ) (words : List (List ℕ)) : Type 0 where
+-- the words behind a verb say a command with a transaction
+pub record TellsTxn (verb : LeaseVerb) (words : List (List ℕ)) : Type 0 where
   pub said : Command
-  pub is : IsSaid number words said
+  pub is : IsSaid verb words said
   pub txn : has_txn said ≡ true
 
 -- the words of a line say such a command

@@ -16,6 +16,7 @@ pub use plain_texts::{write_found, write_plain_reply};
 pub use plain_verb_words::{PlainVerb, plain_verb};
 pub use plain_words::KeyWord;
 pub use replies::{LineReply, reply_text, write_reply};
+pub use verb_words::{LeaseVerb, Verb};
 pub use verbs::{VerbRow, Verbs, lease_verbs, plain_verbs};
 pub use words::next_word;
 

@@ -1,16 +1,19 @@
 // What a line says, by its words.
-ghost use Rattle.std.specs.Prelude.{◌≡◌, ◌≤◌, [], Option, IfSome, IfNone, IfOk, OnErr, MatchOption};
+ghost use Rattle.std.specs.Prelude.{◌≡◌, [], Option, IfSome, IfNone, IfOk, OnErr, MatchOption};
 ghost use Rattle.rows_model.specs.declared.keys.QKey.{QKey};
 ghost use Rattle.rows_model.specs.declared.keys.Sid.{Sid};
 ghost use Rattle.mc_text.specs.Words.{words_in, IsKey, IsSid};
 ghost use Rattle.mc_text.specs.declared.commands.Role.{Role};
+ghost use Rattle.mc_text.specs.declared.verb_words.LeaseVerb.TheVariants as lease;
 ghost use Rattle.mc_text.specs.declared.lines.Said.TheVariants.{Whole, Headed, Bad};
+ghost use Rattle.mc_text.specs.Verbs.{lease_text, IsNoVerb, lease_rows};
 ghost use Rattle.mc_text.specs.Commands.{Then, NoMore, role_word};
 ghost use Rattle.mc_text.specs.Parsing.{IsSaid, IsUnsaid, with_block};
 ghost use Rattle.mc_text.specs.Telling.{Tells, TellsTxn, Told, SayTxn};
 
 use crate::commands::{Command, Head, Role};
 use crate::txns::txn_of;
+use crate::verb_words::{LeaseVerb, Verb};
 use crate::verbs::lease_verbs;
 use crate::words::{has_ended, next_word, take_by, take_flags, take_key, take_number, take_sid};
 use rows_model::{Memory, QKey, Sid};
@@ -37,37 +40,45 @@ pub(crate) fn said_of(alloc: Global, line: &[u8]) -> Result<Said, Memory>
             command: Command::Unknown,
         });
     };
-    match lease_verbs().find(word) {
-        Some(row) => with_verb(alloc, row.number, args),
+    match lease_verb(word) {
+        Some(verb) => with_verb(alloc, verb, args),
         None => Ok(Said::Whole {
             command: Command::Unknown,
         }),
     }
 }
 
-// What the words behind the verb of a row say.
-fn with_verb(alloc: Global, number: u8, args: &[u8]) -> Result<Said, Memory>
-    requires from { 1 ≤ number }
-    requires to { number ≤ 14 }
-    ensures tells { IfOk result (λ said. Tells number (words_in args.now) said) }
-    ensures memory { OnErr result (TellsTxn number (words_in args.now)) }
+// The verb of a lease command that the word is.
+fn lease_verb(word: &[u8]) -> Option<LeaseVerb>
+    ensures found { IfSome result (λ verb. word.now ≡ lease_text verb) }
+    ensures none { IfNone result (IsNoVerb lease_rows word.now) }
 {
-    match number {
-        1 => Ok(whole(begin_of(args))),
-        2 => Ok(whole(iqget_of(args))),
-        3 => Ok(whole(ask_of(args))),
-        4 => Ok(whole(stage_of(alloc, args)?)),
-        5 => Ok(headed(iqset_of(args))),
-        6 => Ok(whole(qareg_of(args))),
-        7 => Ok(whole(qaread_of(args))),
-        8 => Ok(whole(iqdelta_of(args))),
-        9 => Ok(whole(sql_of(alloc, args)?)),
-        10 => Ok(whole(dar_of(args))),
-        11 => Ok(headed(sar_of(args))),
-        12 => Ok(whole(iqcommit_of(args))),
-        13 => Ok(whole(iqabort_of(args))),
-        14 => Ok(whole(quit_of(args))),
-        _ => Ok(Said::Bad),
+    match lease_verbs().find(word)?.which {
+        Verb::Lease(verb) => Some(verb),
+        Verb::Plain(_) => None,
+    }
+}
+
+// What the words behind a verb say.
+fn with_verb(alloc: Global, verb: LeaseVerb, args: &[u8]) -> Result<Said, Memory>
+    ensures tells { IfOk result (λ said. Tells verb (words_in args.now) said) }
+    ensures memory { OnErr result (TellsTxn verb (words_in args.now)) }
+{
+    match verb {
+        LeaseVerb::Begin => Ok(whole(begin_of(args))),
+        LeaseVerb::IqGet => Ok(whole(iqget_of(args))),
+        LeaseVerb::Ask => Ok(whole(ask_of(args))),
+        LeaseVerb::Stage => Ok(whole(stage_of(alloc, args)?)),
+        LeaseVerb::IqSet => Ok(headed(iqset_of(args))),
+        LeaseVerb::QaReg => Ok(whole(qareg_of(args))),
+        LeaseVerb::QaRead => Ok(whole(qaread_of(args))),
+        LeaseVerb::IqDelta => Ok(whole(iqdelta_of(args))),
+        LeaseVerb::Sql => Ok(whole(sql_of(alloc, args)?)),
+        LeaseVerb::Dar => Ok(whole(dar_of(args))),
+        LeaseVerb::Sar => Ok(headed(sar_of(args))),
+        LeaseVerb::IqCommit => Ok(whole(iqcommit_of(args))),
+        LeaseVerb::IqAbort => Ok(whole(iqabort_of(args))),
+        LeaseVerb::Quit => Ok(whole(quit_of(args))),
     }
 }
 
@@ -105,8 +116,8 @@ fn pair_of(args: &[u8]) -> Option<(Option<QKey>, Sid)>
 }
 
 fn begin_of(args: &[u8]) -> Option<Command>
-    ensures found { IfSome result (λ command. IsSaid 1 (words_in args.now) command) }
-    ensures none { IfNone result (IsUnsaid 1 (words_in args.now)) }
+    ensures found { IfSome result (λ command. IsSaid lease.Begin (words_in args.now) command) }
+    ensures none { IfNone result (IsUnsaid lease.Begin (words_in args.now)) }
 {
     let (word, rest) = next_word(args)?;
     let role = role_of(word)?;
@@ -129,8 +140,8 @@ fn role_of(word: &[u8]) -> Option<Role>
 }
 
 fn iqget_of(args: &[u8]) -> Option<Command>
-    ensures found { IfSome result (λ command. IsSaid 2 (words_in args.now) command) }
-    ensures none { IfNone result (IsUnsaid 2 (words_in args.now)) }
+    ensures found { IfSome result (λ command. IsSaid lease.IqGet (words_in args.now) command) }
+    ensures none { IfNone result (IsUnsaid lease.IqGet (words_in args.now)) }
 {
     let (key, rest) = take_key(args)?;
     let (sid, rest) = take_sid(rest)?;
@@ -142,8 +153,8 @@ fn iqget_of(args: &[u8]) -> Option<Command>
 }
 
 fn ask_of(args: &[u8]) -> Option<Command>
-    ensures found { IfSome result (λ command. IsSaid 3 (words_in args.now) command) }
-    ensures none { IfNone result (IsUnsaid 3 (words_in args.now)) }
+    ensures found { IfSome result (λ command. IsSaid lease.Ask (words_in args.now) command) }
+    ensures none { IfNone result (IsUnsaid lease.Ask (words_in args.now)) }
 {
     let (key, sid) = pair_of(args)?;
     Some(Command::Ask { key, sid })
@@ -151,9 +162,9 @@ fn ask_of(args: &[u8]) -> Option<Command>
 
 fn stage_of(alloc: Global, args: &[u8]) -> Result<Option<Command>, Memory>
     ensures found { IfOk result (λ read. IfSome read
-        (λ command. IsSaid 4 (words_in args.now) command)) }
-    ensures none { IfOk result (λ read. IfNone read (IsUnsaid 4 (words_in args.now))) }
-    ensures memory { OnErr result (TellsTxn 4 (words_in args.now)) }
+        (λ command. IsSaid lease.Stage (words_in args.now) command)) }
+    ensures none { IfOk result (λ read. IfNone read (IsUnsaid lease.Stage (words_in args.now))) }
+    ensures memory { OnErr result (TellsTxn lease.Stage (words_in args.now)) }
 {
     let Some((key, rest)) = take_key(args) else {
         return Ok(None);
@@ -168,8 +179,9 @@ fn stage_of(alloc: Global, args: &[u8]) -> Result<Option<Command>, Memory>
 }
 
 fn iqset_of(args: &[u8]) -> Option<Head>
-    ensures found { IfSome result (λ head. IsSaid 5 (words_in args.now) (with_block head [])) }
-    ensures none { IfNone result (IsUnsaid 5 (words_in args.now)) }
+    ensures found { IfSome result
+        (λ head. IsSaid lease.IqSet (words_in args.now) (with_block head [])) }
+    ensures none { IfNone result (IsUnsaid lease.IqSet (words_in args.now)) }
 {
     let (key, rest) = take_key(args)?;
     let (flags, rest) = take_flags(rest)?;
@@ -191,24 +203,24 @@ fn iqset_of(args: &[u8]) -> Option<Head>
 }
 
 fn qareg_of(args: &[u8]) -> Option<Command>
-    ensures found { IfSome result (λ command. IsSaid 6 (words_in args.now) command) }
-    ensures none { IfNone result (IsUnsaid 6 (words_in args.now)) }
+    ensures found { IfSome result (λ command. IsSaid lease.QaReg (words_in args.now) command) }
+    ensures none { IfNone result (IsUnsaid lease.QaReg (words_in args.now)) }
 {
     let (key, sid) = pair_of(args)?;
     Some(Command::QaReg { key, sid })
 }
 
 fn qaread_of(args: &[u8]) -> Option<Command>
-    ensures found { IfSome result (λ command. IsSaid 7 (words_in args.now) command) }
-    ensures none { IfNone result (IsUnsaid 7 (words_in args.now)) }
+    ensures found { IfSome result (λ command. IsSaid lease.QaRead (words_in args.now) command) }
+    ensures none { IfNone result (IsUnsaid lease.QaRead (words_in args.now)) }
 {
     let (key, sid) = pair_of(args)?;
     Some(Command::QaRead { key, sid })
 }
 
 fn iqdelta_of(args: &[u8]) -> Option<Command>
-    ensures found { IfSome result (λ command. IsSaid 8 (words_in args.now) command) }
-    ensures none { IfNone result (IsUnsaid 8 (words_in args.now)) }
+    ensures found { IfSome result (λ command. IsSaid lease.IqDelta (words_in args.now) command) }
+    ensures none { IfNone result (IsUnsaid lease.IqDelta (words_in args.now)) }
 {
     let (key, rest) = take_key(args)?;
     let (sid, rest) = take_sid(rest)?;
@@ -221,9 +233,9 @@ fn iqdelta_of(args: &[u8]) -> Option<Command>
 
 fn sql_of(alloc: Global, args: &[u8]) -> Result<Option<Command>, Memory>
     ensures found { IfOk result (λ read. IfSome read
-        (λ command. IsSaid 9 (words_in args.now) command)) }
-    ensures none { IfOk result (λ read. IfNone read (IsUnsaid 9 (words_in args.now))) }
-    ensures memory { OnErr result (TellsTxn 9 (words_in args.now)) }
+        (λ command. IsSaid lease.Sql (words_in args.now) command)) }
+    ensures none { IfOk result (λ read. IfNone read (IsUnsaid lease.Sql (words_in args.now))) }
+    ensures memory { OnErr result (TellsTxn lease.Sql (words_in args.now)) }
 {
     let Some((sid, rest)) = take_sid(args) else {
         return Ok(None);
@@ -235,16 +247,17 @@ fn sql_of(alloc: Global, args: &[u8]) -> Result<Option<Command>, Memory>
 }
 
 fn dar_of(args: &[u8]) -> Option<Command>
-    ensures found { IfSome result (λ command. IsSaid 10 (words_in args.now) command) }
-    ensures none { IfNone result (IsUnsaid 10 (words_in args.now)) }
+    ensures found { IfSome result (λ command. IsSaid lease.Dar (words_in args.now) command) }
+    ensures none { IfNone result (IsUnsaid lease.Dar (words_in args.now)) }
 {
     let (key, sid) = pair_of(args)?;
     Some(Command::Dar { key, sid })
 }
 
 fn sar_of(args: &[u8]) -> Option<Head>
-    ensures found { IfSome result (λ head. IsSaid 11 (words_in args.now) (with_block head [])) }
-    ensures none { IfNone result (IsUnsaid 11 (words_in args.now)) }
+    ensures found { IfSome result
+        (λ head. IsSaid lease.Sar (words_in args.now) (with_block head [])) }
+    ensures none { IfNone result (IsUnsaid lease.Sar (words_in args.now)) }
 {
     let (key, rest) = take_key(args)?;
     let (flags, rest) = take_flags(rest)?;
@@ -264,16 +277,16 @@ fn sar_of(args: &[u8]) -> Option<Head>
 }
 
 fn iqcommit_of(args: &[u8]) -> Option<Command>
-    ensures found { IfSome result (λ command. IsSaid 12 (words_in args.now) command) }
-    ensures none { IfNone result (IsUnsaid 12 (words_in args.now)) }
+    ensures found { IfSome result (λ command. IsSaid lease.IqCommit (words_in args.now) command) }
+    ensures none { IfNone result (IsUnsaid lease.IqCommit (words_in args.now)) }
 {
     let (key, sid) = pair_of(args)?;
     Some(Command::IqCommit { key, sid })
 }
 
 fn iqabort_of(args: &[u8]) -> Option<Command>
-    ensures found { IfSome result (λ command. IsSaid 13 (words_in args.now) command) }
-    ensures none { IfNone result (IsUnsaid 13 (words_in args.now)) }
+    ensures found { IfSome result (λ command. IsSaid lease.IqAbort (words_in args.now) command) }
+    ensures none { IfNone result (IsUnsaid lease.IqAbort (words_in args.now)) }
 {
     let (sid, rest) = take_sid(args)?;
     if !has_ended(rest) {
@@ -283,8 +296,8 @@ fn iqabort_of(args: &[u8]) -> Option<Command>
 }
 
 fn quit_of(args: &[u8]) -> Option<Command>
-    ensures found { IfSome result (λ command. IsSaid 14 (words_in args.now) command) }
-    ensures none { IfNone result (IsUnsaid 14 (words_in args.now)) }
+    ensures found { IfSome result (λ command. IsSaid lease.Quit (words_in args.now) command) }
+    ensures none { IfNone result (IsUnsaid lease.Quit (words_in args.now)) }
 {
     if !has_ended(args) {
         return None;

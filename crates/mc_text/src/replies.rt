@@ -1,10 +1,10 @@
 ghost use Rattle.std.specs.Prelude.{◌≡◌, [], ◌++◌, decimal, codes, OnOk, OnErr, IfOk};
-ghost use Rattle.rows_model.specs.Key.{key_text};
+ghost use Rattle.rows_model.specs.Key.{word_of, key_text};
 ghost use Rattle.mc_text.specs.Replies.{text_of, line, value_text, stamped_text, value_head, block_text, mode_word, BeginsWith};
 
 use itoa::Buffer;
 use lease_table::Mode;
-use rows_model::{Memory, QKey, Sid, Value};
+use rows_model::{Kind, Memory, QKey, Sid, Value};
 use std::alloc::{AllocError, Global};
 
 /// A reply, with its parts in their order.
@@ -241,10 +241,34 @@ fn push_value_head(out: &mut Vec<u8>, key: QKey, len: usize) -> Result<(), Alloc
     ensures ok { OnOk result (out.new.items ≡ out.old.items ++ value_head key len) }
     ensures err { OnErr result (BeginsWith out.old.items out.new.items) }
 {
-    out.extend_from_slice(b"VALUE ")?;
-    push_key(out, key)?;
+    push_value_key(out, key)?;
     out.extend_from_slice(b" 0 ")?;
     push_decimal(out, len as u64)
+}
+
+// The front of that line, up to its key.
+fn push_value_key(out: &mut Vec<u8>, key: QKey) -> Result<(), AllocError>
+    ensures ok { OnOk result (out.new.items ≡ out.old.items ++ (codes "VALUE " ++ key_text key)) }
+    ensures err { OnErr result (BeginsWith out.old.items out.new.items) }
+{
+    push_value_kind(out, key.kind)?;
+    push_decimal(out, u64::from(key.id))
+}
+
+// The front of that line, up to the id of the key: one text for each kind, so that it is one copy.
+fn push_value_kind(out: &mut Vec<u8>, kind: Kind) -> Result<(), AllocError>
+    ensures ok { OnOk result
+        (out.new.items ≡ out.old.items ++ (codes "VALUE " ++ word_of kind ++ codes ":")) }
+    ensures err { OnErr result (out.new.items ≡ out.old.items) }
+{
+    match kind {
+        Kind::Profile => out.extend_from_slice(b"VALUE profile:"),
+        Kind::Friends => out.extend_from_slice(b"VALUE friends:"),
+        Kind::Pending => out.extend_from_slice(b"VALUE pending:"),
+        Kind::NFriends => out.extend_from_slice(b"VALUE nfriends:"),
+        Kind::NPending => out.extend_from_slice(b"VALUE npending:"),
+        Kind::Blocked => out.extend_from_slice(b"VALUE blocked:"),
+    }
 }
 
 // The end of the first line of a value, and the lines behind it.
@@ -329,7 +353,7 @@ fn push_key(out: &mut Vec<u8>, key: QKey) -> Result<(), AllocError>
 }
 
 // A number in decimal.
-#[tactic(auto, using(crate::proofs::DecimalLemmas::one_digit))]
+#[tactic(auto, using(crate::proofs::DecimalLemmas::one_digit, crate::proofs::DecimalLemmas::two_digits))]
 pub(crate) fn push_decimal(out: &mut Vec<u8>, number: u64) -> Result<(), AllocError>
     ensures ok { OnOk result (out.new.items ≡ out.old.items ++ decimal number) }
     ensures err { OnErr result (out.new.items ≡ out.old.items) }
@@ -338,6 +362,20 @@ pub(crate) fn push_decimal(out: &mut Vec<u8>, number: u64) -> Result<(), AllocEr
         out.push(b'0' + number as u8)?;
         return Ok(());
     }
+    if number < 100 {
+        let tens = b'0' + (number / 10) as u8;
+        let ones = b'0' + (number % 10) as u8;
+        return out.extend_from_slice(&[tens, ones]);
+    }
+    push_long_decimal(out, number)
+}
+
+// The same. It is a function of its own, since its buffer costs the short ones time.
+#[inline(never)]
+fn push_long_decimal(out: &mut Vec<u8>, number: u64) -> Result<(), AllocError>
+    ensures ok { OnOk result (out.new.items ≡ out.old.items ++ decimal number) }
+    ensures err { OnErr result (out.new.items ≡ out.old.items) }
+{
     let mut buffer = Buffer::new();
     out.extend_from_slice(buffer.format(number).as_bytes())
 }

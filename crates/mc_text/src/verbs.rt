@@ -1,12 +1,15 @@
 ghost use Rattle.std.specs.Prelude.{◌≡◌, IfSome, IfNone};
 ghost use Rattle.mc_text.specs.Verbs.{seen, IsRowOf, IsNoVerb, lease_rows, plain_rows};
 
-use crate::verb_words::Word;
+use crate::plain_verb_words::PlainVerb;
+use crate::verb_words::{LeaseVerb, Verb};
 use std::marker::Model;
 
 /// What a table says of one verb.
 #[derive(Clone, Copy, PartialEq, Eq)]
 pub struct VerbRow {
+    /// The verb.
+    pub which: Verb,
     /// The word that stands first in the line of such a command.
     pub verb: &'static [u8],
     /// How many words stand behind the verb, where that number is fixed. A transaction, which has
@@ -14,7 +17,7 @@ pub struct VerbRow {
     pub fields: u8,
     /// Whether a block of data follows the line.
     pub block: bool,
-    /// The number of the row, from 1.
+    /// The number of the row, from 1. It is for readers: nothing is decided by it.
     pub number: u8,
 }
 
@@ -27,7 +30,7 @@ pub struct Verbs<const N: usize> {
 // A row as the table keeps it.
 #[derive(Clone, Copy)]
 struct Row {
-    word: Word,
+    which: Verb,
     fields: u8,
     block: bool,
     number: u8,
@@ -35,24 +38,26 @@ struct Row {
 
 impl<const N: usize> Model for Verbs<N> {
     ghost use Rattle.std.specs.Prelude.{List, map};
-    ghost use Rattle.mc_text.specs.Verbs.{Verb, told};
+    ghost use Rattle.mc_text.specs.Verbs.{TableRow, told};
 
-    ghost Value = { List Verb };
+    ghost Value = { List TableRow };
 
     ghost view = { λ verbs. map told verbs.rows };
 }
 
 impl<const N: usize> Verbs<N> {
     /// A row that has this word as its verb, or `None` exactly where no row has it.
+    #[inline]
     pub fn find(&self, word: &[u8]) -> Option<VerbRow>
         ensures found { IfSome result (λ row. IsRowOf self.now word.now (seen row)) }
         ensures none { IfNone result (IsNoVerb self.now word.now) }
     {
+        let which = Verb::of_word(word)?;
         for row in &self.rows {
-            let verb = row.word.text();
-            if verb == word {
+            if row.which == which {
                 return Some(VerbRow {
-                    verb,
+                    which,
+                    verb: which.text(),
                     fields: row.fields,
                     block: row.block,
                     number: row.number,
@@ -63,13 +68,13 @@ impl<const N: usize> Verbs<N> {
     }
 }
 
-/// Writes out the table, a row in each line: its number, the verb, how many words stand behind it,
-/// and whether a block does.
+/// Writes out the table of verbs of one kind, a row in each line: its number, the verb, how many
+/// words stand behind it, and whether a block does.
 macro_rules! verbs {
-    ($($number:literal $word:ident $fields:literal $block:literal;)*) => {
+    ($kind:ident $verbs:ident $($number:literal $verb:ident $fields:literal $block:literal;)*) => {
         Verbs {
             rows: [$(Row {
-                word: Word::$word,
+                which: Verb::$kind($verbs::$verb),
                 fields: $fields,
                 block: $block,
                 number: $number,
@@ -83,6 +88,7 @@ pub fn lease_verbs() -> Verbs<14>
     ensures { result ≡ lease_rows }
 {
     verbs! {
+        Lease LeaseVerb
         1 Begin 1 false;
         2 IqGet 3 false;
         3 Ask 2 false;
@@ -106,6 +112,7 @@ pub fn plain_verbs() -> Verbs<9>
     ensures { result ≡ plain_rows }
 {
     verbs! {
+        Plain PlainVerb
         15 Get 1 false;
         16 Gets 1 false;
         17 Set 4 true;

@@ -1,5 +1,5 @@
 // The words of a line, taken off its front one after another.
-ghost use Rattle.std.specs.Prelude.{◌≡◌, ◌==◌, [], ◌∷◌, IfSome, IfNone, not, position};
+ghost use Rattle.std.specs.Prelude.{ℕ, ◌≡◌, ◌==◌, ◌<◌, ◌≤◌, [], ◌∷◌, IfSome, IfNone, not, length, position, slice_index};
 ghost use Rattle.std.specs.Bool.{MatchBool};
 ghost use Rattle.mc_text.specs.Words.{words_in, IsKey, IsNumber, IsFlags, IsSid, IsBy};
 ghost use Rattle.mc_text.specs.Parsing.{IsFirst, IsNoFirst};
@@ -28,6 +28,7 @@ pub(crate) fn has_ended(text: &[u8]) -> bool
 }
 
 /// The key that the first word names, and what stands behind it.
+#[inline(always)]
 pub(crate) fn take_key(args: &[u8]) -> Option<(Option<QKey>, &[u8])>
     ensures found { IfSome result
         (λ read. IsFirst IsKey (words_in args.now) read.0 (words_in read.1.now)) }
@@ -39,6 +40,7 @@ pub(crate) fn take_key(args: &[u8]) -> Option<(Option<QKey>, &[u8])>
 }
 
 /// The session whose number the first word is, and what stands behind it.
+#[inline(always)]
 pub(crate) fn take_sid(args: &[u8]) -> Option<(Sid, &[u8])>
     ensures found { IfSome result
         (λ read. IsFirst IsSid (words_in args.now) read.0 (words_in read.1.now)) }
@@ -50,6 +52,7 @@ pub(crate) fn take_sid(args: &[u8]) -> Option<(Sid, &[u8])>
 }
 
 /// The number below 2^64 that the first word is, and what stands behind it.
+#[inline(always)]
 pub(crate) fn take_number(args: &[u8]) -> Option<(u64, &[u8])>
     ensures found { IfSome result
         (λ read. IsFirst IsNumber (words_in args.now) read.0 (words_in read.1.now)) }
@@ -89,9 +92,42 @@ fn word_start(text: &[u8]) -> Option<usize>
     text.iter().position(|byte| *byte != b' ')
 }
 
-// Where the first space stands.
+// Where the first space stands. Four bytes are looked at in a turn, since each command's words are
+// searched so.
 fn space_in(text: &[u8]) -> Option<usize>
     ensures { result ≡ position (λ byte. byte == 32) text.now }
 {
-    text.iter().position(|byte| *byte == b' ')
+    let mut at = 0;
+    while text.len() - at >= 4 {
+        if text[at] == b' ' {
+            return Some(at);
+        }
+        if text[at + 1] == b' ' {
+            return Some(at + 1);
+        }
+        if text[at + 2] == b' ' {
+            return Some(at + 2);
+        }
+        if text[at + 3] == b' ' {
+            return Some(at + 3);
+        }
+        at += 4;
+    }
+    space_behind(text, at)
+}
+
+// The same, where none stands before this place.
+fn space_behind(text: &[u8], from: usize) -> Option<usize>
+    requires within { from ≤ length text.now }
+    requires none { (place : ℕ) → place < from → slice_index text.now place ≡ 32 → ⊥ }
+    ensures { result ≡ position (λ byte. byte == 32) text.now }
+{
+    let mut at = from;
+    while at < text.len() {
+        if text[at] == b' ' {
+            return Some(at);
+        }
+        at += 1;
+    }
+    None
 }

@@ -11,6 +11,8 @@ mod failing_calls;
 #[cfg(test)]
 mod lines;
 #[cfg(test)]
+mod long_replies;
+#[cfg(test)]
 mod outside;
 #[cfg(test)]
 mod plains;

@@ -37,7 +37,7 @@ pub fn failing_line(
 {
     let said = Vec::from_slice(alloc, said)?;
     let source = MemSource::new(said, pieces.0, Vec::from_slice(alloc, reads)?);
-    let sink = MemSink::new(alloc, 65536, pieces.1, Vec::from_slice(alloc, writes)?)?;
+    let sink = MemSink::new(alloc, 262_144, pieces.1, Vec::from_slice(alloc, writes)?)?;
     Ok(MemLine::new(source, sink))
 }
 
@@ -244,20 +244,45 @@ fn faults_end_it(rt: HostRuntime) -> Result<(), Fail> {
 }
 
 /// A line whose client says so many commands at a time, each with a reply of one line, and says more only
-/// once all those are told. It counts the reads that come before.
+/// once all those are told. It counts the reads that come before, and tells the most bytes that it was
+/// handed at once.
 #[derive(Drop)]
-struct Patient {
+pub struct Patient {
     line: MemLine,
     at_once: usize,
     /// How many commands were given.
     given: usize,
     /// How many reads came while a reply was due.
     early: usize,
+    most: usize,
     read_faults: u64,
     write_faults: u64,
 }
 
 impl Patient {
+    /// A line whose client says so many commands at a time.
+    pub fn new(line: MemLine, at_once: usize) -> Patient {
+        Patient {
+            line,
+            at_once,
+            given: 0,
+            early: 0,
+            most: 0,
+            read_faults: 0,
+            write_faults: 0,
+        }
+    }
+
+    /// What it took.
+    pub fn taken(&self) -> &[u8] {
+        self.line.taken()
+    }
+
+    /// The most bytes that it was handed at once.
+    pub fn most(&self) -> usize {
+        self.most
+    }
+
     /// How many lines it took.
     fn told(&self) -> usize {
         let mut lines = 0usize;
@@ -304,6 +329,7 @@ impl Sink for Patient {
     ghost read_side = { λ patient. record { left = None; given = None; faults = patient.read_faults } };
 
     fn write(&mut self, piece: &[u8]) -> Result<usize, Failed> {
+        self.most = self.most.max(piece.len());
         match self.line.write(piece) {
             Ok(count) => Ok(count),
             Err(_) => {
@@ -334,14 +360,7 @@ fn answers_first(rt: &impl Abort, alloc: Global, at_once: usize, piece: usize) -
 {
     let mut desk = TestDesk::new(alloc, &[])?;
     let said = sessions_begin(alloc, 12)?;
-    let mut line = Patient {
-        line: line_of(alloc, &said, (piece, 5))?,
-        at_once,
-        given: 0,
-        early: 0,
-        read_faults: 0,
-        write_faults: 0,
-    };
+    let mut line = Patient::new(line_of(alloc, &said, (piece, 5))?, at_once);
     let mut plain = Plain::new(alloc, 1);
     let end = serve_line(alloc, &mut line, &mut desk, &mut plain);
     assert!(rt; end == LineEnd::Closed { left: 0 });

@@ -10,7 +10,6 @@ use Rattle.mixed_lines.specs.declared.streams.Said.TheVariants as said
 use Rattle.mixed_lines.specs.Items.{command, plain}
 use Rattle.conn_server.specs.Answers.{ItemAnswers}
 use Rattle.conn_server.proofs.CourseLemmas.{Answered, answered_goes_on, answered_ends, tells_within, tells_more, next_said, next_none, next_fault}
-use Rattle.conn_server.proofs.CourseLemmas.{waits_short, tells_waits, shuts_waits}
 use Rattle.conn_server.proofs.CourseLemmas.{bad_line_answered, course_open, ending_quit, ending_memory, shut_by}
 use Rattle.conn_server.specs.Course.{desk_side}
 use Rattle.conn_server.proofs.serving.Serving.answer_next.Goals as goal
@@ -19,8 +18,8 @@ pub returns-in-Ok-Some-Lease-Quit-clause-ends : goal.returns-in-Ok-Some-Lease-Qu
 returns-in-Ok-Some-Lease-Quit-clause-ends g c =
     let is : c.next_said-next.result ≡ Ok (Some (said.Lease Quit)) = cc in
     let t = next_said c.args.self.now.framer c.next_said-next.new.framer c.next_said-next.result (said.Lease Quit) c.next_said-next.ensures is in
-    λ start rounds reads writes course.
-    ending_quit start rounds reads writes (desk_side g.D.Desk.record_of g.D.Desk.tends g.P.PlainDesk.record_of c.args.desk.now c.args.plain.now) c.args.self.now _ t.taken t.stands refl refl course
+    λ start rounds course.
+    ending_quit start rounds (g.L.Sink.read_side c.args.line.now) (g.L.Source.write_side c.args.line.now) (desk_side g.D.Desk.record_of g.D.Desk.tends g.P.PlainDesk.record_of c.args.desk.now c.args.plain.now) c.args.self.now _ t.taken t.stands refl refl course
 
 pub returns-in-Ok-Some-Lease : goal.returns-in-Ok-Some-Lease
 returns-in-Ok-Some-Lease g c =
@@ -42,12 +41,11 @@ returns-in-Ok-Some-Lease g c =
       count = c.tell.ensures.counts;
     } in
     record {
-      within = tells_within c.tell.result heard _ c.tell.new.self c.tell.ensures.tells;
+      within = tells_within c.tell.result heard _ _ _ c.tell.new.self c.tell.ensures.tells;
       counts = λ e. c.tell.ensures.counts;
-      waits = tells_waits c.tell.result heard _ c.args.self.now c.tell.new.self c.requires.few refl c.tell.ensures.tells;
-      stops = λ e. absurd (tells_more c.tell.result heard _ c.tell.new.self c.tell.ensures.tells e);
-      goes_on = answered_goes_on c.tell.result _ _ c.args.self.now _ c.tell.new.self heard refl c.tell.ensures.tells a;
-      ends = answered_ends c.tell.result _ _ c.args.self.now _ c.tell.new.self heard refl c.tell.ensures.tells a;
+      stops = λ e. absurd (tells_more c.tell.result heard _ _ _ c.tell.new.self c.tell.ensures.tells e);
+      goes_on = answered_goes_on c.tell.result (g.L.Sink.read_side c.args.line.now) (g.L.Sink.read_side c.tell.new.line) (g.L.Source.write_side c.args.line.now) (g.L.Source.write_side c.tell.new.line) _ _ c.args.self.now c.tell.new.self heard c.tell.ensures.tells c.tell.ensures.keeps_reading a;
+      ends = answered_ends c.tell.result (g.L.Sink.read_side c.args.line.now) (g.L.Sink.read_side c.tell.new.line) (g.L.Source.write_side c.args.line.now) (g.L.Source.write_side c.tell.new.line) _ _ c.args.self.now c.tell.new.self heard c.tell.ensures.tells c.tell.ensures.keeps_reading a;
     }
 
 pub returns-in-Ok-Some-Plain : goal.returns-in-Ok-Some-Plain
@@ -69,20 +67,19 @@ returns-in-Ok-Some-Plain g c =
       count = c.tell-in-Ok-Some-Plain.ensures.counts;
     } in
     record {
-      within = tells_within c.tell-in-Ok-Some-Plain.result heard _ c.tell-in-Ok-Some-Plain.new.self c.tell-in-Ok-Some-Plain.ensures.tells;
+      within = tells_within c.tell-in-Ok-Some-Plain.result heard _ _ _ c.tell-in-Ok-Some-Plain.new.self c.tell-in-Ok-Some-Plain.ensures.tells;
       counts = λ e. c.tell-in-Ok-Some-Plain.ensures.counts;
-      waits = tells_waits c.tell-in-Ok-Some-Plain.result heard _ c.args.self.now c.tell-in-Ok-Some-Plain.new.self c.requires.few refl c.tell-in-Ok-Some-Plain.ensures.tells;
-      stops = λ e. absurd (tells_more c.tell-in-Ok-Some-Plain.result heard _ c.tell-in-Ok-Some-Plain.new.self c.tell-in-Ok-Some-Plain.ensures.tells e);
-      goes_on = answered_goes_on c.tell-in-Ok-Some-Plain.result _ _ c.args.self.now _ c.tell-in-Ok-Some-Plain.new.self heard refl c.tell-in-Ok-Some-Plain.ensures.tells a;
-      ends = answered_ends c.tell-in-Ok-Some-Plain.result _ _ c.args.self.now _ c.tell-in-Ok-Some-Plain.new.self heard refl c.tell-in-Ok-Some-Plain.ensures.tells a;
+      stops = λ e. absurd (tells_more c.tell-in-Ok-Some-Plain.result heard _ _ _ c.tell-in-Ok-Some-Plain.new.self c.tell-in-Ok-Some-Plain.ensures.tells e);
+      goes_on = answered_goes_on c.tell-in-Ok-Some-Plain.result (g.L.Sink.read_side c.args.line.now) (g.L.Sink.read_side c.tell-in-Ok-Some-Plain.new.line) (g.L.Source.write_side c.args.line.now) (g.L.Source.write_side c.tell-in-Ok-Some-Plain.new.line) _ _ c.args.self.now c.tell-in-Ok-Some-Plain.new.self heard c.tell-in-Ok-Some-Plain.ensures.tells c.tell-in-Ok-Some-Plain.ensures.keeps_reading a;
+      ends = answered_ends c.tell-in-Ok-Some-Plain.result (g.L.Sink.read_side c.args.line.now) (g.L.Sink.read_side c.tell-in-Ok-Some-Plain.new.line) (g.L.Source.write_side c.args.line.now) (g.L.Source.write_side c.tell-in-Ok-Some-Plain.new.line) _ _ c.args.self.now c.tell-in-Ok-Some-Plain.new.self heard c.tell-in-Ok-Some-Plain.ensures.tells c.tell-in-Ok-Some-Plain.ensures.keeps_reading a;
     }
 
 pub returns-in-Ok-None-clause-goes_on : goal.returns-in-Ok-None-clause-goes_on
 returns-in-Ok-None-clause-goes_on g c =
     let is : c.next_said-next.result ≡ Ok None = cc in
     let same = next_none c.args.self.now.framer c.next_said-next.new.framer c.next_said-next.result c.next_said-next.ensures is in
-    λ start rounds reads writes course.
-    course_open start rounds reads writes (desk_side g.D.Desk.record_of g.D.Desk.tends g.P.PlainDesk.record_of c.args.desk.now c.args.plain.now) c.args.self.now _ same refl refl refl course
+    λ start rounds course.
+    course_open start rounds (g.L.Sink.read_side c.args.line.now) (g.L.Source.write_side c.args.line.now) (desk_side g.D.Desk.record_of g.D.Desk.tends g.P.PlainDesk.record_of c.args.desk.now c.args.plain.now) c.args.self.now _ same refl refl refl course
 
 pub returns-in-BadLine-clause-goes_on : goal.returns-in-BadLine-clause-goes_on
 returns-in-BadLine-clause-goes_on g c =
@@ -91,7 +88,7 @@ returns-in-BadLine-clause-goes_on g c =
     let t = c.tell-in-BadLine.ensures in
     let a = bad_line_answered (desk_side g.D.Desk.record_of g.D.Desk.tends g.P.PlainDesk.record_of c.args.desk.now c.args.plain.now) (desk_side g.D.Desk.record_of g.D.Desk.tends g.P.PlainDesk.record_of c.tell-in-BadLine.new.desk c.args.plain.now) c.args.self.now
     c.tell-in-BadLine.new.self _ c.next_said-next.new.framer f t.framer t.asks_nothing t.tended refl t.client t.counts in
-    answered_goes_on c.tell-in-BadLine.result _ _ c.args.self.now _ c.tell-in-BadLine.new.self (told.Lease reply.BadLine) refl t.tells a
+    answered_goes_on c.tell-in-BadLine.result (g.L.Sink.read_side c.args.line.now) (g.L.Sink.read_side c.tell-in-BadLine.new.line) (g.L.Source.write_side c.args.line.now) (g.L.Source.write_side c.tell-in-BadLine.new.line) _ _ c.args.self.now c.tell-in-BadLine.new.self (told.Lease reply.BadLine) t.tells t.keeps_reading a
 
 pub returns-in-BadLine-clause-ends : goal.returns-in-BadLine-clause-ends
 returns-in-BadLine-clause-ends g c =
@@ -100,66 +97,39 @@ returns-in-BadLine-clause-ends g c =
     let t = c.tell-in-BadLine.ensures in
     let a = bad_line_answered (desk_side g.D.Desk.record_of g.D.Desk.tends g.P.PlainDesk.record_of c.args.desk.now c.args.plain.now) (desk_side g.D.Desk.record_of g.D.Desk.tends g.P.PlainDesk.record_of c.tell-in-BadLine.new.desk c.args.plain.now) c.args.self.now
     c.tell-in-BadLine.new.self _ c.next_said-next.new.framer f t.framer t.asks_nothing t.tended refl t.client t.counts in
-    answered_ends c.tell-in-BadLine.result _ _ c.args.self.now _ c.tell-in-BadLine.new.self (told.Lease reply.BadLine) refl t.tells a
+    answered_ends c.tell-in-BadLine.result (g.L.Sink.read_side c.args.line.now) (g.L.Sink.read_side c.tell-in-BadLine.new.line) (g.L.Source.write_side c.args.line.now) (g.L.Source.write_side c.tell-in-BadLine.new.line) _ _ c.args.self.now c.tell-in-BadLine.new.self (told.Lease reply.BadLine) t.tells t.keeps_reading a
 
 pub returns-in-Memory-clause-ends : goal.returns-in-Memory-clause-ends
 returns-in-Memory-clause-ends g c =
-    λ start rounds reads writes course.
-    ending_memory start rounds reads writes (desk_side g.D.Desk.record_of g.D.Desk.tends g.P.PlainDesk.record_of c.args.desk.now c.args.plain.now) c.args.self.now _ refl refl course
+    λ start rounds course.
+    ending_memory start rounds (g.L.Sink.read_side c.args.line.now) (g.L.Source.write_side c.args.line.now) (desk_side g.D.Desk.record_of g.D.Desk.tends g.P.PlainDesk.record_of c.args.desk.now c.args.plain.now) c.args.self.now _ refl refl course
 
 pub returns-in-LongLine-clause-ends : goal.returns-in-LongLine-clause-ends
 returns-in-LongLine-clause-ends g c =
     let f = next_fault c.args.self.now.framer c.next_said-next.new.framer c.next_said-next.result c.in-Err.fault _ c.next_said-next.ensures
     c.in-Err.is c.in-LongLine.is in
-    λ start rounds reads writes course.
-    shut_by c.shut.result c.in-Err.fault (frame.LongLine c.in-LongLine.place) (told.Lease reply.LongLine) start rounds reads writes
+    λ start rounds course.
+    shut_by c.shut.result c.in-Err.fault (frame.LongLine c.in-LongLine.place) (told.Lease reply.LongLine) start rounds (g.L.Sink.read_side c.args.line.now) (g.L.Sink.read_side c.shut.new.line) (g.L.Source.write_side c.args.line.now) (g.L.Source.write_side c.shut.new.line)
     (desk_side g.D.Desk.record_of g.D.Desk.tends g.P.PlainDesk.record_of c.args.desk.now c.args.plain.now)
-    c.args.self.now c.shut.new.self c.in-LongLine.is (f.1, refl) f.0 c.shut.ensures.shuts
+    c.args.self.now c.shut.new.self c.in-LongLine.is (f.1, refl) f.0 c.shut.ensures.shuts c.shut.ensures.keeps_reading
     c.shut.ensures.client course
 
 pub returns-in-BadBlock-clause-ends : goal.returns-in-BadBlock-clause-ends
 returns-in-BadBlock-clause-ends g c =
     let f = next_fault c.args.self.now.framer c.next_said-next.new.framer c.next_said-next.result c.in-Err.fault _ c.next_said-next.ensures
     c.in-Err.is c.in-BadBlock.is in
-    λ start rounds reads writes course.
-    shut_by c.shut-in-BadBlock.result c.in-Err.fault (frame.BadBlock c.in-BadBlock.place) (told.Lease reply.BadBlock) start rounds reads writes
+    λ start rounds course.
+    shut_by c.shut-in-BadBlock.result c.in-Err.fault (frame.BadBlock c.in-BadBlock.place) (told.Lease reply.BadBlock) start rounds (g.L.Sink.read_side c.args.line.now) (g.L.Sink.read_side c.shut-in-BadBlock.new.line) (g.L.Source.write_side c.args.line.now) (g.L.Source.write_side c.shut-in-BadBlock.new.line)
     (desk_side g.D.Desk.record_of g.D.Desk.tends g.P.PlainDesk.record_of c.args.desk.now c.args.plain.now)
-    c.args.self.now c.shut-in-BadBlock.new.self c.in-BadBlock.is (f.1, refl) f.0 c.shut-in-BadBlock.ensures.shuts
+    c.args.self.now c.shut-in-BadBlock.new.self c.in-BadBlock.is (f.1, refl) f.0 c.shut-in-BadBlock.ensures.shuts c.shut-in-BadBlock.ensures.keeps_reading
     c.shut-in-BadBlock.ensures.client course
 
 pub returns-in-BigBlock-clause-ends : goal.returns-in-BigBlock-clause-ends
 returns-in-BigBlock-clause-ends g c =
     let f = next_fault c.args.self.now.framer c.next_said-next.new.framer c.next_said-next.result c.in-Err.fault _ c.next_said-next.ensures
     c.in-Err.is c.in-BigBlock.is in
-    λ start rounds reads writes course.
-    shut_by c.shut-in-BigBlock.result c.in-Err.fault (frame.BigBlock c.in-BigBlock.place) (told.Lease reply.BigBlock) start rounds reads writes
+    λ start rounds course.
+    shut_by c.shut-in-BigBlock.result c.in-Err.fault (frame.BigBlock c.in-BigBlock.place) (told.Lease reply.BigBlock) start rounds (g.L.Sink.read_side c.args.line.now) (g.L.Sink.read_side c.shut-in-BigBlock.new.line) (g.L.Source.write_side c.args.line.now) (g.L.Source.write_side c.shut-in-BigBlock.new.line)
     (desk_side g.D.Desk.record_of g.D.Desk.tends g.P.PlainDesk.record_of c.args.desk.now c.args.plain.now)
-    c.args.self.now c.shut-in-BigBlock.new.self c.in-BigBlock.is (f.1, refl) f.0 c.shut-in-BigBlock.ensures.shuts
+    c.args.self.now c.shut-in-BigBlock.new.self c.in-BigBlock.is (f.1, refl) f.0 c.shut-in-BigBlock.ensures.shuts c.shut-in-BigBlock.ensures.keeps_reading
     c.shut-in-BigBlock.ensures.client course
-
-pub returns-in-Ok-Some-Lease-Quit-clause-waits : goal.returns-in-Ok-Some-Lease-Quit-clause-waits
-returns-in-Ok-Some-Lease-Quit-clause-waits g c = waits_short c.args.self.now.out.items c.requires.few
-
-pub returns-in-Ok-None-clause-waits : goal.returns-in-Ok-None-clause-waits
-returns-in-Ok-None-clause-waits g c = waits_short c.args.self.now.out.items c.requires.few
-
-pub returns-in-Memory-clause-waits : goal.returns-in-Memory-clause-waits
-returns-in-Memory-clause-waits g c = waits_short c.args.self.now.out.items c.requires.few
-
-pub returns-in-BadLine-clause-waits : goal.returns-in-BadLine-clause-waits
-returns-in-BadLine-clause-waits g c =
-    tells_waits c.tell-in-BadLine.result (told.Lease reply.BadLine) _ c.args.self.now c.tell-in-BadLine.new.self c.requires.few refl c.tell-in-BadLine.ensures.tells
-
-pub returns-in-LongLine-clause-waits : goal.returns-in-LongLine-clause-waits
-returns-in-LongLine-clause-waits g c =
-    shuts_waits c.shut.result c.in-Err.fault (told.Lease reply.LongLine) c.args.self.now.out.items c.shut.new.self.out.items c.requires.few c.shut.ensures.shuts
-
-pub returns-in-BadBlock-clause-waits : goal.returns-in-BadBlock-clause-waits
-returns-in-BadBlock-clause-waits g c =
-    shuts_waits c.shut-in-BadBlock.result c.in-Err.fault (told.Lease reply.BadBlock) c.args.self.now.out.items c.shut-in-BadBlock.new.self.out.items c.requires.few
-    c.shut-in-BadBlock.ensures.shuts
-
-pub returns-in-BigBlock-clause-waits : goal.returns-in-BigBlock-clause-waits
-returns-in-BigBlock-clause-waits g c =
-    shuts_waits c.shut-in-BigBlock.result c.in-Err.fault (told.Lease reply.BigBlock) c.args.self.now.out.items c.shut-in-BigBlock.new.self.out.items c.requires.few
-    c.shut-in-BigBlock.ensures.shuts

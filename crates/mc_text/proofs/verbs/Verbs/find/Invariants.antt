@@ -1,9 +1,8 @@
-use Rattle.std.proofs.Common.{◌≡◌, ℕ, ◌<◌, slice_index_or}
+use Rattle.std.proofs.Common.{ℕ, ◌≡◌, ◌<◌, slice_index_or}
 use Rattle.mc_text.specs.declared.verbs.Row.{Row}
-use Rattle.mc_text.specs.Verbs.{text_of}
 use Rattle.mc_text.proofs.verbs.Verbs.find.Given as goal
 
--- no row so far has the word
+-- no row so far has the verb
 abbrev pub invariant-loop-row : goal.invariant-loop-row
 invariant-loop-row g l =
-    (i : ℕ) (d : Row) → i < l.row-index → text_of (slice_index_or l.row-items i d).word ≡ l.word → ⊥
+    (i : ℕ) (d : Row) → i < l.row-index → (slice_index_or l.row-items i d).which ≡ l.which → ⊥

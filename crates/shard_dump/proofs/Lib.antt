@@ -1,0 +1,6 @@
+pub mod TextLemmas
+pub mod ReadLemmas
+pub mod LawLemmas
+pub mod WriteLemmas
+pub mod ShardLemmas
+pub mod DumpLemmas
