@@ -4,7 +4,7 @@ use Rattle.std.proofs.Common.{Option, Some, None, refl, sym, ap, subst, ◌∙�
 use Rattle.std.specs.Prelude.{count_by, sum_by, slice_get, get_or, option_map, is_some}
 use Rattle.std.specs.List.{AllByRecursion, IsDistinct, list_any, range_with_len}
 use Rattle.std.specs.Option.{ForSome}
-use Rattle.std.proofs.lemmas.Bool.{false≢true, cases_Bool, eq-eqb, eqb-true, or_left, or_right}
+use Rattle.std.proofs.lemmas.Bool.{false≢true, cases_Bool, eq-eqb, eqb-true, lt-ltb, or_left, or_right}
 use Rattle.std.proofs.lemmas.List.{append-nil, length-map, reverse-append}
 use Rattle.std.proofs.lemmas.List.Elements.{All-get_or, All-head, All-tail, All-weaker}
 use Rattle.std.proofs.lemmas.List.Sorted.{list_any-IsPermutation, IsPermutation-reverse}
@@ -30,7 +30,7 @@ use Rattle.key_shard.specs.declared.steps.Ended.{Ended}
 use Rattle.key_shard.specs.declared.steps.Ended.TheVariants as ended
 use Rattle.key_shard.specs.declared.steps.Step.{Step}
 use Rattle.key_shard.specs.declared.steps.Step.TheVariants as step
-use Rattle.key_shard.specs.Past.{Terms, draws, next_token}
+use Rattle.key_shard.specs.Past.{Terms, draws, entry, next_token}
 use Rattle.key_shard.specs.Shards.{ShardView}
 use Rattle.sql_keeper.specs.Stores.{StoreView}
 use Rattle.session_client.specs.declared.plans.Plan.{Plan}
@@ -48,6 +48,7 @@ use Rattle.session_client.specs.Desks.{Call, Began, Asked, IsFirst}
 use Rattle.session_client.specs.Plans.{IsPlan, mode_on, writes}
 use Rattle.session_client.specs.Wants.{wants, done_by, is_nothing, has_all, quarantine_as, quarantine_or_then, after_fault, fault_outcome, writing_of}
 use Rattle.key_shard.proofs.LegalLemmas.{every-append}
+use Rattle.key_freshness.specs.Marks.{key_of}
 use Rattle.key_freshness.proofs.KnownLemmas.{stands-within}
 use Rattle.core_history.proofs.ListLemmas.{count-append}
 use Rattle.rows_model.proofs.FitLemmas.{count_cons}
@@ -114,11 +115,12 @@ asks_first (Write mode txn) h =
     let first = first_key txn h in
     subst (λ keys. IsFirst true (quarantine_or_then (writing_of (Write mode txn)) [] (slice_get keys 0))) (sym first.2)
     (quarantine_is_first (mode_on mode first.0) first.0 txn)
+asks_first other h = absurd h
 
 -- ---- what it is told first
 
 -- the first of what was heard, which is listed with the latest first
-FirstHeard : Reply → List Reply → Type 0
+abbrev FirstHeard : Reply → List Reply → Type 0
 FirstHeard told [] = ⊥
 FirstHeard told (last ∷ []) = last ≡ told
 FirstHeard told (last ∷ (next ∷ heard)) = FirstHeard told (next ∷ heard)
@@ -178,7 +180,9 @@ read_alone who key floor cause short last (next ∷ heard) calls h first =
 
 -- a writer that is told of one at once ends its session, and wants nothing more
 none_had : (txn : List Change) (mode : Mode) → IsTxn txn → has_all (writing_of (Write mode txn)) [] ≡ false
-none_had txn mode h = ap (λ keys. cond (nat_lt 0 (length keys)) false true) (first_key txn h).2
+none_had txn mode h =
+    let long = ap length (first_key txn h).2 in
+    ap (λ b. cond b false true) (lt-ltb 0 (length (footprint txn)) (omega (arith, long)))
 
 ended_only : (who : Sid) (told : Reply) → Belongs who wanted.End told → (was : Bool) × (told ≡ reply.End was)
 ended_only who (reply.End was) h = (was, refl)
@@ -255,12 +259,12 @@ step_names before (s ∷ more) who short h kind is =
 
 -- ---- tokens that were drawn, told by the steps in short
 
-draws_kind : ShortKind → Bool
+abbrev draws_kind : ShortKind → Bool
 draws_kind kinds.Lease = true
 draws_kind kinds.Granted = true
 draws_kind other = false
 
-draws_short : Short → Bool
+abbrev draws_short : Short → Bool
 draws_short short = draws_kind short.kind
 
 end_draws : (how : Ended) → draws_kind (kind_of_end how) ≡ false
@@ -288,8 +292,9 @@ short_draws (step.Renewed on sid token now deadline) has = refl
 shorts_draw : (before more : List Step) → count_by draws_short (shorts_of before more) ≡ count_by draws more
 shorts_draw before [] = refl
 shorts_draw before (s ∷ more) =
-    count_cons draws_short (short_of s _) (shorts_of before more)
-    ∙ (λ i. cond (short_draws s _ i) 1 0 + shorts_draw before more i)
+    let has = is_some (entry (key_of s) (s ∷ more ++ before)) in
+    count_cons draws_short (short_of s has) (shorts_of before more)
+    ∙ (λ i. cond (short_draws s has i) 1 0 + shorts_draw before more i)
     ∙ sym (count_cons draws s more)
 
 -- what comes later gives no token back
@@ -541,6 +546,10 @@ module _ (opening : Tables) (terms : ℕ → Terms) (before : ℕ → List Step)
       (apart_from order least who h.0.0 h.0.1 others k))
       (both_distinct order least sids others (IsDistinct-tail same who sids d) e h.1 k)
 
+  none_differ : IsDistinct (λ (one other : Sid). one.number == other.number) []
+  unfolding IsDistinct
+  none_differ = tt
+
   -- what the workers from some number on have run
   record AreAllNamed (least : ℕ) (plans : List (List Plan)) : Type 0 where
     sids : List Sid
@@ -553,7 +562,7 @@ module _ (opening : Tables) (terms : ℕ → Terms) (before : ℕ → List Step)
       → AllByRecursion (AllByRecursion AsksFirst) plans → AllWork plans olds news rows → AreNewViews least olds
       → AreRecorded terms before (length shards) seen news → AreAllNamed least plans
   workers_are_named order unspent least [] [] [] [] asks work new recorded =
-      record { sids = []; as_many = refl; differ = tt; named = tt; begun = tt }
+      record { sids = []; as_many = refl; differ = none_differ; named = tt; begun = tt }
   workers_are_named order unspent least (list ∷ plans) (old ∷ olds) (now ∷ news) (rows ∷ more) asks work new recorded =
       let one = work.0 in
       let rest = workers_are_named order unspent (suc least) plans olds news more asks.1 work.1 new.2 recorded.1 in
@@ -607,32 +616,32 @@ module _ (opening : Tables) (terms : ℕ → Terms) (before : ℕ → List Step)
       )
 
 -- new desks tell that they are
-pub new_views : {D : Type 0} (record_of : D → Option (List Call)) (tends worker : D → Option ℕ) (view : D → BoundDeskView) (desks : List D) (place : ℕ)
-    → ((desk : D) → record_of desk ≡ Some (view desk).calls) → ((desk : D) → worker desk ≡ Some (view desk).worker)
-    → AreNewDesks place (map view desks) → AreNewViews place (map (desk_view record_of tends worker) desks)
-new_views record_of tends worker view [] place calls at new = tt
-new_views record_of tends worker view (desk ∷ desks) place calls at new = (
+pub new_views : (record_of : BoundDeskView → Option (List Call)) (tends worker : BoundDeskView → Option ℕ) (desks : List BoundDeskView) (place : ℕ)
+    → ((desk : BoundDeskView) → record_of desk ≡ Some desk.calls) → ((desk : BoundDeskView) → worker desk ≡ Some desk.worker)
+    → AreNewDesks place desks → AreNewViews place (map (desk_view record_of tends worker) desks)
+new_views record_of tends worker [] place calls at new = tt
+new_views record_of tends worker (desk ∷ desks) place calls at new = (
   calls desk ∙ ap (λ (l : List Call). Some l) new.1,
   at desk ∙ ap (λ (n : ℕ). Some n) new.0,
-  new_views record_of tends worker view desks (suc place) calls at new.2,
+  new_views record_of tends worker desks (suc place) calls at new.2,
 )
 
 -- what is seen of the calls of all desks is told by them
-pub recorded_views : {D : Type 0} (record_of : D → Option (List Call)) (tends worker : D → Option ℕ) (view : D → BoundDeskView)
-    (terms : ℕ → Terms) (before : ℕ → List Step) (shards : ℕ) (seen : Seen) (desks : List D)
-    → ((desk : D) → record_of desk ≡ Some (view desk).calls) → ((desk : D) → worker desk ≡ Some (view desk).worker)
-    → All (λ (desk : BoundDeskView). IsRecordSeen terms before shards desk.worker desk.calls seen) (map view desks)
+pub recorded_views : (record_of : BoundDeskView → Option (List Call)) (tends worker : BoundDeskView → Option ℕ)
+    (terms : ℕ → Terms) (before : ℕ → List Step) (shards : ℕ) (seen : Seen) (desks : List BoundDeskView)
+    → ((desk : BoundDeskView) → record_of desk ≡ Some desk.calls) → ((desk : BoundDeskView) → worker desk ≡ Some desk.worker)
+    → All (λ (desk : BoundDeskView). IsRecordSeen terms before shards desk.worker desk.calls seen) desks
     → AreRecorded terms before shards seen (map (desk_view record_of tends worker) desks)
-recorded_views record_of tends worker view terms before shards seen [] calls at h = tt
-recorded_views record_of tends worker view terms before shards seen (desk ∷ desks) calls at h = (
+recorded_views record_of tends worker terms before shards seen [] calls at h = tt
+recorded_views record_of tends worker terms before shards seen (desk ∷ desks) calls at h = (
   λ told is number there.
-      let same : (view desk).calls ≡ told = same_Some (view desk).calls told (sym (calls desk) ∙ is) in
-      let same_number : (view desk).worker ≡ number = same_Some (view desk).worker number (sym (at desk) ∙ there) in
+      let same : desk.calls ≡ told = same_Some desk.calls told (sym (calls desk) ∙ is) in
+      let same_number : desk.worker ≡ number = same_Some desk.worker number (sym (at desk) ∙ there) in
       subst (λ n. IsRecordSeen terms before shards n told seen) same_number
-      (subst (λ l. IsRecordSeen terms before shards (view desk).worker l seen) same
-      (All-head (λ (d : BoundDeskView). IsRecordSeen terms before shards d.worker d.calls seen) (view desk) (map view desks) h)),
-  recorded_views record_of tends worker view terms before shards seen desks calls at
-      (All-tail (λ (d : BoundDeskView). IsRecordSeen terms before shards d.worker d.calls seen) (view desk) (map view desks) h),
+      (subst (λ l. IsRecordSeen terms before shards desk.worker l seen) same
+      (All-head (λ (d : BoundDeskView). IsRecordSeen terms before shards d.worker d.calls seen) desk desks h)),
+  recorded_views record_of tends worker terms before shards seen desks calls at
+      (All-tail (λ (d : BoundDeskView). IsRecordSeen terms before shards d.worker d.calls seen) desk desks h),
 )
 
 -- the last desk is taken from those that are left
@@ -650,7 +659,7 @@ all_recorded terms before shards old new desks begins h =
     (λ desk. record_goes_on terms before shards desk.worker desk.calls old new begins) desks h
 
 -- a plan of a load reads or writes
-IsDrawn : Plan → Type 0
+abbrev IsDrawn : Plan → Type 0
 IsDrawn (Read key floor) = Unit {0}
 IsDrawn (Write mode txn) = Unit {0}
 IsDrawn other = ⊥

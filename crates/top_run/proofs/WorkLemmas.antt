@@ -18,9 +18,7 @@ use Rattle.key_shard.specs.Shards.{ShardView, kept_of}
 use Rattle.sql_keeper.specs.Faults.{HaveFailed, FailedSince}
 use Rattle.sql_keeper.specs.Fresh.{Covered, Fresh}
 use Rattle.sql_keeper.specs.Stores.{StoreView, rows_of}
-use Rattle.session_client.specs.declared.plans.Plan.{Plan}
 use Rattle.session_client.specs.declared.plans.Shape.{Shape}
-use Rattle.gate_workers.specs.Rows.{DeskView, RowView, AllWork}
 use Rattle.core_history.specs.Machine.{log_cap}
 use Rattle.shard_lock.specs.Names.{AreAll, AreLegal, IsNamed}
 use Rattle.run_audit.specs.declared.findings.Finding.{Finding}
@@ -30,7 +28,7 @@ use Rattle.top_run.specs.declared.plays.Stop.{Stop}
 use Rattle.top_run.specs.declared.plays.Stop.TheVariants as stop
 use Rattle.top_run.specs.declared.runs.Status.TheVariants as status
 use Rattle.top_run.specs.Runs.{Held, Tells, Left, IsOpened, kept_in, is_read_fault, is_write_fault}
-use Rattle.top_run.specs.Works.{work_shape, hub_terms, has_spent, first_spent, work_status, end_status, at_write_told, HaveRun, IsTold, IsHalted, IsLeft, IsKept, IsSummed, WorkEnded}
+use Rattle.top_run.specs.Works.{work_shape, hub_terms, has_spent, first_spent, work_status, end_status, at_write_told, IsTold, IsHalted, IsLeft, IsKept, IsSummed, WorkEnded}
 
 -- ---- what the shards of a hub are
 
@@ -102,13 +100,6 @@ last_of terms shape keep shards are all legal place steps is =
       legal = subst (λ (h : List Step). Legal (hub_terms shape (Some keep) place) h) (sym parts)
           (legal_at terms shape (Some keep) shards are all legal place shard there.1);
     }
-
--- ---- what the workers have run
-
--- workers whose work is told have run their plans
-pub have_run : (plans : List (List Plan)) (before after : List DeskView) (transcripts : List (List RowView))
-    → AllWork plans before after transcripts → HaveRun plans transcripts
-have_run plans before after transcripts work = record { before = before; after = after; work = work }
 
 -- ---- the least shard that is spent
 

@@ -99,7 +99,7 @@ pub(crate) fn heard<H: BoundName, K: Keeper, C: Clock, G: Gate, R: Wait>(
     requires word { pass.word ≡ H.word }
     ensures word { result.word ≡ H.word }
     ensures recorded { All (λ desk. IsRecordSeen H.terms H.before H.word.shards desk.worker
-        desk.calls result.seen) desks.items }
+        desk.calls result.seen) desks.entry.items }
 {
     let word = hub.word();
     let mut pass = pass;
