@@ -1,11 +1,11 @@
 -- Each session of a load leaves a step in the kept histories that names it.
-use Rattle.std.proofs.Common.{ℕ, zero, suc, ◌≡◌, ◌≢◌, ◌+◌, ◌-◌, ◌^◌, ◌<◌, ◌≤◌, ◌==◌, Bool, true, false, cond, nat_lt, List, [], ◌∷◌, ◌++◌, All, length, reverse, map}
+use Rattle.std.proofs.Common.{ℕ, zero, suc, ◌≡◌, ◌≢◌, ◌+◌, ◌-◌, ◌^◌, ◌<◌, ◌≤◌, ◌==◌, Bool, true, false, cond, nat_lt, List, [], ◌∷◌, ◌++◌, All, length, reverse, map, take, drop}
 use Rattle.std.proofs.Common.{Option, Some, None, refl, sym, ap, subst, ◌∙◌, inl, inr, ◌⊎◌, ⊎_elim, arith, append_assoc, length-append}
 use Rattle.std.specs.Prelude.{count_by, sum_by, slice_get, get_or, option_map, is_some}
 use Rattle.std.specs.List.{AllByRecursion, IsDistinct, list_any, range_with_len}
 use Rattle.std.specs.Option.{ForSome}
 use Rattle.std.proofs.lemmas.Bool.{false≢true, cases_Bool, eq-eqb, eqb-true, lt-ltb, or_left, or_right}
-use Rattle.std.proofs.lemmas.List.{append-nil, length-map, reverse-append}
+use Rattle.std.proofs.lemmas.List.{append-nil, drop_all, length-map, reverse-append, take_all}
 use Rattle.std.proofs.lemmas.List.Elements.{All-get_or, All-head, All-tail, All-weaker}
 use Rattle.std.proofs.lemmas.List.Sorted.{list_any-IsPermutation, IsPermutation-reverse}
 use Rattle.std.proofs.lemmas.List.Sums.{sum_by-cons}
@@ -643,6 +643,49 @@ recorded_views record_of tends worker terms before shards seen (desk ∷ desks) 
   recorded_views record_of tends worker terms before shards seen desks calls at
       (All-tail (λ (d : BoundDeskView). IsRecordSeen terms before shards d.worker d.calls seen) desk desks h),
 )
+
+-- there are as many desks behind the work as before it
+work_long : (plans : List (List Plan)) (olds news : List DeskView) (rows : List (List RowView)) → AllWork plans olds news rows → length news ≡ length olds
+work_long [] [] [] [] work = refl
+work_long (list ∷ plans) (old ∷ olds) (now ∷ news) (row ∷ rows) work = ap (λ n. suc n) (work_long plans olds news rows work.1)
+work_long [] (old ∷ olds) news rows work = absurd work
+work_long [] [] (now ∷ news) rows work = absurd work
+work_long [] [] [] (row ∷ rows) work = absurd work
+work_long (list ∷ plans) [] news rows work = absurd work
+work_long (list ∷ plans) (old ∷ olds) [] rows work = absurd work
+work_long (list ∷ plans) (old ∷ olds) (now ∷ news) [] work = absurd work
+
+-- what is left of a list behind as many others is nothing
+others_alone : (news olds : List BoundDeskView) (many : ℕ) → length news ≡ length olds → length olds ≡ many
+    → take many (news ++ drop (length news) olds) ≡ news
+others_alone news olds many same is =
+    ap (λ (l : List BoundDeskView). take many (news ++ l)) (drop_all (length news) olds (omega (arith, same)))
+    ∙ ap (take many) (append-nil news) ∙ take_all many news (omega (arith, same, is))
+
+-- desks that were new have run the plans, and one pass has seen what each left
+pub worked_over : (record_of : BoundDeskView → Option (List Call)) (tends worker : BoundDeskView → Option ℕ) (terms : ℕ → Terms) (before : ℕ → List Step) (shards : ℕ)
+    (plans : List (List Plan)) (lent olds news : List BoundDeskView) (many : ℕ) (rows : List (List RowView)) (pass : PassView) (passes some : List PassView)
+    → ((desk : BoundDeskView) → record_of desk ≡ Some desk.calls) → ((desk : BoundDeskView) → worker desk ≡ Some desk.worker)
+    → lent ≡ olds → AreNewDesks 0 olds → length olds ≡ many
+    → AllWork plans (map (desk_view record_of tends worker) lent) (map (desk_view record_of tends worker) news) rows
+    → All (λ (desk : BoundDeskView). IsRecordSeen terms before shards desk.worker desk.calls pass.seen) (take many (news ++ drop (length news) olds))
+    → passes ≡ some ++ pass ∷ [] → some ≡ [] → HaveWorked terms before shards plans rows passes
+worked_over record_of tends worker terms before shards plans lent olds news many rows pass passes some calls at same new is work recorded all none =
+    let view : BoundDeskView → DeskView = desk_view record_of tends worker in
+    let long : length news ≡ length olds =
+    sym (length-map news view) ∙ work_long plans (map view lent) (map view news) rows work ∙ length-map lent view ∙ ap (λ (l : List BoundDeskView). length l) same in
+    record {
+      olds = map view lent;
+      news = map view news;
+      work = work;
+      new = subst (λ (l : List BoundDeskView). AreNewViews 0 (map view l)) (sym same) (new_views record_of tends worker olds 0 calls at new);
+      pass = pass;
+      one = all ∙ ap (λ (l : List PassView). l ++ pass ∷ []) none;
+      recorded =
+          recorded_views record_of tends worker terms before shards pass.seen news calls at
+          (subst (λ (l : List BoundDeskView). All (λ (desk : BoundDeskView). IsRecordSeen terms before shards desk.worker desk.calls pass.seen) l)
+          (others_alone news olds many long is) recorded);
+    }
 
 -- the last desk is taken from those that are left
 pub desk_last : (now all done rest : List BoundDeskView) (last : BoundDeskView) → all ≡ now ++ done → now ≡ rest ++ last ∷ []

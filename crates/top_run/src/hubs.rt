@@ -79,6 +79,7 @@ pub(crate) fn desks_over<'a, H: BoundName, K: Keeper, C: Clock, G: Gate, R: Wait
     gate: &'a G,
 ) -> Result<Vec<BoundDesk<'a, K, H, C, G, R>>, Memory>
     requires word { caller.old.word ≡ H.word }
+    ensures word { caller.new.word ≡ H.word }
     ensures count { IfOk result (λ desks. length desks.items ≡ workers) }
     ensures new { IfOk result (λ desks. AreNewDesks 0 desks.items) }
 {

@@ -1,7 +1,12 @@
-use Rattle.std.proofs.Common.{List, sym, subst}
+use Rattle.std.proofs.Common.{◌≡◌, List, Vec, Global, length, map, sym, subst, ◌∙◌}
+use Rattle.std.proofs.lemmas.Result.{IfOk-weaker}
 use Rattle.key_shard.specs.Shards.{ShardView}
 use Rattle.sql_keeper.specs.Fresh.{Fresh}
 use Rattle.run_audit.specs.Findings.{histories_in}
+use Rattle.session_client.specs.declared.plans.Plan.{Plan}
+use Rattle.top_run.specs.Ready.{HaveWorked}
+use Rattle.top_run.specs.Works.{HaveRun}
+use Rattle.top_run.proofs.SessionLemmas.{have_run}
 use Rattle.top_run.proofs.LeftLemmas.{left_fresh, left_covered, new_fresh}
 use Rattle.top_run.proofs.works.run_plans.Goals as goal
 
@@ -20,3 +25,19 @@ pub returns-in-Err-clause-fresh : goal.returns-in-Err-clause-fresh
 returns-in-Err-clause-fresh g c = λ some.
     subst (λ (shards : List ShardView). Fresh g.H.HubName.opening c.in-Err.store.ledger.log (histories_in shards)) (sym c.in-Err.ensures.1)
     (new_fresh g.H.HubName.opening _ g.H.BoundName.before _ c.in-Err.store.ledger.log c.args.parts.shards.items c.requires.none_before c.requires.parts.new)
+
+pub returns-in-Ok-clause-ran : goal.returns-in-Ok-clause-ran
+returns-in-Ok-clause-ran g c =
+    let left = c.into_parts-store.ensures.kept in
+    let shards = c.into_parts-store.result.1.items in
+    let plans = map (λ (list : Vec Plan Global). list.items) c.args.plans.now in
+    let hub = c.into_parts-store.ensures.as_many in
+    let made = c.in-Ok.ensures.0 in
+    let many : g.H.BoundName.word.shards ≡ length shards = c.requires.parts.of_shards ∙ sym made ∙ sym hub in
+    IfOk-weaker c.run_over-transcripts.result.0
+    (λ transcripts. HaveWorked g.H.HubName.terms g.H.BoundName.before g.H.BoundName.word.shards plans transcripts.items c.run_over-transcripts.result.1.items)
+    (λ transcripts. HaveRun plans (histories_in shards) transcripts.items)
+    (λ transcripts worked. have_run g.H.HubName.opening g.H.HubName.terms g.H.BoundName.before c.requires.none_before c.requires.from_one c.into_parts-store.result.0 left.0 shards
+    c.into_parts-store.ensures.all left.2 left.1.sound.in_order plans transcripts.items c.run_over-transcripts.result.1.items c.requires.ask left.1.begun
+    (subst (λ n. HaveWorked g.H.HubName.terms g.H.BoundName.before n plans transcripts.items c.run_over-transcripts.result.1.items) many worked))
+    c.run_over-transcripts.ensures.worked

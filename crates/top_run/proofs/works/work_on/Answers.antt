@@ -2,6 +2,7 @@ use Rattle.std.proofs.Common.{arith, Bool, None, List, ◌≡◌, length, map, r
 use Rattle.run_audit.specs.Findings.{histories_in, AreWhole}
 use Rattle.std.specs.Prelude.{nat_lt, Option, IsSome, Vec}
 use Rattle.std.specs.Global.{Global}
+use Rattle.std.specs.List.{AllByRecursion}
 use Rattle.std.proofs.lemmas.Result.{IfOk-weaker}
 use Rattle.std.proofs.lemmas.List.{length-map}
 use Rattle.key_shard.specs.Shards.{ShardView}
@@ -10,7 +11,9 @@ use Rattle.sql_keeper.specs.Fresh.{Fresh}
 use Rattle.top_run.specs.Runs.{moment, IsOpened, RoseWhere, is_read_fault, is_write_fault}
 use Rattle.session_client.specs.declared.plans.Plan.{Plan}
 use Rattle.top_run.specs.Works.{HaveRun, first_spent, work_shape}
+use Rattle.top_run.specs.Ready.{AsksFirst}
 use Rattle.top_run.proofs.KeepLemmas.{opened_since}
+use Rattle.top_run.proofs.SessionLemmas.{load_asks}
 use Rattle.core_history.specs.Machine.{log_cap}
 use Rattle.bound_hub.proofs.NewLemmas.{opened_is_new}
 use Rattle.top_run.proofs.ReadyLemmas.{make_hub}
@@ -41,9 +44,17 @@ summed_up-made-requires-clause-whole g c =
 pub summed_up-made-requires-clause-ran : goal.summed_up-made-requires-clause-ran
 summed_up-made-requires-clause-ran g c =
     let are_load = ap (λ (lists : List (Vec Plan Global)). map (λ list. list.items) lists) c.as_slice.ensures.value ∙ c.requires.ready.are_load in
-    IfOk-weaker c.run_plans-store.result.transcripts _ _
-    (λ transcripts ran. subst (λ (plans : List (List Plan)). HaveRun plans transcripts.items) are_load ran)
-    c.run_plans-store.ensures.ran
+    rw c.as_slice-2.ensures.value
+    (IfOk-weaker c.run_plans-store.result.transcripts _ _
+    (λ transcripts ran.
+    subst (λ (plans : List (List Plan)). HaveRun plans (histories_in c.run_plans-store.result.shards.items) transcripts.items) are_load ran)
+    c.run_plans-store.ensures.ran)
+
+pub run_plans-store-requires-clause-ask : goal.run_plans-store-requires-clause-ask
+run_plans-store-requires-clause-ask g c =
+    λ κs outlives.
+    let are_load = ap (λ (lists : List (Vec Plan Global)). map (λ list. list.items) lists) c.as_slice.ensures.value ∙ c.requires.ready.are_load in
+    subst (AllByRecursion (AllByRecursion AsksFirst)) (sym are_load) (load_asks c.args.spec.now c.requires.work)
 
 pub ended_work-requires-clause-whole : goal.ended_work-requires-clause-whole
 ended_work-requires-clause-whole g c =
