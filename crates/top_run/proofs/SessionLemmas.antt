@@ -1,16 +1,15 @@
 -- Each session of a load leaves a step in the kept histories that names it.
-use Rattle.std.proofs.Common.{ℕ, zero, suc, ◌≡◌, ◌≢◌, ◌+◌, ◌-◌, ◌^◌, ◌<◌, ◌≤◌, ◌==◌, Bool, true, false, cond, nat_lt, List, [], ◌∷◌, ◌++◌, All, length, reverse, map, take, drop}
+use Rattle.std.proofs.Common.{ℕ, suc, ◌≡◌, ◌+◌, ◌-◌, ◌^◌, ◌<◌, ◌≤◌, ◌==◌, Bool, true, false, cond, List, [], ◌∷◌, ◌++◌, All, length, reverse, map, take, drop}
 use Rattle.std.proofs.Common.{Option, Some, None, refl, sym, ap, subst, ◌∙◌, inl, inr, ◌⊎◌, ⊎_elim, arith, append_assoc, length-append}
-use Rattle.std.specs.Prelude.{count_by, sum_by, slice_get, get_or, option_map, is_some}
+use Rattle.std.specs.Prelude.{count_by, sum_by, slice_get, option_map, is_some}
 use Rattle.std.specs.List.{AllByRecursion, IsDistinct, list_any, range_with_len}
-use Rattle.std.specs.Option.{ForSome}
 use Rattle.std.proofs.lemmas.Bool.{false≢true, cases_Bool, eq-eqb, eqb-true, lt-ltb, or_left, or_right}
 use Rattle.std.proofs.lemmas.List.{append-nil, drop_all, length-map, reverse-append, take_all}
 use Rattle.std.proofs.lemmas.List.Elements.{All-get_or, All-head, All-tail, All-weaker}
 use Rattle.std.proofs.lemmas.List.Sorted.{list_any-IsPermutation, IsPermutation-reverse}
 use Rattle.std.proofs.lemmas.List.Sums.{sum_by-cons}
 use Rattle.std.proofs.lemmas.Map.Keys.{IsDistinct-cons, IsDistinct-head, IsDistinct-tail}
-use Rattle.std.proofs.lemmas.Option.{none-some, same_Some, slice_get-map, slice_get_within, get_or_from_slice_get}
+use Rattle.std.proofs.lemmas.Option.{same_Some, slice_get-map, slice_get_within, get_or_from_slice_get}
 use Rattle.rows_model.specs.declared.keys.QKey.{QKey}
 use Rattle.rows_model.specs.declared.keys.Sid.{Sid}
 use Rattle.rows_model.specs.declared.keys.Kind.TheVariants.{Profile, Blocked}
@@ -30,7 +29,7 @@ use Rattle.key_shard.specs.declared.steps.Ended.{Ended}
 use Rattle.key_shard.specs.declared.steps.Ended.TheVariants as ended
 use Rattle.key_shard.specs.declared.steps.Step.{Step}
 use Rattle.key_shard.specs.declared.steps.Step.TheVariants as step
-use Rattle.key_shard.specs.Past.{Terms, draws, entry, next_token}
+use Rattle.key_shard.specs.Past.{Terms, draws, entry}
 use Rattle.key_shard.specs.Shards.{ShardView}
 use Rattle.sql_keeper.specs.Stores.{StoreView}
 use Rattle.session_client.specs.declared.plans.Plan.{Plan}
@@ -38,10 +37,8 @@ use Rattle.session_client.specs.declared.plans.Plan.TheVariants.{Read, Write}
 use Rattle.session_client.specs.declared.replies.Fault.{Fault}
 use Rattle.session_client.specs.declared.replies.Fault.TheVariants as fault
 use Rattle.session_client.specs.declared.replies.Outcome.{Outcome}
-use Rattle.session_client.specs.declared.replies.Outcome.TheVariants as outcome
 use Rattle.session_client.specs.declared.replies.Reply.{Reply}
 use Rattle.session_client.specs.declared.replies.Reply.TheVariants as reply
-use Rattle.session_client.specs.declared.replies.Wanted.{Wanted}
 use Rattle.session_client.specs.declared.replies.Wanted.TheVariants as wanted
 use Rattle.session_client.specs.Belongs.{Belongs}
 use Rattle.session_client.specs.Desks.{Call, Began, Asked, IsFirst}
@@ -56,7 +53,7 @@ use Rattle.log_word.specs.declared.events.Short.{Short}
 use Rattle.log_word.specs.declared.events.ShortKind.{ShortKind}
 use Rattle.log_word.specs.declared.events.ShortKind.TheVariants as kinds
 use Rattle.log_word.specs.declared.events.StoreEvent.{StoreEvent}
-use Rattle.log_word.specs.declared.events.StoreEvent.TheVariants.{Begin, Commit, End}
+use Rattle.log_word.specs.declared.events.StoreEvent.TheVariants.{Begin}
 use Rattle.log_word.specs.declared.seen.Seen.{Seen}
 use Rattle.log_word.specs.Events.{begins, has_begun, AreInOrder, MayFollow}
 use Rattle.log_word.specs.Lists.{Among, IsStart, steps_of}
@@ -69,15 +66,15 @@ use Rattle.bound_hub.specs.Parts.{IsLeft}
 use Rattle.bound_hub.specs.Shorts.{kind_of_end, short_of, shorts_of}
 use Rattle.bound_hub.specs.Spent.{SeesSpent}
 use Rattle.bound_desk.specs.Bound.{BoundDeskView}
-use Rattle.bound_desk.specs.Records.{has_session, IsNamed, ShowsFirst, latest_in, began_in, IsCallSeen, AreCallsSeen, IsRecordSeen}
+use Rattle.bound_desk.specs.Records.{has_session, IsNamed, ShowsFirst, began_in, AreCallsSeen, IsRecordSeen}
 use Rattle.bound_desk.proofs.RecordLemmas.{among_goes_on, record_goes_on}
-use Rattle.gate_workers.specs.Rows.{DeskView, RowView, Went, HasRun, IsRow, AreRows, AllWork, IsShort, short_of_memory, with_calls, with_work, desk_view}
+use Rattle.gate_workers.specs.Rows.{DeskView, RowView, Went, IsRow, AreRows, AllWork, short_of_memory, with_calls, desk_view}
 use Rattle.run_audit.specs.Findings.{histories_in}
 use Rattle.run_inputs.specs.declared.loads.WorkSpec.{WorkSpec}
 use Rattle.run_inputs.specs.Loads.{IsWork, load, plan_at, sessions_of}
 use Rattle.run_inputs.proofs.LoadLemmas.{plan_at_is}
 use Rattle.top_run.specs.Ready.{AreNewDesks, AreNewViews, AreRecorded, AsksFirst, HaveWorked}
-use Rattle.top_run.specs.Works.{names, AreUnspent, IsNamedIn, HaveSessions, HaveRun}
+use Rattle.top_run.specs.Works.{names, AreUnspent, IsNamedIn, HaveRun}
 
 -- ---- what a session asks for first
 

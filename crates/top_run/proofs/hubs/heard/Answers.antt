@@ -1,4 +1,4 @@
-use Rattle.std.proofs.Common.{◌∷◌, ap, subst, ◌∙◌}
+use Rattle.std.proofs.Common.{◌∷◌, subst, ◌∙◌}
 use Rattle.std.proofs.lemmas.List.Elements.{All-cons}
 use Rattle.log_word.specs.Passes.{PassView}
 use Rattle.log_word.specs.Steps.{IsBeginning}
