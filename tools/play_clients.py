@@ -175,6 +175,17 @@ def broken(program, path):
     server.served(2)
 
 
+def last(program, _path):
+    """The last reply comes, although the client sends more than the server looks at."""
+    told = b"CLIENT_ERROR long line\r\n"
+    server = Server(program, [1, 1, 1, 3])
+    client = server.connect()
+    client.sendall(b"a" * 4_000_000)
+    expect(receive(client, len(told) + 1), told)
+    client.close()
+    server.served(1)
+
+
 def crowded(program, path):
     """A server with descriptors for few serves the others when those leave."""
     _, turns = next(conversations(path))
@@ -300,7 +311,7 @@ def beside(program, _path):
         raise AssertionError("less than half the speed")
 
 
-CHECKS = {it.__name__: it for it in (page, silent, queued, unread, broken, crowded, thousand, gone, reset, taken)}
+CHECKS = {it.__name__: it for it in (page, silent, queued, unread, broken, last, crowded, thousand, gone, reset, taken)}
 SLOW = {it.__name__: it for it in (soak, beside)}
 
 

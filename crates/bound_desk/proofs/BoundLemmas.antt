@@ -31,7 +31,7 @@ use Rattle.bound_hub.proofs.FactLemmas.{was_not}
 use Rattle.bound_hub.proofs.GrantLemmas.{grant_goes_on}
 use Rattle.bound_hub.proofs.QuarantineLemmas.{still_may_write, still_over}
 use Rattle.bound_hub.proofs.RuledLemmas.{more_is_known}
-use Rattle.desk_book.specs.Books.{Book, Held, empty_book, is_on, is_present, begun, most_answers, noted_for, with_place, with_answer, with_lease}
+use Rattle.desk_book.specs.Books.{Book, Held, empty_book, is_on, is_present, first_book, most_answers, noted_for, with_place, with_answer, with_lease}
 use Rattle.desk_book.specs.Borne.{IsBorne}
 use Rattle.desk_book.specs.declared.facts.Leased.{Leased}
 use Rattle.bound_desk.specs.Bound.{IsGivenSince, IsLeaseSeen, IsPresentSeen, IsBoundBook, with_got}
@@ -97,7 +97,7 @@ empty_is_bound opening shards book seen is =
 
 -- a session began
 pub begun_is_bound : (opening : Tables) (shards : ℕ) (seen : Seen) (from worker : ℕ) (writes : Bool) (who : Sid) → ShowsBegin from worker writes seen who
-    → IsBoundBook opening shards (begun who writes) seen
+    → IsBoundBook opening shards (first_book who writes) seen
 begun_is_bound opening shards seen from worker writes who shows = record {
   present = λ present is.
       subst (IsPresentSeen seen) (same_Some (record { sid = who; writes = writes }) present is)

@@ -41,7 +41,7 @@ use Rattle.bound_hub.specs.Shorts.{shorts_of}
 use Rattle.bound_hub.specs.Spent.{HasNoToken, HasSeenAll, IsSeenSpent, SeesSpent}
 use Rattle.bound_hub.specs.Stores.{ShowsBegin}
 use Rattle.bound_hub.specs.Told.{quarantine_short}
-use Rattle.desk_book.specs.Books.{Book, begun}
+use Rattle.desk_book.specs.Books.{Book, first_book}
 use Rattle.desk_book.specs.Borne.{IsBorne, IsForm, IsPut}
 use Rattle.desk_book.specs.Made.{made_in}
 use Rattle.desk_book.specs.declared.forms.Form.{Form}
@@ -248,7 +248,7 @@ spent_is_seen terms before shard seen faults.Memory named all none = tt
 spent_is_seen terms before shard seen (faults.Stranger place) named all none = tt
 
 -- the book of a session that has just begun bears out its first request
-borne_at_first : (who : Sid) (writes : Bool) (request : Wanted) → IsFirst writes request → IsBorne (begun who writes) who request
+borne_at_first : (who : Sid) (writes : Bool) (request : Wanted) → IsFirst writes request → IsBorne (first_book who writes) who request
 borne_at_first who writes (wanted.Get key floor) h = tt
 borne_at_first who true (wanted.QaReg key) h = (eq-eqb who.number who.number refl, refl, refl)
 borne_at_first who true (wanted.QaRead key) h = (eq-eqb who.number who.number refl, refl, refl)
@@ -258,7 +258,7 @@ borne_at_first who false request h = absurd h
 
 -- so that is made as it is asked for
 pub made_at_first : (book : Book) (who : Sid) (writes : Bool) (request : Wanted) (found : Form) → IsForm book who request found
-    → book ≡ begun who writes → IsFirst writes request → made_in found who request ≡ made.One request
+    → book ≡ first_book who writes → IsFirst writes request → made_in found who request ≡ made.One request
 made_at_first book who writes request found h fresh first =
     let borne = subst (λ b. IsBorne b who request) (sym fresh) (borne_at_first who writes request first) in
     ap (λ f. made_in f who request) (h.borne.1 borne)
@@ -288,11 +288,11 @@ pub asked_since : (calls earlier : List Call) (who : Sid) (request : Wanted) (to
 asked_since calls earlier who request told book e = λ first is. absurd (none-some first (sym (ap latest_in e) ∙ is))
 
 -- behind a begin it is
-pub begun_since : (calls earlier : List Call) (who : Sid) (writes : Bool) (book : Book) → calls ≡ Began writes who ∷ earlier → book ≡ begun who writes
+pub begun_since : (calls earlier : List Call) (who : Sid) (writes : Bool) (book : Book) → calls ≡ Began writes who ∷ earlier → book ≡ first_book who writes
     → IsFreshBook calls book
 begun_since calls earlier who writes book e fresh = λ first is.
     let same : (who, writes) ≡ first = same_Some (who, writes) first (sym (ap latest_in e) ∙ is) in
-    fresh ∙ ap (λ (one : Sid × Bool). begun one.0 one.1) same
+    fresh ∙ ap (λ (one : Sid × Bool). first_book one.0 one.1) same
 
 -- a request with its reply, in a record that is said to have it in front
 pub record_as_asked : (terms : ℕ → Terms) (before : ℕ → List Step) (shards worker : ℕ) (calls now : List Call) (old new : Seen) (who : Sid) (request : Wanted) (told : Reply)
@@ -305,10 +305,10 @@ record_as_asked terms before shards worker calls now old new who request told is
 
 -- the first request of a session that has just begun leaves what it shows, where it was made as it is asked for
 pub shows_where_fresh : (terms : ℕ → Terms) (before : ℕ → List Step) (shards : ℕ) (calls : List Call) (book : Book) (new : Seen) (who : Sid) (request : Wanted) (told : Reply)
-    → IsFreshBook calls book → ((writes : Bool) → book ≡ begun who writes → IsFirst writes request → ShowsFirst terms before shards who told new)
+    → IsFreshBook calls book → ((writes : Bool) → book ≡ first_book who writes → IsFirst writes request → ShowsFirst terms before shards who told new)
     → ForSome (latest_in calls) (λ first. first.0 ≡ who → IsFirst first.1 request → ShowsFirst terms before shards who told new)
 shows_where_fresh terms before shards calls book new who request told fresh shows = λ first is same asked.
-    shows first.1 (fresh first is ∙ ap (λ (s : Sid). begun s first.1) same) asked
+    shows first.1 (fresh first is ∙ ap (λ (s : Sid). first_book s first.1) same) asked
 
 -- what is made as it is asked for is that request, and nothing else
 pub one_is : (one other : Wanted) (result : Result Made Wanted) → result ≡ Ok (made.One one) → result ≡ Ok (made.One other) → one ≡ other

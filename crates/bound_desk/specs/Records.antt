@@ -20,7 +20,7 @@ use Rattle.log_word.specs.declared.events.StoreEvent.TheVariants.{Begin}
 use Rattle.log_word.specs.declared.seen.Seen.{Seen}
 use Rattle.log_word.specs.Lists.{Among, steps_of}
 use Rattle.bound_hub.specs.Spent.{SeesSpent}
-use Rattle.desk_book.specs.Books.{Book, begun}
+use Rattle.desk_book.specs.Books.{Book, first_book}
 
 -- The calls of which a record is made: the begin of each session, and each request with its reply.
 abbrev pub began_calls : List (Sid × Bool) → List Call
@@ -81,4 +81,4 @@ pub record IsRecordSeen (terms : ℕ → Terms) (before : ℕ → List Step) (sh
 
 -- Where a desk's last call began a session, its book is that of a session that was told nothing yet.
 abbrev pub IsFreshBook : List Call → Book → Type 0
-IsFreshBook calls book = ForSome (latest_in calls) (λ first. book ≡ begun first.0 first.1)
+IsFreshBook calls book = ForSome (latest_in calls) (λ first. book ≡ first_book first.0 first.1)

@@ -2,7 +2,7 @@
 ghost use Rattle.std.specs.Prelude.{◌≡◌, false, IfOk, OnErr};
 ghost use Rattle.log_word.specs.Events.{has_begun};
 ghost use Rattle.log_word.specs.Steps.{IsBeginning};
-ghost use Rattle.desk_book.specs.Books.{empty_book, begun};
+ghost use Rattle.desk_book.specs.Books.{empty_book, first_book};
 ghost use Rattle.bound_hub.specs.Stores.{ShowsBegin};
 
 use bound_hub::{BoundName, BoundStore};
@@ -77,7 +77,7 @@ impl<H: BoundName> BoundBook<H> {
         ensures seen { IsBeginning self.old.seen self.new.seen }
         ensures shows { IfOk result (ShowsBegin H.begun worker writes self.new.seen) }
         ensures first { IfOk result (λ sid. has_begun sid.number self.old.seen.events ≡ false) }
-        ensures book { IfOk result (λ sid. self.new.book.book ≡ begun sid writes) }
+        ensures book { IfOk result (λ sid. self.new.book.book ≡ first_book sid writes) }
         ensures err { OnErr result (self.new.book ≡ self.old.book) }
     {
         let sid = store.begin(word, &mut self.pass, worker, writes)?;

@@ -15,7 +15,7 @@ use crate::bound_books::BoundBook;
 use crate::records::Record;
 use crate::requests::is_raise;
 use crate::sweeps::BoundSweep;
-use crate::turns::{is_held_up, is_timed, turned};
+use crate::turns::{is_timed, turn_to_due};
 use bound_hub::{BoundHub, BoundName};
 use desk_book::Made;
 use executor::key_of;
@@ -181,11 +181,32 @@ impl<'a, K: Keeper, H: BoundName, C: Clock, G: Gate, R: Wait> Desk
         Ok(sid)
     }
 
-    /// Makes a session's request as its book bears it out, and else in its safe form. Where a reader is told
-    /// that a quarantine stands, and one is due on that shard, the worker's sweeper looks there next.
+    /// Makes a session's request as its book bears it out, and else in its safe form. A get is tried as a hit
+    /// first, for which no clock is read. Where a reader is told that a quarantine stands, and one is due on
+    /// that shard, the worker's sweeper looks there next.
     fn call(&mut self, who: Sid, request: Wanted) -> Reply {
         let asked = Log::new().and(&who, &request);
         let word = self.hub.word();
+        if let Wanted::Get { key, floor } = &request {
+            let (key, floor) = (*key, *floor);
+            request.let_go();
+            let mut shard = self.hub.lock_of(self.rt, &key);
+            let place = shard.no();
+            self.gate.at(self.worker, Point::Inside { shard: place });
+            let reply = match self.told.reply_to_hit(word, &mut *shard, who, key, floor) {
+                Some(reply) => reply,
+                None => {
+                    let now = self.clock.now();
+                    let reply = self
+                        .told
+                        .reply_to_get(word, &mut *shard, who, key, floor, now);
+                    turn_to_due(&mut self.sweeper, place, &reply, shard.next_due(), now);
+                    reply
+                }
+            };
+            self.calls = self.calls.asked(&asked, &reply);
+            return reply;
+        }
         let raises = is_raise(&request);
         let reply = match self.told.made(who, request) {
             Ok(Made::One { request }) => match key_of(&request) {
@@ -199,11 +220,7 @@ impl<'a, K: Keeper, H: BoundName, C: Clock, G: Gate, R: Wait> Desk
                         0
                     };
                     let reply = self.told.on_shard(word, &mut *shard, who, request, now);
-                    let due = shard.next_due();
-                    self.hub.note_due(place, due);
-                    if is_held_up(&reply) && due <= now {
-                        self.sweeper = turned(self.sweeper, place);
-                    }
+                    self.hub.note_due(place, shard.next_due());
                     reply
                 }
                 None if matches!(&request, Wanted::Nothing) => {

@@ -1,5 +1,5 @@
 //! A get for a desk: the book notes a lease.
-ghost use Rattle.std.specs.Prelude.{◌≡◌, ◌≢◌, ℕ, Bool, Err, IfErr, IfOk, OnErr};
+ghost use Rattle.std.specs.Prelude.{◌≡◌, ◌≢◌, ℕ, Bool, Err, IfErr, IfNone, IfOk, IfSome, OnErr};
 ghost use Rattle.rows_model.specs.Placement.{shard_of};
 ghost use Rattle.key_shard.specs.Answers.{IsAtHome};
 ghost use Rattle.key_shard.specs.declared.replies.ShardFault.{ShardFault};
@@ -58,6 +58,32 @@ impl<H: BoundName> BoundBook<H> {
                 Err(fault)
             }
         }
+    }
+
+    /// Gets a key for a session on its shard, which is lent, where that is a hit, as `get`: the time is of
+    /// no account to one. The book stays, since no lease is given. `None` comes where it would be no hit, and
+    /// for want of memory. Then the shard stays, too.
+    pub fn get_hit(
+        &mut self,
+        word: &LogWord,
+        shard: &mut BoundShard<H>,
+        key: QKey,
+        who: Sid,
+        floor: u64,
+    ) -> Option<Got>
+        requires word { word.now ≡ H.word }
+        requires place { shard.old.shard.terms.no ≡ shard_of key H.word.shards }
+        requires home { IsAtHome shard.old.shard.terms key }
+        ensures seen { IsBeginning self.old.seen self.new.seen }
+        ensures last { IfSome result (λ got. (has : Bool)
+            × IsLastStep (shard_of key H.word.shards) (got_short key who got has) self.new.seen) }
+        ensures fresh { IfSome result (λ got. let no = shard_of key H.word.shards in
+            IsGotFresh H.opening (H.before no) no self.new.seen key got) }
+        ensures floor { IfSome result (IsGotOf floor) }
+        ensures book { self.new.book ≡ self.old.book }
+        ensures same { IfNone result (shard.new.shard ≡ shard.old.shard) }
+    {
+        shard.get_hit(word, &mut self.pass, key, who, floor)
     }
 
     // The get alone: the book stays.

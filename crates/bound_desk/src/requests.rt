@@ -2,7 +2,7 @@
 //! safe form.
 ghost use Rattle.std.specs.Prelude.{◌≡◌, Bool, IfErr, IfOk, Ok, OnErr};
 ghost use Rattle.session_client.specs.Desks.{IsFirst};
-ghost use Rattle.desk_book.specs.Books.{begun};
+ghost use Rattle.desk_book.specs.Books.{first_book};
 ghost use Rattle.desk_book.specs.Borne.{IsForm, IsPut};
 ghost use Rattle.desk_book.specs.Made.{made_in};
 ghost use Rattle.desk_book.specs.declared.forms.Form.{Form};
@@ -24,7 +24,7 @@ impl<H: BoundName> BoundBook<H> {
             × IsForm self.now.book.book who request found × (made ≡ made_in found who request)) }
         ensures safe { IfOk result (IsSafelyMade self.now.book.book who) }
         ensures belongs { IfOk result (MadeBelongs who request) }
-        ensures first { (writes : Bool) → self.now.book.book ≡ begun who writes
+        ensures first { (writes : Bool) → self.now.book.book ≡ first_book who writes
             → IsFirst writes request → result ≡ Ok (made.One request) }
         ensures memory { OnErr result (IsPut request) }
         ensures back { IfErr result (λ back. back ≡ request) }

@@ -1,5 +1,5 @@
 //! The requests on a shard that is lent, each by one method of the book.
-ghost use Rattle.std.specs.Prelude.{◌≡◌, ◌≢◌, ℕ, Bool, IfSome};
+ghost use Rattle.std.specs.Prelude.{◌≡◌, ◌≢◌, ℕ, Bool, IfNone, IfSome};
 ghost use Rattle.rows_model.specs.Placement.{shard_of};
 ghost use Rattle.key_shard.specs.Answers.{IsAtHome};
 ghost use Rattle.session_client.specs.Belongs.{Belongs};
@@ -46,6 +46,30 @@ impl<H: BoundName> BoundBook<H> {
         match self.get(word, shard, key, who, floor, now) {
             Ok(got) => Reply::Got { got },
             Err(fault) => refused(fault),
+        }
+    }
+
+    /// A get that is a hit, as `BoundBook::get_hit`, with its reply.
+    pub(crate) fn reply_to_hit(
+        &mut self,
+        word: &LogWord,
+        shard: &mut BoundShard<H>,
+        who: Sid,
+        key: QKey,
+        floor: u64,
+    ) -> Option<Reply>
+        requires word { word.now ≡ H.word }
+        requires place { shard.old.shard.terms.no ≡ shard_of key H.word.shards }
+        requires home { IsAtHome shard.old.shard.terms key }
+        ensures belongs { IfSome result (Belongs who (wanted.Get key floor)) }
+        ensures seen { IsBeginning self.old.seen self.new.seen }
+        ensures first { IfSome result (λ told.
+            ShowsFirst H.terms H.before H.word.shards who told self.new.seen) }
+        ensures same { IfNone result (shard.new.shard ≡ shard.old.shard) }
+    {
+        match self.get_hit(word, shard, key, who, floor) {
+            Some(got) => Some(Reply::Got { got }),
+            None => None,
         }
     }
 

@@ -18,8 +18,18 @@ pub(crate) fn is_timed(request: &Wanted) -> bool {
     )
 }
 
+/// The sweeper goes on to this shard, where a reader was told now that a quarantine stands there, and one may
+/// be due.
+pub(crate) fn turn_to_due(sweeper: &mut Sweeper, shard: u32, reply: &Reply, due: u64, now: u64)
+    ensures { shards_of sweeper.new ≡ shards_of sweeper.old }
+{
+    if is_held_up(reply) && due <= now {
+        *sweeper = turned(*sweeper, shard);
+    }
+}
+
 /// Whether a reader was told that a quarantine stands on its key.
-pub(crate) fn is_held_up(reply: &Reply) -> bool {
+fn is_held_up(reply: &Reply) -> bool {
     matches!(
         reply,
         Reply::Got {
@@ -32,7 +42,7 @@ pub(crate) fn is_held_up(reply: &Reply) -> bool {
 
 /// The sweeper, gone on to this shard where it is looking for a quarantine. The shards between are passed
 /// over in this round.
-pub(crate) fn turned(sweeper: Sweeper, shard: u32) -> Sweeper
+fn turned(sweeper: Sweeper, shard: u32) -> Sweeper
     ensures { shards_of result ≡ shards_of sweeper }
 {
     let mut turned = sweeper;

@@ -1,5 +1,5 @@
 -- A shard and its pass still belong together when a get was made and seen.
-use Rattle.std.proofs.Common.{ℕ, ◌≡◌, Bool, false, List, ◌++◌, is_some, sym, ap, subst, ◌∙◌}
+use Rattle.std.proofs.Common.{ℕ, ◌≡◌, Bool, false, List, ◌++◌, Some, is_some, sym, ap, subst, ◌∙◌}
 use Rattle.rows_model.specs.declared.keys.QKey.{QKey}
 use Rattle.rows_model.specs.declared.keys.Sid.{Sid}
 use Rattle.rows_model.specs.Rows.{Tables}
@@ -34,6 +34,13 @@ module _ (word : WordView) (opening : Tables) (before : ℕ → List Step) (old 
 
   the_entry : IsTheEntry (entry key (past_of old)) answer
   the_entry = get_finds old.terms (past_of old) key who floor now answer shows
+
+  -- what was hit is there behind the get
+  pub hit_is_there : (new : ShardView) → new ≡ stepped (rolled old) s → (value : List ℕ) (stamp : ℕ)
+      → answer ≡ got.Hit value stamp → entry key (past_of new) ≡ Some (value, stamp)
+  hit_is_there new made value stamp is =
+      ap (entry key) (has_rolled old new s made).past ∙ hit_leaves key (past_of old) s value stamp (subst (ShowsGot s) is shows)
+      ∙ subst (IsTheEntry (entry key (past_of old))) is the_entry
 
   facts : HoldsFacts opening (before number) bound.more pass.seen key
   facts = bound.facts key (subst (λ n. shard_of key n ≡ number) bound.count home)

@@ -5,7 +5,7 @@ use Rattle.std.proofs.lemmas.Bool.{false≢true, cases_lt}
 use Rattle.rows_model.specs.declared.keys.Sid.{Sid}
 use Rattle.sql_keeper.specs.declared.stores.Phase.{Phase}
 use Rattle.sql_keeper.specs.declared.stores.Phase.TheVariants as phase
-use Rattle.sql_keeper.specs.Sessions.{phase_of, may_commit, is_open, first_phase, begun, with_phase}
+use Rattle.sql_keeper.specs.Sessions.{phase_of, may_commit, is_open, first_phase, with_begun, with_phase}
 use Rattle.sql_keeper.proofs.StoreLemmas.{has-phase}
 use Rattle.log_word.specs.declared.events.StoreEvent.{StoreEvent}
 use Rattle.log_word.specs.declared.events.StoreEvent.TheVariants as event
@@ -167,11 +167,11 @@ module _ (first : ℕ) (events : List StoreEvent) (sessions : List Phase) (are :
 
   -- and once it has begun the sessions are those of the events
   pub sessions_with_begin : (sid : Sid) (worker : ℕ) (writes : Bool) → sid.number ≡ suc (length sessions)
-      → AreSessions first (event.Begin sid worker writes ∷ events) (begun writes sessions)
+      → AreSessions first (event.Begin sid worker writes ∷ events) (with_begun writes sessions)
   sessions_with_begin sid worker writes next = record {
     many = let m = are.many in let e = length-append sessions (first_phase writes ∷ []) in omega (arith, m, e);
     since = λ who late.
-        by_test (λ b. phase_of who (begun writes sessions) ≡ cond b (Some (first_phase writes)) (phase_by who.number events)) (sid.number == who.number)
+        by_test (λ b. phase_of who (with_begun writes sessions) ≡ cond b (Some (first_phase writes)) (phase_by who.number events)) (sid.number == who.number)
         (λ is. phase_last who.number sessions (first_phase writes) (sym (eqb-true sid.number who.number is) ∙ next))
         (λ is. phase_but_last who.number sessions (first_phase writes) (other who is) ∙ are.since who late);
     before = λ who early. (

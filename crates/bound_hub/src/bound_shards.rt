@@ -1,7 +1,7 @@
 //! What lies under the lock of a shard: the shard, its token, and its pass.
-ghost use Rattle.std.specs.Prelude.{◌≡◌, ◌+◌, ◌<◌, ℕ, [], IfOk, OnOk, OnErr, is_some, option_map, length};
+ghost use Rattle.std.specs.Prelude.{◌≡◌, ◌+◌, ◌<◌, ℕ, List, [], Some, IfOk, OnOk, OnErr, IfSome, IfNone, is_some, option_map, length};
 ghost use Rattle.lease_table.specs.Expiry.{NoneDue};
-ghost use Rattle.key_shard.specs.Answers.{Legal, get_step};
+ghost use Rattle.key_shard.specs.Answers.{IsAtHome, Legal, get_step};
 ghost use Rattle.key_shard.specs.Past.{entry, standing};
 ghost use Rattle.key_shard.specs.Replies.{ShowsGot};
 ghost use Rattle.key_shard.specs.Shards.{past_of, stepped, rolled, refusal, Refuses};
@@ -90,10 +90,10 @@ impl<H: BoundName> BoundShard<H> {
         self.shard.peek(key)
     }
 
-    /// Gets a key for a session, as the shard does, for a caller with this pass. The caller has then seen all
-    /// that was seen here, and of this shard the get's own step as the last. A hit is fresh against what the
-    /// caller has seen then, unless that tells that the store has stopped telling its rows. Refused, the shard
-    /// is as before. It is four loads of the word.
+    /// Gets a key of the shard for a session, as the shard does, for a caller with this pass. The caller has
+    /// then seen all that was seen here, and of this shard the get's own step as the last. A hit is fresh
+    /// against what the caller has seen then, unless that tells that the store has stopped telling its rows.
+    /// Refused, the shard is as before. It is four loads of the word.
     pub fn get(
         &mut self,
         word: &LogWord,
@@ -105,6 +105,7 @@ impl<H: BoundName> BoundShard<H> {
     ) -> Result<Got, ShardFault>
         requires word { word.now ≡ H.word }
         requires pass { pass.old.word ≡ H.word }
+        requires home { IsAtHome self.old.shard.terms key }
         ensures refusal { let shard = self.old.shard in
             let step = get_step shard.terms (past_of shard) key who floor now in
             Refuses (refusal shard key step) result }
@@ -128,6 +129,67 @@ impl<H: BoundName> BoundShard<H> {
         Ok(got)
     }
 
+    /// Gets a key of the shard for a session, as `get`, where that is a hit: the time is of no account to one.
+    /// `None` comes where it would be none, and for want of memory, and then the shard is as before.
+    pub fn get_hit(
+        &mut self,
+        word: &LogWord,
+        pass: &mut Pass,
+        key: QKey,
+        who: Sid,
+        floor: u64,
+    ) -> Option<Got>
+        requires word { word.now ≡ H.word }
+        requires pass { pass.old.word ≡ H.word }
+        requires home { IsAtHome self.old.shard.terms key }
+        ensures step { (now : ℕ) → let shard = self.old.shard in
+            let step = get_step shard.terms (past_of shard) key who floor now in
+            IfSome result (λ got. self.new.shard ≡ stepped (rolled shard) step) }
+        ensures shows { (now : ℕ) → let shard = self.old.shard in
+            let step = get_step shard.terms (past_of shard) key who floor now in
+            IfSome result (ShowsGot step) }
+        ensures none { IfNone result (self.new.shard ≡ self.old.shard) }
+        ensures word { pass.new.word ≡ H.word }
+        ensures seen { IsBeginning pass.old.seen pass.new.seen }
+        ensures last { IfSome result (λ got. IsLastStep self.old.shard.terms.no
+            (got_short key who got (is_some (entry key (past_of self.new.shard)))) pass.new.seen) }
+        ensures fresh { IfSome result (λ got. let no = self.old.shard.terms.no in
+            IsGotFresh H.opening (H.before no) no pass.new.seen key got) }
+    {
+        self.join(word, pass.note(word));
+        let (got, note) = self.make_hit(word, key, who, floor)?;
+        *pass = note.into_pass();
+        Some(got)
+    }
+
+    // The hit alone, as `make_get`.
+    fn make_hit(&mut self, word: &LogWord, key: QKey, who: Sid, floor: u64) -> Option<(Got, Note)>
+        requires word { word.now ≡ H.word }
+        requires home { IsAtHome self.old.shard.terms key }
+        ensures step { (now : ℕ) → let shard = self.old.shard in
+            let step = get_step shard.terms (past_of shard) key who floor now in
+            IfSome result (λ told. self.new.shard ≡ stepped (rolled shard) step) }
+        ensures shows { (now : ℕ) → let shard = self.old.shard in
+            let step = get_step shard.terms (past_of shard) key who floor now in
+            IfSome result (λ told. ShowsGot step told.0) }
+        ensures seen { IfSome result (λ told. self.new.seen ≡ with_step self.old.shard.terms.no
+            (got_short key who told.0 (is_some (entry key (past_of self.new.shard)))) self.old.seen) }
+        ensures note { IfSome result (λ told.
+            (told.1.word ≡ H.word) × (told.1.seen ≡ self.new.seen)) }
+        ensures held { IfSome result (λ told. let no = self.old.shard.terms.no in
+            IsGotHeld H.opening (H.before no) no self.new.seen key told.0) }
+        ensures none { IfNone result (self.new ≡ self.old) }
+    {
+        self.pass.sound();
+        let Ok(Some(got)) = self.shard.get_hit(key, who, floor) else {
+            return None;
+        };
+        let has = has_entry(&self.shard, &key, &got);
+        let short = got_short(&key, who, &got, has);
+        let note = self.pass.tell(word, &short);
+        Some((got, note))
+    }
+
     // The get alone, with a note of all that is seen then. A hit is held by it: each commit on the key that
     // it lacks has its quarantine standing, and it is the key's answer after as many commits as its stamp
     // says, unless the note tells that the store has stopped telling its rows. It is one load of the word.
@@ -140,6 +202,7 @@ impl<H: BoundName> BoundShard<H> {
         now: u64,
     ) -> Result<(Got, Note), ShardFault>
         requires word { word.now ≡ H.word }
+        requires home { IsAtHome self.old.shard.terms key }
         ensures refusal { let shard = self.old.shard in
             let step = get_step shard.terms (past_of shard) key who floor now in
             Refuses (refusal shard key step) result }
@@ -158,8 +221,8 @@ impl<H: BoundName> BoundShard<H> {
         ensures err { OnErr result (self.new ≡ self.old) }
     {
         self.pass.sound();
-        let got = self.shard.get(key, who, floor, now)?;
-        let has = self.shard.peek(&key).is_some();
+        let got = self.shard.get_at_home(key, who, floor, now)?;
+        let has = has_entry(&self.shard, &key, &got);
         let short = got_short(&key, who, &got, has);
         let note = self.pass.tell(word, &short);
         Ok((got, note))
@@ -216,6 +279,18 @@ impl<H: BoundName> BoundShard<H> {
         self.pass.sound();
         self.pass.join(word, note);
         self.pass.sound();
+    }
+}
+
+/// Whether the key has an entry after a get that was answered so: where it was hit there is one.
+fn has_entry(shard: &Shard, key: &QKey, got: &Got) -> bool
+    requires hit { (value : List ℕ) (stamp : ℕ) → got.now ≡ Got.Hit value stamp
+        → entry key.now (past_of shard.now) ≡ Some (value, stamp) }
+    ensures { result ≡ is_some (entry key.now (past_of shard.now)) }
+{
+    match got {
+        Got::Hit { .. } => true,
+        Got::Lease { .. } | Got::Again { .. } | Got::Own => shard.peek(key).is_some(),
     }
 }
 

@@ -1,5 +1,5 @@
 -- What a run printed that stopped begins what a whole one printed.
-use Rattle.std.proofs.Common.{◌≡◌, ℕ, ◌+◌, ◌-◌, ◌^◌, ◌<◌, ◌≤◌, ◌⊎◌, inl, inr, List, [], ◌∷◌, ◌++◌, length, map, reverse, count_by, flat_map}
+use Rattle.std.proofs.Common.{◌≡◌, ℕ, ◌-◌, ◌^◌, ◌<◌, ◌⊎◌, inl, inr, List, [], ◌∷◌, ◌++◌, length, map, reverse, flat_map}
 use Rattle.std.proofs.Common.{Option, Some, IsSome, refl, sym, ap, subst, ◌∙◌, append_assoc, append-nil, arith}
 use Rattle.std.proofs.lemmas.List.{reverse-append, map-append}
 use Rattle.std.proofs.lemmas.Grind.{flat_map-append}
@@ -8,16 +8,16 @@ use Rattle.session_client.specs.declared.plans.Shape.{Shape}
 use Rattle.sql_keeper.specs.declared.keepers.Place.TheVariants as place
 use Rattle.run_inputs.specs.Script.{TextsTellScripts}
 use Rattle.run_inputs.specs.declared.scripts.Act.{Act}
-use Rattle.core_history.specs.Determined.{Call, call_of, RunsAreDetermined, RunsGoOn}
+use Rattle.core_history.specs.Determined.{Cue, cue_of, RunsAreDetermined, RunsGoOn}
 use Rattle.core_history.specs.Events.{Event, log_of}
 use Rattle.core_history.specs.Freshness.{histories_of}
-use Rattle.core_history.specs.Lines.{line_of, lines_of, end_line, is_fault, fault_turns}
+use Rattle.core_history.specs.Lines.{line_of, lines_of, end_line, fault_turns}
 use Rattle.core_history.specs.Machine.{Move, Begin, Take, turn_event, world_of}
 use Rattle.core_history.specs.Truth.{IsTruePast}
 use Rattle.core_history.proofs.DeterminedLemmas.{turns_count}
 use Rattle.top_run.specs.declared.runs.Status.{Status}
 use Rattle.top_run.specs.declared.runs.Status.TheVariants as status
-use Rattle.top_run.specs.Runs.{Prints, calls_of, AreMoves, AreFirstMoves, past_of, out, FewFaults, faults_in, Held, Tells, Left, IsWhole, IsCutOff}
+use Rattle.top_run.specs.Runs.{calls_of, AreMoves, past_of, out, FewFaults, faults_in, Held, Tells, Left, IsWhole, IsCutOff}
 use Rattle.top_run.specs.Runs.{IsNotStarted, Ended}
 use Rattle.callers.specs.Runs.{IsBeginning}
 use Rattle.callers.proofs.RunLemmas.{AreOfOne, some-at, gained, of-one, two-alike}
@@ -37,11 +37,11 @@ unfolding lines_of
 lines-more events past = ap (flat_map line_of) (reverse-append events past) ∙ flat_map-append line_of (reverse past) (reverse events)
 
 -- moves that do the first part of a script, and more that do the rest
-made-whole : (acts : List Act) (moves more : List Move) (others : List Call) → map call_of (reverse moves) ++ others ≡ calls_of acts
-    → map call_of (reverse more) ≡ others → AreMoves acts (more ++ moves)
+made-whole : (acts : List Act) (moves more : List Move) (others : List Cue) → map cue_of (reverse moves) ++ others ≡ calls_of acts
+    → map cue_of (reverse more) ≡ others → AreMoves acts (more ++ moves)
 made-whole acts moves more others first rest =
-    ap (map call_of) (reverse-append more moves) ∙ map-append call_of (reverse moves) (reverse more)
-    ∙ ap (λ (l : List Call). map call_of (reverse moves) ++ l) rest ∙ first
+    ap (map cue_of) (reverse-append more moves) ∙ map-append cue_of (reverse moves) (reverse more)
+    ∙ ap (λ (l : List Cue). map cue_of (reverse moves) ++ l) rest ∙ first
 
 -- no turn was answered FAULT where the keeper's count of faults didn't rise
 none-failed : (shape : Shape) (moves : List Move) (old new : ℕ) → FewFaults (faults_in shape moves) old new → new ≡ old → old < 2 ^ 64 - 1

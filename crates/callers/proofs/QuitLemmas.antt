@@ -11,14 +11,8 @@ use Rattle.rows_model.specs.declared.changes.Change.{Change}
 use Rattle.rows_model.specs.Changes.{footprint}
 use Rattle.rows_model.specs.Key.{same_key}
 use Rattle.rows_model.proofs.SameKey.{same_key-true}
-use Rattle.case_tables.specs.Compatibility.{verdict}
-use Rattle.case_tables.specs.Compatibility.{quarantine as to_quarantine}
-use Rattle.case_tables.specs.declared.grids.Verdict.{Verdict}
-use Rattle.case_tables.specs.declared.grids.Verdict.TheVariants as verdicts
 use Rattle.lease_table.specs.declared.records.Mode.{Mode}
 use Rattle.lease_table.specs.declared.records.Mode.TheVariants as mode
-use Rattle.lease_table.specs.declared.records.Quar.{Quar}
-use Rattle.lease_table.specs.Leases.{way_of}
 use Rattle.key_shard.specs.declared.replies.QAnswer.{QAnswer}
 use Rattle.key_shard.specs.declared.replies.QAnswer.TheVariants as quarantine
 use Rattle.key_shard.specs.declared.replies.Rel.{Rel}
@@ -26,9 +20,9 @@ use Rattle.key_shard.specs.declared.replies.Rel.TheVariants as rel
 use Rattle.key_shard.specs.declared.steps.Step.{Step}
 use Rattle.key_shard.specs.declared.steps.Step.TheVariants as step
 use Rattle.key_shard.specs.Permit.{Permit}
-use Rattle.key_shard.specs.Past.{Terms, seen_by, holder_of, entry}
-use Rattle.key_shard.specs.Answers.{granted_step, refused_step, quarantine_by, quarantine_step}
-use Rattle.key_shard.specs.Replies.{ShowsQuarantine, old_value}
+use Rattle.key_shard.specs.Past.{Terms, entry}
+use Rattle.key_shard.specs.Answers.{quarantine_step}
+use Rattle.key_shard.specs.Replies.{ShowsQuarantine}
 use Rattle.key_shard.specs.Shards.{ShardView, past_of, is_out, rolled, stepped}
 use Rattle.write_ops.specs.Releases.{LeavesValue}
 use Rattle.session_client.specs.declared.plans.Plan.{Plan}

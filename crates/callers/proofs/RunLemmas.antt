@@ -1,11 +1,11 @@
 -- What follows from how a run ended.
 use Rattle.std.proofs.Common.{◌≡◌, ℕ, ◌-◌, ◌^◌, ◌<◌, ◌⊎◌, ◌||◌, Bool, true, false, inl, inr, List, [], ◌∷◌, ◌++◌, length, map, reverse}
 use Rattle.std.proofs.Common.{Option, Some, None, IsSome, slice_get, refl, sym, ap, subst, ◌∙◌, append_assoc, append-nil, arith}
-use Rattle.std.specs.Prelude.{All, IfSome, Result, Ok, Err, min, nat_lt}
+use Rattle.std.specs.Prelude.{All, IfSome, Result, Ok, Err, min}
 use Rattle.std.specs.Option.{ForSome, option_map}
 use Rattle.std.specs.List.{list_any}
 use Rattle.std.proofs.lemmas.Bool.{and_from, eq-eqb}
-use Rattle.std.proofs.lemmas.List.{reverse-append, map-append}
+use Rattle.std.proofs.lemmas.List.{reverse-append}
 use Rattle.std.proofs.lemmas.List.Elements.{All-nil}
 use Rattle.std.proofs.lemmas.List.Folds.{list_any-append}
 use Rattle.std.proofs.lemmas.Option.{get_or_from_slice_get, slice_get_within, slice_get-get_or}
@@ -25,7 +25,7 @@ use Rattle.run_inputs.specs.declared.scripts.Act.{Act}
 use Rattle.sql_keeper.specs.declared.keepers.Place.{Place}
 use Rattle.sql_keeper.specs.declared.keepers.Place.TheVariants as place
 use Rattle.run_inputs.specs.Script.{IsScript, TextsTellScripts}
-use Rattle.core_history.specs.Determined.{Call, call_of, RunsAreDetermined}
+use Rattle.core_history.specs.Determined.{cue_of, RunsAreDetermined}
 use Rattle.core_history.specs.Events.{log_of}
 use Rattle.core_history.specs.Freshness.{histories_of}
 use Rattle.core_history.specs.Lines.{fault_turns}
@@ -38,16 +38,17 @@ use Rattle.run_words.specs.declared.words.Words.{Words}
 use Rattle.run_words.specs.declared.words.Words.TheVariants as words
 use Rattle.run_words.specs.declared.words.WordsFault.{WordsFault}
 use Rattle.run_words.specs.declared.words.WordsFault.TheVariants as fault
-use Rattle.top_run.specs.Works.{IsSummed, WorkEnded}
-use Rattle.core_history.specs.Machine.{Move, terms_of}
+use Rattle.run_audit.specs.declared.findings.Finding.{Finding}
+use Rattle.top_run.specs.Works.{IsSummed, IsTold, WorkEnded}
+use Rattle.core_history.specs.Machine.{terms_of}
 use Rattle.core_history.specs.Truth.{IsTruePast}
 use Rattle.top_run.specs.declared.runs.Status.{Status}
 use Rattle.top_run.specs.declared.runs.Status.TheVariants as status
-use Rattle.top_run.specs.Runs.{Prints, calls_of, AreMoves, AreFirstMoves, past_of, out, Held, Tells, Left, IsRead, IsOpened, Keeps, IsBegun, IsWhole}
+use Rattle.top_run.specs.Runs.{Prints, calls_of, AreMoves, AreFirstMoves, past_of, out, Held, Tells, Left, IsBegun, IsWhole}
 use Rattle.top_run.specs.Runs.{IsCutOff, IsNotStarted, Ended}
 use Rattle.top_run.proofs.KeepLemmas.{unreversed}
 use Rattle.callers.specs.Shards.{MeetsItsFloor, HitsMeetTheirFloors}
-use Rattle.callers.specs.Runs.{IsFreshRun, IsRunAt, IsCleanLoad, IsDoneServer, HitsHoldCommits, AreAlike}
+use Rattle.callers.specs.Runs.{IsFreshRun, IsRunAt, IsCleanLoad, IsFreshLoad, IsDoneServer, HitsHoldCommits, AreAlike}
 
 -- a run that began, and did the first part of its script or all of it
 pub record Began (held : Held) (before after : Tells) (left : Left) : Type 0 where
@@ -58,7 +59,7 @@ pub record Began (held : Held) (before after : Tells) (left : Left) : Type 0 whe
 began-whole : (held : Held) (before after : Tells) (left : Left) (written : ℕ) (turns : List ℕ)
     → IsWhole held before after left written turns → Began held before after left
 began-whole held before after left written turns h =
-    record { begun = h.begun; made = ([], append-nil (map call_of (reverse h.moves)) ∙ h.made) }
+    record { begun = h.begun; made = ([], append-nil (map cue_of (reverse h.moves)) ∙ h.made) }
 
 began-cut-off : (held : Held) (before after : Tells) (left : Left) (written : ℕ) → IsCutOff held before after left written → Began held before after left
 began-cut-off held before after left written h = record { begun = h.begun; made = h.made }
@@ -147,6 +148,14 @@ run-at s held before after left written h = by left.opening refl (began-or-not s
           rows_are = b.keeps.rows_are rows told;
         })
 
+-- and where the keeper tells its rows for good, it tells them then
+pub run-telling : (opening after : Option Tables) (P : Tables → Tables → Type 0) → IfSome opening (λ first. ForSome after (P first)) → (IsSome opening → IsSome after)
+    → IfSome opening (λ first. (rows : Tables) × (after ≡ Some rows) × P first rows)
+run-telling None after P h started = tt
+run-telling (Some first) after P h started =
+    let told = some-at after (started refl) in
+    (told.0, told.1, h told.0 told.1)
+
 -- each history of a run that is kept is legal, so that its hits meet their floors
 pub above-floors : HitsMeetTheirFloors → (s : Status) (held : Held) (before after : Tells) (left : Left) (written : ℕ) → Ended s held before after left written
     → All (λ history. All MeetsItsFloor history) left.histories
@@ -192,6 +201,9 @@ pub server_done : (ended : Status) (spec : ServeSpec) (course : Course) → Serv
 server_done ended spec course h is =
     let served = subst (λ (e : Status). ServeEnded e spec course) is h in
     record {
+      lines = served.attended.lines;
+      few = served.attended.few;
+      have_ends = served.attended.have_ends;
       served = served.attended.all refl;
       prints = subst (λ (bytes : List ℕ). Prints course.before.taken course.after.taken bytes course.written) served.attended.is_text served.attended.prints;
       as_many = served.kept.as_many;
@@ -363,3 +375,18 @@ pub load_done : (s : Status) (spec : WorkSpec) (held : Held) (before after : Tel
     → WorkEnded s spec held before after left written → s ≡ status.Done → IsCleanLoad held.place spec before after left written
 load_done s spec held before after left written h done =
     clean_summed spec held before after left written (subst (λ (t : Status). WorkEnded t spec held before after left written) done h)
+
+-- and over a keeper that tells its rows for good nothing is left open
+pub load_fresh : (place : Place) (spec : WorkSpec) (before after : Tells) (left : Left) (written : ℕ) → IsCleanLoad place spec before after left written
+    → (IsSome left.opening → IsSome after.rows) → IsFreshLoad place spec before.taken after.taken left written
+load_fresh place spec before after left written h started =
+    let some : IsSome after.rows = started (subst (λ (o : Option Tables). IsSome o) (sym h.opening_is) refl) in
+    let told = some-at after.rows some in
+    record {
+      opening = h.opening;
+      opening_is = h.opening_is;
+      opened = λ new. h.opened new told.0 told.1;
+      covered = h.covered;
+      fresh = h.fresh some;
+      told = subst (λ (f : Finding). IsTold spec h.opening left.log left.histories before.taken after.taken written f) (h.clean some) h.told;
+    }

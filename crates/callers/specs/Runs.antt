@@ -1,5 +1,5 @@
 -- What is said of whole runs to who makes them.
-use Rattle.std.specs.Prelude.{ℕ, ◌≡◌, ◌<◌, ◌⊎◌, Bool, true, List, ◌∷◌, ◌++◌, length, Option, Some, IsSome, slice_get}
+use Rattle.std.specs.Prelude.{ℕ, ◌≡◌, ◌<◌, ◌≤◌, Bool, true, List, ◌∷◌, ◌++◌, length, Option, Some, IfSome, IsSome, slice_get}
 use Rattle.rows_model.specs.declared.keys.QKey.{QKey}
 use Rattle.rows_model.specs.declared.keys.Sid.{Sid}
 use Rattle.std.specs.Option.{ForSome}
@@ -9,7 +9,6 @@ use Rattle.rows_model.specs.Changes.{touches}
 use Rattle.key_shard.specs.declared.steps.Ended.{Ended}
 use Rattle.key_shard.specs.declared.steps.Step.{Step}
 use Rattle.key_shard.specs.declared.steps.Step.TheVariants.{Hit, Released}
-use Rattle.key_shard.specs.Answers.{Legal}
 use Rattle.sql_keeper.specs.declared.keepers.Place.{Place}
 use Rattle.sql_keeper.specs.declared.keepers.Place.TheVariants as places
 use Rattle.sql_keeper.specs.declared.stores.Commit.{Commit}
@@ -22,15 +21,17 @@ use Rattle.top_run.specs.declared.runs.Status.TheVariants as status
 use Rattle.run_audit.specs.declared.findings.Finding.{Finding}
 use Rattle.run_audit.specs.declared.findings.Finding.TheVariants as finding
 use Rattle.run_inputs.specs.declared.loads.WorkSpec.{WorkSpec}
-use Rattle.core_history.specs.Machine.{terms_of}
 use Rattle.conn_server.specs.declared.ends.LineEnd.{LineEnd}
 use Rattle.run_words.specs.declared.words.ServeSpec.{ServeSpec}
 use Rattle.top_run.specs.Runs.{IsRead, Prints, Tells, Left}
-use Rattle.top_run.specs.Serves.{serve_shape, serve_keep, serve_text}
+use Rattle.run_words.specs.Words.{most_served}
+use Rattle.door_workers.specs.Attending.{HaveEnds, IsEnough}
+use Rattle.top_run.specs.Serves.{serve_shape, serve_keep, serve_text, shown}
 use Rattle.top_run.specs.Works.{IsLeft, IsTold}
 
--- A run over a keeper in memory, which began with these rows and has those at its end: it began with the rows of as many
--- members as its script says, no hit is stale, each commit is covered, and the rows at the end are those after the log.
+-- A run at a fresh place, over a keeper that tells its rows for good, which began with these rows and has those at its end: it
+-- began with the rows of as many members as its script says, no hit is stale, each commit is covered, and the rows at the end
+-- are those after the log.
 pub record IsFreshRun (left_old left_new : Option (List ℕ)) (opening : Tables)
     (rows : Option Tables) (log : List Commit) (histories : List (List Step)) : Type 0 where
   pub shape : Shape
@@ -68,12 +69,27 @@ pub record IsCleanLoad (place : Place) (spec : WorkSpec) (before after : Tells) 
   pub told : IsTold spec opening left.log left.histories before.taken after.taken written found
   pub clean : IsSome after.rows → found ≡ finding.Clean
 
--- A server ended Done: so many connections were served as were asked for, or the door said that no more come; the
--- sink took all that a server writes, with that number; and of each shard there are the last steps of a legal history.
+-- A load of these words over a keeper that tells its rows for good ended Done: its summary was written, each commit is
+-- covered, no hit is stale and the audit was clean; and where the words name no file, the opening rows are as many members as
+-- the load says, and no links.
+pub record IsFreshLoad (place : Place) (spec : WorkSpec) (taken_old taken_new : Option (List ℕ)) (left : Left) (written : ℕ) : Type 0 where
+  pub opening : Tables
+  pub opening_is : left.opening ≡ Some opening
+  pub opened : place ≡ places.Fresh → opening ≡ start_tables spec.members
+  pub covered : Covered left.log left.histories
+  pub fresh : Fresh opening left.log left.histories
+  pub told : IsTold spec opening left.log left.histories taken_old taken_new written finding.Clean
+
+-- A server ended Done: so many connections were served as were asked for, or the door said that no more come, as it did where no
+-- number was asked for. There is an end for each of a number of connections. The sink took all that a server writes, with the number
+-- that were served; and of each shard there are the last steps of a legal history.
 pub record IsDoneServer (spec : ServeSpec) (taken_old taken_new : Option (List ℕ)) (ended : Bool)
     (ends : List LineEnd) (histories : List (List Step)) (written : ℕ) : Type 0 where
-  pub served : (length ends ≡ spec.conns) ⊎ (ended ≡ true)
-  pub prints : Prints taken_old taken_new (serve_text (length ends)) written
+  pub lines : ℕ
+  pub few : IfSome (most_served spec.conns) (λ most. lines ≤ most)
+  pub have_ends : HaveEnds (most_served spec.conns) lines ends
+  pub served : IsEnough (most_served spec.conns) lines ended
+  pub prints : Prints taken_old taken_new (serve_text (shown lines)) written
   pub as_many : length histories ≡ spec.shards
   pub legal : (place : ℕ) (history : List Step) → slice_get histories place ≡ Some history → IsLeft (serve_shape spec) serve_keep place history
 

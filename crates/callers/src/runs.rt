@@ -5,7 +5,8 @@ ghost use Rattle.top_run.specs.Runs.{told_by, moment, seen, histories_at, left_a
 ghost use Rattle.callers.specs.Shards.{MeetsItsFloor};
 ghost use Rattle.std.specs.Option.{ForSome};
 ghost use Rattle.sql_keeper.specs.declared.keepers.Place.{Place};
-ghost use Rattle.callers.specs.Runs.{IsFreshRun, IsRunAt, IsCleanLoad, IsDoneServer, HitsHoldCommits, IsUnharmed, AreAlike, IsBeginning};
+ghost use Rattle.rows_model.specs.Rows.{Tables};
+ghost use Rattle.callers.specs.Runs.{IsFreshRun, IsRunAt, IsCleanLoad, IsFreshLoad, IsDoneServer, HitsHoldCommits, IsUnharmed, AreAlike, IsBeginning};
 ghost use Rattle.run_inputs.specs.declared.loads.WorkSpec.{WorkSpec};
 ghost use Rattle.run_words.specs.Words.{AreWords};
 ghost use Rattle.run_words.specs.declared.words.ServeSpec.{ServeSpec};
@@ -17,32 +18,50 @@ use crate::shards::hits_meet_their_floors;
 use core_history::laws::{runs_are_determined, runs_go_on, sweeps_are_final};
 use iq_outside::{Clock, Door, Gate, ListDoor, Sink, Source};
 use run_inputs::texts_tell_scripts;
-use sql_keeper::{Keeper, MapKeeper, Place};
+use sql_keeper::{Keeper, MapKeeper, Place, Telling};
 use std::alloc::Global;
 use std::sync::Wait;
 use std::thread::Threads;
 use top_run::{RunEnd, Status, replay, run};
 
-/// No hit is stale over a keeper in memory, whichever of its calls fail, and whatever the source, the
-/// sink and the script are. Where the run began, it began with the rows of as many members as the
-/// script says, and the keeper's rows are those after the log.
-pub fn run_fresh<S: Source, W: Sink>(
+/// No hit is stale over a keeper that tells its rows for good, whichever of its calls fail, and whatever the
+/// source, the sink and the script are. Where the run began, it began with the rows of as many members as
+/// the script says, and the keeper's rows are those after the log. The program's keeper over SQL is such a
+/// keeper, and so is one of rows in lists.
+pub fn run_fresh<S: Source, W: Sink, K: Telling>(
     alloc: Global,
     source: &mut S,
     sink: &mut W,
-    keeper: MapKeeper,
-) -> RunEnd<MapKeeper>
+    keeper: K,
+) -> RunEnd<K>
     ensures { IfSome result.opening (λ opening.
-        IsFreshRun (S.left source.old) (S.left source.new) opening result.keeper.rows
+        IsFreshRun (S.left source.old) (S.left source.new) opening (K.rows result.keeper)
         result.log.items (histories_at result)) }
 {
     replay(alloc, &Place::Fresh, source, sink, keeper)
 }
 
-/// No hit is stale over any keeper that tells its rows at the end, wherever these lie: so over one in an
-/// SQL database, in memory or in a file. Where the run began, it began with the rows that the place held,
-/// if these are told. A fresh place held as many members as the script says, and no links. The rows at
-/// the end are those after the log.
+/// No hit is stale over a keeper that tells its rows for good, wherever these lie: in memory or in a file.
+/// Where the run began, it began with the rows that the place held, if these are told. A fresh place held
+/// as many members as the script says, and no links. The keeper's rows are those after the log.
+pub fn run_telling<S: Source, W: Sink, K: Telling>(
+    alloc: Global,
+    place: &Place,
+    source: &mut S,
+    sink: &mut W,
+    keeper: K,
+) -> RunEnd<K>
+    ensures { IfSome result.opening (λ opening.
+        (rows : Tables) × (K.rows result.keeper ≡ Some rows)
+        × IsRunAt place.now (K.holds keeper place.now) (S.left source.old) (S.left source.new)
+        opening result.log.items (histories_at result) rows) }
+{
+    replay(alloc, place, source, sink, keeper)
+}
+
+/// No hit is stale over any keeper that tells its rows at the end, wherever these lie. Where the run began, it
+/// began with the rows that the place held, if these are told. A fresh place held as many members as the
+/// script says, and no links. The rows at the end are those after the log.
 pub fn run_at<S: Source, W: Sink, K: Keeper>(
     alloc: Global,
     place: &Place,
@@ -58,12 +77,12 @@ pub fn run_at<S: Source, W: Sink, K: Keeper>(
 }
 
 /// Once a writer has released a key, each hit on it holds the writer's commit, if that touches the key.
-pub fn run_holding_commits<S: Source, W: Sink>(
+pub fn run_holding_commits<S: Source, W: Sink, K: Telling>(
     alloc: Global,
     source: &mut S,
     sink: &mut W,
-    keeper: MapKeeper,
-) -> RunEnd<MapKeeper>
+    keeper: K,
+) -> RunEnd<K>
     ensures { IfSome result.opening (λ opening.
         HitsHoldCommits opening result.log.items (histories_at result)) }
 {
@@ -74,12 +93,12 @@ pub fn run_holding_commits<S: Source, W: Sink>(
 /// the number of an entry, and each step since has left that entry, a get of the key with a floor of at
 /// most its stamp is a hit of that value, for each session that holds no quarantine of the key. The
 /// stamp is the number of the writer's commit, and the value is the key's answer after as many commits.
-pub fn run_serving_writes<S: Source, W: Sink>(
+pub fn run_serving_writes<S: Source, W: Sink, K: Telling>(
     alloc: Global,
     source: &mut S,
     sink: &mut W,
-    keeper: MapKeeper,
-) -> RunEnd<MapKeeper>
+    keeper: K,
+) -> RunEnd<K>
     ensures { IfSome result.opening (λ opening.
         HitsAfterWrites opening result.log.items (histories_at result)) }
 {
@@ -187,8 +206,40 @@ pub fn run_load<
     run(rt, alloc, words, source, sink, keeper, door, clock, gate)
 }
 
+/// A load that ends Done left nothing stale, whatever its threads did, over a keeper that tells its rows for
+/// good: its audit was clean. Each commit was covered, and the summary was written whole. Where the words name
+/// no file the load began with as many members as they say, and no links.
+pub fn run_telling_load<
+    S: Source,
+    W: Sink,
+    K: Telling + Send,
+    D: Door,
+    C: Clock,
+    G: Gate,
+    R: Threads + Wait + Sync,
+>(
+    rt: &R,
+    alloc: Global,
+    words: &[Vec<u8>],
+    source: &mut S,
+    sink: &mut W,
+    keeper: K,
+    door: &mut D,
+    clock: &C,
+    gate: &G,
+) -> RunEnd<K>
+    ensures { (place : Place) (spec : WorkSpec) →
+        AreWords (map (λ word. word.items) words.now) (Words.Work place spec) →
+        result.status ≡ Status.Done →
+        IsFreshLoad place spec (W.taken sink.old) (W.taken sink.new) (left_at result)
+        result.written }
+{
+    run(rt, alloc, words, source, sink, keeper, door, clock, gate)
+}
+
 /// A server of these words over a door in memory that ends Done served as many connections as were asked for, or
-/// all that there were: how each ended is told, and the sink took `ready` and that number. Each history is legal.
+/// all that there were, as it did where the words say `forever`: the sink took `ready` and how many they were.
+/// How each of a number of connections ended is told. Each history is legal.
 pub fn run_server<
     S: Source,
     W: Sink,

@@ -22,13 +22,14 @@ use Rattle.conn_server.specs.declared.outgoing.Told.TheVariants.{Lease}
 use Rattle.mixed_lines.specs.declared.streams.Said.{Said}
 use Rattle.mixed_lines.specs.Fronts.{Reads as IsRead, Faults, item_of, Takes as FrameTakes}
 use Rattle.mixed_lines.specs.Items.{Item, command, bad_line, Stands, IsOpen, AreFirst}
-use Rattle.conn_server.specs.Outgoing.{told_text, plain_calls_of, plain_calls}
+use Rattle.conn_server.specs.Outgoing.{told_text, plain_calls_of, plain_calls, frame_told}
 use Rattle.conn_server.specs.Clients.{newcomer}
 use Rattle.conn_server.specs.Answers.{ItemAnswers, AllAnswer, GivenUp, with_calls}
 use Rattle.conn_server.specs.Service.{budget, texts, IsWithin, Lasts, place_of, TookSome, TookToFault, EndsSo, NoneLeft, IsServed, CountsWrites, tended_by}
 use Rattle.conn_server.specs.Outbox.{Sends, SendsSome, Stops, Flushes, Finishes}
 use Rattle.conn_server.specs.Course.{most_reads, DeskSide, IsUnserved, Start, Done, Course, CountsAt, Ending, Tells, Shuts}
 use Rattle.conn_server.proofs.ClosingLemmas.{with_calls-append}
+use Rattle.conn_server.proofs.HeldLemmas.{only_writers_hold}
 use Rattle.mixed_lines.proofs.ItemLemmas.{item_fits, first_more, first_bound, item_open_bound}
 
 -- one item more
@@ -527,6 +528,25 @@ shut_by end fault found last start rounds reads new_reads writes new_writes desk
     (shut_ends end fault last start rounds reads writes new_writes desk old new
     (subst (λ (f : FrameFault). Lasts old.framer.rest f last) (sym is) lasts) (ap place_of is ∙ place) s client c)
 
+-- a fault that lasts shuts the connection, once its client is told of it
+pub shut_by_fault : (end : LineEnd) (fault : FrameFault) (start : Start) (rounds : ℕ) (reads new_reads : ReadSide)
+    (writes new_writes : WriteSide) (desk : DeskSide) (old new : Serving) (frames : Frames)
+    → ((place : ℕ) × (fault ≡ frame.LongLine place)) ⊎ (((place : ℕ) × (fault ≡ frame.BadBlock place)) ⊎ ((place : ℕ) × (fault ≡ frame.BigBlock place)))
+    → Faults old.framer fault frames → Shuts end fault (frame_told fault) writes new_writes old.out new.out → new_reads ≡ reads
+    → new.client ≡ old.client → Course start rounds reads writes desk old → Ending end start new_reads new_writes desk new
+shut_by_fault end fault start rounds reads new_reads writes new_writes desk old new frames (inl (place, is)) f s apart client c =
+    let g : Faults old.framer (frame.LongLine place) frames = subst (λ (x : FrameFault). Faults old.framer x frames) is f in
+    shut_by end fault (frame.LongLine place) (Lease reply.LongLine) start rounds reads new_reads writes new_writes desk old new is (g.1, refl) g.0
+    (subst (λ (x : FrameFault). Shuts end fault (frame_told x) writes new_writes old.out new.out) is s) apart client c
+shut_by_fault end fault start rounds reads new_reads writes new_writes desk old new frames (inr (inl (place, is))) f s apart client c =
+    let g : Faults old.framer (frame.BadBlock place) frames = subst (λ (x : FrameFault). Faults old.framer x frames) is f in
+    shut_by end fault (frame.BadBlock place) (Lease reply.BadBlock) start rounds reads new_reads writes new_writes desk old new is (g.1, refl) g.0
+    (subst (λ (x : FrameFault). Shuts end fault (frame_told x) writes new_writes old.out new.out) is s) apart client c
+shut_by_fault end fault start rounds reads new_reads writes new_writes desk old new frames (inr (inr (place, is))) f s apart client c =
+    let g : Faults old.framer (frame.BigBlock place) frames = subst (λ (x : FrameFault). Faults old.framer x frames) is f in
+    shut_by end fault (frame.BigBlock place) (Lease reply.BigBlock) start rounds reads new_reads writes new_writes desk old new is (g.1, refl) g.0
+    (subst (λ (x : FrameFault). Shuts end fault (frame_told x) writes new_writes old.out new.out) is s) apart client c
+
 -- more bytes were given
 abbrev done_fed : (start : Start) (old new : ReadSide) (writes : WriteSide) (desk : DeskSide) (client : Client) (bytes : List ℕ)
     → Takes old.left new.left bytes → Gains old.given new.given bytes → new.faults ≡ old.faults
@@ -782,6 +802,7 @@ finished_by end start reads writes new_writes desk new_desk serving bytes done g
       first = done.first;
       answers = done.answers;
       leaves = up_given.leaves;
+      held = only_writers_hold newcomer serving.client done.items done.asked done.told done.answers (λ none. refl);
       calls_are = refl;
       plains_are = refl;
       ends = e;
@@ -842,6 +863,7 @@ never_served reads writes desk = record {
     first = refl;
     answers = (refl, refl, refl);
     leaves = (refl, refl);
+    held = λ none. refl;
     calls_are = refl;
     plains_are = refl;
     ends = (omega arith, inl ([], refl));

@@ -18,14 +18,15 @@ use Rattle.mc_text.specs.declared.replies.LineReply.{LineReply}
 use Rattle.conn_server.specs.declared.clients.Client.{Client}
 use Rattle.conn_server.specs.declared.clients.Present.{Present}
 use Rattle.conn_server.specs.Answers.{HasFirst, HasFirstIn}
-use Rattle.conn_server.specs.Clients.{is_reading, is_full, is_present, grant_on}
+use Rattle.conn_server.specs.Clients.{is_reading, is_busy, is_full, is_present, grant_on}
 use Rattle.conn_server.specs.Closing.{MayAbort}
-use Rattle.conn_server.specs.Refusals.{key_word, named_sid, is_unknown, quarantines, releases, writes, is_no_key}
+use Rattle.conn_server.specs.Refusals.{key_word, named_sid, is_unknown, begins, quarantines, releases, writes, is_no_key}
 use Rattle.conn_server.specs.Refusals.{is_of_another, shifts_no_count, grant_for, is_other_mode, in_mode, refusals, first_due, refused}
 
 -- no cause to refuse the command holds
 pub record Passes (client : Client) (said : Command) : Type 0 where
   pub known : is_unknown said ≡ false
+  pub free : (begins said && is_busy client) ≡ false
   pub key : is_no_key (key_word said) ≡ false
   pub own : is_of_another client.present (named_sid said) ≡ false
   pub writer : (writes said && is_reading client.present) ≡ false
@@ -50,6 +51,7 @@ passes client said e =
     let (known, (busy, (key, (flags, (exptime, (own, (writer, (committed, (room, (count, (early, (grant, (mode, end))))))))))))) = none_due (refusals client said) e in
     record {
       known = known;
+      free = busy;
       key = key;
       own = own;
       writer = writer;

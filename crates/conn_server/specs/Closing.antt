@@ -57,6 +57,10 @@ abbrev pub MayAbort : Option Present → Type 0
 MayAbort (Some present) = is_reading_stage present.stage ≡ false
 MayAbort None = ⊥
 
+-- a client without a session that writes holds no grant
+abbrev pub OnlyWritersHold : Client → Type 0
+OnlyWritersHold client = (MayAbort client.present → ⊥) → client.grants.items ≡ []
+
 -- nothing is held: no session may commit any more, and none that writes has a grant; one that reads never has any
 pub record HoldsNothing (client : Client) : Type 0 where
   pub ended : is_open client.present ≡ false

@@ -3,6 +3,8 @@ use Rattle.std.specs.Prelude.{ℕ, ◌+◌, ◌-◌, ◌^◌, ◌≡◌, ◌<◌
 use Rattle.iq_outside.specs.Outside.{Takes, Gains, ReadSide, WriteSide}
 use Rattle.mc_text.specs.Framing.{begun}
 use Rattle.mc_text.specs.declared.faults.FrameFault.{FrameFault}
+use Rattle.mc_text.specs.declared.plain_lines.PlainSaid.{PlainSaid}
+use Rattle.mc_text.specs.declared.plain_replies.PlainReply.{PlainReply}
 use Rattle.session_client.specs.Desks.{Call}
 use Rattle.plain_ops.specs.Desks.{PlainCall, with_plain_calls}
 use Rattle.conn_server.specs.declared.clients.Client.{Client}
@@ -11,7 +13,8 @@ use Rattle.conn_server.specs.declared.ends.LineEnd.TheVariants as ends
 use Rattle.conn_server.specs.declared.serving.Serving.{Serving}
 use Rattle.conn_server.specs.declared.outgoing.Told.{Told}
 use Rattle.mixed_lines.specs.Items.{Item, AreFirst}
-use Rattle.conn_server.specs.Outgoing.{told_text, plain_calls}
+use Rattle.conn_server.specs.declared.outgoing.Told.TheVariants.{Plain}
+use Rattle.conn_server.specs.Outgoing.{told_text, IsPlainReply, plain_call, plain_calls}
 use Rattle.conn_server.specs.Outbox.{Sends, Stops}
 use Rattle.conn_server.specs.Clients.{newcomer}
 use Rattle.conn_server.specs.Answers.{AllAnswer, with_calls}
@@ -124,6 +127,14 @@ Tells (Ok more) reply before after waited new =
 Tells (Err ends.Budget) reply before after waited new =
     (new.count ≡ budget) × Sends before after (waited ++ told_text reply) new.out
 Tells (Err end) reply before after waited new = Stops end before after (waited ++ told_text reply) new.out
+
+-- a plain command was carried out and counted, and the reply that belongs to it was put behind what waits
+pub record TellsPlain (result : Result Bool LineEnd) (said : PlainSaid) (noreply : Bool) (plain_old plain_new : Option (List PlainCall))
+    (before after : WriteSide) (waited : List ℕ) (new : Serving) : Type 0 where
+  pub reply : PlainReply
+  pub belongs : IsPlainReply said reply
+  pub recorded : plain_new ≡ with_plain_calls (plain_call said reply) plain_old
+  pub tells : Tells result (Plain reply noreply) before after waited new
 
 -- what is told of a fault was put behind what waits, unless memory ran out for it or a write failed
 abbrev pub Shuts : LineEnd → FrameFault → Told → WriteSide → WriteSide → List ℕ → List ℕ → Type 0

@@ -2,6 +2,9 @@
 use Rattle.std.specs.Prelude.{ℕ, ◌≡◌, ⊤, Bool, true, false, List, [], ◌∷◌, ◌++◌, codes}
 use Rattle.mc_text.specs.Replies.{text_of, line}
 use Rattle.mc_text.specs.PlainReplies.{plain_text}
+use Rattle.mc_text.specs.declared.faults.FrameFault.{FrameFault}
+use Rattle.mc_text.specs.declared.faults.FrameFault.TheVariants as frame
+use Rattle.mc_text.specs.declared.replies.LineReply.TheVariants as line_reply
 use Rattle.mc_text.specs.declared.plain_lines.PlainSaid.{PlainSaid}
 use Rattle.mc_text.specs.declared.plain_lines.PlainSaid.TheVariants.{Asks, QueryKey, Exptime}
 use Rattle.mc_text.specs.declared.plain_replies.PlainReply.{PlainReply}
@@ -37,6 +40,18 @@ IsPlainReply Exptime told = told ≡ reply.Exptime
 abbrev pub plain_call : PlainSaid → PlainReply → List PlainCall
 plain_call (Asks asked) told = record { command = asked; told = told } ∷ []
 plain_call other told = []
+
+-- what is told of a line that isn't of its verb's form
+abbrev pub bad_line_told : Told
+bad_line_told = Lease line_reply.BadLine
+
+-- what is told of a fault of the input
+abbrev pub frame_told : FrameFault → Told
+frame_told (frame.BadLine place) = bad_line_told
+frame_told (frame.LongLine place) = Lease line_reply.LongLine
+frame_told (frame.BadBlock place) = Lease line_reply.BadBlock
+frame_told (frame.BigBlock place) = Lease line_reply.BigBlock
+frame_told frame.Memory = Lease line_reply.Memory
 
 -- a plain command is told a reply that belongs to it, or nothing where it wants no reply
 abbrev pub IsPlainTold : PlainSaid → Bool → Told → Type 0

@@ -16,7 +16,7 @@ use Rattle.mixed_lines.specs.Items.{Item, command, long_line, bad_block, big_blo
 use Rattle.conn_server.specs.Outgoing.{told_text, plain_calls}
 use Rattle.conn_server.specs.Clients.{newcomer}
 use Rattle.conn_server.specs.Answers.{AllAnswer, with_calls}
-use Rattle.conn_server.specs.Closing.{Leaves}
+use Rattle.conn_server.specs.Closing.{Leaves, OnlyWritersHold}
 
 -- how many commands one connection is answered at most
 abbrev pub budget : ℕ
@@ -78,7 +78,8 @@ EndsSo ends.Memory items size rest taken told =
     (length items ≤ budget) × (TookSome taken told ⊎ TookToFault rest taken told)
 
 -- a connection was served: the first commands and bad lines of what it was given were
--- answered in order, its client's session was then given up, and it took the replies
+-- answered in order, its client's session was then given up, and it took the replies;
+-- a client whose session didn't write, or that had none, held no grant, and so had none to release
 pub record Served (given taken : List ℕ) (calls : List Call) (plains : List PlainCall) (end : LineEnd) : Type 0 where
   pub items : List Item
   pub size : ℕ
@@ -90,6 +91,7 @@ pub record Served (given taken : List ℕ) (calls : List Call) (plains : List Pl
   pub first : AreFirst given items size
   pub answers : AllAnswer newcomer items asked told client
   pub leaves : Leaves client.present client.grants.items closing count
+  pub held : OnlyWritersHold client
   pub calls_are : calls ≡ asked ++ closing
   pub plains_are : plains ≡ plain_calls items told
   pub ends : EndsSo end items size (drop size given) taken told

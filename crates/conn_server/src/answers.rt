@@ -28,6 +28,7 @@ use std::mem;
 impl Client {
     /// Answers a command, which isn't `quit`: by an error, or by what a desk replies to the request
     /// that the command makes.
+    #[inline(always)]
     pub(crate) fn answer<D: Desk>(&mut self, desk: &mut D, said: Command) -> LineReply
         requires { said ≢ commands.Quit }
         ensures answers { Asks (D.record_of desk.old) (D.record_of desk.new) self.old said result self.new }
@@ -40,6 +41,7 @@ impl Client {
     }
 
     /// Does what a command asks that isn't refused.
+    #[inline(always)]
     fn carry_out<D: Desk>(&mut self, desk: &mut D, said: Command) -> LineReply
         requires goes_on { said ≢ commands.Quit }
         requires passes { refused self.old said ≡ None }
@@ -97,6 +99,7 @@ impl Client {
     }
 
     /// Looks a key up in the cache.
+    #[inline(always)]
     fn get<D: Desk>(&self, desk: &mut D, key: QKey, floor: u64) -> LineReply
         ensures answers { (sid : Sid) → Makes (D.record_of desk.old) (D.record_of desk.new) self.now
             (wanted.Get key floor) (commands.IqGet (Some key) sid floor) result self.now }

@@ -1,5 +1,6 @@
 ghost use Rattle.std.specs.Prelude.{◌≡◌, ◌++◌, ◌<◌, [], length, OnOk};
 ghost use Rattle.mc_text.specs.PlainReplies.{item_text, items_text};
+ghost use Rattle.mixed_lines.specs.Items.{IsOpen};
 ghost use Rattle.conn_server.specs.Closing.{HoldsNothing};
 ghost use Rattle.conn_server.specs.Outgoing.{told_text, end_text, HasNoItem};
 ghost use Rattle.conn_server.specs.Outbox.{Puts, Flushes, Finishes};
@@ -8,7 +9,7 @@ use crate::closing::Gone;
 use crate::ends::LineEnd;
 use crate::outgoing::{Told, write_end, write_told};
 use iq_outside::{Line, write_all};
-use mc_text::{Found, PlainReply, write_found};
+use mc_text::{Found, Framer, PlainReply, write_found};
 use rows_model::Memory;
 use std::alloc::Global;
 use std::marker::Model;
@@ -48,6 +49,7 @@ impl Outbox {
     }
 
     /// Puts what is told behind what waits. After an error a first part of both was sent or waits.
+    #[inline(always)]
     pub(crate) fn tell<L: Line>(&mut self, line: &mut L, told: &Told) -> Result<(), LineEnd>
         ensures puts { Puts result (L.write_side line.old) (L.write_side line.new)
             (self.old ++ told_text told.now) self.new }
@@ -137,11 +139,23 @@ impl Outbox {
         if self.bytes.len() < FULL {
             return Ok(());
         }
-        self.flush(line)
+        self.send(line)
+    }
+
+    /// Sends what waits before more is read. No whole command and no fault stands in what was read: the
+    /// connection goes on. At its end what waits is sent by `flush_last` alone.
+    pub(crate) fn flush<L: Line>(&mut self, line: &mut L, framer: &Framer) -> Result<(), LineEnd>
+        requires goes_on { IsOpen framer.now.rest }
+        ensures flushes { Flushes result (L.write_side line.old) (L.write_side line.new) self.old }
+        ensures keeps_reading { L.read_side line.new ≡ L.read_side line.old }
+        ensures none { self.new ≡ [] }
+    {
+        let _ = framer;
+        self.send(line)
     }
 
     /// Sends what waits. After a write that failed, nothing waits either.
-    pub(crate) fn flush<L: Line>(&mut self, line: &mut L) -> Result<(), LineEnd>
+    fn send<L: Line>(&mut self, line: &mut L) -> Result<(), LineEnd>
         ensures flushes { Flushes result (L.write_side line.old) (L.write_side line.new) self.old }
         ensures keeps_reading { L.read_side line.new ≡ L.read_side line.old }
         ensures none { self.new ≡ [] }

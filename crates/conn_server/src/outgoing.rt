@@ -1,9 +1,9 @@
 // What a client is told, and what is written of it.
 ghost use Rattle.std.specs.Prelude.{◌≡◌, ◌++◌, OnOk, OnErr};
 ghost use Rattle.plain_ops.specs.Desks.{with_plain_calls};
-ghost use Rattle.conn_server.specs.Outgoing.{told_text, end_text, IsPlainReply, plain_call};
+ghost use Rattle.conn_server.specs.Outgoing.{told_text, end_text, IsPlainReply, plain_call, frame_told};
 
-use mc_text::{LineReply, PlainReply, PlainSaid, write_plain_reply, write_reply};
+use mc_text::{FrameFault, LineReply, PlainReply, PlainSaid, write_plain_reply, write_reply};
 use plain_ops::PlainDesk;
 use rows_model::Memory;
 
@@ -27,6 +27,20 @@ pub(crate) fn reply_to<P: PlainDesk>(plain: &mut P, said: &PlainSaid) -> PlainRe
         PlainSaid::QueryKey => PlainReply::QueryKey,
         PlainSaid::Exptime => PlainReply::Exptime,
     }
+}
+
+/// What a client is told of a fault of the input.
+pub(crate) fn told_of(fault: FrameFault) -> Told
+    ensures { result ≡ frame_told fault }
+{
+    let reply = match fault {
+        FrameFault::BadLine { place: _ } => LineReply::BadLine,
+        FrameFault::LongLine { place: _ } => LineReply::LongLine,
+        FrameFault::BadBlock { place: _ } => LineReply::BadBlock,
+        FrameFault::BigBlock { place: _ } => LineReply::BigBlock,
+        FrameFault::Memory => LineReply::Memory,
+    };
+    Told::Lease { reply }
 }
 
 /// Writes that no more items come. After want of memory all is as before.

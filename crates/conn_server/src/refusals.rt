@@ -155,6 +155,7 @@ impl Client {
     /// The error that a command is told without the desk, if it is told one. The causes are tried in
     /// this order.
     #[tactic(auto, unfolding(crate::specs::Refusals::refused))]
+    #[inline(always)]
     pub(crate) fn refusal(&self, said: &Command) -> Option<LineReply>
         ensures { result ≡ refused self.now said.now }
     {

@@ -3,18 +3,19 @@ ghost use Rattle.iq_outside.specs.Outside.{Rose, ReadSide, WriteSide};
 ghost use Rattle.mixed_lines.specs.Items.{IsOpen};
 ghost use Rattle.session_client.specs.Desks.{one_more};
 ghost use Rattle.conn_server.specs.Answers.{GivenUp};
-ghost use Rattle.conn_server.specs.Course.{Start, Course, Ending, DeskSide, desk_side, moment, GoesOn, ReadsOn, EndsFrom, IsUnserved, Tells, Shuts};
+ghost use Rattle.conn_server.specs.Course.{Start, Course, Ending, DeskSide, desk_side, moment, GoesOn, ReadsOn, EndsFrom, IsUnserved, Tells, TellsPlain, Shuts};
 ghost use Rattle.conn_server.specs.Outbox.{Finishes};
+ghost use Rattle.conn_server.specs.Outgoing.{bad_line_told, frame_told};
 ghost use Rattle.conn_server.specs.Service.{IsServed, CountsReads, CountsWrites};
 ghost use Rattle.conn_server.specs.declared.ends.LineEnd.TheVariants as ends;
 
 use crate::clients::Client;
 use crate::ends::LineEnd;
 use crate::outbox::Outbox;
-use crate::outgoing::{Told, reply_to};
+use crate::outgoing::{Told, reply_to, told_of};
 use iq_outside::{Failed, Line};
-use mc_text::{Command, FrameFault, Framer, LineReply};
-use mixed_lines::{Said, next_said};
+use mc_text::{Command, FrameFault, Framer, LineReply, PlainSaid};
+use mixed_lines::{Said, next_lookup, next_said};
 use plain_ops::PlainDesk;
 use rows_model::Memory;
 use session_client::Desk;
@@ -138,7 +139,7 @@ impl Serving {
             line.new desk.new plain.new self.new)) }
     {
         self.answer_all(line, desk, plain)?;
-        self.out.flush(line)?;
+        self.out.flush(line, &self.framer)?;
         self.read_more(line, room)
     }
 
@@ -170,8 +171,42 @@ impl Serving {
         }
     }
 
-    /// Answers the command that stands next, and tells whether a whole one did.
+    /// Answers the command that stands next, and tells whether a whole one did. A lookup is looked for by
+    /// itself, since most commands are lookups.
     fn answer_next<L: Line, D: Desk, P: PlainDesk>(
+        &mut self,
+        line: &mut L,
+        desk: &mut D,
+        plain: &mut P,
+    ) -> Result<bool, LineEnd>
+        requires within { self.old.count < 1000000 }
+        ensures within { OnOk result (self.new.count < 1000000) }
+        ensures counts { result ≡ Ok true → self.new.count ≡ self.old.count + 1 }
+        ensures stops { result ≡ Ok false → IsOpen self.new.framer.rest }
+        ensures goes_on { OnOk result (GoesOn
+            (moment L.read_side L.write_side D.record_of D.tends P.record_of
+            line.old desk.old plain.old self.old)
+            (moment L.read_side L.write_side D.record_of D.tends P.record_of
+            line.new desk.new plain.new self.new)) }
+        ensures ends { IfErr result (EndsFrom
+            (moment L.read_side L.write_side D.record_of D.tends P.record_of
+            line.old desk.old plain.old self.old)
+            (moment L.read_side L.write_side D.record_of D.tends P.record_of
+            line.new desk.new plain.new self.new)) }
+    {
+        match next_lookup(&mut self.framer) {
+            Some(command) => {
+                let reply = self.client.answer(desk, command);
+                self.tell(line, desk, Told::Lease { reply })
+            }
+            None => self.answer_any(line, desk, plain),
+        }
+    }
+
+    /// Answers the command that stands next, whichever it is, and tells whether a whole one did. It is a
+    /// function of its own, since what it keeps for the rare commands costs the lookups time.
+    #[inline(never)]
+    fn answer_any<L: Line, D: Desk, P: PlainDesk>(
         &mut self,
         line: &mut L,
         desk: &mut D,
@@ -206,34 +241,65 @@ impl Serving {
                 self.tell(line, desk, Told::Lease { reply })
             }
             Ok(Some(Said::Plain { said, noreply })) => {
-                let reply = reply_to(plain, &said);
-                self.tell(line, desk, Told::Plain { reply, noreply })
+                self.answer_plain(line, desk, plain, &said, noreply)
             }
             Ok(None) => Ok(false),
             Err(fault) => match fault {
-                FrameFault::BadLine { place: _ } => {
-                    let reply = LineReply::BadLine;
-                    self.tell(line, desk, Told::Lease { reply })
-                }
-                FrameFault::LongLine { place: _ } => {
-                    let reply = LineReply::LongLine;
-                    Err(self.shut(line, fault, Told::Lease { reply }))
-                }
-                FrameFault::BadBlock { place: _ } => {
-                    let reply = LineReply::BadBlock;
-                    Err(self.shut(line, fault, Told::Lease { reply }))
-                }
-                FrameFault::BigBlock { place: _ } => {
-                    let reply = LineReply::BigBlock;
-                    Err(self.shut(line, fault, Told::Lease { reply }))
-                }
+                FrameFault::BadLine { place: _ } => self.answer_bad_line(line, desk),
+                FrameFault::LongLine { place: _ }
+                | FrameFault::BadBlock { place: _ }
+                | FrameFault::BigBlock { place: _ } => Err(self.shut(line, fault)),
                 FrameFault::Memory => Err(LineEnd::Memory),
             },
         }
     }
 
+    /// Answers a plain command.
+    fn answer_plain<L: Line, D: Desk, P: PlainDesk>(
+        &mut self,
+        line: &mut L,
+        desk: &mut D,
+        plain: &mut P,
+        said: &PlainSaid,
+        noreply: bool,
+    ) -> Result<bool, LineEnd>
+        requires { self.old.count < 1000000 }
+        ensures tells { TellsPlain result said.now noreply (P.record_of plain.old)
+            (P.record_of plain.new) (L.write_side line.old) (L.write_side line.new) self.old.out self.new }
+        ensures keeps_reading { L.read_side line.new ≡ L.read_side line.old }
+        ensures framer { self.new.framer ≡ self.old.framer }
+        ensures client { self.new.client ≡ self.old.client }
+        ensures counts { self.new.count ≡ self.old.count + 1 }
+        ensures asks_nothing { D.record_of desk.new ≡ D.record_of desk.old }
+        ensures tended { D.tends desk.new ≡ one_more (D.tends desk.old) }
+    {
+        let reply = reply_to(plain, said);
+        self.tell(line, desk, Told::Plain { reply, noreply })
+    }
+
+    /// Answers a line that isn't of its verb's form.
+    fn answer_bad_line<L: Line, D: Desk>(
+        &mut self,
+        line: &mut L,
+        desk: &mut D,
+    ) -> Result<bool, LineEnd>
+        requires { self.old.count < 1000000 }
+        ensures tells { Tells result bad_line_told (L.write_side line.old) (L.write_side line.new)
+            self.old.out self.new }
+        ensures keeps_reading { L.read_side line.new ≡ L.read_side line.old }
+        ensures framer { self.new.framer ≡ self.old.framer }
+        ensures client { self.new.client ≡ self.old.client }
+        ensures counts { self.new.count ≡ self.old.count + 1 }
+        ensures asks_nothing { D.record_of desk.new ≡ D.record_of desk.old }
+        ensures tended { D.tends desk.new ≡ one_more (D.tends desk.old) }
+    {
+        let reply = LineReply::BadLine;
+        self.tell(line, desk, Told::Lease { reply })
+    }
+
     /// Counts a command that was answered, lets the desk take a step of its sweep, and puts what is told
     /// behind what waits.
+    #[inline(always)]
     fn tell<L: Line, D: Desk>(
         &mut self,
         line: &mut L,
@@ -260,14 +326,14 @@ impl Serving {
     }
 
     /// Puts what is told of a fault that lasts behind what waits, and tells the end.
-    fn shut<L: Line>(&mut self, line: &mut L, fault: FrameFault, last: Told) -> LineEnd
-        ensures shuts { Shuts result fault last (L.write_side line.old) (L.write_side line.new)
-            self.old.out self.new.out }
+    fn shut<L: Line>(&mut self, line: &mut L, fault: FrameFault) -> LineEnd
+        ensures shuts { Shuts result fault (frame_told fault) (L.write_side line.old)
+            (L.write_side line.new) self.old.out self.new.out }
         ensures keeps_reading { L.read_side line.new ≡ L.read_side line.old }
         ensures framer { self.new.framer ≡ self.old.framer }
         ensures client { self.new.client ≡ self.old.client }
     {
-        match self.out.tell(line, &last) {
+        match self.out.tell(line, &told_of(fault)) {
             Ok(()) => LineEnd::Shut { fault },
             Err(end) => end,
         }

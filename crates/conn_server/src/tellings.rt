@@ -17,6 +17,7 @@ use session_client::{Fault, Grants, Reply};
 use sql_keeper::{AfterFault, CommitFault};
 
 /// Of a reply to a lookup of the key.
+#[inline(always)]
 pub(crate) fn tell_lookup(key: QKey, heard: Reply) -> LineReply
     ensures { (who sid : Sid) (floor : ℕ) → Belongs who (wanted.Get key floor) heard →
         result ≡ told_of (commands.IqGet (Some key) sid floor) heard }
@@ -124,6 +125,7 @@ pub(crate) fn tell_not_committed(fault: CommitFault) -> LineReply
 }
 
 /// Of the answer to a get.
+#[inline(always)]
 fn tell_got(key: QKey, got: Got) -> LineReply
     ensures { result ≡ got_told key got }
 {

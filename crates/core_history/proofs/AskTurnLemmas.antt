@@ -30,7 +30,7 @@ use Rattle.session_client.specs.Plans.{mode_of, mode_on, shift_in, keys_of, chan
 use Rattle.session_client.specs.Wants.{is_had, writing_of}
 use Rattle.session_client.proofs.WantCases.{is_asking}
 use Rattle.core_history.specs.Events.{Event, Stepped, steps_of, told_to, now_of}
-use Rattle.core_history.specs.Machine.{World, terms_of, shown, quarantined_on}
+use Rattle.core_history.specs.Machine.{World, terms_of, step_reply, quarantined_on}
 use Rattle.core_history.proofs.ListLemmas.{or_inl, and_elim, and_intro, not_both, any-back}
 use Rattle.core_history.proofs.GoodEvents.{IsGoodEvent}
 use Rattle.core_history.proofs.EventLemmas.{logged-committed, committed-told, counted-granted, told-mine, ever}
@@ -110,7 +110,7 @@ ask-turn shape world who plan request key mode shift inner w asked =
     some_none e none = let same : Some _ ≡ None = sym e ∙ none in cc
 
     Event-of : Step → Event
-    Event-of x = Stepped home who request x (shown terms steps x)
+    Event-of x = Stepped home who request x (step_reply terms steps x)
 
     P : Step → Type 0
     P x = x ≡ quarantine_step terms steps key who mode shift now → Inner shape (with_event world (Event-of x)) × IsGoodEvent shape past (Event-of x)

@@ -9,7 +9,7 @@ use Rattle.std.proofs.lemmas.List.{length-map}
 use Rattle.rows_model.specs.declared.keys.Sid.{Sid}
 use Rattle.rows_model.specs.Rows.{Tables}
 use Rattle.sql_keeper.specs.declared.stores.Phase.{Phase}
-use Rattle.sql_keeper.specs.Sessions.{may_commit as may, is_open as may_commit, first_phase, begun as begun_phases}
+use Rattle.sql_keeper.specs.Sessions.{may_commit as may, is_open as may_commit, first_phase, with_begun as begun_phases}
 use Rattle.sql_keeper.specs.Stores.{Ledger, StoreView, with_session}
 use Rattle.session_client.specs.Follows.{plan_of, sid_of, IsReady, Follows}
 use Rattle.session_client.specs.Plans.{IsPlan, writes}
@@ -28,7 +28,7 @@ use Rattle.core_history.specs.Cores.{Origin, CoreView, HasPhases, RoseBy, IsAt, 
 use Rattle.core_history.specs.Events.{Event, Stepped, Called, Ticked, Swept, told_by, told_in, told_to, swept_in, ends_told, ends_swept}
 use Rattle.core_history.specs.Events.{ends_in, ended_of, was_ended, has_committed}
 use Rattle.core_history.specs.Lines.{is_fault}
-use Rattle.core_history.specs.Machine.{World, Move, Begin, Take, Said, is_writer, is_open, begun, event_of, wanted_of, sweep_of, swept_next, ended_as}
+use Rattle.core_history.specs.Machine.{World, Move, Begin, Take, Said, is_writer, is_open, with_plan, event_of, wanted_of, sweep_of, swept_next, ended_as}
 use Rattle.core_history.specs.Machine.{turn_event, world_of}
 use Rattle.core_history.proofs.CoresLemmas.{NoneUnbegun, follow_begun, none_begun, plans_begun}
 use Rattle.core_history.proofs.EventLemmas.{committed-told}
@@ -125,7 +125,7 @@ alone false = refl
 
 -- the sessions at the store with one more
 pub phases_begun : (phases : List Phase) (world : World) (plan : Plan) → HasPhases phases world → told_to (length world.plans + 1) world.past ≡ []
-    → was_ended (length world.plans + 1) world.past ≡ false → HasPhases (begun_phases (writes plan) phases) (begun world plan)
+    → was_ended (length world.plans + 1) world.past ≡ false → HasPhases (begun_phases (writes plan) phases) (with_plan world plan)
 phases_begun phases world plan has none unended =
     record {
       count = omega (arith, length-append phases (first_phase (writes plan) ∷ []), length-append world.plans (plan ∷ []), has.count);
@@ -138,14 +138,14 @@ phases_begun phases world plan has none unended =
     state : (who : Sid) → Option Plan → Bool
     state who found = is_writer found && not (has_committed who.number world.past) && not (was_ended who.number world.past)
 
-    before : (who : Sid) → 1 ≤ who.number → who.number - 1 < length phases → may_commit who (phases ++ first ∷ []) ≡ is_open (begun world plan) who
+    before : (who : Sid) → 1 ≤ who.number → who.number - 1 < length phases → may_commit who (phases ++ first ∷ []) ≡ is_open (with_plan world plan) who
     before who some within =
         ap may (phase_there who.number (phases ++ first ∷ []) some ∙ slice_get_push phases first (who.number - 1) within
         ∙ sym (phase_there who.number phases some))
         ∙ has.opens who some
         ∙ ap (state who) (sym (slice_get_push world.plans plan (who.number - 1) (omega (arith, has.count, within))))
 
-    new : (who : Sid) → 1 ≤ who.number → who.number - 1 ≡ length phases → may_commit who (phases ++ first ∷ []) ≡ is_open (begun world plan) who
+    new : (who : Sid) → 1 ≤ who.number → who.number - 1 ≡ length phases → may_commit who (phases ++ first ∷ []) ≡ is_open (with_plan world plan) who
     new who some last =
         let here : slice_get (phases ++ first ∷ []) (who.number - 1) ≡ Some first =
         ap (slice_get (phases ++ first ∷ [])) last ∙ slice_get_pushed phases first in
@@ -159,13 +159,13 @@ phases_begun phases world plan has none unended =
         ∙ ap (λ (b : Bool). writes plan && not b && not (was_ended who.number world.past)) (never_committed who.number world.past unheard)
         ∙ ap (λ (b : Bool). writes plan && true && not b) still ∙ alone (writes plan))
 
-    later : (who : Sid) → 1 ≤ who.number → length phases + 1 ≤ who.number - 1 → may_commit who (phases ++ first ∷ []) ≡ is_open (begun world plan) who
+    later : (who : Sid) → 1 ≤ who.number → length phases + 1 ≤ who.number - 1 → may_commit who (phases ++ first ∷ []) ≡ is_open (with_plan world plan) who
     later who some far =
         ap may (phase_there who.number (phases ++ first ∷ []) some
         ∙ beyond (phases ++ first ∷ []) (who.number - 1) (omega (arith, length-append phases (first ∷ []), far)))
         ∙ sym (ap (state who) (beyond (world.plans ++ plan ∷ []) (who.number - 1) (omega (arith, length-append world.plans (plan ∷ []), has.count, far))))
 
-    from : (who : Sid) → 1 ≤ who.number → length phases ≤ who.number - 1 → may_commit who (phases ++ first ∷ []) ≡ is_open (begun world plan) who
+    from : (who : Sid) → 1 ≤ who.number → length phases ≤ who.number - 1 → may_commit who (phases ++ first ∷ []) ≡ is_open (with_plan world plan) who
     from who some far = ⊎_elim (λ h. new who some (omega (arith, h, far))) (λ h. later who some h) (cases_lt (who.number - 1) (length phases + 1))
 
 -- a session began, which leaves the shards, the sweeper and the clock
@@ -180,7 +180,7 @@ core_begun old new sessions origin moves plan session at is_plan plan_is number 
     let none : told_to (length world.plans + 1) world.past ≡ [] = at.sessions.unbegun (length world.plans + 1) (omega (arith, count)) in
     let S : List Session → Type 0 = λ xs. AreFollowing xs world.past in
     let N : List Session → Type 0 = λ xs. NoneUnbegun xs world.past in
-    let P : List Phase → Type 0 = λ xs. HasPhases xs (begun world plan) in
+    let P : List Phase → Type 0 = λ xs. HasPhases xs (with_plan world plan) in
     let store = at.kept.store in
     record {
       kept = record {

@@ -34,7 +34,7 @@ use Rattle.core_history.specs.Cores.{Origin, CoreView, HasShards, HasHomes, Keep
 use Rattle.core_history.specs.Events.{Event, Ticked, told_in, told_to, swept_in, sweeps_of, now_of, reply_in}
 use Rattle.core_history.specs.Machine.{World, wanted_by, wanted_of, event_of, sweep_of, swept_next, later, turn_event, out_of, Said, Failed}
 use Rattle.core_history.specs.Machine.{Move, Take, world_of}
-use Rattle.core_history.specs.Requests.{IsGrantOut, IsOutWhereReleased, IsWaiting, Stands, TakesTurn, TakesOne, after}
+use Rattle.core_history.specs.Requests.{IsGrantOut, IsOutWhereReleased, IsWaiting, AreAfter, TakesTurn, TakesOne, after}
 use Rattle.core_history.specs.Sweeping.{IsNumbered, TakesSweep}
 use Rattle.core_history.specs.Told.{IsToldOf}
 use Rattle.core_history.proofs.FoundLemmas.{ends_numbered}
@@ -287,7 +287,7 @@ turn_taken old shards store sessions origin moves who result at has_begun takes 
 
     one : (after : Session) × (sessions ≡ set old.sessions (who.number - 1) after)
         × (plan_of after ≡ plan_of found.0) × (sid_of after ≡ sid_of found.0) × OnOk result (IsReady after)
-        × ((origin : Origin) (world : World) (heard : List Reply) → Stands old.shards old.store origin world → old.clock ≡ now_of world.past
+        × ((origin : Origin) (world : World) (heard : List Reply) → AreAfter old.shards old.store origin world → old.clock ≡ now_of world.past
         → Follows found.0 false heard → TakesTurn origin world who (wants (plan_of found.0) false heard) heard shards store after result)
     one = takes found.0 found.1
 
@@ -306,7 +306,7 @@ turn_taken old shards store sessions origin moves who result at has_begun takes 
         (wants_is world who old.sessions found.0 at.sessions.plans found.1)
         (one.5 origin world heard (at.kept.shards, (at.kept.store, at.phases)) at.clock follows)
 
-    kept : (said : Said) → Stands shards store origin (after world (event_of origin.shape world who (wanted_of world who) said))
+    kept : (said : Said) → AreAfter shards store origin (after world (event_of origin.shape world who (wanted_of world who) said))
         → HasKept new origin (Take (turn.Session who) said ∷ moves)
     kept said stands = record { plans = at.kept.plans; fit = at.kept.fit; shards = stands.0; store = stands.1.0 }
 
@@ -407,7 +407,7 @@ sweeper_numbered core running =
 -- a step of the sweeper's, which leaves the sessions and the clock
 pub sweep_taken : (old : CoreView) (shards : List ShardView) (store : StoreView) (sweeper : Sweeper)
     (origin : Origin) (moves : List Move) (result : Result Told Memory) → IsAt old origin moves →
-    ((origin : Origin) (world : World) → Stands old.shards old.store origin world → old.clock ≡ now_of world.past
+    ((origin : Origin) (world : World) → AreAfter old.shards old.store origin world → old.clock ≡ now_of world.past
     → HasSweeper old.sweeper origin.shape world.past → TakesSweep origin world shards store sweeper result) → TakesStep origin moves turn.Sweep
     (record { store = store; shards = shards; sessions = old.sessions; sweeper = sweeper; clock = old.clock }) result
 sweep_taken old shards store sweeper origin moves result at sweeps =

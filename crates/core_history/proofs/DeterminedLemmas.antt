@@ -20,11 +20,11 @@ use Rattle.session_client.specs.declared.plans.Turn.TheVariants as turn
 use Rattle.session_client.specs.declared.replies.Wanted.{Wanted}
 use Rattle.session_client.specs.declared.replies.Wanted.TheVariants as wanted
 use Rattle.core_history.specs.Events.{Event, Called, log_of}
-use Rattle.core_history.specs.Machine.{World, Move, Begin, Take, Said, Value, Made, Rejected, is_open, log_cap, begun, taken, turn_event}
+use Rattle.core_history.specs.Machine.{World, Move, Begin, Take, Said, Value, Made, Rejected, is_open, log_cap, with_plan, taken, turn_event}
 use Rattle.core_history.specs.Machine.{event_of, wanted_of, ask_told, staged_told, commit_said, commit_by, world_of}
 use Rattle.core_history.specs.Truth.{IsTrueReply, IsTrueEvent, IsTruePast}
 use Rattle.core_history.specs.Lines.{tells_fault, is_fault, fault_turns}
-use Rattle.core_history.specs.Determined.{call_of, Turns, Adds, RunsAreDetermined}
+use Rattle.core_history.specs.Determined.{cue_of, Turns, Adds, RunsAreDetermined}
 use Rattle.core_history.proofs.ListLemmas.{count-cons, tick}
 
 module _ {A : Type 0} where
@@ -128,7 +128,7 @@ module _ (shape : Shape) (opening : Tables) where
       let event : Event → World = λ e. record { plans = world.plans; past = e ∷ world.past } in
       subst P is (λ true_two same. ap event (turn_event_same shape (rows_after opening (log_of world.past)) world turn one two true_one true_two same))
 
-  worlds_same : (moves others : List Move) → map call_of moves ≡ map call_of others → IsTruePast opening (world_of shape moves).past
+  worlds_same : (moves others : List Move) → map cue_of moves ≡ map cue_of others → IsTruePast opening (world_of shape moves).past
       → IsTruePast opening (world_of shape others).past → map is_fault (world_of shape moves).past ≡ map is_fault (world_of shape others).past
       → world_of shape moves ≡ world_of shape others
   worlds_same [] [] calls one two faults = refl
@@ -138,7 +138,7 @@ module _ (shape : Shape) (opening : Tables) where
       let head = heads (Adds plan) (Adds again) _ _ calls in
       let rest = worlds_same moves others (tails (Adds plan) (Adds again) _ _ calls) one two faults in
       let same : plan ≡ again = cc in
-      ap (λ w. begun w plan) rest ∙ ap (λ p. begun (world_of shape others) p) same
+      ap (λ w. with_plan w plan) rest ∙ ap (λ p. with_plan (world_of shape others) p) same
   worlds_same (Begin plan ∷ moves) (Take turn said ∷ others) calls one two faults =
       absurd (let head = heads (Adds plan) (Turns turn) _ _ calls in cc)
   worlds_same (Take turn said ∷ moves) (Begin plan ∷ others) calls one two faults =
@@ -155,7 +155,7 @@ module _ (shape : Shape) (opening : Tables) where
       subst P same (turn_same world other turn said word rest one.0) two.0 (heads _ _ _ _ faults)
 
 -- two runs of one script take as many turns
-turns_same : (shape : Shape) (moves others : List Move) → map call_of moves ≡ map call_of others
+turns_same : (shape : Shape) (moves others : List Move) → map cue_of moves ≡ map cue_of others
     → length (world_of shape moves).past ≡ length (world_of shape others).past
 turns_same shape [] [] calls = refl
 turns_same shape [] (move ∷ others) calls = absurd cc

@@ -22,7 +22,7 @@ use Rattle.session_client.specs.declared.replies.Wanted.TheVariants as wanted
 use Rattle.expiry_sweeper.specs.declared.replies.SweepWanted.{SweepWanted}
 use Rattle.expiry_sweeper.specs.declared.replies.SweepWanted.TheVariants as sweep
 use Rattle.executor.specs.Requests.{key_of}
-use Rattle.core_history.specs.Determined.{Call, Adds, Turns, call_of, RunsGoOn, GoesOnBy}
+use Rattle.core_history.specs.Determined.{Cue, Adds, Turns, cue_of, RunsGoOn, GoesOnBy}
 use Rattle.core_history.specs.Events.{Event, Called, log_of}
 use Rattle.core_history.specs.Lines.{is_fault, fault_turns}
 use Rattle.core_history.specs.Machine.{World, Move, Begin, Take, Said, Value, Made, Rejected, Failed, is_open, log_cap, event_of, commit_by}
@@ -107,22 +107,22 @@ module _ (shape : Shape) (opening : Tables) where
   past_of moves = (world_of shape moves).past
 
   -- one move more, in which the keeper's word is true and no fault, and then whatever goes on from there
-  moved : (move : Move) (moves : List Move) (calls : List Call) → fault_turns (past_of (move ∷ moves)) ≡ fault_turns (past_of moves)
+  moved : (move : Move) (moves : List Move) (calls : List Cue) → fault_turns (past_of (move ∷ moves)) ≡ fault_turns (past_of moves)
       → (more : List Move) × GoesOnBy shape opening (move ∷ moves) calls more
-      → (more : List Move) × GoesOnBy shape opening moves (call_of move ∷ calls) more
+      → (more : List Move) × GoesOnBy shape opening moves (cue_of move ∷ calls) more
   moved move moves calls quiet (more, goes) =
       let same : more ++ move ∷ moves ≡ (more ++ move ∷ []) ++ moves = sym (append_assoc more (move ∷ []) moves) in
       let T : List Move → Type 0 = λ all. IsTruePast opening (past_of all) in
       let F : List Move → Type 0 = λ all. fault_turns (past_of all) ≡ fault_turns (past_of (move ∷ moves)) in (
         more ++ move ∷ [],
         record {
-          makes = ap (map call_of) (reverse-append more (move ∷ [])) ∙ ap (λ (l : List Call). call_of move ∷ l) goes.makes;
+          makes = ap (map cue_of) (reverse-append more (move ∷ [])) ∙ ap (λ (l : List Cue). cue_of move ∷ l) goes.makes;
           truth = subst T same goes.truth;
           quiet = subst F same goes.quiet ∙ quiet;
         },
       )
 
-  goes_on : (calls : List Call) (moves : List Move) → IsTruePast opening (past_of moves) → (more : List Move) × GoesOnBy shape opening moves calls more
+  goes_on : (calls : List Cue) (moves : List Move) → IsTruePast opening (past_of moves) → (more : List Move) × GoesOnBy shape opening moves calls more
   goes_on [] moves truth = ([], record { makes = refl; truth = truth; quiet = refl })
   goes_on (Adds plan ∷ calls) moves truth = moved (Begin plan) moves calls refl (goes_on calls (Begin plan ∷ moves) truth)
   goes_on (Turns turn ∷ calls) moves truth =

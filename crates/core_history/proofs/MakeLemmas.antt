@@ -15,8 +15,8 @@ use Rattle.session_client.specs.declared.replies.Wanted.TheVariants as wanted
 use Rattle.executor.specs.Requests.{key_of}
 use Rattle.core_history.specs.Cores.{Origin, HasShards}
 use Rattle.core_history.specs.Events.{Stepped, steps_of}
-use Rattle.core_history.specs.Machine.{World, Said, Failed, event_of, terms_of, shown}
-use Rattle.core_history.specs.Requests.{StandsStore, MakesStep, MakesCall, Makes}
+use Rattle.core_history.specs.Machine.{World, Said, Failed, event_of, terms_of, step_reply}
+use Rattle.core_history.specs.Requests.{IsStoreAfter, MakesStep, MakesCall, Makes}
 use Rattle.core_history.proofs.OpenLemmas.{phases_same}
 use Rattle.core_history.proofs.StoreEvents.{IsQuiet, quiet_shown, store_quiet}
 use Rattle.core_history.proofs.ShardsLemmas.{shards_called}
@@ -24,7 +24,7 @@ use Rattle.core_history.proofs.ShardsLemmas.{shards_called}
 -- a turn that tells what a step shows on the shard of a key is quiet
 quiet_at : (shape : Shape) (world : World) (who : Sid) (request : Wanted) (key : QKey) (made s : Step)
     → IsQuiet (Stepped (shard_of key shape.shards) who request made
-    (shown (terms_of shape (shard_of key shape.shards)) (steps_of (shard_of key shape.shards) world.past) s))
+    (step_reply (terms_of shape (shard_of key shape.shards)) (steps_of (shard_of key shape.shards) world.past) s))
 quiet_at shape world who request key made s =
     let home = shard_of key shape.shards in
     quiet_shown home who request made (terms_of shape home) (steps_of home world.past) s
@@ -56,7 +56,7 @@ same_shards shards shape world who wanted.Nothing said at has = shards_called sh
 same_shards shards shape world who other said at has = absurd cc
 
 pub makes_step : (origin : Origin) (world : World) (who : Sid) (request : Wanted) (key : QKey) (shards : List ShardView) (store : StoreView)
-    (result : Result Reply Memory) → key_of request ≡ Some key → StandsStore store origin world →
+    (result : Result Reply Memory) → key_of request ≡ Some key → IsStoreAfter store origin world →
     MakesStep origin.shape world who request shards result → Makes origin world who request shards store result
 makes_step origin world who request key shards store (Ok told) on stands made =
     let event = event_of origin.shape world who request Failed in

@@ -30,7 +30,7 @@ use Rattle.key_shard.specs.declared.replies.Raising.TheVariants as raising
 use Rattle.session_client.specs.Wants.{granted, granted_by, turned, grants_in, is_commit, read_wants}
 use Rattle.session_client.proofs.WantCases.{read_cases}
 use Rattle.core_history.specs.Events.{Event, Stepped, Called, steps_of, told_to, log_of, now_of}
-use Rattle.core_history.specs.Machine.{World, Said, Value, Made, Rejected, Failed, terms_of, plan_at, shown, event_of, ask_told}
+use Rattle.core_history.specs.Machine.{World, Said, Value, Made, Rejected, Failed, terms_of, plan_at, step_reply, event_of, ask_told}
 use Rattle.core_history.specs.Facts.{answers_under}
 use Rattle.core_history.proofs.GrantFacts.{IsDrawnBelow}
 use Rattle.core_history.proofs.ListLemmas.{and_elim, and_intro, not_both, count-cons}
@@ -105,8 +105,8 @@ got-turn shape world who said key floor inner takes =
     request = wanted.Get key floor
 
     P : Step → Type 0
-    P s = s ≡ get_step terms steps key who floor now → Inner shape (with_event world (Stepped home who request s (shown terms steps s)))
-        × IsGoodEvent shape past (Stepped home who request s (shown terms steps s))
+    P s = s ≡ get_step terms steps key who floor now → Inner shape (with_event world (Stepped home who request s (step_reply terms steps s)))
+        × IsGoodEvent shape past (Stepped home who request s (step_reply terms steps s))
 
     told : (s : Step) (found : Got) → s ≡ get_step terms steps key who floor now → IsQuietStep s
         → IsDrawnBelow (next_token terms (steps_of home (Stepped home who request s (reply.Got found) ∷ past))) (reply.Got found)
@@ -210,8 +210,8 @@ set-turn shape world who said key floor token answer rest inner plan heard =
         subst (IsHolding key who.number past) heard (subst S plan (inner.sessions who.number)).3
 
     P : Step → Type 0
-    P s = s ≡ set_step terms steps key token answer.value answer.stamp now → Inner shape (with_event world (Stepped home who request s (shown terms steps s)))
-        × IsGoodEvent shape past (Stepped home who request s (shown terms steps s))
+    P s = s ≡ set_step terms steps key token answer.value answer.stamp now → Inner shape (with_event world (Stepped home who request s (step_reply terms steps s)))
+        × IsGoodEvent shape past (Stepped home who request s (step_reply terms steps s))
 
     told : (s : Step) (found : SetAnswer) → s ≡ set_step terms steps key token answer.value answer.stamp now
         → IsQuietStep s → Inner shape (with_event world (Stepped home who request s (reply.Set found)))

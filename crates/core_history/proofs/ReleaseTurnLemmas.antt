@@ -35,7 +35,7 @@ use Rattle.session_client.specs.Plans.{changes_of, mode_of, mode_on, shift_in}
 use Rattle.session_client.specs.Wants.{Given, given, released, number_of, new_value, writing_of}
 use Rattle.session_client.proofs.WantCases.{given-granted, none-uncommitted}
 use Rattle.core_history.specs.Events.{Event, Stepped, steps_of, told_to, log_of, ended_of, has_committed}
-use Rattle.core_history.specs.Machine.{World, Said, terms_of, plan_at, shown, put_step}
+use Rattle.core_history.specs.Machine.{World, Said, terms_of, plan_at, step_reply, put_step}
 use Rattle.core_history.specs.Facts.{grants_as}
 use Rattle.core_history.proofs.GoodEvents.{IsGoodStep, IsGoodEvent, WritesOwn}
 use Rattle.core_history.proofs.EventLemmas.{closed, closed-more, closed-over, ended-among, committed-told, uncommitted-more, late-stepped}
@@ -60,7 +60,7 @@ steps_for shape world grant = steps_of (shard_of grant.key shape.shards) world.p
 -- the event of a release whose step this is, and what becomes of it
 abbrev released_event : Shape → World → Sid → Wanted → Permit → Step → Event
 released_event shape world who request grant s =
-    Stepped (shard_of grant.key shape.shards) who request s (shown (terms_of shape (shard_of grant.key shape.shards)) (steps_for shape world grant) s)
+    Stepped (shard_of grant.key shape.shards) who request s (step_reply (terms_of shape (shard_of grant.key shape.shards)) (steps_for shape world grant) s)
 
 abbrev Becomes : Shape → World → Sid → Wanted → Permit → Step → Type 0
 Becomes shape world who request grant s =

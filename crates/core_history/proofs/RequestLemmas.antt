@@ -34,32 +34,32 @@ use Rattle.executor.specs.OnShard.{is_spent, TellsGot, TellsSet, TellsQuarantine
 use Rattle.executor.specs.Requests.{key_of}
 use Rattle.core_history.specs.Cores.{HasShards, HasHome}
 use Rattle.core_history.specs.Events.{Event, steps_of, now_of, reply_in}
-use Rattle.core_history.specs.Machine.{World, Failed, event_of, shown_on, stepped_on, terms_of, shown, put_step, raise_told, renewal_told}
+use Rattle.core_history.specs.Machine.{World, Failed, event_of, shown_on, stepped_on, terms_of, step_reply, put_step, raise_told, renewal_told}
 use Rattle.core_history.specs.Machine.{raise_shown, renewal_shown}
 use Rattle.core_history.specs.Requests.{MakesStep, IsOutWhereReleased, GoesOn, tells_memory}
 use Rattle.core_history.proofs.ShardsLemmas.{IsShardOf, grown, unrolled, shards_made, shard_found, home_read}
 
 -- what is told is what the step shows
-tells_got : (terms : Terms) (past : List Step) (s : Step) (answer : Got) → ShowsGot s answer → reply.Got answer ≡ shown terms past s
+tells_got : (terms : Terms) (past : List Step) (s : Step) (answer : Got) → ShowsGot s answer → reply.Got answer ≡ step_reply terms past s
 tells_got terms past (step.Hit key sid floor value stamp) answer h = ap reply.Got h
 tells_got terms past (step.Lease key sid floor now token deadline) answer h = ap reply.Got h
 tells_got terms past (step.Again key sid floor now standing) answer h = ap reply.Got h
 tells_got terms past (step.Own key sid) answer h = ap reply.Got h
 tells_got terms past other answer h = absurd h
 
-tells_set : (terms : Terms) (past : List Step) (s : Step) (answer : SetAnswer) → ShowsSet s answer → reply.Set answer ≡ shown terms past s
+tells_set : (terms : Terms) (past : List Step) (s : Step) (answer : SetAnswer) → ShowsSet s answer → reply.Set answer ≡ step_reply terms past s
 tells_set terms past (step.Stored key token now value stamp evicted) answer h = ap reply.Set h
 tells_set terms past (step.Void key token now) answer h = ap reply.Set h
 tells_set terms past other answer h = absurd h
 
 tells_quarantine : (terms : Terms) (past : List Step) (s : Step) (answer : QAnswer)
-    → ShowsQuarantine terms past s answer → reply.Quar answer ≡ shown terms past s
+    → ShowsQuarantine terms past s answer → reply.Quar answer ≡ step_reply terms past s
 tells_quarantine terms past (step.Granted key sid mode shift now token deadline) answer h = ap reply.Quar h
 tells_quarantine terms past (step.Held key sid mode) answer h = ap reply.Quar h
 tells_quarantine terms past (step.Refused key sid mode holder held) answer h = ap reply.Quar h
 tells_quarantine terms past other answer h = absurd h
 
-tells_release : (terms : Terms) (past : List Step) (s : Step) (answer : Rel) → ShowsRelease s answer → reply.Rel answer ≡ shown terms past s
+tells_release : (terms : Terms) (past : List Step) (s : Step) (answer : Rel) → ShowsRelease s answer → reply.Rel answer ≡ step_reply terms past s
 tells_release terms past (step.Released key sid token how) answer h = ap reply.Rel h
 tells_release terms past (step.Gone key sid token) answer h = ap reply.Rel h
 tells_release terms past other answer h = absurd h
@@ -108,17 +108,17 @@ step_made : (shape : Shape) (world : World) (who : Sid) (request : Wanted)
     (key : QKey) (f : Terms → List Step → Step) (shards : List ShardView) (place : ℕ) (shard new : ShardView) (told : Reply) →
     event_of shape world who request Failed ≡ stepped_on shape world.past who request key f
     → HasShards shards shape world.past → IsShardOf shape world.past key place shard →
-    new ≡ grown shard request (f shard.terms (past_of shard)) → told ≡ shown shard.terms (past_of shard) (f shard.terms (past_of shard))
+    new ≡ grown shard request (f shard.terms (past_of shard)) → told ≡ step_reply shard.terms (past_of shard) (f shard.terms (past_of shard))
     → MakesStep shape world who request (set shards place new) (Ok told)
 step_made shape world who request key f shards place shard new told event has is grew tells =
-    shown_made shape world who request key f shown shards place shard new told event has is grew tells
+    shown_made shape world who request key f step_reply shards place shard new told event has is grew tells
 
 -- so it is where the step goes by the time
 timely : (shape : Shape) (world : World) (who : Sid) (request : Wanted) (key : QKey) (f : ℕ → Terms → List Step → Step)
     (now : ℕ) (shards : List ShardView) (place : ℕ) (shard new : ShardView) (told : Reply) → now ≡ now_of world.past →
     event_of shape world who request Failed ≡ stepped_on shape world.past who request key (f (now_of world.past))
     → HasShards shards shape world.past → IsShardOf shape world.past key place shard →
-    new ≡ grown shard request (f now shard.terms (past_of shard)) → told ≡ shown shard.terms (past_of shard) (f now shard.terms (past_of shard))
+    new ≡ grown shard request (f now shard.terms (past_of shard)) → told ≡ step_reply shard.terms (past_of shard) (f now shard.terms (past_of shard))
     → MakesStep shape world who request (set shards place new) (Ok told)
 timely shape world who request key f now shards place shard new told time event has is grew tells =
     step_made shape world who request key (f now) shards place shard new told

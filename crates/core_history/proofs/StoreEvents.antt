@@ -35,9 +35,9 @@ use Rattle.expiry_sweeper.specs.declared.replies.SweepWanted.TheVariants as swee
 use Rattle.core_history.specs.Cores.{Origin, HasStore, HasPhases, RoseBy}
 use Rattle.core_history.specs.Events.{Event, Stepped, Called, Ticked, Swept, commits_in, ends_in, log_of}
 use Rattle.core_history.specs.Lines.{is_fault, tells_fault}
-use Rattle.core_history.specs.Machine.{World, Said, Value, Made, Rejected, Failed, shown, ask_told, is_open, commit_by, log_cap}
+use Rattle.core_history.specs.Machine.{World, Said, Value, Made, Rejected, Failed, step_reply, ask_told, is_open, commit_by, log_cap}
 use Rattle.executor.specs.OnStore.{Goes, TellsAnswer, TellsStaged, TellsCommit, TellsEnd, MakesAtStore}
-use Rattle.core_history.specs.Requests.{StandsStore, MakesCall, GoesOn, tells_memory, after}
+use Rattle.core_history.specs.Requests.{IsStoreAfter, MakesCall, GoesOn, tells_memory, after}
 use Rattle.core_history.proofs.OpenLemmas.{phases_same, phases_committed, phases_ended}
 use Rattle.core_history.specs.Truth.{IsTrueReply, IsTrueEvent}
 use Rattle.core_history.proofs.ListLemmas.{count-cons, tick, zero_if}
@@ -51,7 +51,7 @@ pub record IsQuiet (event : Event) : Type 0 where
 
 -- a turn that tells what a step on a shard shows is so
 pub quiet_shown : (place : ℕ) (who : Sid) (request : Wanted) (made : Step) (terms : Terms) (past : List Step) (s : Step)
-    → IsQuiet (Stepped place who request made (shown terms past s))
+    → IsQuiet (Stepped place who request made (step_reply terms past s))
 quiet_shown place who request made terms past (step.Hit key sid floor value stamp) = record { commits = refl; ends = refl; fault = refl; truth = λ rows. tt }
 quiet_shown place who request made terms past (step.Lease key sid floor now token deadline) =
     record { commits = refl; ends = refl; fault = refl; truth = λ rows. tt }
@@ -214,9 +214,9 @@ store_ended old new origin past who event has ledger told faults fault no_commit
 
 -- the store after a call of the keeper that made no commit and ended nobody
 pub call_made : (old new : StoreView) (b : Bool) (origin : Origin) (world : World) (event : Event)
-    → StandsStore old origin world → new.ledger ≡ with_call b old.ledger → Counts b old.faults new.faults → old.faults ≤ new.faults →
+    → IsStoreAfter old origin world → new.ledger ≡ with_call b old.ledger → Counts b old.faults new.faults → old.faults ≤ new.faults →
     is_fault event ≡ b → commits_in event ≡ [] → ends_in event ≡ [] → (IsSome new.told → IsSome old.told)
-    → (IsSome new.told → IsTrueEvent (rows_after old.ledger.opening old.ledger.log) event) → StandsStore new origin (after world event)
+    → (IsSome new.told → IsTrueEvent (rows_after old.ledger.opening old.ledger.log) event) → IsStoreAfter new origin (after world event)
 call_made old new b origin world event stands ledger rose more fault no_commit no_end told truth =
     let H : List Phase → Type 0 = λ xs. HasPhases xs (after world event) in (
       store_called old new b origin world.past event stands.0 ledger rose more fault no_commit told truth,
@@ -225,7 +225,7 @@ call_made old new b origin world event stands ledger rose more fault no_commit n
 
 -- a call of the keeper that wasn't made, but perhaps that it tells its rows no more
 pub call_unmade : (old new : StoreView) (origin : Origin) (world : World)
-    → StandsStore old origin world → new.ledger ≡ old.ledger → new.faults ≡ old.faults → (IsSome new.told → IsSome old.told) → StandsStore new origin world
+    → IsStoreAfter old origin world → new.ledger ≡ old.ledger → new.faults ≡ old.faults → (IsSome new.told → IsSome old.told) → IsStoreAfter new origin world
 call_unmade old new origin world stands ledger same told =
     let H : List Phase → Type 0 = λ xs. HasPhases xs world in (
       store_stays old new origin world.past stands.0 ledger same told,
@@ -233,12 +233,12 @@ call_unmade old new origin world stands ledger same told =
     )
 
 -- want of memory leaves the store, but perhaps that it tells its rows no more
-unmade : (old new : StoreView) (origin : Origin) (world : World) → StandsStore old origin world → Goes false old.ledger old new → StandsStore new origin world
+unmade : (old new : StoreView) (origin : Origin) (world : World) → IsStoreAfter old origin world → Goes false old.ledger old new → IsStoreAfter new origin world
 unmade old new origin world stands goes = call_unmade old new origin world stands goes.ledger_is goes.counted goes.told_before
 
 -- what the executor made of the store for an ask is the event of the request
 ask_made : (old new : StoreView) (origin : Origin) (world : World) (who : Sid) (key : QKey) (told : Reply) (result : Result Reply Memory)
-    → StandsStore old origin world → old.faults ≤ new.faults → TellsAnswer key old new told → GoesOn told result
+    → IsStoreAfter old origin world → old.faults ≤ new.faults → TellsAnswer key old new told → GoesOn told result
     → MakesCall origin world who (wanted.Ask key) new result
 ask_made old new origin world who key (reply.Answer given) (Ok kept) stands more (goes, answer) on =
     let event : Event = Called who (wanted.Ask key) (ask_told world.past key (Value given.value)) in
@@ -266,7 +266,7 @@ ask_made old new origin world who key other result stands more made on = absurd 
 
 -- so it is for an ask of the rows after a transaction
 staged_made : (old new : StoreView) (origin : Origin) (world : World) (who : Sid) (key : QKey) (txn : List Change) (told : Reply) (result : Result Reply Memory)
-    → StandsStore old origin world → old.faults ≤ new.faults → TellsStaged key txn old new told → GoesOn told result
+    → IsStoreAfter old origin world → old.faults ≤ new.faults → TellsStaged key txn old new told → GoesOn told result
     → MakesCall origin world who (wanted.Staged key txn) new result
 staged_made old new origin world who key txn (reply.Staged value back) (Ok kept) stands more (same, made) on = (
   Value value,
@@ -330,7 +330,7 @@ said_of count txn grants None faults.KeepFault h more = (Failed, refl)
 
 -- the first fault that the store finds is the machine's
 first_is : (store : StoreView) (origin : Origin) (world : World) (who : Sid) (txn : List Change) (grants : GrantsView) (items : List Permit)
-    → StandsStore store origin world → 1 ≤ who.number → items ≡ grants.items →
+    → IsStoreAfter store origin world → 1 ≤ who.number → items ≡ grants.items →
     commit_fault (may_commit who store.ledger.sessions) who items txn (length store.ledger.log) store.ledger.cap
     ≡ commit_fault (is_open world who) who grants.items txn (length (log_of world.past)) log_cap
 first_is store origin world who txn grants items stands some same =
@@ -342,7 +342,7 @@ first_is store origin world who txn grants items stands some same =
 
 -- a commit was refused
 pub commit_refused : (old new : StoreView) (origin : Origin) (world : World) (who : Sid) (txn : List Change) (grants : GrantsView)
-    (items : List Permit) (fault : CommitFault) → StandsStore old origin world → 1 ≤ who.number → items ≡ grants.items → fault ≢ faults.Memory →
+    (items : List Permit) (fault : CommitFault) → IsStoreAfter old origin world → 1 ≤ who.number → items ≡ grants.items → fault ≢ faults.Memory →
     IsRefusal (commit_fault (may_commit who old.ledger.sessions) who items txn (length old.ledger.log) old.ledger.cap) fault
     → new.ledger ≡ with_call (is_failure fault) old.ledger → Counts (is_failure fault) old.faults new.faults → old.faults ≤ new.faults →
     (IsSome new.told → IsSome old.told) → (IsSome new.told → IsTrueFault txn (rows_after old.ledger.opening old.ledger.log) fault) →
@@ -355,8 +355,8 @@ commit_refused old new origin world who txn grants items fault stands some same 
     (commit_fault (is_open world who) who grants.items txn (length (log_of world.past)) log_cap) fault (subst R first refusal) more in
     let answer : Reply = reply.NotCommitted fault txn grants in
     let event : Event = Called who request answer in
-    let S : Reply → Type 0 = λ r. StandsStore new origin (after world (Called who request r)) in
-    let there : StandsStore new origin (after world event) =
+    let S : Reply → Type 0 = λ r. IsStoreAfter new origin (after world (Called who request r)) in
+    let there : IsStoreAfter new origin (after world event) =
     call_made old new (is_failure fault) origin world event stands ledger rose no_less (fault_is fault txn grants) refl refl told
     (λ is_told. true_fault fault request txn grants (rows_after old.ledger.opening old.ledger.log) (truth is_told)) in
     (said.0, said.1, subst S said.1 there)
@@ -368,7 +368,7 @@ is_opened false who items txn count cap h = absurd cc
 
 -- a transaction was committed
 pub commit_made : (old new : StoreView) (origin : Origin) (world : World) (who : Sid)
-    (txn : List Change) (grants : GrantsView) (items : List Permit) (number : ℕ) → StandsStore old origin world → 1 ≤ who.number → items ≡ grants.items →
+    (txn : List Change) (grants : GrantsView) (items : List Permit) (number : ℕ) → IsStoreAfter old origin world → 1 ≤ who.number → items ≡ grants.items →
     commit_fault (may_commit who old.ledger.sessions) who items txn (length old.ledger.log) old.ledger.cap ≡ None
     → number ≡ length old.ledger.log + 1 → new.ledger ≡ with_commit who txn old.ledger → new.faults ≡ old.faults →
     (IsSome new.told → IsSome old.told) → (IsSome new.told → (rows : Tables) × (apply_all txn (rows_after old.ledger.opening old.ledger.log) ≡ Ok rows)) →
@@ -384,10 +384,10 @@ commit_made old new origin world who txn grants items number stands some same ad
     let numbers : number ≡ count + 1 = numbered ∙ ap (λ (l : List Commit). length l + 1) stands.0.log in
     let is : answer ≡ commit_by count txn grants Made (commit_fault (is_open world who) who grants.items txn count log_cap) =
     ap (λ (n : ℕ). reply.Committed n txn grants) numbers ∙ ap (λ (o : Option CommitFault). commit_by count txn grants Made o) (sym none) in
-    let S : Reply → Type 0 = λ r. StandsStore new origin (after world (Called who request r)) in
+    let S : Reply → Type 0 = λ r. IsStoreAfter new origin (after world (Called who request r)) in
     let H : List Phase → Type 0 = λ xs. HasPhases xs (after world event) in
     let sessions : new.ledger.sessions ≡ with_phase who Committed old.ledger.sessions = ap (λ (l : Ledger). l.sessions) ledger in
-    let there : StandsStore new origin (after world event) = (
+    let there : IsStoreAfter new origin (after world event) = (
       store_committed old new origin world.past who txn event stands.0 ledger same_count refl refl told truth,
       subst H (sym sessions) (phases_committed old.ledger.sessions world who txn grants number stands.1 some is_so),
     ) in
@@ -408,7 +408,7 @@ no_memory faults.KeepFault txn grants e = λ z. cc
 
 -- so it is for a commit
 commit_tells : (old new : StoreView) (origin : Origin) (world : World) (who : Sid) (txn : List Change) (grants : GrantsView) (told : Reply)
-    (result : Result Reply Memory) → StandsStore old origin world → 1 ≤ who.number → old.faults ≤ new.faults
+    (result : Result Reply Memory) → IsStoreAfter old origin world → 1 ≤ who.number → old.faults ≤ new.faults
     → TellsCommit who txn grants old new told → GoesOn told result → MakesCall origin world who (wanted.Commit txn grants) new result
 commit_tells old new origin world who txn grants (reply.Committed number back kept) (Ok said) stands some more (same, held, made) on =
     let P : Reply → Type 0 = λ r. MakesCall origin world who (wanted.Commit txn grants) new (Ok r) in
@@ -430,7 +430,7 @@ commit_tells old new origin world who txn grants other result stands some more m
 
 -- so it is for an end
 end_made : (old new : StoreView) (origin : Origin) (world : World) (who : Sid) (told : Reply) (result : Result Reply Memory)
-    → StandsStore old origin world → 1 ≤ who.number → TellsEnd who old new told → GoesOn told result → MakesCall origin world who wanted.End new result
+    → IsStoreAfter old origin world → 1 ≤ who.number → TellsEnd who old new told → GoesOn told result → MakesCall origin world who wanted.End new result
 end_made old new origin world who (reply.End was) (Ok said) stands some (is, goes) on =
     let was_open = is_open world who in
     let sessions : new.ledger.sessions ≡ ended who old.ledger.sessions = ap (λ (l : Ledger). l.sessions) goes.ledger_is in
@@ -448,7 +448,7 @@ end_made old new origin world who other result stands some made on = absurd made
 
 -- what the executor made of the store is the event of the request
 pub call_is : (old new : StoreView) (origin : Origin) (world : World) (who : Sid) (request : Wanted) (told : Reply) (result : Result Reply Memory)
-    → StandsStore old origin world → 1 ≤ who.number → old.faults ≤ new.faults → MakesAtStore old who request new told → GoesOn told result
+    → IsStoreAfter old origin world → 1 ≤ who.number → old.faults ≤ new.faults → MakesAtStore old who request new told → GoesOn told result
     → MakesCall origin world who request new result
 call_is old new origin world who (wanted.Ask key) told result stands some more made on =
     ask_made old new origin world who key told result stands more made on

@@ -30,7 +30,7 @@ use Rattle.core_history.specs.declared.told.Told.{Told}
 use Rattle.core_history.specs.Cores.{Origin, HasShards, HasPhases, HasSweeper, shard_after}
 use Rattle.core_history.specs.Events.{Event, Swept, steps_of, sweeps_of, now_of}
 use Rattle.core_history.specs.Machine.{World, sweep_of, is_open}
-use Rattle.core_history.specs.Requests.{Stands, StandsStore, after}
+use Rattle.core_history.specs.Requests.{AreAfter, IsStoreAfter, after}
 use Rattle.core_history.specs.Sweeping.{IsToldSweeper, SweepsShards, SweepsStore, Sweeps, TakesSweep}
 use Rattle.core_history.specs.Told.{IsToldOf}
 use Rattle.core_history.proofs.OpenLemmas.{phases_same, phases_swept}
@@ -59,7 +59,7 @@ closed_is : (closing : Closed) (who : Sid) (was : Bool) → closing.sid ≡ who 
 closed_is closing who was e f = λ i. record { sid = e i; was = f i }
 
 -- a session that was ended
-pub end_told_is : (old new : StoreView) (origin : Origin) (world : World) (who : Sid) (closing : Closed) → StandsStore old origin world → 1 ≤ who.number
+pub end_told_is : (old new : StoreView) (origin : Origin) (world : World) (who : Sid) (closing : Closed) → IsStoreAfter old origin world → 1 ≤ who.number
     → closing.sid ≡ who → closing.was ≡ may_commit who old.ledger.sessions → new.ledger ≡ with_end who old.ledger → new.told ≡ old.told → new.faults ≡ old.faults
     → SweepsStore origin world (sweep.End who) new (sweeps.Ended closing)
 end_told_is old new origin world who closing stands some sid_is was_is ledger told faults =
@@ -102,13 +102,13 @@ drop_told_is shape world key token shards place shard new told has is made answe
     Q s = HasShards (set shards home s) shape (sweep_of shape world (sweep.Drop key token) ∷ world.past)
 
 -- the store stands after an event that asks nothing of it
-stands_quiet : (store : StoreView) (origin : Origin) (world : World) (event : Event) → StandsStore store origin world → IsQuiet event
-    → StandsStore store origin (after world event)
+stands_quiet : (store : StoreView) (origin : Origin) (world : World) (event : Event) → IsStoreAfter store origin world → IsQuiet event
+    → IsStoreAfter store origin (after world event)
 stands_quiet store origin world event stands quiet =
     (store_quiet store origin world.past event stands.0 quiet, phases_same store.ledger.sessions world event stands.1 quiet.commits quiet.ends)
 
 pub scan_sweeps : (origin : Origin) (world : World) (place : ℕ) (shards : List ShardView) (store : StoreView) (told : SweepReply)
-    → Stands shards store origin world → IsToldSweeper origin.shape world (sweep.Scan place) told → Sweeps origin world (sweep.Scan place) shards store told
+    → AreAfter shards store origin world → IsToldSweeper origin.shape world (sweep.Scan place) told → Sweeps origin world (sweep.Scan place) shards store told
 scan_sweeps origin world place shards store told stands is = (
   is,
   (
@@ -123,7 +123,7 @@ end_sweeps origin world who shards store told has made =
     (made.0, (shards_looked shards origin.shape world.past 0 (sweep.End who) _ has, made.1))
 
 pub drop_sweeps : (origin : Origin) (world : World) (key : QKey) (token : ℕ) (shards : List ShardView) (store : StoreView) (told : SweepReply)
-    → StandsStore store origin world → SweepsShards origin.shape world (sweep.Drop key token) shards told
+    → IsStoreAfter store origin world → SweepsShards origin.shape world (sweep.Drop key token) shards told
     → Sweeps origin world (sweep.Drop key token) shards store told
 drop_sweeps origin world key token shards store told stands made =
     (made.0, (made.1, stands_quiet store origin world (sweep_of origin.shape world (sweep.Drop key token)) stands (quiet_drop _ key token _ _)))
@@ -163,5 +163,5 @@ sweep_takes origin world request shards store old new told result has wants made
   where
     T : SweepWanted → Type 0
     T w =
-        Stands shards store origin (after world (sweep_of origin.shape world w))
+        AreAfter shards store origin (after world (sweep_of origin.shape world w))
         × HasSweeper new origin.shape (sweep_of origin.shape world w ∷ world.past) × IfOk result (IsToldOf (sweep_of origin.shape world w))

@@ -17,7 +17,7 @@ use Rattle.session_client.specs.declared.replies.Wanted.TheVariants as wanted
 use Rattle.session_client.specs.Wants.{given, granted, is_had, is_release, was_committed, number_of, writing_of}
 use Rattle.session_client.proofs.WantCases.{plan-once, is_ending}
 use Rattle.core_history.specs.Events.{Event, Called, steps_of, told_to, log_of, sweeps_of}
-use Rattle.core_history.specs.Machine.{World, Move, Begin, Take, Said, start, world_of, begun, taken, later, turn_event, terms_of, plan_at, wanted_by}
+use Rattle.core_history.specs.Machine.{World, Move, Begin, Take, Said, start, world_of, with_plan, taken, later, turn_event, terms_of, plan_at, wanted_by}
 use Rattle.core_history.proofs.GrantFacts.{IsDrawnBelow}
 use Rattle.core_history.proofs.ListLemmas.{zero_if, count-cons, not_both, every-weaker}
 use Rattle.core_history.proofs.SessionLemmas.{Writer, raises_last}
@@ -185,7 +185,7 @@ plan_stays [] plan i = inr refl
 plan_stays (first ∷ plans) plan zero = inl refl
 plan_stays (first ∷ plans) plan (suc i) = plan_stays plans plan i
 
-begun-inner : (shape : Shape) (world : World) (plan : Plan) → Inner shape world → Inner shape (begun world plan)
+begun-inner : (shape : Shape) (world : World) (plan : Plan) → Inner shape world → Inner shape (with_plan world plan)
 begun-inner shape world plan inner = record {
   legal = inner.legal;
   known = inner.known;

@@ -48,9 +48,9 @@ abbrev pub line : List (List ℕ) → List ℕ
 line words = join_with_byte 32 words ++ 10 ∷ []
 
 -- A value as it is printed: as it is, or a dot for an empty one.
-abbrev pub shown : List ℕ → List ℕ
-shown [] = codes "."
-shown (byte ∷ bytes) = byte ∷ bytes
+abbrev pub printed_value : List ℕ → List ℕ
+printed_value [] = codes "."
+printed_value (byte ∷ bytes) = byte ∷ bytes
 
 -- The words that print a request: what it is, and the key that it is on, if it is on one. A session that is done wants nothing.
 abbrev pub request_words : Request → List (List ℕ)
@@ -87,7 +87,7 @@ evicts_words (Some key) = codes "EVICTS" ∷ key_text key ∷ []
 
 -- The words that print the answer to a get.
 abbrev pub got_words : Got → List (List ℕ)
-got_words (got.Hit value stamp) = codes "HIT" ∷ decimal stamp ∷ shown value ∷ []
+got_words (got.Hit value stamp) = codes "HIT" ∷ decimal stamp ∷ printed_value value ∷ []
 got_words (got.Lease token) = codes "LEASE" ∷ decimal token ∷ []
 got_words (got.Again standing) = codes "AGAIN" ∷ stands_word standing ∷ []
 got_words got.Own = codes "OWN" ∷ []
@@ -100,7 +100,7 @@ set_words set.Void = codes "VOID" ∷ []
 -- A value with its stamp, or that there is none.
 abbrev pub old_words : Option (List ℕ × ℕ) → List (List ℕ)
 old_words None = codes "NONE" ∷ []
-old_words (Some old) = decimal old.1 ∷ shown old.0 ∷ []
+old_words (Some old) = decimal old.1 ∷ printed_value old.0 ∷ []
 
 -- The old value that came along with a grant to refresh. No other grant brings one.
 abbrev pub brought_words : Mode → Option (List ℕ × ℕ) → List (List ℕ)
@@ -162,8 +162,8 @@ fault_words causes.Memory = []
 -- The words that print what a session was told.
 abbrev pub reply_words : Reply → List (List ℕ)
 reply_words (reply.Got got) = got_words got
-reply_words (reply.Answer answer) = decimal answer.stamp ∷ shown answer.value ∷ []
-reply_words (reply.Staged value txn) = shown value ∷ []
+reply_words (reply.Answer answer) = decimal answer.stamp ∷ printed_value answer.value ∷ []
+reply_words (reply.Staged value txn) = printed_value value ∷ []
 reply_words (reply.NotStaged fault txn) = staged_fault_words fault
 reply_words (reply.Set told) = set_words told
 reply_words (reply.Quar told) = quarantine_words told

@@ -92,22 +92,22 @@ is_open world who =
     is_writer (plan_at who.number world.plans) && not (has_committed who.number world.past) && not (was_ended who.number world.past)
 
 -- What a session is told of a step, after the steps before it. What a raise or a renewal tells goes by its grant, and stands below.
-abbrev pub shown : Terms → List Step → Step → Reply
-shown terms past (step.Hit key sid floor value stamp) = reply.Got (got.Hit value stamp)
-shown terms past (step.Lease key sid floor now token deadline) = reply.Got (got.Lease token)
-shown terms past (step.Again key sid floor now standing) = reply.Got (got.Again standing)
-shown terms past (step.Own key sid) = reply.Got got.Own
-shown terms past (step.Stored key token now value stamp evicted) = reply.Set (set.Stored evicted)
-shown terms past (step.Void key token now) = reply.Set set.Void
-shown terms past (step.Granted key sid mode shift now token deadline) =
+abbrev pub step_reply : Terms → List Step → Step → Reply
+step_reply terms past (step.Hit key sid floor value stamp) = reply.Got (got.Hit value stamp)
+step_reply terms past (step.Lease key sid floor now token deadline) = reply.Got (got.Lease token)
+step_reply terms past (step.Again key sid floor now standing) = reply.Got (got.Again standing)
+step_reply terms past (step.Own key sid) = reply.Got got.Own
+step_reply terms past (step.Stored key token now value stamp evicted) = reply.Set (set.Stored evicted)
+step_reply terms past (step.Void key token now) = reply.Set set.Void
+step_reply terms past (step.Granted key sid mode shift now token deadline) =
     reply.Quar (quarantine.Granted (record { shard = terms.no; key = key; sid = sid; mode = mode; token = token }) (old_value mode (entry key past)))
-shown terms past (step.Held key sid mode) = reply.Quar quarantine.Held
-shown terms past (step.Refused key sid mode holder held) = reply.Quar (quarantine.Refused holder held)
-shown terms past (step.Released key sid token how) = reply.Rel (rel.Released (evicted_by how))
-shown terms past (step.Gone key sid token) = reply.Rel rel.Gone
-shown terms past (step.Raised key sid token) = reply.Nothing
-shown terms past (step.Shared key sid token holder) = reply.Nothing
-shown terms past (step.Renewed key sid token now deadline) = reply.Nothing
+step_reply terms past (step.Held key sid mode) = reply.Quar quarantine.Held
+step_reply terms past (step.Refused key sid mode holder held) = reply.Quar (quarantine.Refused holder held)
+step_reply terms past (step.Released key sid token how) = reply.Rel (rel.Released (evicted_by how))
+step_reply terms past (step.Gone key sid token) = reply.Rel rel.Gone
+step_reply terms past (step.Raised key sid token) = reply.Nothing
+step_reply terms past (step.Shared key sid token holder) = reply.Nothing
+step_reply terms past (step.Renewed key sid token now deadline) = reply.Nothing
 
 -- What is told of a raise of this grant: the raised grant with the entry, or who stands beside it, or that it is spent.
 abbrev pub raise_told : Permit → List Step → Step → Raising
@@ -137,7 +137,7 @@ shown_on shape past who request key step shows =
 
 -- So does one that is neither a raise nor a renewal.
 abbrev pub stepped_on : Shape → List Event → Sid → Wanted → QKey → (Terms → List Step → Step) → Event
-stepped_on shape past who request key step = shown_on shape past who request key step shown
+stepped_on shape past who request key step = shown_on shape past who request key step step_reply
 
 -- The store's answer to a key has the number of commits as its stamp.
 abbrev pub ask_told : List Event → QKey → Said → Reply
@@ -246,8 +246,8 @@ pub data Move : Type 0 where
   Take : (turn : Turn) (said : Said) → Move
 
 -- The world after a session begins.
-abbrev pub begun : World → Plan → World
-begun world plan = record { plans = world.plans ++ plan ∷ []; past = world.past }
+abbrev pub with_plan : World → Plan → World
+with_plan world plan = record { plans = world.plans ++ plan ∷ []; past = world.past }
 
 -- The world after a turn.
 abbrev pub taken : Shape → World → Turn → Said → World
@@ -255,7 +255,7 @@ taken shape world turn said =
     record { plans = world.plans; past = turn_event shape world turn said ∷ world.past }
 
 abbrev pub moved : Shape → World → Move → World
-moved shape world (Begin plan) = begun world plan
+moved shape world (Begin plan) = with_plan world plan
 moved shape world (Take turn said) = taken shape world turn said
 
 -- The world after these moves, the latest first.

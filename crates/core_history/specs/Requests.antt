@@ -63,12 +63,12 @@ pub record IsWaiting (shards : List ShardView) (who : Sid) (session : Session) :
   pub released : IsOutWhereReleased shards (wants (plan_of session) false heard)
 
 -- The store stands after the events of this world, and has its sessions open as the machine does.
-abbrev pub StandsStore : StoreView → Origin → World → Type 0
-StandsStore store origin world = HasStore store origin world.past × HasPhases store.ledger.sessions world
+abbrev pub IsStoreAfter : StoreView → Origin → World → Type 0
+IsStoreAfter store origin world = HasStore store origin world.past × HasPhases store.ledger.sessions world
 
 -- So do the shards.
-abbrev pub Stands : List ShardView → StoreView → Origin → World → Type 0
-Stands shards store origin world = HasShards shards origin.shape world.past × StandsStore store origin world
+abbrev pub AreAfter : List ShardView → StoreView → Origin → World → Type 0
+AreAfter shards store origin world = HasShards shards origin.shape world.past × IsStoreAfter store origin world
 
 -- The world after an event.
 abbrev pub after : World → Event → World
@@ -85,24 +85,24 @@ MakesStep shape world who request shards result =
 abbrev pub MakesCall : Origin → World → Sid → Wanted → StoreView → Result Reply Memory → Type 0
 MakesCall origin world who request store result =
     MatchResult result (λ told. (said : Said) × (told ≡ reply_in (event_of origin.shape world who request said))
-    × StandsStore store origin (after world (event_of origin.shape world who request said)))
-    (λ _. StandsStore store origin world)
+    × IsStoreAfter store origin (after world (event_of origin.shape world who request said)))
+    (λ _. IsStoreAfter store origin world)
 
 -- A request was made, for some word of the keeper: shards and store stand after its event, whose reply this is. For want of memory they stand as before.
 abbrev pub Makes : Origin → World → Sid → Wanted → List ShardView → StoreView → Result Reply Memory → Type 0
 Makes origin world who request shards store result =
     MatchResult result (λ told. (said : Said) × (told ≡ reply_in (event_of origin.shape world who request said))
-    × Stands shards store origin (after world (event_of origin.shape world who request said)))
-    (λ _. Stands shards store origin world)
+    × AreAfter shards store origin (after world (event_of origin.shape world who request said)))
+    (λ _. AreAfter shards store origin world)
 
 -- A turn was taken in which this was wanted: shards, store and session stand after its
 -- event, whose line was told. For want of memory the event may have been made or not.
 abbrev pub TakesTurn : Origin → World → Sid → Wanted → List Reply → List ShardView → StoreView → Session → Result Told Memory → Type 0
 TakesTurn origin world who request heard shards store session result =
     MatchResult result (λ told. (said : Said) × IsToldOf (event_of origin.shape world who request said) told
-    × Stands shards store origin (after world (event_of origin.shape world who request said))
+    × AreAfter shards store origin (after world (event_of origin.shape world who request said))
     × Follows session false (reply_in (event_of origin.shape world who request said) ∷ heard))
-    (λ _. Stands shards store origin world ⊎ ((said : Said) × Stands shards store origin (after world (event_of origin.shape world who request said))))
+    (λ _. AreAfter shards store origin world ⊎ ((said : Said) × AreAfter shards store origin (after world (event_of origin.shape world who request said))))
 
 -- A turn of one of these sessions was taken at this time: it alone has changed, and not its plan and number, and it took its turn.
 abbrev pub TakesOne : List ShardView → StoreView → List Session → Sid → ℕ → List ShardView → StoreView → List Session → Result Told Memory → Type 0
@@ -110,5 +110,5 @@ TakesOne shards store sessions who now shards_new store_new sessions_new result 
     (session : Session) → slice_get sessions (who.number - 1) ≡ Some session
     → (new : Session) × (sessions_new ≡ slice_set sessions (who.number - 1) new)
     × (plan_of new ≡ plan_of session) × (sid_of new ≡ sid_of session) × OnOk result (IsReady new)
-    × ((origin : Origin) (world : World) (heard : List Reply) → Stands shards store origin world → now ≡ now_of world.past → Follows session false heard
+    × ((origin : Origin) (world : World) (heard : List Reply) → AreAfter shards store origin world → now ≡ now_of world.past → Follows session false heard
     → TakesTurn origin world who (wants (plan_of session) false heard) heard shards_new store_new new result)

@@ -12,7 +12,7 @@ use Rattle.core_history.specs.declared.told.Told.{Told}
 use Rattle.core_history.specs.Cores.{Origin, HasShards, HasSweeper}
 use Rattle.core_history.specs.Events.{swept_in}
 use Rattle.core_history.specs.Machine.{World, sweep_of, swept_next}
-use Rattle.core_history.specs.Requests.{Stands, StandsStore, after}
+use Rattle.core_history.specs.Requests.{AreAfter, IsStoreAfter, after}
 use Rattle.core_history.specs.Told.{IsToldOf}
 
 -- A session that is to be ended has a number, which count from 1.
@@ -33,16 +33,16 @@ SweepsShards shape world request shards told =
 -- One was made at the store: the store stands after its event, which tells this.
 abbrev pub SweepsStore : Origin → World → SweepWanted → StoreView → SweepReply → Type 0
 SweepsStore origin world request store told =
-    IsToldSweeper origin.shape world request told × StandsStore store origin (after world (sweep_of origin.shape world request))
+    IsToldSweeper origin.shape world request told × IsStoreAfter store origin (after world (sweep_of origin.shape world request))
 
 -- A request of the sweeper's was made: shards and store stand after its event, which tells this.
 abbrev pub Sweeps : Origin → World → SweepWanted → List ShardView → StoreView → SweepReply → Type 0
 Sweeps origin world request shards store told =
-    IsToldSweeper origin.shape world request told × Stands shards store origin (after world (sweep_of origin.shape world request))
+    IsToldSweeper origin.shape world request told × AreAfter shards store origin (after world (sweep_of origin.shape world request))
 
 -- The sweeper took its next step: shards, store and sweeper stand after its event, whose line was told unless memory ran out.
 abbrev pub TakesSweep : Origin → World → List ShardView → StoreView → Sweeper → Result Told Memory → Type 0
 TakesSweep origin world shards store sweeper result =
-    Stands shards store origin (after world (sweep_of origin.shape world (swept_next origin.shape world)))
+    AreAfter shards store origin (after world (sweep_of origin.shape world (swept_next origin.shape world)))
     × HasSweeper sweeper origin.shape (sweep_of origin.shape world (swept_next origin.shape world) ∷ world.past)
     × IfOk result (IsToldOf (sweep_of origin.shape world (swept_next origin.shape world)))

@@ -2,7 +2,7 @@
 ghost use Rattle.std.specs.Prelude.{◌≡◌, ◌∷◌, ◌++◌, [], IfOk, OnOk, codes, decimal};
 ghost use Rattle.std.specs.Fmt.{signed_decimal};
 ghost use Rattle.rows_model.specs.Key.{key_text};
-ghost use Rattle.core_history.specs.Lines.{line, shown, request_words, reply_words, stands_word, mode_word, evicts_words, got_words, set_words, old_words, brought_words, quarantine_words, commit_fault_words, staged_fault_words, open_words, release_words, raising_words, renewal_words, fault_words, tells_fault};
+ghost use Rattle.core_history.specs.Lines.{line, printed_value, request_words, reply_words, stands_word, mode_word, evicts_words, got_words, set_words, old_words, brought_words, quarantine_words, commit_fault_words, staged_fault_words, open_words, release_words, raising_words, renewal_words, fault_words, tells_fault};
 ghost use Rattle.core_history.specs.Words.{spaced};
 
 use executor::Request;
@@ -131,7 +131,7 @@ fn push_got(text: &mut Vec<u8>, got: &Got) -> Result<(), Memory>
 
 fn push_answer(text: &mut Vec<u8>, stamp: u64, value: &[u8]) -> Result<(), Memory>
     ensures { OnOk result (text.new.items ≡ text.old.items ++
-        spaced (decimal stamp ∷ shown value.now ∷ [])) }
+        spaced (decimal stamp ∷ printed_value value.now ∷ [])) }
 {
     push_number(text, stamp)?;
     push_value(text, value)
@@ -295,7 +295,7 @@ pub(crate) fn push_number(text: &mut Vec<u8>, number: u64) -> Result<(), Memory>
 }
 
 fn push_value(text: &mut Vec<u8>, value: &[u8]) -> Result<(), Memory>
-    ensures { OnOk result (text.new.items ≡ text.old.items ++ spaced (shown value.now ∷ [])) }
+    ensures { OnOk result (text.new.items ≡ text.old.items ++ spaced (printed_value value.now ∷ [])) }
 {
     if value.is_empty() {
         push_word(text, b".")

@@ -8,7 +8,7 @@ ghost use Rattle.session_client.specs.declared.plans.Shape.{Shape};
 ghost use Rattle.core_history.specs.Cores.{Origin, HasShards, HasHome, HasHomes};
 ghost use Rattle.core_history.specs.Events.{now_of};
 ghost use Rattle.core_history.specs.Machine.{World};
-ghost use Rattle.core_history.specs.Requests.{IsOutWhereReleased, Stands, StandsStore, MakesStep, MakesCall, Makes, GoesOn, tells_memory};
+ghost use Rattle.core_history.specs.Requests.{IsOutWhereReleased, AreAfter, IsStoreAfter, MakesStep, MakesCall, Makes, GoesOn, tells_memory};
 
 use crate::homes::home_of;
 use executor::{key_of, on_shard, on_store};
@@ -32,7 +32,7 @@ pub(crate) fn make<K: Keeper>(
     requires proper { IsProper request }
     requires out { IsOutWhereReleased shards.old.items request }
     ensures makes { (origin : Origin) (world : World) →
-        Stands shards.old.items store.old origin world → now ≡ now_of world.past →
+        AreAfter shards.old.items store.old origin world → now ≡ now_of world.past →
         Makes origin world who request shards.new.items store.new result }
     ensures belongs { IfOk result (Belongs who request) }
 {
@@ -71,7 +71,7 @@ fn make_on(
 fn make_at<K: Keeper>(store: &mut Store<K>, who: Sid, request: Wanted) -> Result<Reply, Memory>
     requires at_store { IsAtStore request }
     requires some { 1 ≤ who.number }
-    ensures makes { (origin : Origin) (world : World) → StandsStore store.old origin world →
+    ensures makes { (origin : Origin) (world : World) → IsStoreAfter store.old origin world →
         MakesCall origin world who request store.new result }
     ensures belongs { IfOk result (Belongs who request) }
 {

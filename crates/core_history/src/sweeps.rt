@@ -8,7 +8,7 @@ ghost use Rattle.expiry_sweeper.specs.Sweeps.{BelongsTo, IsWithin};
 ghost use Rattle.core_history.specs.Cores.{Origin, HasShards, HasHome, HasHomes, HasSweeper};
 ghost use Rattle.core_history.specs.Events.{now_of};
 ghost use Rattle.core_history.specs.Machine.{World};
-ghost use Rattle.core_history.specs.Requests.{Stands, StandsStore};
+ghost use Rattle.core_history.specs.Requests.{AreAfter, IsStoreAfter};
 ghost use Rattle.core_history.specs.Sweeping.{IsNumbered, IsToldSweeper, SweepsShards, SweepsStore, Sweeps, TakesSweep};
 
 use crate::homes::home_of;
@@ -33,7 +33,7 @@ pub(crate) fn sweep_turn<K: Keeper>(
     requires all { shards_of sweeper.old ≡ length shards.old.items }
     requires numbered { IsNumbered (wanted_of sweeper.old) }
     ensures takes { (origin : Origin) (world : World) →
-        Stands shards.old.items store.old origin world → now ≡ now_of world.past →
+        AreAfter shards.old.items store.old origin world → now ≡ now_of world.past →
         HasSweeper sweeper.old origin.shape world.past →
         TakesSweep origin world shards.new.items store.new sweeper.new result }
     ensures unasked { (store.new.told ≡ store.old.told) × (store.new.faults ≡ store.old.faults) }
@@ -55,7 +55,7 @@ fn make_sweep<K: Keeper>(
     requires within { IsWithin (length shards.old.items) request }
     requires numbered { IsNumbered request }
     ensures sweeps { (origin : Origin) (world : World) →
-        Stands shards.old.items store.old origin world → now ≡ now_of world.past →
+        AreAfter shards.old.items store.old origin world → now ≡ now_of world.past →
         Sweeps origin world request shards.new.items store.new result }
     ensures belongs { BelongsTo request result }
     ensures unasked { (store.new.told ≡ store.old.told) × (store.new.faults ≡ store.old.faults) }
@@ -85,7 +85,7 @@ fn scan(shards: &mut Vec<Shard>, shard: u32, now: u64) -> SweepReply
 /// Ends a session at the store.
 fn end<K: Keeper>(store: &mut Store<K>, sid: Sid) -> SweepReply
     requires { 1 ≤ sid.number }
-    ensures sweeps { (origin : Origin) (world : World) → StandsStore store.old origin world →
+    ensures sweeps { (origin : Origin) (world : World) → IsStoreAfter store.old origin world →
         SweepsStore origin world (sweep.End sid) store.new result }
     ensures belongs { BelongsTo (sweep.End sid) result }
     ensures unasked { (store.new.told ≡ store.old.told) × (store.new.faults ≡ store.old.faults) }

@@ -7,7 +7,7 @@ ghost use Rattle.session_client.specs.Wants.{wants};
 ghost use Rattle.core_history.specs.Cores.{Origin, HasHomes};
 ghost use Rattle.core_history.specs.Events.{now_of};
 ghost use Rattle.core_history.specs.Machine.{World};
-ghost use Rattle.core_history.specs.Requests.{IsWaiting, Stands, TakesTurn, TakesOne};
+ghost use Rattle.core_history.specs.Requests.{IsWaiting, AreAfter, TakesTurn, TakesOne};
 
 use crate::lines::{line_of, tells_fault};
 use crate::requests::make;
@@ -57,7 +57,7 @@ fn take_turn<K: Keeper>(
     ensures sid { sid_of session.new ≡ sid_of session.old }
     ensures ready { OnOk result (IsReady session.new) }
     ensures takes { (origin : Origin) (world : World) (heard : List Reply) →
-        Stands shards.old.items store.old origin world → now ≡ now_of world.past →
+        AreAfter shards.old.items store.old origin world → now ≡ now_of world.past →
         Follows session.old false heard →
         TakesTurn origin world who (wants (plan_of session.old) false heard) heard
         shards.new.items store.new session.new result }

@@ -12,7 +12,7 @@ use Rattle.session_client.specs.Desks.{Call, Began, Asked}
 use Rattle.session_client.specs.Plans.{writes}
 use Rattle.session_client.specs.Wants.{wants, write_wants, Writing, writing_of}
 use Rattle.session_client.proofs.WantCases.{plan-once}
-use Rattle.desk_book.specs.Books.{Book, begun, noted_for}
+use Rattle.desk_book.specs.Books.{Book, first_book, noted_for}
 use Rattle.desk_book.specs.Heard.{note_of, book_of}
 use Rattle.desk_book.specs.Borne.{IsBorne}
 use Rattle.desk_book.specs.Laws.{HasAsked, WantsAreBorne}
@@ -22,7 +22,7 @@ use Rattle.desk_book.proofs.BorneLemmas.{write-borne}
 use Rattle.desk_book.proofs.ReaderLemmas.{Reads, read-step, read-borne}
 
 -- the book of a session that has just begun
-begun-stands : (who : Sid) (writing : Writing) → Stands who writing [] (begun who true)
+begun-stands : (who : Sid) (writing : Writing) → Stands who writing [] (first_book who true)
 begun-stands who writing = record {
   present = refl;
   commit = refl;
@@ -57,7 +57,7 @@ writes-good : (who : Sid) (plan : Plan) (short : Bool) (heard : List Reply) (cal
     → HasAsked who plan short heard calls → Stands who (writing_of plan) heard (book_of calls)
 writes-good who plan short [] calls is h =
     subst (λ l. Stands who (writing_of plan) [] (book_of l)) (sym h.1)
-    (subst (λ b. Stands who (writing_of plan) [] (begun who b)) (sym is.0) (begun-stands who (writing_of plan)))
+    (subst (λ b. Stands who (writing_of plan) [] (first_book who b)) (sym is.0) (begun-stands who (writing_of plan)))
 writes-good who plan short (told ∷ heard) calls is h =
     let before = h.0 in
     let earlier = h.1 in

@@ -38,8 +38,8 @@ abbrev pub empty_book : Book
 empty_book = record { present = None; lease = None; answers = []; held = []; commit = None; ended = false }
 
 -- A session has begun, and nothing was told to it yet.
-abbrev pub begun : Sid → Bool → Book
-begun who writes =
+abbrev pub first_book : Sid → Bool → Book
+first_book who writes =
     record { present = Some (record { sid = who; writes = writes }); lease = None; answers = []; held = []; commit = None; ended = false }
 
 -- Whether the session of this number is the present one.

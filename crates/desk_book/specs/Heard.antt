@@ -9,7 +9,7 @@ use Rattle.session_client.specs.declared.replies.Reply.{Reply}
 use Rattle.session_client.specs.declared.replies.Reply.TheVariants as reply
 use Rattle.session_client.specs.declared.replies.Wanted.{Wanted}
 use Rattle.session_client.specs.declared.replies.Wanted.TheVariants as wanted
-use Rattle.desk_book.specs.Books.{Book, empty_book, begun, noted_for, with_lease, with_answer, with_grant, with_raised, without_grant, with_commit, with_end}
+use Rattle.desk_book.specs.Books.{Book, empty_book, first_book, noted_for, with_lease, with_answer, with_grant, with_raised, without_grant, with_commit, with_end}
 
 -- By how much a quarantine is to shift the value that was asked for so.
 abbrev pub shift_of : Wanted → ℤ
@@ -33,7 +33,7 @@ note_of request other book = book
 
 -- The book after a call that a desk answered.
 abbrev pub after_call : Call → Book → Book
-after_call (Began writes who) book = begun who writes
+after_call (Began writes who) book = first_book who writes
 after_call (Asked who request reply) book = noted_for who (note_of request reply) book
 
 -- The book of a desk that answered these calls, the latest first.

@@ -1,5 +1,5 @@
 ghost use Rattle.std.specs.Prelude.{◌≡◌, ◌≤◌, ◌<◌, ℤ, length, OnOk, OnErr};
-ghost use Rattle.desk_book.specs.Books.{empty_book, begun, is_present, is_on, noted_for, with_lease, with_answer, with_grant, with_raised, without_grant, with_commit, with_end, most_answers};
+ghost use Rattle.desk_book.specs.Books.{empty_book, first_book, is_present, is_on, noted_for, with_lease, with_answer, with_grant, with_raised, without_grant, with_commit, with_end, most_answers};
 
 use crate::facts::{Committed, Leased, Present};
 use crate::held::{HeldGrant, Ticket, raise_first, spend_first};
@@ -66,7 +66,7 @@ impl Book {
     /// A session has begun, and is the present one from now on. All that was noted before goes. It takes
     /// no memory.
     pub fn begin(&mut self, sid: Sid, writes: bool)
-        ensures { self.new.book ≡ begun sid writes }
+        ensures { self.new.book ≡ first_book sid writes }
     {
         self.present = Some(Present { sid, writes });
         self.lease = None;

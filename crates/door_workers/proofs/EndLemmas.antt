@@ -6,7 +6,8 @@ use Rattle.session_client.specs.Desks.{Call}
 use Rattle.plain_ops.specs.Desks.{PlainCall}
 use Rattle.conn_server.specs.declared.ends.LineEnd.{LineEnd}
 use Rattle.conn_server.specs.Service.{IsServed, Served}
-use Rattle.door_workers.specs.Ends.{IsEnded, AreEnded, AreHandedBack}
+use Rattle.door_workers.specs.Attending.{one_more}
+use Rattle.door_workers.specs.Ends.{IsEnded, AreEnded, AreHandedBack, AreServed}
 
 -- one more line that was served to its end
 ended-append : (lines : List LineRecord) (ends : List LineEnd) (line : LineRecord) (end : LineEnd)
@@ -118,8 +119,29 @@ handed-same ends ends_new before closed closed_new e c are =
     subst (λ (xs : List LineEnd). AreHandedBack xs before closed_new) (sym e)
     (subst (λ (o : Option (List LineRecord)). AreHandedBack ends before o) (sym c) are)
 
--- one more line was handed back, behind ends that are as before
-pub handed-next : (ends ends_new : List LineEnd) (before mid after : Option (List LineRecord)) (line : LineRecord) (end : LineEnd)
-    → ends_new ≡ ends ++ end ∷ [] → AreHandedBack ends before mid → HandedBack mid after line → IsEnded line end → AreHandedBack ends_new before after
-handed-next ends ends_new before mid after line end e are back is =
-    subst (λ (xs : List LineEnd). AreHandedBack xs before after) (sym e) (handed-one ends before mid after line end are back is)
+-- ---- the same, whether ends are kept or not
+
+pub none-served : (most : Option ℕ) (closed : Option (List LineRecord)) → AreServed most [] closed closed
+none-served (Some count) closed = none-handed closed
+none-served None closed = ([], none-handed closed)
+
+pub served-same : (most : Option ℕ) (ends ends_new : List LineEnd) (before closed closed_new : Option (List LineRecord)) → ends_new ≡ ends
+    → closed_new ≡ closed → AreServed most ends before closed → AreServed most ends_new before closed_new
+served-same (Some count) ends ends_new before closed closed_new e c are = handed-same ends ends_new before closed closed_new e c are
+served-same None ends ends_new before closed closed_new e c are = (are.0, handed-same are.0 are.0 before closed closed_new refl c are.1)
+
+next : (most : Option ℕ) (ends : List LineEnd) (before mid after : Option (List LineRecord)) (line : LineRecord) (end : LineEnd)
+    → AreServed most ends before mid → HandedBack mid after line → IsEnded line end → AreServed most (one_more most ends end) before after
+next (Some count) ends before mid after line end are back is = handed-one ends before mid after line end are back is
+next None ends before mid after line end are back is = (are.0 ++ end ∷ [], handed-one are.0 before mid after line end are.1 back is)
+
+pub served-next : (kept most : Option ℕ) (ends ends_new : List LineEnd) (before mid after : Option (List LineRecord)) (line : LineRecord) (end : LineEnd)
+    → kept ≡ most → ends_new ≡ one_more kept ends end → AreServed most ends before mid → HandedBack mid after line → IsEnded line end
+    → AreServed most ends_new before after
+served-next kept most ends ends_new before mid after line end k e are back is =
+    let noted : ends_new ≡ one_more most ends end = e ∙ ap (λ (o : Option ℕ). one_more o ends end) k in
+    subst (λ (xs : List LineEnd). AreServed most xs before after) (sym noted) (next most ends before mid after line end are back is)
+
+pub served-as : (most conns : Option ℕ) (kept : List LineEnd) (before after : Option (List LineRecord)) → most ≡ conns → AreServed most kept before after
+    → AreServed conns kept before after
+served-as most conns kept before after same are = subst (λ (o : Option ℕ). AreServed o kept before after) same are

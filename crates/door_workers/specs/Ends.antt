@@ -1,5 +1,5 @@
 -- How the lines ended that were handed back to a door.
-use Rattle.std.specs.Prelude.{◌≡◌, ◌⊎◌, List, [], ◌∷◌, ◌++◌, Option, None}
+use Rattle.std.specs.Prelude.{◌≡◌, ◌⊎◌, ℕ, List, [], ◌∷◌, ◌++◌, Option, Some, None}
 use Rattle.std.specs.Option.{option_map, ForSome}
 use Rattle.iq_outside.specs.Outside.{LineRecord}
 use Rattle.session_client.specs.Desks.{Call}
@@ -25,3 +25,9 @@ AreEnded lines ends = ⊥
 abbrev pub AreHandedBack : List LineEnd → Option (List LineRecord) → Option (List LineRecord) → Type 0
 AreHandedBack ends before after =
     (after ≡ None) ⊎ ((lines : List LineRecord) × (after ≡ option_map (λ closed. closed ++ lines) before) × AreEnded lines ends)
+
+-- Each line that was handed back was served to its end. Where a number of lines is enough these are their ends, in their order.
+-- Where none is, no end is kept: each line has one all the same.
+abbrev pub AreServed : Option ℕ → List LineEnd → Option (List LineRecord) → Option (List LineRecord) → Type 0
+AreServed (Some most) kept before after = AreHandedBack kept before after
+AreServed None kept before after = (ends : List LineEnd) × AreHandedBack ends before after

@@ -1,6 +1,6 @@
-ghost use Rattle.std.specs.Prelude.{◌≡◌, ℕ, ◌+◌, ◌<◌, ◌≤◌, ◌||◌, [], ◌∷◌, ◌++◌, true, is_none, IfSome, IfNone, IfOk, OnOk, OnErr, length, vec_capacity};
-ghost use Rattle.iq_outside.specs.Outside.{Rose, IsFresh, HandedBack, lines_with};
-ghost use Rattle.door_workers.specs.Attending.{Stands, is_over, told};
+ghost use Rattle.std.specs.Prelude.{◌≡◌, ℕ, ◌+◌, ◌<◌, ◌≤◌, ◌||◌, Option, true, is_none, IfSome, IfNone, IfOk, OnOk, OnErr, length, vec_capacity};
+ghost use Rattle.iq_outside.specs.Outside.{Rose, IsFresh, HandedBack, lines_with, count_up};
+ghost use Rattle.door_workers.specs.Attending.{Stands, is_over, one_more, told};
 ghost use Rattle.door_workers.specs.Told.{Told};
 
 use crate::progress::Progress;
@@ -19,9 +19,10 @@ pub(crate) struct Attending<'a, D: Door> {
 }
 
 impl<'a, D: Door> Lent<'a, D> {
-    /// Accepts the next line. What is said of the door is what it says itself.
-    fn accept(&mut self) -> Result<Option<D::Line>, Failed>
+    /// Asks the door for the next line. What is said of the door is what it says itself.
+    fn ask(&mut self) -> Result<Option<D::Line>, Failed>
         ensures same_door { self.new.door.ghost_name ≡ self.old.door.ghost_name }
+        ensures stays_bound { D.bound self.new.door.now ≡ D.bound self.old.door.now }
         ensures failed_rose { OnErr result
             (Rose (D.faults self.old.door.now) (D.faults self.new.door.now)) }
         ensures no_fault { OnOk result
@@ -47,20 +48,20 @@ impl<'a, D: Door> Attending<'a, D> {
     /// failed. It may wait.
     pub fn accept(&mut self) -> Option<D::Line>
         ensures same_door { self.new.lent.door.ghost_name ≡ self.old.lent.door.ghost_name }
-        ensures line { IfSome result (λ line. (first : Told) (most out : ℕ) →
-            Stands first most (told D.lines D.faults D.ended D.closed self.old.lent.door.now)
-            self.old.so_far out →
-            Stands first most (told D.lines D.faults D.ended D.closed self.new.lent.door.now)
-            self.new.so_far (out + 1)) }
-        ensures none { IfNone result ((first : Told) (most out : ℕ) →
-            Stands first most (told D.lines D.faults D.ended D.closed self.old.lent.door.now)
-            self.old.so_far out →
-            Stands first most (told D.lines D.faults D.ended D.closed self.new.lent.door.now)
-            self.new.so_far out) }
+        ensures line { IfSome result (λ line.
+            (first : Told) (most : Option ℕ) (back out : ℕ) →
+            Stands first most (told D.bound D.lines D.faults D.ended D.closed self.old.lent.door.now)
+            self.old.so_far back out →
+            Stands first most (told D.bound D.lines D.faults D.ended D.closed self.new.lent.door.now)
+            self.new.so_far back (out + 1)) }
+        ensures none { IfNone result ((first : Told) (most : Option ℕ) (back out : ℕ) →
+            Stands first most (told D.bound D.lines D.faults D.ended D.closed self.old.lent.door.now)
+            self.old.so_far back out →
+            Stands first most (told D.bound D.lines D.faults D.ended D.closed self.new.lent.door.now)
+            self.new.so_far back out) }
         ensures over { IfNone result (is_over self.new.so_far ≡ true) }
         ensures counted { IfSome result (λ line.
-            (self.new.so_far.accepted ≡ self.old.so_far.accepted + 1)
-            × (self.new.so_far.accepted ≤ self.new.so_far.most)) }
+            self.new.so_far.accepted ≡ count_up self.old.so_far.accepted) }
         ensures most { self.new.so_far.most ≡ self.old.so_far.most }
         ensures stands_still { is_over self.old.so_far ≡ true →
             self.new.lent.door.now ≡ self.old.lent.door.now }
@@ -71,12 +72,12 @@ impl<'a, D: Door> Attending<'a, D> {
         ensures stays_fresh { D.fresh self.old.lent.door.now → D.fresh self.new.lent.door.now }
     {
         let so_far = &mut self.so_far;
-        if so_far.accepted >= so_far.most || so_far.ended || so_far.failed {
+        if so_far.is_over() {
             return None;
         }
-        match self.lent.accept() {
+        match self.lent.ask() {
             Ok(Some(line)) => {
-                so_far.accepted += 1;
+                so_far.accepted = so_far.accepted.saturating_add(1);
                 Some(line)
             }
             Ok(None) => {
@@ -90,25 +91,30 @@ impl<'a, D: Door> Attending<'a, D> {
         }
     }
 
-    /// Hands a line back that was served and finished, and notes how it ended. It takes no memory.
+    /// Hands a line back that was served and finished, and notes how it ended, where ends are kept. It
+    /// takes no memory.
     pub fn hand_back(&mut self, line: D::Line, end: LineEnd)
-        requires room { length self.old.so_far.ends.items < vec_capacity self.old.so_far.ends }
+        requires room { IfSome self.old.so_far.most (λ most.
+            length self.old.so_far.ends.items < vec_capacity self.old.so_far.ends) }
         requires finished { D.Line.finished line ≡ true }
         ensures same_door { self.new.lent.door.ghost_name ≡ self.old.lent.door.ghost_name }
-        ensures stands { (first : Told) (most out : ℕ) →
-            Stands first most (told D.lines D.faults D.ended D.closed self.old.lent.door.now)
-            self.old.so_far (out + 1) →
-            Stands first most (told D.lines D.faults D.ended D.closed self.new.lent.door.now)
-            self.new.so_far out }
+        ensures stands { (first : Told) (most : Option ℕ) (back out : ℕ) →
+            Stands first most (told D.bound D.lines D.faults D.ended D.closed self.old.lent.door.now)
+            self.old.so_far back (out + 1) →
+            Stands first most (told D.bound D.lines D.faults D.ended D.closed self.new.lent.door.now)
+            self.new.so_far (back + 1) out }
         ensures handed_back { HandedBack (D.closed self.old.lent.door.now)
             (D.closed self.new.lent.door.now)
             (record { reads = D.Line.read_side line; writes = D.Line.write_side line }) }
-        ensures noted { self.new.so_far.ends.items ≡ self.old.so_far.ends.items ++ end ∷ [] }
+        ensures noted { self.new.so_far.ends.items
+            ≡ one_more self.old.so_far.most self.old.so_far.ends.items end }
         ensures accepted { self.new.so_far.accepted ≡ self.old.so_far.accepted }
         ensures most { self.new.so_far.most ≡ self.old.so_far.most }
         ensures stays_fresh { D.fresh self.old.lent.door.now → D.fresh self.new.lent.door.now }
     {
-        self.so_far.ends.push_reserved(end);
+        if self.so_far.most.is_some() {
+            self.so_far.ends.push_reserved(end);
+        }
         self.lent.door.close(line);
     }
 }

@@ -1,7 +1,7 @@
 ghost use Rattle.std.specs.Prelude.{◌≡◌, ◌+◌, ◌≤◌, true, IfSome, IfNone};
 ghost use Rattle.iq_outside.specs.Outside.{IsFresh};
-ghost use Rattle.door_workers.specs.Attending.{Stands, told};
-ghost use Rattle.door_workers.specs.Ends.{IsEnded, AreHandedBack};
+ghost use Rattle.door_workers.specs.Attending.{StandsWith, told};
+ghost use Rattle.door_workers.specs.Ends.{IsEnded, AreServed};
 
 use crate::attending::Attending;
 use crate::names::DoorName;
@@ -19,18 +19,18 @@ pub(crate) struct Kept<'a, D: Door, N: DoorName> {
 
 impl<'a, D: Door, N: DoorName> Model for Kept<'a, D, N> {
     ghost use Rattle.std.specs.Prelude.{◌≡◌};
-    ghost use Rattle.door_workers.specs.Attending.{Stands, told};
-    ghost use Rattle.door_workers.specs.Ends.{AreHandedBack};
+    ghost use Rattle.door_workers.specs.Attending.{StandsWith, told};
+    ghost use Rattle.door_workers.specs.Ends.{AreServed};
 
     ghost Value = { Unit {0} };
 
     ghost view = { λ kept. tt };
 
     ghost invariant = { λ kept. (kept.at.lent.door.ghost_name ≡ N.door)
-        × Stands N.first N.most (told D.lines D.faults D.ended D.closed kept.at.lent.door.now)
+        × StandsWith N.first N.most (told D.bound D.lines D.faults D.ended D.closed kept.at.lent.door.now)
         kept.at.so_far kept.out.total
         × (N.fresh → D.fresh kept.at.lent.door.now)
-        × (N.fresh → AreHandedBack kept.at.so_far.ends.items N.closed
+        × (N.fresh → AreServed N.most kept.at.so_far.ends.items N.closed
         (D.closed kept.at.lent.door.now)) };
 }
 
@@ -51,7 +51,8 @@ impl<'a, D: Door, N: DoorName> Kept<'a, D, N> {
         Some(line)
     }
 
-    /// Hands a line back that the worker with this share served and finished, and notes how it ended.
+    /// Hands a line back that the worker with this share served and finished, and notes how it ended,
+    /// where ends are kept.
     pub fn hand_back(&mut self, line: D::Line, end: LineEnd, mine: &mut Share<N>)
         requires out { 1 ≤ mine.old.amount }
         requires finished { D.Line.finished line ≡ true }
@@ -71,10 +72,10 @@ impl<'a, D: Door, N: DoorName> Kept<'a, D, N> {
         requires all { all.parts ≡ N.parts }
         requires none { all.amount ≡ 0 }
         ensures door { result.lent.door.ghost_name ≡ N.door }
-        ensures stands { Stands N.first N.most
-            (told D.lines D.faults D.ended D.closed result.lent.door.now) result.so_far 0 }
+        ensures stands { StandsWith N.first N.most
+            (told D.bound D.lines D.faults D.ended D.closed result.lent.door.now) result.so_far 0 }
         ensures stays_fresh { N.fresh → D.fresh result.lent.door.now }
-        ensures handed_back { N.fresh → AreHandedBack result.so_far.ends.items N.closed
+        ensures handed_back { N.fresh → AreServed N.most result.so_far.ends.items N.closed
             (D.closed result.lent.door.now) }
     {
         let mut all = all;

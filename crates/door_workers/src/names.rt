@@ -8,7 +8,7 @@ use std::sync::ledger::Ledger;
 
 /// Names what the lock of a door keeps: which door it is, what that told when its workers began, which
 /// lines were handed back by then, whether it was to give only fresh lines, and how many lines they may
-/// accept. It names a ledger too, whose total is the number of lines that are being served.
+/// accept, if a number of them is enough. It names a ledger too, whose total is the number of lines that are being served.
 ///
 /// The name is picked where a caller that is generic in it is called, at the type `Brand`.
 pub(crate) trait DoorName: Ledger {
@@ -20,7 +20,7 @@ pub(crate) trait DoorName: Ledger {
 
     ghost fresh: { Type 0 };
 
-    ghost most: { ℕ };
+    ghost most: { Option ℕ };
 }
 
 impl DoorName for Brand {
@@ -28,11 +28,11 @@ impl DoorName for Brand {
 
     ghost door = { 0 };
 
-    ghost first = { record { lines = 0; faults = 0; ended = false; closed = None } };
+    ghost first = { record { bound = None; lines = 0; faults = 0; ended = false; closed = None } };
 
     ghost closed = { None };
 
     ghost fresh = { Unit {0} };
 
-    ghost most = { 0 };
+    ghost most = { None };
 }

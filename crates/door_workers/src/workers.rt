@@ -1,10 +1,9 @@
-ghost use Rattle.std.specs.Prelude.{◌≡◌, ℕ, ◌≤◌, ◌⊎◌, true, false, List, [], Option, length, vec_capacity};
-ghost use Rattle.std.specs.Option.{option_map};
+ghost use Rattle.std.specs.Prelude.{◌≡◌, ℕ, ◌≤◌, true, false, List, [], Option, IfSome, length, vec_capacity};
 ghost use Rattle.std.specs.Thread.{IsSync};
 ghost use Rattle.iq_outside.specs.Outside.{Rose, LineRecord};
-ghost use Rattle.door_workers.specs.Attending.{GivesBack, Stands, count_up_by, is_over, told};
+ghost use Rattle.door_workers.specs.Attending.{StandsWith, WasAttended, is_over, told};
 ghost use Rattle.door_workers.specs.Told.{Told};
-ghost use Rattle.door_workers.specs.Ends.{AreHandedBack};
+ghost use Rattle.door_workers.specs.Ends.{AreServed};
 
 use crate::attending::{Attending, Lent};
 use crate::kept::Kept;
@@ -24,48 +23,48 @@ use std::thread::{Threads, join};
 /// What the workers left.
 #[derive(Drop)]
 pub struct Attended {
-    /// How each line ended, in the order in which the lines were handed back.
+    /// How many lines were served. It stands still at its type's end.
+    pub served: u64,
+    /// How each line ended, in the order in which the lines were handed back. It is empty where no number
+    /// of connections was enough.
     pub ends: Vec<LineEnd>,
     /// Whether the door failed.
     pub failed: bool,
 }
 
 /// Accepts connections from the door until so many were accepted, or no more come, or the door fails.
-/// Each is served and handed back to the door. As many workers as there are desks do so at the same
-/// time, each on its desk and in a thread of its own, and all are joined. All share the plain map. The
-/// door has a lock, under which a worker accepts a line or hands one back; it serves a line and ends it
-/// for the peer without the lock. The caller works at the last desk itself, and does the work for which
-/// no thread can be started. It may wait.
+/// Where `conns` is `None` no number of them is enough. Each is served and handed back to the door. As
+/// many workers as there are desks do so at the same time, each on its desk and in a thread of its own,
+/// and all are joined. All share the plain map. The door has a lock, under which a worker accepts a line
+/// or hands one back; it serves a line and ends it for the peer without the lock. The caller works at the
+/// last desk itself, and does the work for which no thread can be started. It may wait.
 ///
-/// `ends` is empty and has room for an entry for each connection. It becomes the list of the ends, in the
-/// order in which the lines were handed back: a connection that ends by a fault is an entry like any
-/// other. Where the door gives only fresh lines, and tells those handed back, each was served to its end. Beyond what serving a line takes no
-/// memory is taken, but what a thread needs.
+/// `ends` is empty. Where a number of connections is enough, it has room for an entry for each of them, and
+/// becomes the list of the ends, in the order in which the lines were handed back: a connection that ends
+/// by a fault is an entry like any other. Where none is, it stays empty, and nothing that is kept grows
+/// with the number of connections. Where the door gives only fresh lines, and tells those handed back, each
+/// was served to its end. Beyond what serving a line takes no memory is taken, but what a thread needs.
 pub fn serve_all<D: Door, K: Desk + Send, R: Threads + Wait + Sync>(
     rt: &R,
     alloc: Global,
     desks: &mut [K],
     plain: &PlainBox,
     door: &mut D,
-    conns: u32,
+    conns: Option<u32>,
     ends: Vec<LineEnd>,
 ) -> Attended
     requires some { 1 ≤ length desks.old }
     requires none { ends.items ≡ [] }
-    requires room { conns ≤ vec_capacity ends }
-    ensures few { length result.ends.items ≤ conns }
-    ensures counted { D.lines door.new
-        ≡ count_up_by (length result.ends.items) (D.lines door.old) }
-    ensures all { result.failed ≡ false →
-        (length result.ends.items ≡ conns) ⊎ (D.ended door.new ≡ true) }
+    requires room { IfSome conns (λ most. most ≤ vec_capacity ends) }
+    ensures attended { let tells = told D.bound D.lines D.faults D.ended D.closed in
+        WasAttended conns (tells door.old) (tells door.new)
+        result.ends.items result.served result.failed }
     ensures failed { result.failed ≡ true → Rose (D.faults door.old) (D.faults door.new) }
     ensures no_fault { result.failed ≡ false → D.faults door.new ≡ D.faults door.old }
     ensures never_falls { D.faults door.old ≤ D.faults door.new }
     ensures stays_fresh { D.fresh door.old → D.fresh door.new }
-    ensures given_back { GivesBack (length result.ends.items)
-        (option_map length (D.closed door.old)) (option_map length (D.closed door.new)) }
     ensures handed_back { D.fresh door.old →
-        AreHandedBack result.ends.items (D.closed door.old) (D.closed door.new) }
+        AreServed conns result.ends.items (D.closed door.old) (D.closed door.new) }
 {
     let mut so_far = Progress::new(conns, ends);
     let ledger = Blank::new(desks.len() as u64);
@@ -73,6 +72,7 @@ pub fn serve_all<D: Door, K: Desk + Send, R: Threads + Wait + Sync>(
     let lent = attend::<D, K, Brand, R>(rt, alloc, desks, plain, ledger, lent, &mut so_far);
     let Lent { door: _ } = lent;
     Attended {
+        served: so_far.accepted,
         ends: so_far.ends,
         failed: so_far.failed,
     }
@@ -93,28 +93,27 @@ fn attend<'a, D: Door, K: Desk + Send, N: DoorName + Send + Sync, R: Threads + W
     requires ledger { (ledger.name ≡ N.name) × (ledger.parts ≡ N.parts) }
     requires one_each { ledger.parts ≡ length desks.old }
     requires door { lent.door.ghost_name ≡ N.door }
-    requires first { Stands N.first N.most
-        (told D.lines D.faults D.ended D.closed lent.door.now) so_far.old 0 }
+    requires first { StandsWith N.first N.most
+        (told D.bound D.lines D.faults D.ended D.closed lent.door.now) so_far.old 0 }
     requires fresh { N.fresh → D.fresh lent.door.now }
     requires handed_back { N.fresh →
-        AreHandedBack so_far.old.ends.items N.closed (D.closed lent.door.now) }
+        AreServed N.most so_far.old.ends.items N.closed (D.closed lent.door.now) }
     ensures same_door { result.door.ghost_name ≡ lent.entry.door.ghost_name }
-    ensures stands { Stands N.first N.most
-        (told D.lines D.faults D.ended D.closed result.door.now) so_far.new 0 }
+    ensures stands { StandsWith N.first N.most
+        (told D.bound D.lines D.faults D.ended D.closed result.door.now) so_far.new 0 }
     ensures over { is_over so_far.new ≡ true }
     ensures stays_fresh { N.fresh → D.fresh result.door.now }
     ensures handed_back { N.fresh →
-        AreHandedBack so_far.new.ends.items N.closed (D.closed result.door.now) }
+        AreServed N.most so_far.new.ends.items N.closed (D.closed result.door.now) }
 {
-    let conns = so_far.most;
     let (out, mine) = ledger.open::<N>();
-    let begun = mem::replace(so_far, Progress::new(0, Vec::new(alloc)));
+    let begun = mem::replace(so_far, Progress::new(None, Vec::new(alloc)));
     let at = Attending {
         lent,
         so_far: begun,
     };
     let lock = Mutex::new(Kept { at, out });
-    let all = work_from(rt, &alloc, &lock, conns, mine, desks, plain);
+    let all = work_from(rt, &alloc, &lock, mine, desks, plain);
     let mut at = lock.into_inner().into_attending(all);
     attend_alone(rt, alloc, &mut at, &mut desks[0], plain);
     let Attending { lent, so_far: done } = at;
@@ -128,7 +127,6 @@ fn work_from<D: Door, K: Desk + Send, N: DoorName + Send + Sync, R: Threads + Wa
     rt: &R,
     alloc: &Global,
     lock: &Mutex<Kept<'_, D, N>>,
-    conns: u32,
     mine: Share<N>,
     desks: &mut [K],
     plain: &PlainBox,
@@ -141,7 +139,7 @@ fn work_from<D: Door, K: Desk + Send, N: DoorName + Send + Sync, R: Threads + Wa
 {
     let mut mine = mine;
     if desks.len() < 2 {
-        work(rt, *alloc, lock, conns, &mut mine, &mut desks[0], plain);
+        work(rt, *alloc, lock, &mut mine, &mut desks[0], plain);
         return mine;
     }
     let part = mine.split_off(1, 0);
@@ -151,12 +149,12 @@ fn work_from<D: Door, K: Desk + Send, N: DoorName + Send + Sync, R: Threads + Wa
         move || -> Share<N>
             requires { (part.parts ≡ 1) × (part.amount ≡ 0) × (1 ≤ length front.now) }
             ensures { (result.parts ≡ 1) × (result.amount ≡ 0) }
-        { work_one(rt, *alloc, lock, conns, part, front, plain) },
+        { work_one(rt, *alloc, lock, part, front, plain) },
         move || -> Share<N>
             requires { IsSync R.row × (mine.amount ≡ 0) × (1 ≤ length back.now)
                 × (length back.now ≤ mine.parts) }
             ensures { (result.parts ≡ mine.parts) × (result.amount ≡ 0) }
-        { work_from(rt, alloc, lock, conns, mine, back, plain) },
+        { work_from(rt, alloc, lock, mine, back, plain) },
     );
     all.merge(others);
     all
@@ -167,7 +165,6 @@ fn work_one<D: Door, K: Desk, N: DoorName, R: Wait>(
     rt: &R,
     alloc: Global,
     lock: &Mutex<Kept<'_, D, N>>,
-    conns: u32,
     mine: Share<N>,
     desks: &mut [K],
     plain: &PlainBox,
@@ -179,7 +176,7 @@ fn work_one<D: Door, K: Desk, N: DoorName, R: Wait>(
     ensures none { result.amount ≡ 0 }
 {
     let mut mine = mine;
-    work(rt, alloc, lock, conns, &mut mine, &mut desks[0], plain);
+    work(rt, alloc, lock, &mut mine, &mut desks[0], plain);
     mine
 }
 
@@ -188,7 +185,6 @@ fn work<D: Door, K: Desk, N: DoorName, R: Wait>(
     rt: &R,
     alloc: Global,
     lock: &Mutex<Kept<'_, D, N>>,
-    conns: u32,
     mine: &mut Share<N>,
     desk: &mut K,
     plain: &PlainBox,
@@ -199,7 +195,7 @@ fn work<D: Door, K: Desk, N: DoorName, R: Wait>(
     ensures none { mine.new.amount ≡ 0 }
 {
     let mut seat = plain.desk(rt);
-    for _ in 0..conns {
+    for _ in rt.forever() {
         let accepted = lock.lock(rt).accept(mine);
         let Some(mut line) = accepted else {
             return;
@@ -218,26 +214,31 @@ fn attend_alone<D: Door, K: Desk, R: Wait>(
     desk: &mut K,
     plain: &PlainBox,
 )
-    requires stands { (first : Told) × (most : ℕ) × Stands first most
-        (told D.lines D.faults D.ended D.closed at.old.lent.door.now) at.old.so_far 0 }
+    requires stands { (first : Told) × (most : Option ℕ) × StandsWith first most
+        (told D.bound D.lines D.faults D.ended D.closed at.old.lent.door.now) at.old.so_far 0 }
     ensures same_door { at.new.lent.door.ghost_name ≡ at.old.lent.door.ghost_name }
-    ensures stands { (first : Told) (most : ℕ) →
-        Stands first most (told D.lines D.faults D.ended D.closed at.old.lent.door.now)
+    ensures stands { (first : Told) (most : Option ℕ) →
+        StandsWith first most (told D.bound D.lines D.faults D.ended D.closed at.old.lent.door.now)
         at.old.so_far 0 →
-        Stands first most (told D.lines D.faults D.ended D.closed at.new.lent.door.now)
+        StandsWith first most (told D.bound D.lines D.faults D.ended D.closed at.new.lent.door.now)
         at.new.so_far 0 }
     ensures over { is_over at.new.so_far ≡ true }
     ensures stays_fresh { D.fresh at.old.lent.door.now → D.fresh at.new.lent.door.now }
     ensures handed_back { D.fresh at.old.lent.door.now →
         (before : Option (List LineRecord)) →
-        AreHandedBack at.old.so_far.ends.items before (D.closed at.old.lent.door.now) →
-        AreHandedBack at.new.so_far.ends.items before (D.closed at.new.lent.door.now) }
+        AreServed at.old.so_far.most at.old.so_far.ends.items before
+        (D.closed at.old.lent.door.now) →
+        AreServed at.old.so_far.most at.new.so_far.ends.items before
+        (D.closed at.new.lent.door.now) }
 {
     let mut seat = plain.desk(rt);
-    while let Some(line) = at.accept() {
-        let mut line = line;
+    for _ in rt.forever() {
+        let Some(mut line) = at.accept() else {
+            return;
+        };
         let end = serve_line(alloc, &mut line, desk, &mut seat);
         line.finish();
         at.hand_back(line, end);
     }
+    unreachable!()
 }

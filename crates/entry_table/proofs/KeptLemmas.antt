@@ -11,7 +11,7 @@ use Rattle.rows_model.specs.contracts.keys.QKeyPartialEq.TheImpl.{eq-value}
 use Rattle.rows_model.proofs.SameKey.{same_key-true, same_key-swap}
 use Rattle.entry_table.specs.declared.table.Held.{Held}
 use Rattle.entry_table.specs.Entries.{Item, Table, DistinctKeys, lookup, without, replaced, promoted}
-use Rattle.entry_table.specs.Kept.{shown, shown_all, shown_table}
+use Rattle.entry_table.specs.Kept.{held_item, shown_all, shown_table}
 use Rattle.entry_table.proofs.EntriesLemmas.{lookup-nil, lookup-cons, without-nil, without-cons, without-absent, replaced-nil}
 use Rattle.entry_table.proofs.EntriesLemmas.{replaced-cons, replaced-absent, promoted-absent, promoted-found}
 
@@ -37,7 +37,7 @@ pub shown_all-nil : shown_all [] ≡ []
 unfolding shown_all
 shown_all-nil = refl
 
-pub shown_all-cons : (e : QKey × Held) (es : List (QKey × Held)) → shown_all (e ∷ es) ≡ shown e ∷ shown_all es
+pub shown_all-cons : (e : QKey × Held) (es : List (QKey × Held)) → shown_all (e ∷ es) ≡ held_item e ∷ shown_all es
 unfolding shown_all
 shown_all-cons e es = refl
 
@@ -47,7 +47,7 @@ shown_all-append xs ys = rw map-append refl
 
 pub length-shown_all : (es : List (QKey × Held)) → length (shown_all es) ≡ length es
 unfolding shown_all
-length-shown_all es = length-map es shown
+length-shown_all es = length-map es held_item
 
 -- the value that the cache finds is that of the pair that it finds
 pub lookup-entry : (k : QKey) (es : List (QKey × Held)) → kept.lookup (eq k) es ≡ option_map (λ e. e.1) (kept.lookup_entry (eq k) es)
@@ -63,7 +63,7 @@ lookup-entry k (e ∷ es) = by_test (eq k e.0) (lookup-entry k es)
 pub lookup-shown_all : (k : QKey) (es : List (QKey × Held)) → lookup k (shown_all es) ≡ option_map value_of (kept.lookup_entry (eq k) es)
 lookup-shown_all k [] = rw (shown_all-nil, lookup-nil) refl
 lookup-shown_all k (e ∷ es) =
-    rw (shown_all-cons, lookup-cons k (shown e) (shown_all es), ← eq-same_key k e.0) (by_test (eq k e.0) (lookup-shown_all k es))
+    rw (shown_all-cons, lookup-cons k (held_item e) (shown_all es), ← eq-same_key k e.0) (by_test (eq k e.0) (lookup-shown_all k es))
   where
     by_test : (b : Bool) → lookup k (shown_all es) ≡ option_map value_of (kept.lookup_entry (eq k) es)
         → cond b (Some (e.1.value, e.1.stamp)) (lookup k (shown_all es)) ≡ option_map value_of (cond b (Some e) (kept.lookup_entry (eq k) es))
@@ -92,12 +92,12 @@ pub without-shown_all : (k : QKey) (es : List (QKey × Held)) → DistinctKeys (
 without-shown_all k [] h = rw (shown_all-nil, without-nil) refl
 without-shown_all k (e ∷ es) h =
     let apart = rw shown_all-cons at h in
-    rw (shown_all-cons e es, without-cons k (shown e) (shown_all es), ← eq-same_key k e.0) (by_test (eq k e.0) refl apart.0 (without-shown_all k es apart.1))
+    rw (shown_all-cons e es, without-cons k (held_item e) (shown_all es), ← eq-same_key k e.0) (by_test (eq k e.0) refl apart.0 (without-shown_all k es apart.1))
   where
     by_test : (b : Bool) → eq k e.0 ≡ b → lookup e.0 (shown_all es) ≡ None → without k (shown_all es) ≡ shown_all (kept.remove_entry (eq k) es)
-        → cond b (without k (shown_all es)) (shown e ∷ without k (shown_all es)) ≡ shown_all (cond b es (e ∷ kept.remove_entry (eq k) es))
+        → cond b (without k (shown_all es)) (held_item e ∷ without k (shown_all es)) ≡ shown_all (cond b es (e ∷ kept.remove_entry (eq k) es))
     by_test true hit fresh rest = without-absent k (shown_all es) (ap (λ (x : QKey). lookup x (shown_all es)) (sym (eq-true k e.0 hit)) ∙ fresh)
-    by_test false miss fresh rest = ap (λ (l : List Item). shown e ∷ l) rest ∙ sym (shown_all-cons e (kept.remove_entry (eq k) es))
+    by_test false miss fresh rest = ap (λ (l : List Item). held_item e ∷ l) rest ∙ sym (shown_all-cons e (kept.remove_entry (eq k) es))
 
 -- and once the value of a key was written
 pub replaced-shown_all : (k : QKey) (w : Held) (es : List (QKey × Held))
@@ -107,17 +107,17 @@ replaced-shown_all k w (e ∷ es) h =
     let apart = rw shown_all-cons at h in
     rw (
       shown_all-cons e es,
-      replaced-cons k w.value w.stamp (shown e) (shown_all es),
+      replaced-cons k w.value w.stamp (held_item e) (shown_all es),
       ← eq-same_key k e.0,
     ) (by_test (eq k e.0) refl apart.0 (replaced-shown_all k w es apart.1))
   where
     by_test : (b : Bool) → eq k e.0 ≡ b → lookup e.0 (shown_all es) ≡ None → replaced k w.value w.stamp (shown_all es) ≡ shown_all (kept.set_value (eq k) es w)
-        → cond b (e.0, w.value, w.stamp) (shown e) ∷ replaced k w.value w.stamp (shown_all es)
+        → cond b (e.0, w.value, w.stamp) (held_item e) ∷ replaced k w.value w.stamp (shown_all es)
         ≡ shown_all (cond b ((e.0, w) ∷ es) (e ∷ kept.set_value (eq k) es w))
     by_test true hit fresh rest =
         ap (λ (l : List Item). (e.0, w.value, w.stamp) ∷ l) (replaced-absent k w.value w.stamp
         (shown_all es) (ap (λ (x : QKey). lookup x (shown_all es)) (sym (eq-true k e.0 hit)) ∙ fresh)) ∙ sym (shown_all-cons (e.0, w) es)
-    by_test false miss fresh rest = ap (λ (l : List Item). shown e ∷ l) rest ∙ sym (shown_all-cons e (kept.set_value (eq k) es w))
+    by_test false miss fresh rest = ap (λ (l : List Item). held_item e ∷ l) rest ∙ sym (shown_all-cons e (kept.set_value (eq k) es w))
 
 -- a pair in front of the others, where it has the key and they haven't
 pub shown_all-front : (k : QKey) (e : QKey × Held) (es : List (QKey × Held))

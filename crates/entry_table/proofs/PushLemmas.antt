@@ -12,7 +12,7 @@ use Rattle.rows_model.specs.Key.{same_key}
 use Rattle.rows_model.proofs.SameKey.{same_key-refl}
 use Rattle.entry_table.specs.declared.table.Held.{Held}
 use Rattle.entry_table.specs.Entries.{Item, Table, IsSound, lookup, without}
-use Rattle.entry_table.specs.Kept.{shown, shown_all, shown_table, dropped_for}
+use Rattle.entry_table.specs.Kept.{held_item, shown_all, shown_table, dropped_for}
 use Rattle.entry_table.proofs.EntriesLemmas.{lookup-cons, without-absent, absent-parts, IsSound-put, IsSound-added, IsSound-pushed}
 use Rattle.entry_table.proofs.KeptLemmas.{eq, value_of, shown_all-nil, shown_all-cons, shown_all-append, length-shown_all, lookup-entry}
 use Rattle.entry_table.proofs.KeptLemmas.{lookup-shown_all, key-lookup_entry, shown_all-front, table_of}
@@ -54,13 +54,13 @@ absent-one k e absent = by_test (same_key e.0 k) (sym (lookup-cons k e []) ∙ a
 shows_own : (k : QKey) (old : Held) → dropped_for k (Some (k, old)) ≡ None
 shows_own k old = rw (same_key-refl k) refl
 
-shows_other : (k : QKey) (e : QKey × Held) → same_key e.0 k ≡ false → dropped_for k (Some e) ≡ Some (shown e)
+shows_other : (k : QKey) (e : QKey × Held) → same_key e.0 k ≡ false → dropped_for k (Some e) ≡ Some (held_item e)
 shows_other k e other = rw other refl
 
 -- the entries with one more behind them
-shown_all-last : (init : List (QKey × Held)) (last : QKey × Held) → shown_all (init ++ last ∷ []) ≡ shown_all init ++ shown last ∷ []
+shown_all-last : (init : List (QKey × Held)) (last : QKey × Held) → shown_all (init ++ last ∷ []) ≡ shown_all init ++ held_item last ∷ []
 shown_all-last init last = shown_all-append init (last ∷ [])
-    ∙ ap (λ (l : List Item). shown_all init ++ l) (shown_all-cons last [] ∙ ap (λ (l : List Item). shown last ∷ l) shown_all-nil)
+    ∙ ap (λ (l : List Item). shown_all init ++ l) (shown_all-cons last [] ∙ ap (λ (l : List Item). held_item last ∷ l) shown_all-nil)
 
 -- where the key is there, its pair goes to the front
 own : (k : QKey) (w : Held) (room : ℕ) (es : List (QKey × Held)) (e : QKey × Held) → kept.lookup_entry (eq k) es ≡ Some e
@@ -88,24 +88,24 @@ own k w room es e at sound =
 
 -- the look-up of a key that isn't there, before a last entry and at it
 absent-last : (k : QKey) (init : List (QKey × Held)) (last : QKey × Held)
-    → lookup k (shown_all (init ++ last ∷ [])) ≡ None → (lookup k (shown_all init ++ shown last ∷ []) ≡ None) × (same_key last.0 k ≡ false)
+    → lookup k (shown_all (init ++ last ∷ [])) ≡ None → (lookup k (shown_all init ++ held_item last ∷ []) ≡ None) × (same_key last.0 k ≡ false)
 absent-last k init last absent =
-    let whole : lookup k (shown_all init ++ shown last ∷ []) ≡ None = ap (lookup k) (sym (shown_all-last init last)) ∙ absent in
-    (whole, absent-one k (shown last) (absent-parts k (shown_all init) (shown last ∷ []) whole).1)
+    let whole : lookup k (shown_all init ++ held_item last ∷ []) ≡ None = ap (lookup k) (sym (shown_all-last init last)) ∙ absent in
+    (whole, absent-one k (held_item last) (absent-parts k (shown_all init) (held_item last ∷ []) whole).1)
 
 -- a key that isn't there, where the cache is full and drops its last entry
 evicting : (k : QKey) (w : Held) (room : ℕ) (init : List (QKey × Held)) (last : QKey × Held) → lookup k (shown_all (init ++ last ∷ [])) ≡ None
     → length (init ++ last ∷ []) ≡ room → IsSound (table_of room (shown_all (init ++ last ∷ [])))
-    → IsPut k w (table_of room (shown_all (init ++ last ∷ []))) (table_of room (shown_all ((k, w) ∷ init))) (Some (shown last))
+    → IsPut k w (table_of room (shown_all (init ++ last ∷ []))) (table_of room (shown_all ((k, w) ∷ init))) (Some (held_item last))
 evicting k w room init last absent full sound =
     let split = shown_all-last init last in
     let front = shown_all-cons (k, w) init in
     record {
-      list = ap (λ (l : List Item). l ++ shown last ∷ []) front ∙ (ap (λ (l : List Item). (k, w.value, w.stamp) ∷ l) (sym split)
+      list = ap (λ (l : List Item). l ++ held_item last ∷ []) front ∙ (ap (λ (l : List Item). (k, w.value, w.stamp) ∷ l) (sym split)
           ∙ ap (λ (l : List Item). (k, w.value, w.stamp) ∷ l) (sym (without-absent k (shown_all (init ++ last ∷ [])) absent)));
       drops = ((λ _. (ap is_some absent, length-shown_all (init ++ last ∷ []) ∙ full)), (λ _. refl));
       sound = subst (λ (l : List Item). IsSound (table_of room l)) (sym front)
-          (IsSound-pushed k w.value w.stamp room (shown_all init) (shown last)
+          (IsSound-pushed k w.value w.stamp room (shown_all init) (held_item last)
           (absent-last k init last absent).0 (subst (λ (l : List Item). IsSound (table_of room l)) split sound));
     }
 
@@ -139,9 +139,9 @@ at_last k w room es (Some last) at absent sound =
     × (length l ≡ room) × IsSound (table_of room (shown_all l))) split (absent, full, sound) in
     let put = evicting k w room (take (room - 1) es) last as_split.0 as_split.1 as_split.2 in
     let other : same_key last.0 k ≡ false = (absent-last k (take (room - 1) es) last as_split.0).1 in
-    let shows : dropped_for k (Some last) ≡ Some (shown last) = shows_other k last other in
+    let shows : dropped_for k (Some last) ≡ Some (held_item last) = shows_other k last other in
     subst (λ (d : Option Item). IsPut k w (table_of room (shown_all es)) (table_of room (shown_all ((k, w) ∷ take (room - 1) es))) d) (sym shows)
-    (subst (λ (l : List (QKey × Held)). IsPut k w (table_of room (shown_all l)) (table_of room (shown_all ((k, w) ∷ take (room - 1) es))) (Some (shown last)))
+    (subst (λ (l : List (QKey × Held)). IsPut k w (table_of room (shown_all l)) (table_of room (shown_all ((k, w) ∷ take (room - 1) es))) (Some (held_item last)))
     (sym split) put)
 
 -- what `push` leaves and answers is what `put` owes

@@ -6,12 +6,12 @@ use Rattle.entry_table.specs.declared.table.Held.{Held}
 use Rattle.entry_table.specs.Entries.{Item, Table}
 
 -- an entry of the cache as callers see it
-abbrev pub shown : QKey × Held → Item
-shown e = (e.0, e.1.value, e.1.stamp)
+abbrev pub held_item : QKey × Held → Item
+held_item e = (e.0, e.1.value, e.1.stamp)
 
 -- the entries of the cache as callers see them, in the same order
 unfoldable pub shown_all : List (QKey × Held) → List Item
-shown_all entries = map shown entries
+shown_all entries = map held_item entries
 
 -- the cache as callers see it
 abbrev pub shown_table : LruCache QKey Held → Table
@@ -20,4 +20,4 @@ shown_table cache = record { room = cache.cap; list = shown_all cache.entries }
 -- what a full cache dropped for a key, of what `push` answers: that may be the key's own entry too
 abbrev pub dropped_for : QKey → Option (QKey × Held) → Option Item
 dropped_for key None = None
-dropped_for key (Some e) = if same_key e.0 key then None else Some (shown e)
+dropped_for key (Some e) = if same_key e.0 key then None else Some (held_item e)

@@ -17,7 +17,7 @@ fn main(rt: HostRuntime) -> ExitCode {
             let keeper = SqliteKeeper::new(&rt);
             let mut door = TcpDoor::new(&rt);
             let clock = RuntimeClock::new(&rt);
-            let end = run(
+            let mut end = run(
                 &rt,
                 rt.alloc(),
                 words.as_slice(),

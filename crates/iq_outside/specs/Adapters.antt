@@ -18,8 +18,9 @@ pub record TcpLineView : Type 0 where
   pub write_faults : ℕ
   pub finished : Bool
 
--- a door over TCP: how often it failed, and how many lines it gave
+-- a door over TCP: the address that it is bound to, how often it failed, and how many lines it gave
 pub record TcpDoorView : Type 0 where
+  pub bound : Option (List ℕ)
   pub faults : ℕ
   pub given : ℕ
 

@@ -27,10 +27,11 @@ pub record LineView : Type 0 where
   pub sink : SinkView
   pub finished : Bool
 
--- a door in memory: the lines that it has yet to give, the lines closed and kept, whether each line that was closed
+-- a door in memory: the address that it is bound to, the lines that it has yet to give, the lines closed and kept, whether each line that was closed
 -- was kept, how many it keeps, the numbers of the calls that fail, how many calls and faults there were, how many
 -- lines it gave, and whether it has answered that no more come
 pub record ListDoorView : Type 0 where
+  pub bound : Option (List ℕ)
   pub waiting : List LineView
   pub closed : List LineView
   pub all_kept : Bool

@@ -1,4 +1,4 @@
-use Rattle.std.specs.Prelude.{◌≡◌, ℕ, ◌+◌, ◌-◌, ◌^◌, ◌<◌, ◌≤◌, ◌⊎◌, ◌↔◌, min, List, [], ◌∷◌, ◌++◌, length, Option, Some, None}
+use Rattle.std.specs.Prelude.{◌≡◌, ℕ, ◌+◌, ◌-◌, ◌^◌, ◌<◌, ◌≤◌, ◌⊎◌, ◌↔◌, min, List, [], ◌∷◌, ◌++◌, length, map, Option, Some, None}
 use Rattle.std.specs.Option.{option_map, ForSome}
 
 -- a count of faults rose in a call: it is greater after it, or stands at the end of its type
@@ -32,6 +32,10 @@ ZeroAtEnd left n = ForSome left (λ rest. (n ≡ 0) ↔ (rest ≡ []))
 -- these bytes were appended to what a sink had taken, where it tells that
 abbrev pub Gains : Option (List ℕ) → Option (List ℕ) → List ℕ → Type 0
 Gains taken_old taken_new bytes = taken_new ≡ option_map (λ taken. taken ++ bytes) taken_old
+
+-- the first of each pair
+abbrev pub firsts : List (ℕ × Unit {0}) → List ℕ
+firsts pairs = map (λ pair. pair.0) pairs
 
 -- what a line tells of its reading: the bytes left, the bytes given so far, and how often a read failed
 pub record ReadSide : Type 0 where

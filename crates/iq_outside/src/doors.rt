@@ -1,4 +1,4 @@
-ghost use Rattle.std.specs.Prelude.{◌≡◌, ℕ, ◌≤◌, ◌||◌, Bool, true, List, Option, is_none, IfSome, IfOk, OnOk, OnErr};
+ghost use Rattle.std.specs.Prelude.{◌≡◌, ℕ, ◌≤◌, ◌||◌, Bool, true, List, Option, Some, is_none, IfSome, IfOk, OnOk, OnErr};
 ghost use Rattle.iq_outside.specs.Outside.{Rose, IsFresh, LineRecord, HandedBack, lines_with};
 
 use crate::failures::Failed;
@@ -6,13 +6,16 @@ use crate::lines::Line;
 
 /// Where connections come in.
 ///
-/// Contracts see five things of a door. `faults` is how often it failed: the count rises at each
+/// Contracts see six things of a door. `bound` is the address that it is open at, `None` before it is
+/// open. `faults` is how often it failed: the count rises at each
 /// call that fails, until the end of its type, and at no other. `lines` is how many lines it gave, up
 /// to 2^64 - 1, and `ended` whether an `accept` has answered None. A door of which `fresh` holds
 /// gives only lines that have given and taken nothing, where they tell that; no call ends this.
 /// `closed` is what the lines handed back told then, in order, or `None` where it isn't told.
 pub trait Door: Send {
     type Line: Line + Send;
+
+    ghost bound: { Self → Option (List ℕ) };
 
     ghost faults: { Self → ℕ };
 
@@ -24,8 +27,11 @@ pub trait Door: Send {
 
     ghost closed: { Self → Option (List LineRecord) };
 
-    /// Opens the door at this address. It may wait.
+    /// Opens the door at this address. A door that can't be opened there is open where it was. It may
+    /// wait.
     fn bind(&mut self, addr: &[u8]) -> Result<(), Failed>
+        ensures bound { OnOk result (bound self.new ≡ Some addr.now) }
+        ensures not_bound { OnErr result (bound self.new ≡ bound self.old) }
         ensures failed_rose { OnErr result (Rose (faults self.old) (faults self.new)) }
         ensures no_fault { OnOk result (faults self.new ≡ faults self.old) }
         ensures never_falls { faults self.old ≤ faults self.new }
@@ -36,6 +42,7 @@ pub trait Door: Send {
 
     /// Waits for the next connection, and answers None where no more come.
     fn accept(&mut self) -> Result<Option<Self::Line>, Failed>
+        ensures stays_bound { bound self.new ≡ bound self.old }
         ensures failed_rose { OnErr result (Rose (faults self.old) (faults self.new)) }
         ensures no_fault { OnOk result (faults self.new ≡ faults self.old) }
         ensures never_falls { faults self.old ≤ faults self.new }
@@ -54,6 +61,7 @@ pub trait Door: Send {
     /// the door tells what the lines handed back told, what this one tells is the last of it.
     fn close(&mut self, line: Self::Line)
         requires finished { Self.Line.finished line ≡ true }
+        ensures stays_bound { bound self.new ≡ bound self.old }
         ensures no_fault { faults self.new ≡ faults self.old }
         ensures no_line { lines self.new ≡ lines self.old }
         ensures no_end { ended self.new ≡ ended self.old }

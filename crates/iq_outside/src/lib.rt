@@ -21,6 +21,7 @@ pub use sources::Source;
 pub use tcp::{TcpDoor, TcpLine};
 
 pub mod adapters;
+mod addresses;
 pub mod clocks;
 pub mod copying;
 pub mod doors;

@@ -1,7 +1,8 @@
-ghost use Rattle.std.specs.Prelude.{◌≡◌, ℕ, ◌≤◌, ◌↔◌, ◌⊎◌, ◌∷◌, ◌++◌, List, [], Bool, true, false, length, reverse, IsErr, IfOk, OnOk, OnErr, IfSome, IfNone, IsNone, MatchOption, Contains, All, if◌then◌else◌, nat_lt};
+ghost use Rattle.std.specs.Prelude.{◌≡◌, ℕ, ◌≤◌, ◌↔◌, ◌⊎◌, ◌∷◌, ◌++◌, List, [], Bool, true, false, Some, None, length, reverse, IsErr, IfOk, OnOk, OnErr, IfSome, IfNone, IsNone, MatchOption, Contains, All, if◌then◌else◌, nat_lt};
 ghost use Rattle.iq_outside.specs.Outside.{Rose, IsFresh, HandedBack, count_up};
 ghost use Rattle.iq_outside.specs.MemoryForms.{IsUnused, kept_lines, line_record};
 
+use crate::addresses::Address;
 use crate::doors::Door;
 use crate::failures::Failed;
 use crate::memory_lines::MemLine;
@@ -13,6 +14,7 @@ use std::marker::Model;
 /// calls that it was told to fail at; a call that fails gives no line.
 #[derive(Drop)]
 pub struct ListDoor {
+    at: Option<Address>,
     // The lines that it has yet to give, the next one last.
     waiting: Vec<MemLine>,
     closed: Vec<MemLine>,
@@ -32,6 +34,7 @@ impl Model for ListDoor {
     ghost Value = { ListDoorView };
 
     ghost view = { λ d. record {
+      bound = d.at;
       waiting = reverse d.waiting.items;
       closed = d.closed.items;
       all_kept = d.all_kept;
@@ -52,6 +55,7 @@ impl ListDoor {
     /// keeps as many closed lines as it is given lines.
     pub fn new(alloc: Global, mut lines: Vec<MemLine>, fails: Vec<u64>) -> Result<ListDoor, Memory>
         ensures { IfOk result (λ door. door ≡ record {
+          bound = None;
           waiting = lines.items;
           closed = [];
           all_kept = true;
@@ -67,6 +71,7 @@ impl ListDoor {
         let closed = Vec::with_capacity(alloc, room)?;
         lines.reverse();
         Ok(ListDoor {
+            at: None,
             waiting: lines,
             closed,
             all_kept: true,
@@ -109,6 +114,8 @@ impl ListDoor {
 impl Door for ListDoor {
     type Line = MemLine;
 
+    ghost bound = { λ door. door.bound };
+
     ghost faults = { λ door. door.faults };
 
     ghost lines = { λ door. door.given };
@@ -119,8 +126,10 @@ impl Door for ListDoor {
 
     ghost closed = { kept_lines };
 
-    /// Fails exactly at the calls whose numbers it was given. Nothing is looked at in the address.
-    fn bind(&mut self, _addr: &[u8]) -> Result<(), Failed>
+    /// Fails exactly at the calls whose numbers it was given. Any address will do.
+    fn bind(&mut self, addr: &[u8]) -> Result<(), Failed>
+        ensures bound { OnOk result (self.new.bound ≡ Some addr.now) }
+        ensures not_bound { OnErr result (self.new.bound ≡ self.old.bound) }
         ensures failed_rose { OnErr result (Rose self.old.faults self.new.faults) }
         ensures no_fault { OnOk result (self.new.faults ≡ self.old.faults) }
         ensures never_falls { self.old.faults ≤ self.new.faults }
@@ -128,17 +137,21 @@ impl Door for ListDoor {
 
         ensures fails { IsErr result ↔ Contains self.old.fails (count_up self.old.calls) }
         ensures rest { self.new ≡ record self.old {
+          bound = self.new.bound;
           calls = count_up self.old.calls;
           faults = self.new.faults;
         } }
         ensures err { OnErr result (self.new.faults ≡ count_up self.old.faults) }
     {
-        self.count_call()
+        self.count_call()?;
+        self.at = Some(Address::of(addr));
+        Ok(())
     }
 
     /// Fails exactly at the calls whose numbers it was given, and else gives the next of its lines,
     /// and None exactly where it has given all.
     fn accept(&mut self) -> Result<Option<MemLine>, Failed>
+        ensures stays_bound { self.new.bound ≡ self.old.bound }
         ensures failed_rose { OnErr result (Rose self.old.faults self.new.faults) }
         ensures no_fault { OnOk result (self.new.faults ≡ self.old.faults) }
         ensures never_falls { self.old.faults ≤ self.new.faults }
@@ -180,6 +193,7 @@ impl Door for ListDoor {
     /// and no longer tells the lines handed back then.
     fn close(&mut self, line: MemLine)
         requires { line.finished ≡ true }
+        ensures stays_bound { self.new.bound ≡ self.old.bound }
         ensures stays_fresh { All IsUnused self.old.waiting → All IsUnused self.new.waiting }
         ensures handed_back { HandedBack (kept_lines self.old) (kept_lines self.new)
             (line_record line) }

@@ -1,9 +1,10 @@
-ghost use Rattle.std.specs.Prelude.{◌≡◌, ◌<◌, ◌≤◌, None, is_none, true, false, length, refl, IfOk, OnOk, OnErr, IfSome};
+ghost use Rattle.std.specs.Prelude.{◌≡◌, ◌<◌, ◌≤◌, None, is_none, true, false, length, refl, Some, IfOk, OnOk, OnErr, IfSome};
 ghost use Rattle.std.specs.IoError.{raw_os_error};
 ghost use Rattle.iq_outside.specs.Adapters.{is_passing};
 ghost use Rattle.iq_outside.specs.Outside.{Rose, count_up, lines_with};
 
 use crate::adapters::{bytes_given, bytes_taken};
+use crate::addresses::Address;
 use crate::doors::Door;
 use crate::failures::Failed;
 use crate::lines::Line;
@@ -20,6 +21,15 @@ const READ_SECONDS: u64 = 300;
 
 /// How long a write waits for the peer, in seconds.
 const WRITE_SECONDS: u64 = 30;
+
+/// How long a line that is ended waits for what the peer still sends, each time, in milliseconds.
+const LINGER: u64 = 500;
+
+/// How often it does so at most.
+const MOST_LINGERS: u32 = 240;
+
+/// How many bytes it reads and drops each time, at most.
+const DROPPED: usize = 65_536;
 
 /// How long the first pause is after an error that passes, in milliseconds.
 const FIRST_PAUSE: u64 = 1;
@@ -160,46 +170,77 @@ impl Line for TcpLine {
 
     ghost finished = { λ line. line.finished };
 
-    /// Shuts the stream down both ways and closes it, where it isn't yet. Its descriptor is free then,
-    /// before the line is handed back.
+    /// Ends the stream and closes it, where it isn't yet. The peer is told first that no more comes, and
+    /// what it still sends is dropped for a while, so that the last reply reaches it. Its descriptor is
+    /// free then, before the line is handed back. It may wait for two minutes, where the peer goes on.
     fn finish(&mut self)
         ensures { self.new ≡ record self.old { finished = true } }
     {
         if let Some(stream) = self.stream.take() {
-            let _ = stream.shutdown(Shutdown::Both);
+            end_stream(stream);
         }
     }
 }
 
+/// Writes no more to the stream, and reads and drops what the peer still sends. That ends where the peer
+/// ends too, or nothing comes for half a second, or it was done 240 times. Were a stream closed with
+/// bytes that nobody read, the system would take back what the peer hasn't got yet.
+fn end_stream(stream: TcpStream) {
+    let mut stream = stream;
+    let _ = stream.shutdown(Shutdown::Write);
+    let _ = stream.set_read_timeout(Some(Duration::from_millis(LINGER)));
+    let mut room = [0; DROPPED];
+    for _ in 0..MOST_LINGERS {
+        match stream.read(&mut room) {
+            Ok(0) => break,
+            Ok(_) => {}
+            Err(_) => break,
+        }
+    }
+    let _ = stream.shutdown(Shutdown::Both);
+}
+
+/// A listener, and the address that it was asked to listen at.
+#[derive(Drop)]
+struct Listening {
+    listener: TcpListener,
+    at: Address,
+}
+
 /// A door over TCP. Each error of the system that doesn't pass counts as a fault, as does an address
 /// that isn't UTF-8, and an `accept` before the door is bound. It never tells that no more connections
-/// come, and it tells nothing of the lines that were handed back. Contracts see the count of faults and
-/// how many lines it gave.
+/// come, and it tells nothing of the lines that were handed back. Contracts see the address that it is
+/// bound to, the count of faults, and how many lines it gave.
 #[derive(Drop)]
 pub struct TcpDoor<'a, R: Net<Listener = TcpListener, Stream = TcpStream> + time::Clock + Sync> {
     rt: &'a R,
-    listener: Option<TcpListener>,
+    listening: Option<Listening>,
     faults: u64,
     given: u64,
 }
 
 impl<'a, R: Net<Listener = TcpListener, Stream = TcpStream> + time::Clock + Sync> Model
     for TcpDoor<'a, R> {
+    ghost use Rattle.std.specs.Option.{option_map};
     ghost use Rattle.iq_outside.specs.Adapters.{TcpDoorView};
 
     ghost Value = { TcpDoorView };
 
-    ghost view = { λ door. record { faults = door.faults; given = door.given } };
+    ghost view = { λ door. record {
+      bound = option_map (λ listening. listening.at) door.listening;
+      faults = door.faults;
+      given = door.given;
+    } };
 }
 
 impl<'a, R: Net<Listener = TcpListener, Stream = TcpStream> + time::Clock + Sync> TcpDoor<'a, R> {
     /// A door over this runtime's network, not bound yet.
     pub fn new(rt: &'a R) -> TcpDoor<'a, R>
-        ensures { result ≡ record { faults = 0; given = 0 } }
+        ensures { result ≡ record { bound = None; faults = 0; given = 0 } }
     {
         TcpDoor {
             rt,
-            listener: None,
+            listening: None,
             faults: 0,
             given: 0,
         }
@@ -214,7 +255,7 @@ impl<'a, R: Net<Listener = TcpListener, Stream = TcpStream> + time::Clock + Sync
 
     /// The port that it is bound to, and None where it isn't bound or the system can't tell.
     pub fn port(&self) -> Option<u16> {
-        match self.listener.as_ref()?.local_addr() {
+        match self.listening.as_ref()?.listener.local_addr() {
             Ok(addr) => Some(addr.port()),
             Err(_) => None,
         }
@@ -224,6 +265,8 @@ impl<'a, R: Net<Listener = TcpListener, Stream = TcpStream> + time::Clock + Sync
 impl<'a, R: Net<Listener = TcpListener, Stream = TcpStream> + time::Clock + Sync> Door
     for TcpDoor<'a, R> {
     type Line = TcpLine;
+
+    ghost bound = { λ door. door.bound };
 
     ghost faults = { λ door. door.faults };
 
@@ -238,6 +281,8 @@ impl<'a, R: Net<Listener = TcpListener, Stream = TcpStream> + time::Clock + Sync
     /// Listens at this address, a host and a port with a colon between. A door that was bound before
     /// no longer listens there, once it listens here.
     fn bind(&mut self, addr: &[u8]) -> Result<(), Failed>
+        ensures bound { OnOk result (self.new.bound ≡ Some addr.now) }
+        ensures not_bound { OnErr result (self.new.bound ≡ self.old.bound) }
         ensures failed_rose { OnErr result (Rose self.old.faults self.new.faults) }
         ensures never_falls { self.old.faults ≤ self.new.faults }
         ensures no_line { self.new.given ≡ self.old.given }
@@ -245,9 +290,10 @@ impl<'a, R: Net<Listener = TcpListener, Stream = TcpStream> + time::Clock + Sync
 
         ensures err { OnErr result (self.new.faults ≡ count_up self.old.faults) }
     {
-        if let Ok(addr) = str::from_utf8(addr) {
-            if let Ok(listener) = TcpListener::bind(self.rt, addr) {
-                self.listener = Some(listener);
+        if let Ok(text) = str::from_utf8(addr) {
+            if let Ok(listener) = TcpListener::bind(self.rt, text) {
+                let at = Address::of(addr);
+                self.listening = Some(Listening { listener, at });
                 return Ok(());
             }
         }
@@ -259,6 +305,7 @@ impl<'a, R: Net<Listener = TcpListener, Stream = TcpStream> + time::Clock + Sync
     /// descriptor does, is waited out and doesn't count: the pauses grow to 100 milliseconds, for about
     /// a day. The door fails where an error stays.
     fn accept(&mut self) -> Result<Option<TcpLine>, Failed>
+        ensures stays_bound { self.new.bound ≡ self.old.bound }
         ensures failed_rose { OnErr result (Rose self.old.faults self.new.faults) }
         ensures never_falls { self.old.faults ≤ self.new.faults }
         ensures no_fault { OnOk result (self.new.faults ≡ self.old.faults) }
@@ -271,8 +318,8 @@ impl<'a, R: Net<Listener = TcpListener, Stream = TcpStream> + time::Clock + Sync
             (λ line. line ≡ record { read_faults = 0; write_faults = 0; finished = false })) }
         ensures err { OnErr result (self.new.faults ≡ count_up self.old.faults) }
     {
-        if let Some(listener) = &self.listener {
-            if let Some(stream) = next_stream(self.rt, listener) {
+        if let Some(listening) = &self.listening {
+            if let Some(stream) = next_stream(self.rt, &listening.listener) {
                 self.given = self.given.saturating_add(1);
                 return Ok(Some(TcpLine::new(stream)));
             }

@@ -19,7 +19,7 @@ use Rattle.key_shard.specs.declared.outs.Out.{Out}
 use Rattle.rows_model.specs.declared.keys.QKey.{QKey}
 use Rattle.rows_model.specs.declared.keys.Sid.{Sid}
 use Rattle.key_shard.specs.declared.steps.Step.{Step}
-use Rattle.key_shard.specs.declared.steps.Step.TheVariants.{Hit, Granted}
+use Rattle.key_shard.specs.declared.steps.Step.TheVariants.{Granted}
 use Rattle.key_shard.specs.Histories.{gone_after}
 use Rattle.key_shard.specs.Shards.{ShardView, rolled, stepped, out_after}
 use Rattle.key_shard.specs.Past.{Terms, standing, quar_of, draws, next_token}
@@ -42,14 +42,6 @@ IsOut-later terms past step stood out h =
 
 pub steps-pushed : (history new : List Step) (step : Step) → new ≡ history ++ step ∷ [] → reverse new ≡ step ∷ reverse history
 steps-pushed history new step e = ap reverse e ∙ reverse-append history (step ∷ [])
-
--- the history behind a hit
-pub hit-pushed : (old mid new : List Step) (key : QKey) (who : Sid) (floor : ℕ) (v w : List ℕ) (s : ℕ) (found : List ℕ × ℕ)
-    → new ≡ mid ++ Hit key who floor w s ∷ [] → mid ≡ old → w ≡ v → Some (v, s) ≡ Some found → new ≡ old ++ Hit key who floor found.0 found.1 ∷ []
-hit-pushed old mid new key who floor v w s found pushed before copied there =
-    let e : (v, s) ≡ found = cc in
-    pushed ∙ ap (λ h. h ++ Hit key who floor w s ∷ []) before ∙ ap (λ x. old ++ Hit key who floor x s ∷ []) copied
-    ∙ ap (λ (f : List ℕ × ℕ). old ++ Hit key who floor f.0 f.1 ∷ []) e
 
 -- each quarantine that stands has a grant that is out, where a step adds no quarantine
 pub held-later : (past : List Step) (step : Step) → AddsNone past step → (outs : List Out) → AreHeld past outs → AreHeld (step ∷ past) outs

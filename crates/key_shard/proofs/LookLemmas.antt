@@ -1,6 +1,6 @@
 -- What a get finds, by the row of the grid and the entry.
 use Rattle.std.proofs.Common.{◌≡◌, ◌<◌, ◌≤◌, ◌+◌, ◌&&◌, ℕ, Bool, true, false, not, cond, List, [], ◌∷◌, map, find, filter, Option, Some, None}
-use Rattle.std.proofs.Common.{option_map, refl, sym, ap, ◌∙◌, arith}
+use Rattle.std.proofs.Common.{option_map, nat_le, refl, sym, ap, ◌∙◌, arith}
 use Rattle.std.specs.List.{list_all, list_any}
 use Rattle.rows_model.specs.declared.keys.QKey.{QKey}
 use Rattle.rows_model.specs.declared.keys.Sid.{Sid}
@@ -172,3 +172,35 @@ look-Quars terms past key who floor now row e some free missed =
     missed-by terms past key who floor now verdicts.Wait none missed waits
     ∙ ap (Again key who floor now)
     (some-stands (standing key past) (λ nothing. quars.1 (ap (λ qs. map (λ quar. way_of quar.mode) (filter (λ quar. not (is_of who quar)) qs)) nothing)))
+
+-- a hit is one at any time
+module _ (terms : Terms) (past : List Step) (key : QKey) (who : Sid) (floor n m : ℕ) (value : List ℕ) (stamp : ℕ) where
+  abbrev hit : Step
+  hit = Hit key who floor value stamp
+
+  by-verdict : (v : Verdict) → miss_by terms past key who floor n v ≡ hit → miss_step terms past key who floor m ≡ hit
+  by-verdict verdicts.Give e = cc
+  by-verdict verdicts.Wait e = cc
+  by-verdict verdicts.Own e = cc
+  by-verdict verdicts.Void e = cc
+  by-verdict verdicts.Join e = cc
+  by-verdict verdicts.Same e = cc
+  by-verdict verdicts.Refuse e = cc
+  by-verdict verdicts.Raise e = cc
+  by-verdict verdicts.Gone e = cc
+
+  by-found : (o : Option (List ℕ × ℕ)) → found_step terms past key who floor n o ≡ hit → found_step terms past key who floor m o ≡ hit
+  by-found None e = by-verdict (verdict (seen_by key who n past) read) e
+  by-found (Some f) e = by-fresh (nat_le floor f.1) e
+    where
+      by-fresh : (b : Bool) → cond b (Hit key who floor f.0 f.1) (miss_step terms past key who floor n) ≡ hit
+          → cond b (Hit key who floor f.0 f.1) (miss_step terms past key who floor m) ≡ hit
+      by-fresh true k = k
+      by-fresh false k = by-verdict (verdict (seen_by key who n past) read) k
+
+  by-own : (own : Option Quar) → get_by terms past key who floor n own ≡ hit → get_by terms past key who floor m own ≡ hit
+  by-own (Some q) e = cc
+  by-own None e = by-found (entry key past) e
+
+  pub hit-at-any-time : get_step terms past key who floor n ≡ hit → get_step terms past key who floor m ≡ hit
+  hit-at-any-time e = by-own (own_of key who past) e

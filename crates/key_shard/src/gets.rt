@@ -1,6 +1,6 @@
-ghost use Rattle.std.specs.Prelude.{◌≡◌, List, ℕ, Some, OnOk, OnErr, IfOk};
+ghost use Rattle.std.specs.Prelude.{◌≡◌, ℕ, Some, OnOk, OnErr, IfOk, IfSome, IfNone};
 ghost use Rattle.case_tables.specs.Compatibility.{verdict, read};
-ghost use Rattle.key_shard.specs.Answers.{Answers, get_step};
+ghost use Rattle.key_shard.specs.Answers.{Answers, IsAtHome, get_step};
 ghost use Rattle.key_shard.specs.Kept.{IsKept, shown, steps_of, terms_of};
 ghost use Rattle.key_shard.specs.Past.{deadline_at, entry, next_token, seen_by};
 ghost use Rattle.key_shard.specs.Replies.{ShowsGot};
@@ -11,12 +11,13 @@ use crate::bodies::Body;
 use crate::lookups::Look;
 use crate::replies::{Got, ShardFault};
 use crate::steps::{Stands, Step};
-use rows_model::{Memory, QKey, Sid};
+use rows_model::{Memory, QKey, Sid, Value};
 
 impl Body {
-    /// Gets a key, as a shard does.
+    /// Gets a key of the shard, as it does.
     pub fn get(&mut self, key: QKey, who: Sid, floor: u64, now: u64) -> Result<Got, ShardFault>
-        requires { IsKept self.old }
+        requires kept { IsKept self.old }
+        requires home { IsAtHome (terms_of self.old) key }
         ensures kept { IsKept self.new }
         ensures refusal { let step = get_step (terms_of self.old)
             (steps_of self.old) key who floor now in
@@ -28,12 +29,44 @@ impl Body {
             (steps_of self.old) key who floor now in IfOk result (ShowsGot step) }
         ensures err { OnErr result (shown self.new ≡ shown self.old) }
     {
-        self.check_home(&key)?;
-        match self.look(&key, who, floor, now) {
+        let found = self.entries.peek(&key);
+        match self.look(&key, who, floor, now, found) {
             Look::Own => Ok(self.own(key, who)?),
-            Look::Found => Ok(self.hit(key, who, floor)?),
+            Look::Found => {
+                let (value, stamp) = found.unwrap();
+                let told = value.copy()?;
+                let value = value.copy()?;
+                Ok(self.hit(key, who, floor, value, stamp, told)?)
+            }
             Look::Waits(standing) => Ok(self.again(key, who, floor, now, standing)?),
             Look::Free => self.lease(key, who, floor, now),
+        }
+    }
+
+    /// Gets a key of the shard where that is a hit, as it does; else nothing changes. No time is of any
+    /// account to it.
+    pub fn get_hit(&mut self, key: QKey, who: Sid, floor: u64) -> Result<Option<Got>, Memory>
+        requires kept { IsKept self.old }
+        requires home { IsAtHome (terms_of self.old) key }
+        ensures kept { IsKept self.new }
+        ensures step { (now : ℕ) → let step = get_step (terms_of self.old)
+            (steps_of self.old) key who floor now in IfOk result (λ hit. IfSome hit
+            (λ got. shown self.new ≡ stepped (rolled (shown self.old)) step)) }
+        ensures shows { (now : ℕ) → let step = get_step (terms_of self.old)
+            (steps_of self.old) key who floor now in
+            IfOk result (λ hit. IfSome hit (ShowsGot step)) }
+        ensures none { IfOk result (λ hit. IfNone hit (shown self.new ≡ shown self.old)) }
+        ensures err { OnErr result (shown self.new ≡ shown self.old) }
+    {
+        let found = self.entries.peek(&key);
+        match self.look(&key, who, floor, 0, found) {
+            Look::Found => {
+                let (value, stamp) = found.unwrap();
+                let told = value.copy()?;
+                let value = value.copy()?;
+                Ok(Some(self.hit(key, who, floor, value, stamp, told)?))
+            }
+            Look::Own | Look::Waits(_) | Look::Free => Ok(None),
         }
     }
 
@@ -51,21 +84,26 @@ impl Body {
     }
 
     /// Answers the entry of the key, which comes to the front.
-    fn hit(&mut self, key: QKey, who: Sid, floor: u64) -> Result<Got, Memory>
+    fn hit(
+        &mut self,
+        key: QKey,
+        who: Sid,
+        floor: u64,
+        value: Value,
+        stamp: u64,
+        told: Value,
+    ) -> Result<Got, Memory>
         requires kept { IsKept self.old }
-        requires found { (found : List ℕ × ℕ) × (entry key (steps_of self.old) ≡ Some found)
-            × Answers (terms_of self.old) (steps_of self.old) (Step.Hit key who floor found.0 found.1) }
+        requires found { entry key (steps_of self.old) ≡ Some (value, stamp) }
+        requires answers { Answers (terms_of self.old) (steps_of self.old)
+            (Step.Hit key who floor value stamp) }
+        requires told { told ≡ value }
         ensures kept { IsKept self.new }
-        ensures step { (found : List ℕ × ℕ) → entry key (steps_of self.old) ≡ Some found →
-            OnOk result (shown self.new ≡ stepped (rolled (shown self.old))
-            (Step.Hit key who floor found.0 found.1)) }
-        ensures shows { (found : List ℕ × ℕ) → entry key (steps_of self.old) ≡ Some found →
-            IfOk result (λ got. got ≡ Got.Hit found.0 found.1) }
+        ensures step { OnOk result (shown self.new ≡ stepped (rolled (shown self.old))
+            (Step.Hit key who floor value stamp)) }
+        ensures shows { IfOk result (λ got. got ≡ Got.Hit value stamp) }
         ensures err { OnErr result (shown self.new ≡ shown self.old) }
     {
-        let (value, stamp) = self.entries.peek(&key).unwrap();
-        let told = value.copy()?;
-        let value = value.copy()?;
         self.history.make_room(self.promised, 1)?;
         let _ = self.entries.find(&key);
         self.history.push(

@@ -1,10 +1,10 @@
-ghost use Rattle.std.specs.Prelude.{◌≡◌};
+ghost use Rattle.std.specs.Prelude.{◌≡◌, option_map};
 ghost use Rattle.entry_table.specs.Entries.{lookup};
 ghost use Rattle.key_shard.specs.Kept.{IsKept, IsLook, is_fresh, steps_of, terms_of};
 
 use crate::bodies::Body;
 use crate::steps::Stands;
-use rows_model::{QKey, Sid};
+use rows_model::{QKey, Sid, Value};
 
 /// The first row of the grid where the asker holds a quarantine.
 const OWN_ROWS: usize = 5;
@@ -22,27 +22,36 @@ pub enum Look {
     Free,
 }
 
-impl Body {
-    /// Whether the key has an entry with a stamp of at least the floor.
-    pub fn has_fresh(&self, key: &QKey, floor: u64) -> bool
-        ensures { result ≡ is_fresh floor (lookup key.now self.now.entries.list) }
-    {
-        match self.entries.peek(key) {
-            Some((_, stamp)) => floor <= stamp,
-            None => false,
-        }
+/// Whether an entry was found, with a stamp of at least the floor.
+pub fn is_fresh(found: Option<(&Value, u64)>, floor: u64) -> bool
+    ensures { result ≡ is_fresh floor (option_map (λ found. (found.0.now, found.1)) found.entry) }
+{
+    match found {
+        Some((_, stamp)) => floor <= stamp,
+        None => false,
     }
+}
 
-    /// What a get of the key finds.
-    pub fn look(&self, key: &QKey, who: Sid, floor: u64, now: u64) -> Look
-        requires { IsKept self.now }
+impl Body {
+    /// What a get of the key finds, whose entry was found before, if it has one.
+    pub fn look(
+        &self,
+        key: &QKey,
+        who: Sid,
+        floor: u64,
+        now: u64,
+        found: Option<(&Value, u64)>,
+    ) -> Look
+        requires kept { IsKept self.now }
+        requires found { option_map (λ found. (found.0.now, found.1)) found
+            ≡ lookup key.now self.now.entries.list }
         ensures { IsLook (terms_of self.now) (steps_of self.now) key.now who floor now result }
     {
         let row = self.leases.standing(key, who, now);
         if row >= OWN_ROWS {
             return Look::Own;
         }
-        if self.has_fresh(key, floor) {
+        if is_fresh(found, floor) {
             return Look::Found;
         }
         match row {

@@ -194,12 +194,57 @@ impl Shard {
             IfOk result (ShowsGot step) }
         ensures err { OnErr result (self.new ≡ self.old) }
     {
+        self.body.check_home(&key)?;
+        self.get_at_home(key, who, floor, now)
+    }
+
+    /// Gets a key of this shard for a session, as `get`, which refuses any other key: for a caller who knows
+    /// that it is the shard's.
+    pub fn get_at_home(
+        &mut self,
+        key: QKey,
+        who: Sid,
+        floor: u64,
+        now: u64,
+    ) -> Result<Got, ShardFault>
+        requires { IsAtHome self.old.terms key }
+        ensures refusal { let step = get_step self.old.terms (past_of self.old) key who floor now in
+            Refuses (refusal self.old key step) result }
+        ensures step { let step = get_step self.old.terms (past_of self.old) key who floor now in
+            OnOk result (self.new ≡ stepped (rolled self.old) step) }
+        ensures shows { let step = get_step self.old.terms (past_of self.old) key who floor now in
+            IfOk result (ShowsGot step) }
+        ensures err { OnErr result (self.new ≡ self.old) }
+    {
         let base = self.next_base();
         let got = self.body.get(key, who, floor, now)?;
         if let Some(base) = base {
             self.base = base;
         }
         Ok(got)
+    }
+
+    /// Gets a key of this shard for a session, as `get`, where that is a hit. The time is of no account to one.
+    /// Where it would be no hit, and after a refusal, everything is as before.
+    pub fn get_hit(&mut self, key: QKey, who: Sid, floor: u64) -> Result<Option<Got>, Memory>
+        requires { IsAtHome self.old.terms key }
+        ensures step { (now : ℕ) → let step = get_step self.old.terms
+            (past_of self.old) key who floor now in IfOk result (λ hit. IfSome hit
+            (λ got. self.new ≡ stepped (rolled self.old) step)) }
+        ensures shows { (now : ℕ) → let step = get_step self.old.terms
+            (past_of self.old) key who floor now in
+            IfOk result (λ hit. IfSome hit (ShowsGot step)) }
+        ensures none { IfOk result (λ hit. IfNone hit (self.new ≡ self.old)) }
+        ensures err { OnErr result (self.new ≡ self.old) }
+    {
+        let base = self.next_base();
+        let Some(got) = self.body.get_hit(key, who, floor)? else {
+            return Ok(None);
+        };
+        if let Some(base) = base {
+            self.base = base;
+        }
+        Ok(Some(got))
     }
 
     /// Stores a value under an I lease, and ends the lease: the entry stands in front, and in a full

@@ -175,7 +175,7 @@ unsays word verb w Unknown words h = absurd (h (row_of verb) (listed word verb w
 unsays word verb w command words h = record { verb_is = same_verb (verb_of command) verb (sym h.0 ∙ w); args = h.1 }
 
 -- what a line says whose first word is a verb
-told_line : (words args : List (List ℕ)) (word : List ℕ) (verb : LeaseVerb) (said : Said)
+pub told_line : (words args : List (List ℕ)) (word : List ℕ) (verb : LeaseVerb) (said : Said)
     → words ≡ word ∷ args → word ≡ lease_text verb → Tells verb args said → Told words said
 told_line words args word verb (Whole command) e w h = (rw e (says command verb word args h.0.verb_is w h.0.args), h.1)
 told_line words args word verb (Headed head) e w h = rw e (says (with_block head []) verb word args h.verb_is w h.args)
@@ -193,8 +193,10 @@ pub unknown_line : (words args : List (List ℕ)) (word : List ℕ) → words �
 unknown_line words args word e none = rw e none
 
 -- a line whose verb has a transaction
+pub txn_told : (words args : List (List ℕ)) (word : List ℕ) (verb : LeaseVerb) → words ≡ word ∷ args → word ≡ lease_text verb → TellsTxn verb args → SayTxn words
+txn_told words args word verb e w h = record { said = h.said; says = rw e (says h.said verb word args h.is.verb_is w h.is.args); txn = h.txn }
+
 pub txn_line : (words args : List (List ℕ)) (word : List ℕ) (verb : LeaseVerb) (read : Result Said Memory)
     → words ≡ word ∷ args → word ≡ lease_text verb → OnErr read (TellsTxn verb args) → OnErr read (SayTxn words)
 txn_line words args word verb (Ok said) e w h = h
-txn_line words args word verb (Err fault) e w h =
-    record { said = h.said; says = rw e (says h.said verb word args h.is.verb_is w h.is.args); txn = h.txn }
+txn_line words args word verb (Err fault) e w h = txn_told words args word verb e w h

@@ -1,14 +1,16 @@
 // What stands first in a stream: a command, a fault, or not enough to tell.
-ghost use Rattle.std.specs.Prelude.{◌≡◌, ◌+◌, ◌-◌, ◌≤◌, [], ◌<◌, ◌^◌, true, false, length, take, slice_index, IfSome, IfNone, IfOk, OnErr};
+ghost use Rattle.std.specs.Prelude.{◌≡◌, ◌∷◌, ◌+◌, ◌-◌, ◌≤◌, [], ◌<◌, ◌^◌, true, false, length, take, slice_index, IfSome, IfNone, IfOk, OnErr};
 ghost use Rattle.std.specs.Bool.{MatchBool};
 ghost use Rattle.mc_text.specs.Words.{words_in};
+ghost use Rattle.mc_text.specs.Verbs.{lease_text};
 ghost use Rattle.mc_text.specs.Commands.{AreWords};
 ghost use Rattle.mc_text.specs.Streams.{EndsAt, IsLine, WantsMemory};
 ghost use Rattle.mc_text.specs.Parsing.{with_block};
 ghost use Rattle.mc_text.specs.Telling.{Told, IsFront, IsEndless};
 
 use crate::commands::{Command, Head};
-use crate::lines::{Said, said_of};
+use crate::lines::{Said, said_by, said_of};
+use crate::verb_words::LeaseVerb;
 use memchr::memchr;
 use rows_model::{Memory, Value};
 use std::alloc::Global;
@@ -18,7 +20,7 @@ const LONGEST_LINE: usize = 2_048;
 
 const BIGGEST_BLOCK: u64 = 1_048_576;
 
-// What stands first in a stream.
+/// What stands first in a stream.
 #[derive(Drop)]
 pub enum Front {
     /// A command, with how many bytes it takes.
@@ -35,8 +37,9 @@ pub enum Front {
     Open,
 }
 
-/// What stands first in the stream.
-pub(crate) fn front_of(alloc: Global, stream: &[u8]) -> Result<Front, Memory>
+/// What stands first in the stream. Memory is asked for only where a whole command with a transaction or a
+/// block stands there.
+pub fn front_of(alloc: Global, stream: &[u8]) -> Result<Front, Memory>
     ensures front { IfOk result (λ front. IsFront stream.now front) }
     ensures memory { OnErr result (WantsMemory stream.now) }
 {
@@ -101,7 +104,37 @@ fn with_line(alloc: Global, stream: &[u8], long: usize) -> Result<Front, Memory>
     ensures front { IfOk result (λ front. IsFront stream.now front) }
     ensures memory { OnErr result (WantsMemory stream.now) }
 {
-    match said_of(alloc, &stream[..long])? {
+    let said = said_of(alloc, &stream[..long])?;
+    with_said(alloc, stream, long, said)
+}
+
+/// What stands first in a stream whose first line is so long, where its first word was read already: it is
+/// this verb, and the other words of the line are those of this text. Memory is asked for only where a whole
+/// command with a transaction or a block stands there.
+pub fn front_by(
+    alloc: Global,
+    stream: &[u8],
+    long: usize,
+    verb: LeaseVerb,
+    args: &[u8],
+) -> Result<Front, Memory>
+    requires line { IsLine stream.now long }
+    requires words { words_in (take long stream.now) ≡ lease_text verb ∷ words_in args.now }
+    ensures front { IfOk result (λ front. IsFront stream.now front) }
+    ensures memory { OnErr result (WantsMemory stream.now) }
+{
+    let said = said_by(alloc, verb, args)?;
+    with_said(alloc, stream, long, said)
+}
+
+// A stream whose first line is so long and says this.
+fn with_said(alloc: Global, stream: &[u8], long: usize, said: Said) -> Result<Front, Memory>
+    requires line { IsLine stream.now long }
+    requires told { Told (words_in (take long stream.now)) said }
+    ensures front { IfOk result (λ front. IsFront stream.now front) }
+    ensures memory { OnErr result (WantsMemory stream.now) }
+{
+    match said {
         Said::Whole { command } => Ok(Front::Command {
             command,
             taken: long + 2,

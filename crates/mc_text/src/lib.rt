@@ -5,8 +5,9 @@
 pub use commands::{Command, Role};
 pub use faults::FrameFault;
 pub use framing::Framer;
-pub use items::{ends_at, line_end};
+pub use items::{Front, ends_at, front_by, front_of, line_end};
 pub use laws::streams_tell_items;
+pub use lines::iqget_of;
 pub use plain_commands::PlainCommand;
 pub use plain_keys::{PlainKey, PlainKeys};
 pub use plain_lines::{Fields, PlainHead, PlainLine, PlainSaid, Storing, plain_line};

@@ -41,7 +41,7 @@ pub(crate) fn said_of(alloc: Global, line: &[u8]) -> Result<Said, Memory>
         });
     };
     match lease_verb(word) {
-        Some(verb) => with_verb(alloc, verb, args),
+        Some(verb) => said_by(alloc, verb, args),
         None => Ok(Said::Whole {
             command: Command::Unknown,
         }),
@@ -59,8 +59,8 @@ fn lease_verb(word: &[u8]) -> Option<LeaseVerb>
     }
 }
 
-// What the words behind a verb say.
-fn with_verb(alloc: Global, verb: LeaseVerb, args: &[u8]) -> Result<Said, Memory>
+/// What the words behind a verb say.
+pub(crate) fn said_by(alloc: Global, verb: LeaseVerb, args: &[u8]) -> Result<Said, Memory>
     ensures tells { IfOk result (λ said. Tells verb (words_in args.now) said) }
     ensures memory { OnErr result (TellsTxn verb (words_in args.now)) }
 {
@@ -139,7 +139,9 @@ fn role_of(word: &[u8]) -> Option<Role>
     }
 }
 
-fn iqget_of(args: &[u8]) -> Option<Command>
+/// What the words behind `iqget` say.
+#[inline(always)]
+pub fn iqget_of(args: &[u8]) -> Option<Command>
     ensures found { IfSome result (λ command. IsSaid lease.IqGet (words_in args.now) command) }
     ensures none { IfNone result (IsUnsaid lease.IqGet (words_in args.now)) }
 {

@@ -50,11 +50,11 @@ impl PlainKey {
         ensures { IfOk result (λ key. key ≡ bytes.now) }
     {
         Ok(PlainKey {
-            bytes: Value::of(alloc, bytes)?,
+            bytes: Value::from(Vec::from_slice(alloc, bytes)?),
         })
     }
 
-    /// The same key once more. No byte is copied.
+    /// The same key once more, with bytes of its own.
     pub fn copy(&self) -> Result<PlainKey, Memory>
         ensures { IfOk result (λ key. key ≡ self.now) }
     {

@@ -18,6 +18,9 @@ use crate::words::{next_word, take_flags, take_number};
 use rows_model::{Memory, Value};
 use std::alloc::Global;
 
+// The most bytes of a block whose value has bytes of its own.
+const SHORT_BLOCK: usize = 256;
+
 /// What a plain command comes to before the plain map is asked.
 #[derive(Drop)]
 pub enum PlainSaid {
@@ -70,9 +73,9 @@ pub enum PlainLine<'a> {
 
 impl<'a> PlainHead<'a> {
     /// What the line says with its block.
-    pub fn with_block(self, alloc: Global, block: Value) -> Result<PlainSaid, Memory>
+    pub fn with_block(self, alloc: Global, block: &[u8]) -> Result<PlainSaid, Memory>
         requires { IsKeyWord self.fields.key.word.now self.fields.key.is_plain }
-        ensures { IfOk result (λ said. said ≡ said_with self.entry block) }
+        ensures { IfOk result (λ said. said ≡ said_with self.entry block.now) }
     {
         let Some(key) = self.fields.key.key(alloc)? else {
             return Ok(PlainSaid::QueryKey);
@@ -81,11 +84,11 @@ impl<'a> PlainHead<'a> {
             return Ok(PlainSaid::Exptime);
         }
         Ok(PlainSaid::Asks {
-            command: self.stored(key, block),
+            command: self.stored(key, value_of(alloc, block)?),
         })
     }
 
-    // The command that stores the block.
+    // The command that stores the value.
     fn stored(self, key: PlainKey, block: Value) -> PlainCommand
         ensures { result ≡ stored self.entry.storing key self.entry.fields.flags block }
     {
@@ -113,6 +116,18 @@ impl<'a> PlainHead<'a> {
                 unique,
             },
         }
+    }
+}
+
+// The value that a block is. A short one has bytes of its own, which takes one ask for memory; copies of a longer one
+// share them.
+fn value_of(alloc: Global, block: &[u8]) -> Result<Value, Memory>
+    ensures { IfOk result (λ value. value ≡ block.now) }
+{
+    if block.len() <= SHORT_BLOCK {
+        Ok(Value::from(Vec::from_slice(alloc, block)?))
+    } else {
+        Value::of(alloc, block)
     }
 }
 

@@ -1,5 +1,5 @@
 -- What is told of the file behind a copy in memory, where there is one.
-use Rattle.std.specs.Prelude.{◌≡◌, ◌<◌, ℕ, Bool, true, false, Option, Some, None, List, length, Result, MatchBool}
+use Rattle.std.specs.Prelude.{◌≡◌, ◌<◌, ℕ, Bool, true, false, Option, Some, None, List, length, Result, MatchBool, IsTrue}
 use Rattle.std.specs.declared.io.Error.{Error}
 use Rattle.sqlite_disk.specs.Disk.{Holds, Only, MoreFaults}
 use Rattle.sqlite_disk.specs.Refusal.{finds_no_room}
@@ -46,6 +46,11 @@ module _ {D : Type 0} (g : Ghosts D) where
   IsDurable (Some old) (Some new) = Only (g.seen old) (g.may_leave new)
   IsDurable None new = Unit {0}
   IsDurable (Some old) None = ⊥
+
+  -- it shows these bytes and a crash leaves no others, unless a read of it told a lie
+  abbrev pub IsSettled : List ℕ → Option D → Type 0
+  IsSettled bytes (Some file) = IsTrue (g.is_clean file) → (g.seen file ≡ bytes) × Only bytes (g.may_leave file)
+  IsSettled bytes None = Unit {0}
 
   -- no tested read failed, and so many of its calls a full disk refused
   abbrev pub tally_in : Option D → Tally

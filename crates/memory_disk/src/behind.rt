@@ -1,10 +1,12 @@
 // The file behind a copy in memory, where there is one.
-ghost use Rattle.std.specs.Prelude.{◌≡◌, ◌+◌, IsTrue, is_ok, OnOk};
+ghost use Rattle.std.specs.Prelude.{◌≡◌, ◌+◌, IsTrue, Some, is_ok, is_some, OnOk};
 ghost use Rattle.sqlite_disk.specs.Disk.{CountsFault};
 ghost use Rattle.sqlite_disk.specs.Refusal.{finds_no_room};
-ghost use Rattle.memory_disk.specs.Copies.{usable_in, faults_in, refused_in, mixing_in, Reaches, IsLong, IsDurable, CountsFull};
+ghost use Rattle.memory_disk.specs.Copies.{usable_in, faults_in, refused_in, mixing_in, Reaches, IsLong, IsDurable, IsSettled, CountsFull};
 
+use crate::stored::copy_of;
 use sqlite_disk::Disk;
+use std::alloc::Global;
 use std::io;
 
 // Whether no sync of it has failed.
@@ -78,4 +80,28 @@ pub(crate) fn sync<D: Disk>(file: &mut Option<D>) -> io::Result<()>
         Some(file) => file.sync(),
         None => Ok(()),
     }
+}
+
+// Finds these bytes in it, and no others, and makes them last there.
+pub(crate) fn settle<D: Disk>(alloc: Global, file: &mut Option<D>, bytes: &[u8]) -> io::Result<()>
+    requires { IsTrue (usable_in D.Disk file.old) }
+    ensures settled { OnOk result (IsSettled D.Disk bytes.now file.new) }
+    ensures behind { is_some file.new ≡ is_some file.old }
+{
+    match file {
+        Some(file) => settle_one(alloc, file, bytes),
+        None => Ok(()),
+    }
+}
+
+// Finds these bytes in the file, and no others, and makes them last there.
+fn settle_one<D: Disk>(alloc: Global, file: &mut D, bytes: &[u8]) -> io::Result<()>
+    requires { IsTrue (D.Disk.is_usable file.old) }
+    ensures { OnOk result (IsSettled D.Disk bytes.now (Some file.new)) }
+{
+    let found = copy_of(alloc, file)?;
+    if found.bytes.as_slice() != bytes {
+        return Err(io::ErrorKind::InvalidData.into());
+    }
+    file.sync()
 }

@@ -1,9 +1,9 @@
 // A file of a database, in memory, and with its bytes in a file too where there is one.
-ghost use Rattle.std.specs.Prelude.{◌≡◌, ◌+◌, ◌^◌, ◌<◌, length, [], None, IsSome, true, refl, is_ok, IsTrue, IfOk, OnOk};
+ghost use Rattle.std.specs.Prelude.{◌≡◌, ◌+◌, ◌^◌, ◌<◌, length, [], None, IsSome, true, refl, is_ok, is_some, IsTrue, IfOk, OnOk};
 ghost use Rattle.std.specs.Option.{ForSome};
 ghost use Rattle.sqlite_disk.specs.Disk.{Torn, Mixed, Cut, CountsFault, Holds};
 ghost use Rattle.sqlite_disk.specs.Tally.{CountsRefusal};
-ghost use Rattle.memory_disk.specs.Copies.{usable_in, faults_in, mixing_in, tally_in, Reaches, IsLong, IsDurable};
+ghost use Rattle.memory_disk.specs.Copies.{usable_in, faults_in, mixing_in, tally_in, Reaches, IsLong, IsDurable, IsSettled};
 
 use crate::{MemoryDisk, behind, counted, overwrite};
 use sqlite_disk::{Disk, Tally};
@@ -51,10 +51,23 @@ impl StoreDisk {
             copy,
         })
     }
+
+    /// Reads the file behind it back, if there is one, and makes it last on the disk. Ok says that it holds
+    /// what is read here. The error is that of the file, `InvalidData` where it holds anything else, or that
+    /// there was no memory. The bytes in memory stay as they are.
+    pub fn settle(&mut self, alloc: Global) -> io::Result<()>
+        requires { IsTrue (usable_in ⟦<File as Disk>⟧ self.old.file) }
+        ensures settled { OnOk result
+            (IsSettled ⟦<File as Disk>⟧ self.new.copy.bytes.items self.new.file) }
+        ensures same { self.new.copy ≡ self.old.copy }
+        ensures behind { is_some self.new.file ≡ is_some self.old.file }
+    {
+        behind::settle(alloc, &mut self.file, self.copy.bytes.as_slice())
+    }
 }
 
 // A copy in memory of a file.
-fn copy_of<D: Disk>(alloc: Global, file: &mut D) -> io::Result<MemoryDisk>
+pub(crate) fn copy_of<D: Disk>(alloc: Global, file: &mut D) -> io::Result<MemoryDisk>
     requires { IsTrue (D.Disk.is_usable file.old) }
     ensures usable { OnOk result (IsTrue (D.Disk.is_usable file.new)) }
     ensures seen { OnOk result (D.Disk.seen file.new ≡ D.Disk.seen file.old) }

@@ -1,5 +1,5 @@
 -- What is read of a stream.
-use Rattle.std.proofs.Common.{ℕ, ◌+◌, ◌≡◌, ◌<◌, ◌≤◌, ◌⊎◌, inl, inr, Bool, List, [], ◌∷◌, length, take, drop, arith, refl, sym, ap, ◌∙◌}
+use Rattle.std.proofs.Common.{ℕ, ◌+◌, ◌≡◌, ◌<◌, ◌≤◌, ◌⊎◌, inl, inr, Bool, List, [], ◌∷◌, length, take, drop, Some, arith, refl, sym, ap, subst, ◌∙◌}
 use Rattle.mc_text.specs.Words.{words_in}
 use Rattle.mc_text.specs.Telling.{IsEndless}
 use Rattle.mc_text.specs.PlainVerbs.{text_of}
@@ -11,12 +11,20 @@ use Rattle.mc_text.proofs.FrontLemmas.{line_once}
 use Rattle.mc_text.specs.Framing as framing
 use Rattle.mc_text.specs.Framing.{Frames}
 use Rattle.mc_text.specs.Streams as leases
+use Rattle.mc_text.specs.Commands.{verb_of, AreArgs, AreWords}
+use Rattle.mc_text.specs.Parsing.{IsSaid}
+use Rattle.mc_text.specs.Verbs.{lease_text}
 use Rattle.mc_text.specs.declared.commands.Command.{Command}
+use Rattle.mc_text.specs.declared.commands.Command.TheVariants.{IqGet}
+use Rattle.mc_text.specs.declared.verb_words.LeaseVerb.TheVariants as lease
+use Rattle.mc_text.specs.declared.verb_words.LeaseVerb.{LeaseVerb}
+use Rattle.mc_text.specs.declared.verb_words.Verb.TheVariants.{Lease, Plain}
+use Rattle.mc_text.proofs.VerbLemmas.{verb_once}
 use Rattle.mc_text.specs.declared.faults.FrameFault.{FrameFault}
 use Rattle.mc_text.specs.declared.faults.FrameFault.TheVariants as frame
 use Rattle.mixed_lines.specs.Fronts.{Takes, Faults}
 use Rattle.mixed_lines.specs.Items.{IsNoPlainLine, IsWhole, IsHeaded, IsWithBlock, IsBadPlain, HasBigPlain, HasBadPlain, AwaitsBlock}
-use Rattle.mixed_lines.specs.Items.{command, plain, bad_line}
+use Rattle.mixed_lines.specs.Items.{command, plain, bad_line, Stands}
 use Rattle.mixed_lines.proofs.ItemLemmas.{first_once}
 
 -- a lease command is taken, where no line of a plain one stands
@@ -111,3 +119,25 @@ front_taken old new said noreply taken stands is = record { taken = taken; stand
 
 pub bad_taken : (old new : Frames) (taken : ℕ) → IsBadPlain old.rest taken → new ≡ framing.past old taken → Takes old bad_line new
 bad_taken old new taken bad is = record { taken = taken; stands = inr bad; goes_on = is }
+
+-- no verb of a lease command is one of a plain one
+no_plain : (verb : LeaseVerb) (v : PlainVerb) → lease_text verb ≡ text_of v → ⊥
+no_plain verb v e = let same : Lease verb ≡ Plain v = verb_once (Lease verb) (Plain v) e in absurd cc
+
+-- a lookup that the first line says
+pub lookup_stands : (stream : List ℕ) (long : ℕ) (args : List (List ℕ)) (said : Command) → leases.IsLine stream long
+    → words_in (take long stream) ≡ lease_text lease.IqGet ∷ args → IsSaid lease.IqGet args said → Stands stream (command said) (long + 2)
+lookup_stands stream long args said line words s = by said s.verb_is s.args
+  where
+    by : (x : Command) → verb_of x ≡ Some lease.IqGet → AreArgs x args → Stands stream (command x) (long + 2)
+    by (IqGet key sid floor) is at = (
+      record {
+        long = long;
+        line = line;
+        says = subst (λ (ws : List (List ℕ)). AreWords (IqGet key sid floor) ws) (sym words) (refl, at);
+        block = refl;
+        taken_is = omega arith;
+      },
+      no_verb stream long (lease_text lease.IqGet) args line words (no_plain lease.IqGet),
+    )
+    by other is at = absurd cc

@@ -1,34 +1,33 @@
 -- What the reader of a stream tells of it, and what it takes.
-use Rattle.std.specs.Prelude.{ℕ, ◌≡◌, ◌⊎◌, List, Option, Some, None, Result, Ok, Err}
+use Rattle.std.specs.Prelude.{ℕ, ◌≡◌, List, Option, Some, None, Result, Ok, Err}
 use Rattle.mc_text.specs.Framing.{Frames, past}
 use Rattle.mc_text.specs.declared.faults.FrameFault.{FrameFault}
 use Rattle.mc_text.specs.declared.faults.FrameFault.TheVariants.{BadLine, LongLine, BadBlock, BigBlock, Memory}
-use Rattle.mixed_lines.specs.declared.fronts.PlainFront.{PlainFront}
-use Rattle.mixed_lines.specs.declared.fronts.PlainFront.TheVariants as front
+use Rattle.mixed_lines.specs.declared.fronts.MixedFront.{MixedFront}
+use Rattle.mixed_lines.specs.declared.fronts.MixedFront.TheVariants as front
 use Rattle.mixed_lines.specs.declared.streams.Said.{Said}
 use Rattle.mixed_lines.specs.declared.streams.Said.TheVariants.{Lease, Plain}
-use Rattle.mixed_lines.specs.Items.{IsNoPlainLine, IsWhole, IsWithBlock, IsBadPlain, HasBigPlain, HasBadPlain, AwaitsBlock}
 use Rattle.mixed_lines.specs.Items.{Item, command, plain, bad_line, long_line, bad_block, big_block, Stands, IsOpen}
 
--- what stands first, where that is a plain command's line
-abbrev pub IsFront : List ℕ → PlainFront → Type 0
-IsFront stream (front.Command said noreply taken) = IsWhole stream said noreply taken ⊎ IsWithBlock stream said noreply taken
-IsFront stream (front.BadLine taken) = IsBadPlain stream taken
-IsFront stream front.BadBlock = HasBadPlain stream
-IsFront stream front.BigBlock = HasBigPlain stream
-IsFront stream front.Open = AwaitsBlock stream
-IsFront stream front.Other = IsNoPlainLine stream
+-- the item that was read
+abbrev pub item_of : Said → Item
+item_of (Lease said) = command said
+item_of (Plain said noreply) = plain said noreply
+
+-- what stands first
+abbrev pub IsFront : List ℕ → MixedFront → Type 0
+IsFront stream (front.Command said taken) = Stands stream (item_of said) taken
+IsFront stream (front.BadLine taken) = Stands stream bad_line taken
+IsFront stream front.LongLine = Stands stream long_line 0
+IsFront stream front.BadBlock = Stands stream bad_block 0
+IsFront stream front.BigBlock = Stands stream big_block 0
+IsFront stream front.Open = IsOpen stream
 
 -- this stands first among the bytes of a framer, and is taken
 pub record Takes (old : Frames) (item : Item) (new : Frames) : Type 0 where
   pub taken : ℕ
   pub stands : Stands old.rest item taken
   pub goes_on : new ≡ past old taken
-
--- the item that was read
-abbrev pub item_of : Said → Item
-item_of (Lease said) = command said
-item_of (Plain said noreply) = plain said noreply
 
 -- a fault stands first: a bad line is taken, the others last
 abbrev pub Faults : Frames → FrameFault → Frames → Type 0

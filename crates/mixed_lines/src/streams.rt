@@ -1,8 +1,7 @@
 // The commands of a stream, lease commands and plain ones.
 ghost use Rattle.mixed_lines.specs.Fronts.{Reads};
-ghost use Rattle.mixed_lines.specs.Items.{IsNoPlainLine};
 
-use crate::fronts::{PlainFront, plain_front};
+use crate::fronts::{MixedFront, mixed_front};
 use mc_text::{Command, FrameFault, Framer, PlainSaid};
 use rows_model::Memory;
 
@@ -22,37 +21,19 @@ pub fn next_said(framer: &mut Framer) -> Result<Option<Said>, FrameFault>
     ensures { Reads framer.old result framer.new }
 {
     let place = framer.place();
-    match plain_front(framer.alloc(), framer.rest()) {
-        Ok(
-            PlainFront::Command {
-                said,
-                noreply,
-                taken,
-            },
-        ) => {
+    match mixed_front(framer.alloc(), framer.rest()) {
+        Ok(MixedFront::Command { said, taken }) => {
             framer.take(taken);
-            Ok(Some(Said::Plain { said, noreply }))
+            Ok(Some(said))
         }
-        Ok(PlainFront::BadLine { taken }) => {
+        Ok(MixedFront::BadLine { taken }) => {
             framer.take(taken);
             Err(FrameFault::BadLine { place })
         }
-        Ok(PlainFront::BadBlock) => Err(FrameFault::BadBlock { place }),
-        Ok(PlainFront::BigBlock) => Err(FrameFault::BigBlock { place }),
-        Ok(PlainFront::Open) => Ok(None),
-        Ok(PlainFront::Other) => next_lease(framer),
+        Ok(MixedFront::LongLine) => Err(FrameFault::LongLine { place }),
+        Ok(MixedFront::BadBlock) => Err(FrameFault::BadBlock { place }),
+        Ok(MixedFront::BigBlock) => Err(FrameFault::BigBlock { place }),
+        Ok(MixedFront::Open) => Ok(None),
         Err(Memory) => Err(FrameFault::Memory),
-    }
-}
-
-/// The same, where no line of a plain command stands next.
-fn next_lease(framer: &mut Framer) -> Result<Option<Said>, FrameFault>
-    requires { IsNoPlainLine framer.old.rest }
-    ensures { Reads framer.old result framer.new }
-{
-    match framer.next_command() {
-        Ok(Some(command)) => Ok(Some(Said::Lease { command })),
-        Ok(None) => Ok(None),
-        Err(fault) => Err(fault),
     }
 }

@@ -1,6 +1,6 @@
 -- The entries of the plain map, without that of a key and with another.
-use Rattle.std.proofs.Common.{ℕ, ◌+◌, ◌-◌, ◌≡◌, ◌≤◌, ◌<◌, Bool, true, false, List, [], ◌∷◌, ◌++◌, length, Option, Some, None, take, get_or, take-suc, add-one, cond, is_some, refl, sym, ap, ◌∙◌, arith}
-use Rattle.std.specs.Prelude.{MatchOption}
+use Rattle.std.proofs.Common.{ℕ, ◌+◌, ◌-◌, ◌≡◌, ◌≤◌, ◌<◌, Bool, true, false, List, [], ◌∷◌, ◌++◌, length, Option, Some, None, take, get_or, take-suc, add-one, cond, ◌&&◌, nat_le, nat_lt, is_some, Result, Ok, Err, refl, sym, ap, ◌∙◌, arith}
+use Rattle.std.specs.Prelude.{MatchOption, OnErr}
 use Rattle.std.specs.Option.{option_len, option_map, option_to_list}
 use Rattle.std.specs.List.{cons_option}
 use Rattle.std.specs.List.Sorted.{IsPermutation}
@@ -9,6 +9,7 @@ use Rattle.std.specs.Cmp.Lexicographic.{bytes_decides}
 use Rattle.std.proofs.lemmas.Bool.{false≢true}
 use Rattle.std.proofs.lemmas.Bool.Decides.{nat_tests}
 use Rattle.std.proofs.lemmas.List.Sums.{sum_by-cons}
+use Rattle.std.proofs.lemmas.Map.Steps.{set_value_same}
 use Rattle.std.proofs.lemmas.List.Elements.{filter_map-append}
 use Rattle.std.proofs.lemmas.List.Sorted.{IsPermutation-refl, IsPermutation-sym, IsPermutation-trans, IsPermutation-cons, IsPermutation-middle, sum_by-IsPermutation, length_permutation}
 use Rattle.mc_text.specs.declared.plain_replies.Found.{Found}
@@ -104,6 +105,53 @@ taken key item entries bytes found h =
       left = record { sum = omega (arith, h.sum); few = omega (arith, h.few); small = omega (arith, h.small) };
       count = count;
     }
+
+-- an item that was put at a key that has none
+pub added_in : (key : List ℕ) (item : Item) (old new : List (List ℕ × Item)) (bytes : ℕ) (was : Option Item) → was ≡ item_at old key
+    → MatchOption was (IsPermutation ((key, item) ∷ old) new) (λ _. new ≡ set_value (is_same key) old item)
+    → item_at old key ≡ None → IsTable old bytes → is_fit (with_item old key item) ≡ true → IsTable new (bytes + (length key + length item.value))
+added_in key item old new bytes was found moved none h fit =
+    table_moved (with_item old key item) new _ (put_in key item old new was found moved)
+    (table_with key item old bytes (h.sum ∙ sym (ap bytes_in (none_out key old none))) fit)
+
+-- an item that was put in the place of another
+pub put_over : (key : List ℕ) (before after item : Item) (old new : List (List ℕ × Item)) → Some before ≡ item_at old key → after ≡ item
+    → new ≡ set_value (is_same key) old after → IsPermutation (with_item old key item) new
+put_over key before after item old new found same is = put_in key item old new (Some before) found (rw same at is)
+
+-- the sum goes by the bytes of both
+pub table_over : (key : List ℕ) (before item : Item) (old new : List (List ℕ × Item)) (bytes : ℕ) → Some before ≡ item_at old key → IsTable old bytes
+    → is_fit (with_item old key item) ≡ true → IsPermutation (with_item old key item) new → IsTable new (bytes - length before.value + length item.value)
+table_over key before item old new bytes found h fit moved =
+    let t = taken key before old bytes found h in
+    let whole = table_moved (with_item old key item) new _ moved (table_with key item old (bytes - (length key + length before.value)) t.left.sum fit) in
+    let same : bytes - (length key + length before.value) + (length key + length item.value) ≡ bytes - length before.value + length item.value =
+    omega (arith, t.enough) in
+    rw same at whole
+
+-- an item that was put in its own place
+pub put_same : (key : List ℕ) (before after : Item) (old new : List (List ℕ × Item)) → Some before ≡ item_at old key → after ≡ before
+    → new ≡ set_value (is_same key) old after → new ≡ old
+put_same key before after old new found same is = (rw same at is) ∙ set_value_same (is_same key) old before (sym found)
+
+pub table_same : (old new : List (List ℕ × Item)) (bytes : ℕ) → new ≡ old → IsTable old bytes → IsTable new bytes
+table_same old new bytes same h = rw same h
+
+-- what holds holds where an error is answered
+pub of_err : {T E : Type 0} (r : Result T E) (P : Type 0) → P → OnErr r P
+of_err (Ok x) P h = tt
+of_err (Err e) P h = h
+
+-- what has room beside all entries has room beside the others
+pub ample : (key : List ℕ) (item : Item) (entries : List (List ℕ × Item)) (bytes : ℕ) → IsTable entries bytes
+    → (nat_lt (length entries) 65536 && nat_le (bytes + (length key + length item.value)) 268435456) ≡ true → is_fit (with_item entries key item) ≡ true
+ample key item entries bytes h room =
+    let parts : (length entries < 65536) × (bytes + (length key + length item.value) ≤ 268435456) = grind (arith, nat_tests, room) in
+    let few : length (with_item entries key item) ≤ 65536 = let count = count_out key entries in omega (arith, parts.0) in
+    let sum = sum_by-cons size_of (key, item) (without entries key) in
+    let out = bytes_out key entries in
+    let small : bytes_in (with_item entries key item) ≤ 268435456 = omega (arith, parts.1, h.sum) in
+    grind (arith, nat_tests, few, small)
 
 -- what is told of a list of keys, with one key more
 pub found_more : (entries : List (List ℕ × Item)) (keys : List (List ℕ)) (key : List ℕ)

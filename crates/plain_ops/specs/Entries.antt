@@ -10,6 +10,10 @@ use Rattle.plain_ops.specs.declared.items.Item.{Item}
 abbrev pub is_same : List ℕ → List ℕ → Bool
 is_same key other = pointwise nat_eq key other
 
+-- an item of these flags, this value and this unique
+abbrev pub item_of : ℕ → List ℕ → ℕ → Item
+item_of flags value unique = record { flags = flags; value = value; unique = unique }
+
 -- the item that a key has
 abbrev pub item_at : List (List ℕ × Item) → List ℕ → Option Item
 item_at entries key = lookup (is_same key) entries

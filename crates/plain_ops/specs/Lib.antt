@@ -1,3 +1,4 @@
+pub mod Kept
 pub mod Entries
 pub mod Tables
 pub mod Steps

@@ -8,7 +8,7 @@ use Rattle.mc_text.specs.declared.plain_commands.PlainCommand.TheVariants.{Get, 
 use Rattle.mc_text.specs.declared.plain_replies.PlainReply.{PlainReply}
 use Rattle.mc_text.specs.declared.plain_replies.PlainReply.TheVariants as reply
 use Rattle.plain_ops.specs.declared.items.Item.{Item}
-use Rattle.plain_ops.specs.Entries.{item_at, without, with_item, is_fit, found_in}
+use Rattle.plain_ops.specs.Entries.{item_of, item_at, without, with_item, is_fit, found_in}
 
 -- the plain map: its entries, and the unique that the next change draws
 pub record PlainMap : Type 0 where
@@ -44,7 +44,7 @@ effect_of entries (Decr key by) = option_map_or (counts key (λ number. number -
 
 -- the item that a change stores
 abbrev pub new_item : PlainMap → ℕ → List ℕ → Item
-new_item map flags value = record { flags = flags; value = value; unique = map.next }
+new_item map flags value = item_of flags value map.next
 
 -- the entries after it
 abbrev pub after : PlainMap → List ℕ → ℕ → List ℕ → List (List ℕ × Item)

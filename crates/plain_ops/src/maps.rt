@@ -4,7 +4,6 @@ ghost use Rattle.mc_text.specs.declared.plain_replies.PlainReply.TheVariants as 
 ghost use Rattle.plain_ops.specs.Entries.{is_fit};
 ghost use Rattle.plain_ops.specs.Steps.{PlainStep, ComesOf, stores, effect_of, after, IsStored};
 
-use crate::items::Item;
 use crate::tables::Table;
 use itoa::Buffer;
 use mc_text::{PlainCommand, PlainKey, PlainReply, plain_number};
@@ -43,7 +42,7 @@ impl Plain {
     }
 
     /// Carries out a command, and answers what its client is told. A refusal leaves the map as it
-    /// was, want of memory too. No value is copied, neither in nor out.
+    /// was, want of memory too. No value of more than 256 bytes is copied, neither in nor out.
     pub fn run(&mut self, command: &PlainCommand) -> PlainReply
         ensures { PlainStep self.old command.now self.new result }
     {
@@ -145,9 +144,16 @@ impl Plain {
             self.new result }
     {
         let mut buffer = Buffer::new();
-        match Value::of(self.alloc, buffer.format(number).as_bytes()) {
-            Ok(value) => self.store(key, flags, &value, PlainReply::Number { number }),
-            Err(Memory) => PlainReply::Memory,
+        match Vec::from_slice(self.alloc, buffer.format(number).as_bytes()) {
+            Ok(text) => {
+                self.store(
+                    key,
+                    flags,
+                    &Value::from(text),
+                    PlainReply::Number { number },
+                )
+            }
+            Err(_) => PlainReply::Memory,
         }
     }
 
@@ -174,12 +180,7 @@ impl Plain {
         ensures ok { OnOk result (IsStored self.old key.now flags value.now self.new) }
         ensures err { OnErr result (self.new ≡ self.old) }
     {
-        let item = Item {
-            flags,
-            value: value.copy()?,
-            unique: self.next,
-        };
-        self.table.put(key, item)?;
+        self.table.put(key, flags, value, self.next)?;
         self.next += 1;
         Ok(())
     }

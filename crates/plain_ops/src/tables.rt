@@ -1,12 +1,13 @@
 // The entries by a hash of their keys, with a running sum of their bytes.
-ghost use Rattle.std.specs.Prelude.{[], ◌++◌, ◌≡◌, ◌+◌, ◌^◌, true, false, length, nat_le, ◌&&◌, OnOk, OnErr, IfOk, is_some};
+ghost use Rattle.std.specs.Prelude.{[], ◌++◌, ◌≡◌, ◌≤◌, ◌+◌, ◌-◌, ◌^◌, true, false, length, nat_le, nat_lt, ◌&&◌, OnOk, OnErr, IfOk, IfSome, IfNone, is_some};
 ghost use Rattle.std.specs.Option.{option_copied, option_map, option_to_list, MatchOption};
 ghost use Rattle.std.specs.List.Sorted.{IsPermutation};
 ghost use Rattle.plain_ops.specs.declared.items.Item.{Item};
-ghost use Rattle.plain_ops.specs.Entries.{item_at, without, with_item, bytes_in, is_fit, told_of, found_in};
+ghost use Rattle.plain_ops.specs.Entries.{item_of, item_at, without, with_item, bytes_in, is_fit, told_of, found_in};
 ghost use Rattle.plain_ops.specs.Tables.{IsTable};
 
 use crate::items::Item;
+use crate::kept::Kept;
 use mc_text::{Found, FoundItems, PlainKey};
 use rows_model::{Memory, Value};
 use std::alloc::Global;
@@ -57,7 +58,7 @@ impl Table {
         self.items.get(key)
     }
 
-    /// What is told of some keys. No value is copied.
+    /// What is told of some keys. No value of more than 256 bytes is copied.
     pub(crate) fn find_all(&self, keys: &[PlainKey]) -> Result<FoundItems, Memory>
         ensures { IfOk result (λ found. found ≡ found_in self.now keys.now) }
     {
@@ -79,7 +80,7 @@ impl Table {
         found.push(Found {
             key: key.copy()?,
             flags: item.flags,
-            value: item.value.copy()?,
+            value: item.value.told()?,
             unique: item.unique,
         })?;
         Ok(())
@@ -90,21 +91,52 @@ impl Table {
         ensures { (item : Item) → item.value ≡ value.now →
             result ≡ is_fit (with_item self.now key.now item) }
     {
+        let (short, long) = (key.bytes().len(), value.bytes().len());
+        if fits(self.items.len(), self.bytes, short, long) {
+            return true;
+        }
         let (count, bytes) = self.others(key);
-        let long = value.bytes().len();
-        count < MOST_KEYS && long <= MOST_BYTES && bytes + key.bytes().len() + long <= MOST_BYTES
+        fits(count, bytes, short, long)
     }
 
     /// Puts an item at a key, whatever the key had. After want of memory all is as before.
-    pub(crate) fn put(&mut self, key: &PlainKey, item: Item) -> Result<(), Memory>
-        requires { is_fit (with_item self.old key.now item) ≡ true }
-        ensures ok { OnOk result (IsPermutation (with_item self.old key.now item) self.new) }
+    pub(crate) fn put(
+        &mut self,
+        key: &PlainKey,
+        flags: u32,
+        value: &Value,
+        unique: u64,
+    ) -> Result<(), Memory>
+        requires { is_fit (with_item self.old key.now (item_of flags value.now unique)) ≡ true }
+        ensures ok { OnOk result
+            (IsPermutation (with_item self.old key.now (item_of flags value.now unique)) self.new) }
         ensures err { OnErr result (self.new ≡ self.old) }
     {
-        let (_, bytes) = self.others(key);
-        let own = key.bytes().len() + item.value.bytes().len();
+        let Some(item) = self.items.get_mut(key) else {
+            return self.add(key, flags, value, unique);
+        };
+        let own = item.value.bytes().len();
+        item.put(self.alloc, flags, value, unique)?;
+        let rest = self.bytes - own;
+        self.bytes = rest + value.bytes().len();
+        Ok(())
+    }
+
+    // Puts an item at a key that has none. After want of memory all is as before.
+    fn add(&mut self, key: &PlainKey, flags: u32, value: &Value, unique: u64) -> Result<(), Memory>
+        requires none { item_at self.old key.now ≡ None }
+        requires fit { is_fit (with_item self.old key.now (item_of flags value.now unique)) ≡ true }
+        ensures ok { OnOk result
+            (IsPermutation (with_item self.old key.now (item_of flags value.now unique)) self.new) }
+        ensures err { OnErr result (self.new ≡ self.old) }
+    {
+        let item = Item {
+            flags,
+            value: Kept::of(self.alloc, value)?,
+            unique,
+        };
         self.items.insert(key.copy()?, item)?;
-        self.bytes = bytes + own;
+        self.bytes += key.bytes().len() + value.bytes().len();
         Ok(())
     }
 
@@ -137,4 +169,14 @@ impl Table {
             None => (self.items.len(), self.bytes),
         }
     }
+}
+
+// Whether a key and a value of so many bytes have room beside so many other keys, which have so many bytes with
+// their values.
+fn fits(count: usize, bytes: usize, short: usize, long: usize) -> bool
+    requires small { bytes ≤ 268435456 }
+    requires short { short ≤ 250 }
+    ensures { result ≡ (nat_lt count 65536 && nat_le (bytes + (short + long)) 268435456) }
+{
+    count < MOST_KEYS && long <= MOST_BYTES && bytes + short + long <= MOST_BYTES
 }

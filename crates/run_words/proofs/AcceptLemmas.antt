@@ -10,12 +10,14 @@ use Rattle.clap.proofs.OnLiterals.{clap_on_literals}
 use Rattle.clap.specs.declared.error.kind.ErrorKind.TheVariants.{DisplayHelp, DisplayVersion}
 use Rattle.sql_keeper.specs.declared.keepers.Place.{Place}
 use Rattle.sql_keeper.specs.declared.keepers.Place.TheVariants.{Fresh, File}
+use Rattle.run_words.specs.declared.words.Conns.{Conns}
+use Rattle.run_words.specs.declared.words.Conns.TheVariants.{Number, Forever}
 use Rattle.run_words.specs.declared.words.Words.{Words}
 use Rattle.run_words.specs.declared.words.Words.TheVariants.{Replay, Work, Serve, Told}
 use Rattle.run_words.specs.declared.words.WordsFault.{WordsFault}
 use Rattle.run_words.specs.declared.words.WordsFault.TheVariants.{Usage, Memory}
 use Rattle.run_words.specs.Program.{program}
-use Rattle.run_words.specs.Words.{AreCommand, AreWords, CanBeNamed, place_words, with_place}
+use Rattle.run_words.specs.Words.{AreCommand, AreWords, CanBeNamed, IsConns, conns_word, place_words, with_place}
 use Rattle.run_words.specs.Reading.{AreSaid, AskForText, IsRead, IsSaid}
 use Rattle.run_words.proofs.TakenLemmas.{ArePlain, AreTakenAs, HasPlainPath, IsPlainWord, replay_taken, work_taken, serve_taken}
 
@@ -33,6 +35,14 @@ serve_utf8 : IsUtf8 (codes "serve")
 unfolding clap_on_literals is_utf8
 serve_utf8 = IsUtf8-from_is_utf8 (codes "serve") refl
 
+forever_utf8 : IsUtf8 (codes "forever")
+unfolding clap_on_literals is_utf8
+forever_utf8 = IsUtf8-from_is_utf8 (codes "forever") refl
+
+forever_plain : IsPlainWord (codes "forever")
+unfolding clap_on_literals
+forever_plain = refl
+
 option_utf8 : IsUtf8 (codes "--db")
 unfolding clap_on_literals is_utf8
 option_utf8 = IsUtf8-from_is_utf8 (codes "--db") refl
@@ -49,6 +59,15 @@ plain_decimal zero small = subst IsPlainWord (sym (decimal_digit 0 (omega arith)
 plain_decimal (suc n) small =
     let first : 48 < get_or (decimal (suc n)) 0 0 = first_decimal (suc n) (omega arith) small in
     plain_from (decimal (suc n)) (decimal_nonempty (suc n) small) (λ e. omega (arith, e))
+
+-- so is the word for how many connections are served
+conns_utf8 : (conns : Conns) → IsConns conns → IsUtf8 (conns_word conns)
+conns_utf8 (Number count) within = let few : count ≤ 1000000 = within.1 in decimal_utf8 count (omega (arith, few))
+conns_utf8 Forever within = forever_utf8
+
+conns_plain : (conns : Conns) → IsConns conns → IsPlainWord (conns_word conns)
+conns_plain (Number count) within = let few : count ≤ 1000000 = within.1 in plain_decimal count (omega (arith, few))
+conns_plain Forever within = forever_plain
 
 plain_text : (text : Text) → 1 ≤ length text → slice_get text 0 ≢ Some 45 → IsPlainWord text
 plain_text [] some other = absurd (omega arith)
@@ -120,21 +139,19 @@ stand words (Work at spec) h =
 stand words (Serve at spec) h =
     let are = h.are_command.1 in
     let fits = are.fits in
-    let few_conns : spec.conns ≤ 1000000 = fits.few_conns in
     let few_workers : spec.workers ≤ 1024 = fits.few_workers in
     let few_shards : spec.shards ≤ 64 = fits.few_shards in
     let few_members : spec.members ≤ 100000 = fits.few_members in
-    let small : (n : ℕ) → n ≤ 1000000 → n < 2 ^ 64 = λ n few. omega (arith, few) in
-    let conns = small spec.conns (omega arith) in
+    let small : (n : ℕ) → n ≤ 100000 → n < 2 ^ 64 = λ n few. omega (arith, few) in
     let workers = small spec.workers (omega arith) in
     let shards = small spec.shards (omega arith) in
     let members = small spec.members (omega arith) in
     let address = fits.address in
     let plain =
-    plain_five _ _ _ _ _ (plain_text spec.addr.items address.some address.no_hyphen) (plain_decimal spec.conns conns) (plain_decimal spec.workers workers)
+    plain_five _ _ _ _ _ (plain_text spec.addr.items address.some address.no_hyphen) (conns_plain spec.conns fits.conns) (plain_decimal spec.workers workers)
     (plain_decimal spec.shards shards) (plain_decimal spec.members members) in
     let utf8 =
-    all_five _ _ _ _ _ address.utf8 (decimal_utf8 spec.conns conns) (decimal_utf8 spec.workers workers)
+    all_five _ _ _ _ _ address.utf8 (conns_utf8 spec.conns fits.conns) (decimal_utf8 spec.workers workers)
     (decimal_utf8 spec.shards shards) (decimal_utf8 spec.members members) in
     stands words h.others h.place (codes "serve") _ h.written are.written h.named serve_utf8 utf8
     (serve_taken h.place (plain_path h.place h.named) _ _ _ _ _ plain)

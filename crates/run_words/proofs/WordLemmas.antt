@@ -1,11 +1,18 @@
 -- Words of commands, and lists of them.
 use Rattle.std.proofs.Common.{ℕ, ◌≡◌, ◌≤◌, ◌<◌, ◌+◌, ◌∙◌, List, [], ◌∷◌, ◌++◌, length, map, take, get_or, Option, Some, None, refl, sym, ap, ap₂, subst, arith, append_assoc}
-use Rattle.std.specs.Prelude.{codes, IfNone}
+use Rattle.std.specs.Prelude.{◌^◌, true, codes, decimal, IfNone}
 use Rattle.std.specs.List.{All}
 use Rattle.std.proofs.lemmas.List.{take_more, map-append, get_or-map, length-map}
 use Rattle.std.proofs.lemmas.List.Elements.{All-append, All-cons, All-nil}
+use Rattle.std.specs.List.{list_all}
+use Rattle.std.proofs.lemmas.Fmt.{decimal_injective}
+use Rattle.rows_model.specs.Shift.{is_digit}
+use Rattle.rows_model.proofs.ShiftLemmas.{decimal_digits}
+use Rattle.clap.proofs.OnLiterals.{clap_on_literals}
+use Rattle.run_words.specs.declared.words.Conns.{Conns}
+use Rattle.run_words.specs.declared.words.Conns.TheVariants.{Number, Forever}
 use Rattle.run_words.specs.declared.words.ServeSpec.{ServeSpec}
-use Rattle.run_words.specs.Words.{AreServe, AreServeNumbers}
+use Rattle.run_words.specs.Words.{AreServe, AreServeNumbers, IsConns, conns_word}
 
 -- ---- a list that grows by one text
 
@@ -52,8 +59,27 @@ none_served values a x y z w None five none = λ spec h.
     let written = h.written in
     let fits = h.fits in
     none spec (record {
-      conns_are = record { written = cc; from = fits.some_conns; to = fits.few_conns };
+      conns_are = record { written = cc; within = fits.conns };
       workers_are = record { written = cc; from = fits.some_workers; to = fits.few_workers };
       shards_are = record { written = cc; from = fits.some_shards; to = fits.few_shards };
       members_are = record { written = cc; from = fits.some_members; to = fits.few_members };
     })
+
+-- ---- how many connections are served
+
+-- no number is written as the word `forever`
+forever_none : (count : ℕ) → count < 2 ^ 64 → codes "forever" ≡ decimal count → ⊥
+unfolding clap_on_literals
+forever_none count small same =
+    let digits : list_all is_digit (codes "forever") ≡ true = subst (λ (text : List ℕ). list_all is_digit text ≡ true) (sym same) (decimal_digits count small) in
+    absurd cc
+
+-- a word says one number of connections, or any
+pub one_conns : (found other : Conns) → IsConns found → IsConns other → conns_word found ≡ conns_word other → found ≡ other
+one_conns (Number a) (Number b) from to same =
+    let low : a ≤ 1000000 = from.1 in
+    let high : b ≤ 1000000 = to.1 in
+    ap (λ (n : ℕ). Number n) (decimal_injective a b (omega (arith, low)) (omega (arith, high)) same)
+one_conns (Number a) Forever from to same = let low : a ≤ 1000000 = from.1 in absurd (forever_none a (omega (arith, low)) (sym same))
+one_conns Forever (Number b) from to same = let high : b ≤ 1000000 = to.1 in absurd (forever_none b (omega (arith, high)) same)
+one_conns Forever Forever from to same = refl

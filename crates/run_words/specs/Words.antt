@@ -1,10 +1,12 @@
 -- The words of the commands, as a table has them.
-use Rattle.std.specs.Prelude.{ℕ, ◌≡◌, ◌≢◌, ◌≤◌, List, [], ◌∷◌, ◌++◌, length, map, Some, slice_get, codes, decimal}
+use Rattle.std.specs.Prelude.{ℕ, ◌≡◌, ◌≢◌, ◌≤◌, List, [], ◌∷◌, ◌++◌, length, map, Option, Some, None, slice_get, codes, decimal}
 use Rattle.std.specs.Str.{IsUtf8}
 use Rattle.run_inputs.specs.Parsing.{IsNumberWithin}
 use Rattle.run_inputs.specs.Words.{AreWork}
 use Rattle.sql_keeper.specs.declared.keepers.Place.{Place}
 use Rattle.sql_keeper.specs.declared.keepers.Place.TheVariants.{Fresh, File}
+use Rattle.run_words.specs.declared.words.Conns.{Conns}
+use Rattle.run_words.specs.declared.words.Conns.TheVariants.{Number, Forever}
 use Rattle.run_words.specs.declared.words.ServeSpec.{ServeSpec}
 use Rattle.run_words.specs.declared.words.Words.{Words}
 use Rattle.run_words.specs.declared.words.Words.TheVariants.{Replay, Work, Serve, Told}
@@ -15,11 +17,30 @@ pub record IsPlainText (text : List ℕ) : Type 0 where
   pub some : 1 ≤ length text
   pub no_hyphen : slice_get text 0 ≢ Some 45
 
+-- The most connections that are served, where a number of them ends the server.
+abbrev pub most_served : Conns → Option ℕ
+most_served (Number count) = Some count
+most_served Forever = None
+
+-- The word for how many connections are served: a number in decimal, or `forever`.
+abbrev pub conns_word : Conns → List ℕ
+conns_word (Number count) = decimal count
+conns_word Forever = codes "forever"
+
+-- A number of connections is from 1 to 1,000,000.
+abbrev pub IsConns : Conns → Type 0
+IsConns (Number count) = (1 ≤ count) × (count ≤ 1000000)
+IsConns Forever = Unit {0}
+
+-- The word says how many connections are served.
+pub record AreConns (word : List ℕ) (conns : Conns) : Type 0 where
+  pub written : word ≡ conns_word conns
+  pub within : IsConns conns
+
 -- What `serve` serves is within its ranges.
 pub record IsServe (spec : ServeSpec) : Type 0 where
   pub address : IsPlainText spec.addr.items
-  pub some_conns : 1 ≤ spec.conns
-  pub few_conns : spec.conns ≤ 1000000
+  pub conns : IsConns spec.conns
   pub some_workers : 1 ≤ spec.workers
   pub few_workers : spec.workers ≤ 1024
   pub some_shards : 1 ≤ spec.shards
@@ -27,18 +48,19 @@ pub record IsServe (spec : ServeSpec) : Type 0 where
   pub some_members : 1 ≤ spec.members
   pub few_members : spec.members ≤ 100000
 
--- The numbers of what is served, in the order in which the words have them.
+-- The other numbers of what is served, in the order in which the words have them.
 abbrev pub numbers_served : ServeSpec → List ℕ
-numbers_served spec = spec.conns ∷ spec.workers ∷ spec.shards ∷ spec.members ∷ []
+numbers_served spec = spec.workers ∷ spec.shards ∷ spec.members ∷ []
 
--- The words are `serve`, the address, and the numbers in decimal, and all is within its range.
+-- The words are `serve`, the address, how many connections are served, and the other numbers in decimal, and all is within its
+-- range.
 pub record AreServe (words : List (List ℕ)) (spec : ServeSpec) : Type 0 where
-  pub written : words ≡ codes "serve" ∷ spec.addr.items ∷ map decimal (numbers_served spec)
+  pub written : words ≡ codes "serve" ∷ spec.addr.items ∷ conns_word spec.conns ∷ map decimal (numbers_served spec)
   pub fits : IsServe spec
 
--- The four words are the numbers of what is served.
+-- The four words say how many connections are served, and the other numbers.
 pub record AreServeNumbers (conns workers shards members : List ℕ) (spec : ServeSpec) : Type 0 where
-  pub conns_are : IsNumberWithin conns 1 1000000 spec.conns
+  pub conns_are : AreConns conns spec.conns
   pub workers_are : IsNumberWithin workers 1 1024 spec.workers
   pub shards_are : IsNumberWithin shards 1 64 spec.shards
   pub members_are : IsNumberWithin members 1 100000 spec.members

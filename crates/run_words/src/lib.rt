@@ -2,7 +2,7 @@
 #![tactic(auto)]
 
 pub use reading::read_words;
-pub use words::{ServeSpec, Words, WordsFault};
+pub use words::{Conns, ServeSpec, Words, WordsFault};
 
 mod program;
 pub mod reading;

@@ -23,7 +23,9 @@ pub(crate) fn program<'a>(alloc: Global) -> Result<Command<'a>, AllocError>
         .arg(db_path(alloc))?
         .arg(five_values(alloc, &WORK_VALUES))?;
     let serve = Command::new(alloc, "serve")
-        .about("Serves connections on workers")
+        .about(
+            "Serves connections on workers: so many, or any number where <conns> is the word forever",
+        )
         .arg(db_path(alloc))?
         .arg(five_values(alloc, &SERVE_VALUES))?;
     Command::new(alloc, "iq")

@@ -5,13 +5,14 @@ ghost use Rattle.clap.specs.Words.{kind_of, subcommand_rows_of};
 ghost use Rattle.sql_keeper.specs.declared.keepers.Place.{Place};
 ghost use Rattle.run_inputs.specs.declared.loads.WorkSpec.{WorkSpec};
 ghost use Rattle.run_inputs.specs.Words.{AreWork};
+ghost use Rattle.run_words.specs.declared.words.Conns.{Conns};
 ghost use Rattle.run_words.specs.declared.words.ServeSpec.{ServeSpec};
 ghost use Rattle.run_words.specs.declared.words.Words.{Words};
-ghost use Rattle.run_words.specs.Words.{AreCommand, AreServe, AreServeNumbers, AreWords, CanBeNamed};
+ghost use Rattle.run_words.specs.Words.{AreCommand, AreConns, AreServe, AreServeNumbers, AreWords, CanBeNamed};
 ghost use Rattle.run_words.specs.Reading.{place_in, AreGiven, AreReadAs, AreSaid, IsRead, IsRefused, IsSaid};
 
 use crate::program::program;
-use crate::words::{ServeSpec, Words, WordsFault};
+use crate::words::{Conns, ServeSpec, Words, WordsFault};
 use clap::error::ErrorKind;
 use clap::{ArgMatches, Error};
 use rows_model::Value;
@@ -211,7 +212,7 @@ fn is_plain_text(text: &[u8]) -> bool
     }
 }
 
-// What is served at this address, where these are the numbers.
+// What is served at this address, where these are the other words.
 fn spec_of(
     addr: Vec<u8>,
     conns: &str,
@@ -227,9 +228,20 @@ fn spec_of(
 {
     Some(ServeSpec {
         addr,
-        conns: number_within(conns.as_bytes(), 1, 1_000_000)?,
+        conns: conns_of(conns)?,
         workers: number_within(workers.as_bytes(), 1, 1_024)?,
         shards: number_within(shards.as_bytes(), 1, 64)?,
         members: number_within(members.as_bytes(), 1, 100_000)?,
     })
+}
+
+// How many connections are served, where this is the word: the word `forever`, or a number.
+fn conns_of(word: &str) -> Option<Conns>
+    ensures found { IfSome result (AreConns word.now) }
+    ensures none { IfNone result ((conns : Conns) → AreConns word.now conns → ⊥) }
+{
+    if word == "forever" {
+        return Some(Conns::Forever);
+    }
+    Some(Conns::Number(number_within(word.as_bytes(), 1, 1_000_000)?))
 }

@@ -1,16 +1,38 @@
 ghost use Rattle.std.specs.Prelude.{◌≡◌};
+ghost use Rattle.run_words.specs.Words.{most_served};
 
 use run_inputs::WorkSpec;
 use sql_keeper::Place;
 use std::alloc::{AllocError, AllocFailed};
+
+/// How many connections a server serves.
+#[derive(Clone, Copy)]
+pub enum Conns {
+    /// So many, from 1 to 1,000,000.
+    Number(u32),
+    /// As many as come. No number of them ends the server.
+    Forever,
+}
+
+impl Conns {
+    /// The most connections that are served, or `None` where no number of them ends the server.
+    pub fn most(self) -> Option<u32>
+        ensures { result ≡ most_served self }
+    {
+        match self {
+            Conns::Number(count) => Some(count),
+            Conns::Forever => None,
+        }
+    }
+}
 
 /// Where and how connections are served.
 #[derive(Drop)]
 pub struct ServeSpec {
     /// Where they come in: UTF-8 text that isn't empty and doesn't begin with `-`.
     pub addr: Vec<u8>,
-    /// How many are served, from 1 to 1,000,000.
-    pub conns: u32,
+    /// How many are served.
+    pub conns: Conns,
     /// How many workers serve them, from 1 to 1,024.
     pub workers: u32,
     /// How many shards, from 1 to 64.

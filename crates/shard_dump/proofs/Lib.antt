@@ -4,3 +4,4 @@ pub mod LawLemmas
 pub mod WriteLemmas
 pub mod ShardLemmas
 pub mod DumpLemmas
+pub mod LoadLemmas

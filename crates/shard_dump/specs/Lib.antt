@@ -4,3 +4,4 @@ pub mod Texts
 pub mod Listed
 pub mod Faults
 pub mod Dumps
+pub mod Loads

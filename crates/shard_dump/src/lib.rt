@@ -1,17 +1,21 @@
-//! The entries of a shard as text, and the rows that such a text says.
+//! The entries of a shard as text, the rows that such a text says, and how they are loaded again.
 #![tactic(auto)]
 
+pub use asked::are_answers;
 pub use dumps::dump;
-pub use faults::DumpFault;
+pub use faults::{DumpFault, LoadFault};
 pub use laws::texts_tell_dumps;
+pub use loads::load;
 pub use reading::read_dump;
 pub use rows::{Dump, DumpRow, DumpRows};
 
+pub mod asked;
 pub mod dumps;
 pub mod faults;
 mod heads;
 pub mod laws;
 mod listed;
+pub mod loads;
 mod parts;
 pub mod reading;
 pub mod rows;

@@ -4,7 +4,7 @@ use Rattle.std.proofs.Common.{None, slice_get, slice_set, refl, ap, ◌∙◌, a
 use Rattle.rows_model.specs.declared.keys.Sid.{Sid}
 use Rattle.sql_keeper.specs.declared.stores.Phase.{Phase}
 use Rattle.sql_keeper.specs.declared.stores.Phase.TheVariants.{Committed, Ended}
-use Rattle.sql_keeper.specs.Sessions.{may_commit, is_open, first_phase, begun, with_phase}
+use Rattle.sql_keeper.specs.Sessions.{may_commit, is_open, first_phase, with_begun, with_phase}
 use Rattle.sql_keeper.specs.Moves.{Begin, End, Commit, Call, ClosedStaysClosed}
 
 -- a place that isn't open isn't after another phase is written, if that isn't open
@@ -46,7 +46,7 @@ closed-ended false who other sessions h = h
 
 pub closed-stays-closed : ClosedStaysClosed
 closed-stays-closed ledger (Begin writes) who few h =
-    closed-number who.number ledger.sessions (begun writes ledger.sessions)
+    closed-number who.number ledger.sessions (with_begun writes ledger.sessions)
     (λ some was. ap may_commit (get-before ledger.sessions (who.number - 1) (first_phase writes) (omega (arith, some, few))) ∙ was) h
 closed-stays-closed ledger (End other) who few h = closed-ended (is_open other ledger.sessions) who other ledger.sessions h
 closed-stays-closed ledger (Commit other txn) who few h = closed-written who other Committed ledger.sessions refl h

@@ -38,8 +38,8 @@ first_phase true = Open
 first_phase false = Reads
 
 -- the sessions with one more
-abbrev pub begun : Bool → List Phase → List Phase
-begun writes sessions = sessions ++ first_phase writes ∷ []
+abbrev pub with_begun : Bool → List Phase → List Phase
+with_begun writes sessions = sessions ++ first_phase writes ∷ []
 
 -- the sessions, with the phase of one changed
 abbrev pub with_phase : Sid → Phase → List Phase → List Phase

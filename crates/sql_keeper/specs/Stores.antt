@@ -12,7 +12,7 @@ use Rattle.sql_keeper.specs.declared.stores.Phase.{Phase}
 use Rattle.sql_keeper.specs.declared.stores.Phase.TheVariants.{Committed}
 use Rattle.key_shard.specs.Permit.{Permit}
 use Rattle.sql_keeper.specs.Log.{rows_after}
-use Rattle.sql_keeper.specs.Sessions.{phase_of, is_open, begun, ended, closed, with_phase}
+use Rattle.sql_keeper.specs.Sessions.{phase_of, is_open, with_begun, ended, closed, with_phase}
 use Rattle.sql_keeper.specs.Commits.{commit_fault}
 
 -- what a store itself knows: the rows that its keeper started with, the commits so far, where
@@ -51,7 +51,7 @@ opened opening cap = record { opening = opening; log = []; sessions = []; cap = 
 -- the ledger after a session began
 abbrev pub with_session : Bool → Ledger → Ledger
 with_session writes ledger =
-    record { opening = ledger.opening; log = ledger.log; sessions = begun writes ledger.sessions; cap = ledger.cap; failed = ledger.failed }
+    record { opening = ledger.opening; log = ledger.log; sessions = with_begun writes ledger.sessions; cap = ledger.cap; failed = ledger.failed }
 
 -- the ledger after a session was ended, where it was open
 abbrev pub with_end : Sid → Ledger → Ledger

@@ -78,3 +78,13 @@ pub trait Keeper {
         ensures counts { Counts (staged_failed result) (faults self.old) (faults self.new) }
         ensures never_falls { faults self.old ≤ faults self.new };
 }
+
+/// A keeper that tells its rows for good: from its start on, whatever its calls answer.
+///
+/// What is said of a run where the keeper tells its rows is said of each run over such a keeper, with no
+/// premise.
+pub trait Telling: Keeper {
+    ghost use Rattle.std.specs.Prelude.{IsSome};
+
+    ghost always_tells: { (keeper : Self) → Self.is_started keeper → IsSome (Self.rows keeper) };
+}

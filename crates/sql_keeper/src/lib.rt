@@ -2,7 +2,7 @@
 #![tactic(auto)]
 
 pub use faults::{AfterFault, CommitFault, KeepFault};
-pub use keepers::{Keeper, Place};
+pub use keepers::{Keeper, Place, Telling};
 pub use map_keeper::MapKeeper;
 pub use store::{NoStore, Start, Store, Unnamed};
 pub use stores::{Answer, Closed, Commit, Phase};

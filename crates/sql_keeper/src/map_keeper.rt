@@ -9,7 +9,7 @@ ghost use Rattle.sql_keeper.specs.Faults.{Counts, keep_failed, staged_failed};
 ghost use Rattle.sql_keeper.specs.MapKeepers.{MapView, counted, with_rows};
 
 use crate::faults::{AfterFault, KeepFault};
-use crate::keepers::{Keeper, Place};
+use crate::keepers::{Keeper, Place, Telling};
 use rows_model::{QKey, Rows, Txn, Value, ask, refresh};
 use std::alloc::Global;
 use std::marker::Model;
@@ -170,4 +170,8 @@ impl Keeper for MapKeeper {
         self.rows = Some(rows);
         Ok(made?)
     }
+}
+
+impl Telling for MapKeeper {
+    ghost always_tells = { λ _ started. started };
 }

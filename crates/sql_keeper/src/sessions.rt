@@ -1,5 +1,5 @@
 ghost use Rattle.std.specs.Prelude.{◌≡◌, [], length, map, IsTrue, IfOk, OnOk, OnErr};
-ghost use Rattle.sql_keeper.specs.Sessions.{is_open, has_committed, begun, ended, closed, with_phase};
+ghost use Rattle.sql_keeper.specs.Sessions.{is_open, has_committed, with_begun, ended, closed, with_phase};
 
 use crate::stores::Phase;
 use rows_model::{Memory, Sid};
@@ -33,7 +33,7 @@ impl Sessions {
 
     /// A session begins, to write or to read. Its number is the next one.
     pub fn begin(&mut self, writes: bool) -> Result<Sid, Memory>
-        ensures begun { OnOk result (self.new ≡ begun writes self.old) }
+        ensures begun { OnOk result (self.new ≡ with_begun writes self.old) }
         ensures number { IfOk result (λ sid. sid.number ≡ length self.new) }
         ensures err { OnErr result (self.new ≡ self.old) }
     {

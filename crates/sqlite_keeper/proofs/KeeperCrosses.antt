@@ -2,6 +2,7 @@
 use denote.RattleType.{RattleType}
 use denote.Param.Send.{IsSend, sendable}
 use Rattle.std.proofs.Crossing.{crosses}
+use Rattle.http_server.proofs.log.Log.TheSendSync as log
 use Rattle.sqlite_trees.specs.declared.store.Store as store
 use Rattle.memory_disk.specs.contracts.stored.StoreDisk as StoreDisk
 use Rattle.memory_disk.specs.contracts.stored.StoreDiskDisk.TheImpl as StoreDiskDisk
@@ -12,7 +13,7 @@ use Rattle.sqlite_keeper.proofs.ConnectionCrosses.{connection_send}
 
 module _ (S : RattleType) (g : store.Ghosts S.Denot) where
   base_send : IsSend S → IsSend (Base.the_field S g).row
-  base_send s = let below = connection_send S g s in search (sendable, crosses) depth 100
+  base_send s = let below = connection_send S g s in search (sendable, crosses, log.the_send) depth 100
 
 pub keeper_send : IsSend (SqliteKeeper.the_field).row
 keeper_send =

@@ -2,6 +2,7 @@ pub mod AnswerLemmas
 pub mod LeavesLemmas
 pub mod BondLemmas
 pub mod BaseLemmas
+pub mod CloseLemmas
 pub mod MakeLemmas
 pub mod OpeningLemmas
 pub mod SchemaLemmas

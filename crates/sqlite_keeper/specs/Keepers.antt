@@ -1,4 +1,4 @@
--- What the places of a keeper over a database hold, and what it tells.
+-- What the places of a keeper over a database hold.
 use Rattle.std.specs.Prelude.{ℕ, Option, Some, None}
 use Rattle.rows_model.specs.Rows.{Tables, start_tables}
 use Rattle.sql_keeper.specs.declared.keepers.Place.{Place}
@@ -8,8 +8,3 @@ use Rattle.sql_keeper.specs.declared.keepers.Place.TheVariants.{Fresh, File}
 abbrev pub held_at : Place → ℕ → Option Tables
 held_at Fresh members = Some (start_tables members)
 held_at (File path) members = None
-
--- the rows that a keeper tells, by those that its database tells: none before it was started
-abbrev pub rows_of : Option (Option Tables) → Option Tables
-rows_of (Some told) = told
-rows_of None = None

@@ -5,3 +5,4 @@ pub mod Bases
 pub mod Makes
 pub mod Openings
 pub mod Schemas
+pub mod Closings

@@ -1,5 +1,5 @@
 // A database that was started, whatever it lies on.
-ghost use Rattle.std.specs.Prelude.{◌≡◌, Some, IsTrue, IfOk};
+ghost use Rattle.std.specs.Prelude.{◌≡◌, false, IsTrue, IfOk, OnOk};
 ghost use Rattle.rows_model.specs.Rows.{Tables, Fit};
 ghost use Rattle.rows_model.specs.Query.{answer};
 ghost use Rattle.sql_keeper.specs.Keepers.{Commits, AnswersAfter};
@@ -9,41 +9,46 @@ ghost use Rattle.sqlite_tables.specs.Lists.{tables_of};
 ghost use Rattle.sqlite_tables.specs.Calls.{OnLists, Leaves};
 ghost use Rattle.sqlite_keeper.specs.Bonds.{IsTallied};
 ghost use Rattle.sqlite_keeper.specs.Makes.{StagedAnswer};
-ghost use Rattle.sqlite_keeper.specs.Bases.{rows_in, shown, IsCounted, IsHeld, Stays};
+ghost use Rattle.sqlite_wal.specs.Reads.{AreClean};
+ghost use Rattle.sqlite_keeper.specs.Bases.{rows_in, NeverLies, IsCounted, IsSame, Stays};
+ghost use Rattle.sqlite_keeper.specs.Closings.{AreWhole};
 
 use crate::answers::answer;
 use crate::bonds::Tally;
 use crate::changes::make_from;
 use crate::faults::staged;
+use http_server::Log;
 use rows_model::{QKey, Rows, Txn, Value};
 use sql_keeper::{AfterFault, KeepFault};
-use sqlite::{Alter, Connection, FileStore, Transaction};
+use sqlite::{Alter, Connection, FileStore, Files, Transaction};
 use sqlite_disk::Disk;
 use sqlite_tables::{drop_changes, fault_of, keep_changes};
+use sqlite_trees::store::Store;
 use std::alloc::Global;
 use std::marker::Model;
 
 // A connection to a database with the rows of a store, and how many links and blocks these are.
-// Contracts see the rows, where they are told.
+// Contracts see the rows that it had when it was last known to be open. Once it has shut each call is
+// refused, so these rows stay.
 #[derive(Drop)]
 pub(crate) struct Base<S: Alter> {
     conn: Connection<S>,
     tally: Tally,
-    // Whether it is known that the database holds rows of a store.
-    is_known: bool,
+    // The one item is the connection as it was then. A log has no bytes.
+    last: Log<Connection<S>, ()>,
 }
 
 impl<S: Alter> Model for Base<S> {
-    ghost use Rattle.std.specs.Prelude.{Option, IsTrue};
     ghost use Rattle.rows_model.specs.Rows.{Tables};
     ghost use Rattle.sqlite.specs.Held.{state};
-    ghost use Rattle.sqlite_keeper.specs.Bases.{shown, IsHeld};
+    ghost use Rattle.sqlite_keeper.specs.Bases.{rows_in, seen_in, NeverLies, IsSince};
 
-    ghost Value = { Option Tables };
+    ghost Value = { Tables };
 
-    ghost view = { λ b. shown b.is_known (state S.Store b.conn) };
+    ghost view = { λ b. rows_in (seen_in S.Store b.last.items) };
 
-    ghost invariant = { λ b. IsTrue b.is_known → IsHeld b.tally (state S.Store b.conn) };
+    ghost invariant = { λ b. NeverLies S.Store
+        → IsSince b.tally (seen_in S.Store b.last.items) (state S.Store b.conn) };
 }
 
 // How many links and blocks these rows have.
@@ -59,25 +64,20 @@ pub(crate) fn tally_of(rows: &Rows) -> Tally
 
 impl<S: Alter> Base<S> {
     // The base of a connection whose database has rows that are counted so.
-    pub(crate) fn new(conn: Connection<S>, tally: Tally, is_known: bool) -> Base<S>
-        requires { IsTrue is_known → IsHeld tally (state S.Store conn) }
-        ensures { result ≡ shown is_known (state S.Store conn) }
+    pub(crate) fn new(conn: Connection<S>, tally: Tally) -> Base<S>
+        requires { NeverLies S.Store → IsCounted tally (state S.Store conn).now }
+        ensures { result ≡ rows_in (state S.Store conn).now }
     {
-        Base {
-            conn,
-            tally,
-            is_known,
-        }
+        let last = Log::new().and(&conn, &());
+        Base { conn, tally, last }
     }
 
     // The answer to the key.
     pub(crate) fn ask(&mut self, alloc: Global, key: &QKey) -> Result<Value, KeepFault>
-        ensures tells { (told : Tables) → self.new ≡ Some told
-            → (self.old ≡ Some told) × IfOk result (λ value. value ≡ answer key.now told) }
+        ensures same { self.new ≡ self.old }
+        ensures tells { NeverLies S.Store → IfOk result (λ value. value ≡ answer key.now self.old) }
     {
-        if !self.conn.is_autocommit() {
-            return Err(KeepFault::Failed);
-        }
+        find_open(&mut self.conn)?;
         let mut tx = self.conn.transaction();
         let value = answer(alloc, &mut tx, key);
         drop_changes(tx);
@@ -91,11 +91,11 @@ impl<S: Alter> Base<S> {
         txn: &Txn,
         key: &QKey,
     ) -> Result<Value, AfterFault>
-        ensures tells { (told : Tables) → self.new ≡ Some told
-            → (self.old ≡ Some told) × AnswersAfter txn.now key.now told result }
+        ensures same { self.new ≡ self.old }
+        ensures tells { NeverLies S.Store → AnswersAfter txn.now key.now self.old result }
     {
-        if !self.conn.is_autocommit() {
-            return Err(AfterFault::Failed);
+        if let Err(fault) = find_open(&mut self.conn) {
+            return Err(staged(fault));
         }
         let tally = self.tally;
         let mut tx = self.conn.transaction();
@@ -106,11 +106,10 @@ impl<S: Alter> Base<S> {
 
     // Makes the changes of the transaction, all or none.
     pub(crate) fn commit(&mut self, alloc: Global, txn: &Txn) -> Result<(), AfterFault>
-        ensures tells { (told : Tables) → self.new ≡ Some told
-            → (before : Tables) × (self.old ≡ Some before) × Commits txn.now before told result }
+        ensures tells { NeverLies S.Store → Commits txn.now self.old self.new result }
     {
-        if !self.conn.is_autocommit() {
-            return Err(AfterFault::Failed);
+        if let Err(fault) = find_open(&mut self.conn) {
+            return Err(staged(fault));
         }
         let tally = self.tally;
         let mut tx = self.conn.transaction();
@@ -124,6 +123,7 @@ impl<S: Alter> Base<S> {
         match keep_changes(tx) {
             Ok(()) => {
                 self.tally = after;
+                self.last = Log::new().and(&self.conn, &());
                 Ok(())
             }
             Err(fault) => {
@@ -134,12 +134,43 @@ impl<S: Alter> Base<S> {
     }
 }
 
+// Finds the database open, and what it holds committed. A text with no statement in it is compiled: of
+// all calls that tell this, it costs least.
+fn find_open<S: Alter>(conn: &mut Connection<S>) -> Result<(), KeepFault>
+    ensures open { HasCleanDisk (state S.Store conn.new)
+        → OnOk result (IsTrue (state S.Store conn.new).is_open) }
+    ensures settled { HasCleanDisk (state S.Store conn.new)
+        → OnOk result ((state S.Store conn.new).committed ≡ (state S.Store conn.new).now) }
+    ensures idle { OnOk result (conn.new.in_transaction ≡ false) }
+    ensures same { HasCleanDisk (state S.Store conn.new) → IsSame S.Store conn.old conn.new }
+{
+    if !conn.is_autocommit() {
+        return Err(KeepFault::Failed);
+    }
+    match conn.prepare("") {
+        Ok(_) => Ok(()),
+        Err(error) => Err(fault_of(error)),
+    }
+}
+
 impl<D: Disk + Drop> Base<FileStore<D>> {
-    // Ends it, and copies the log into the file.
-    pub(crate) fn close(self) -> Result<(), KeepFault> {
-        match self.conn.close() {
-            Ok(()) => Ok(()),
-            Err(error) => Err(fault_of(error)),
+    // Ends it, copies the log into the file, and gives the two back. After an error they are closed, and a
+    // crash would have left the same of them before.
+    pub(crate) fn close(self) -> Result<Files<D>, KeepFault>
+        ensures log { IfOk result (λ files. IsTrue (D.Disk.is_usable files.log)) }
+        ensures db { IfOk result (λ files. IsTrue (D.Disk.is_usable files.db)) }
+        ensures whole { NeverLies ⟦<FileStore<D> as Store>⟧ → IfOk result (λ files.
+            AreClean D.Disk files.log files.db → AreWhole D.Disk self files) }
+    {
+        if !self.conn.is_autocommit() {
+            return Err(KeepFault::Failed);
+        }
+        match self.conn.close_files() {
+            Ok(files) => Ok(files),
+            Err((error, store)) => {
+                drop(store.close());
+                Err(fault_of(error))
+            }
         }
     }
 }

@@ -1,6 +1,9 @@
 // The files of a database, which are read into memory as they are opened.
-ghost use Rattle.std.specs.Prelude.{IsTrue, IfOk};
+ghost use Rattle.std.specs.Prelude.{◌≡◌, IsTrue, IfOk};
+ghost use Rattle.memory_disk.specs.Copies.{IsSettled};
+ghost use Rattle.sqlite_keeper.specs.Closings.{AreWhole};
 
+use crate::base::Base;
 use memory_disk::StoreDisk;
 use sql_keeper::KeepFault;
 use sqlite::{Connection, File, FileStore, Files, Options, Unknown};
@@ -60,6 +63,37 @@ fn copied(alloc: Global, files: Files<File>) -> Result<Files<StoreDisk>, KeepFau
             Ok(db) => Ok(Files { log, db }),
             Err(error) => Err(read_fault(error)),
         },
+        Err(error) => Err(read_fault(error)),
+    }
+}
+
+// Ends a database, and gives its two files, which were read back.
+pub(crate) fn close_base(
+    alloc: Global,
+    base: Base<FileStore<StoreDisk>>,
+) -> Result<Files<StoreDisk>, KeepFault>
+    ensures whole { IfOk result (AreWhole ⟦<StoreDisk as Disk>⟧ base) }
+    ensures log { IfOk result (λ files.
+        IsSettled ⟦<File as Disk>⟧ files.log.copy.bytes.items files.log.file) }
+    ensures db { IfOk result (λ files.
+        IsSettled ⟦<File as Disk>⟧ files.db.copy.bytes.items files.db.file) }
+{
+    let Files { log, db } = base.close()?;
+    let log = settled(alloc, log)?;
+    let db = settled(alloc, db)?;
+    Ok(Files { log, db })
+}
+
+// The same file, which was read back.
+fn settled(alloc: Global, disk: StoreDisk) -> Result<StoreDisk, KeepFault>
+    requires { IsTrue (⟦<StoreDisk as Disk>⟧.is_usable disk) }
+    ensures same { IfOk result (λ found. found.copy ≡ disk.copy) }
+    ensures settled { IfOk result (λ found.
+        IsSettled ⟦<File as Disk>⟧ found.copy.bytes.items found.file) }
+{
+    let mut disk = disk;
+    match disk.settle(alloc) {
+        Ok(()) => Ok(disk),
         Err(error) => Err(read_fault(error)),
     }
 }

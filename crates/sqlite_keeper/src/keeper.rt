@@ -1,19 +1,22 @@
-ghost use Rattle.std.specs.Prelude.{◌≡◌, ℕ, ◌≤◌, Some, None, IfOk, OnOk, OnErr, IsSome};
+ghost use Rattle.std.specs.Prelude.{◌≡◌, ℕ, ◌≤◌, Some, None, IfOk, IfSome, OnOk, OnErr, IsSome};
 ghost use Rattle.std.specs.Option.{ForSome};
 ghost use Rattle.rows_model.specs.Rows.{Tables};
 ghost use Rattle.rows_model.specs.Query.{answer};
 ghost use Rattle.sql_keeper.specs.Keepers.{AreHeld, HoldsFresh, Commits, AnswersAfter};
 ghost use Rattle.sql_keeper.specs.Faults.{Counts, keep_failed, staged_failed};
-ghost use Rattle.sqlite_keeper.specs.Keepers.{held_at, rows_of};
+ghost use Rattle.memory_disk.specs.Copies.{IsSettled};
+ghost use Rattle.sqlite_keeper.specs.Keepers.{held_at};
+ghost use Rattle.sqlite_keeper.specs.Closings.{IsLeft};
 
 use crate::base::Base;
 use crate::faults::{count, keep_failed, staged_failed};
-use crate::files::open_file;
+use crate::files::{close_base, open_file};
 use crate::opening::{found_base, open_fresh};
 use memory_disk::StoreDisk;
 use rows_model::{QKey, Rows, Txn, Value};
-use sql_keeper::{AfterFault, KeepFault, Keeper, Place};
-use sqlite::FileStore;
+use sql_keeper::{AfterFault, KeepFault, Keeper, Place, Telling};
+use sqlite::{File, FileStore, Files};
+use sqlite_disk::Disk;
 use std::alloc::Global;
 use std::rt::HostRuntime;
 
@@ -24,10 +27,10 @@ use std::rt::HostRuntime;
 /// links and blocks, and the number of members is not used. A file that isn't such a database, or whose
 /// rows aren't fit for a store, is refused as `Failed`, and is left as it is.
 ///
-/// The keeper tells its rows once it was started, as long as the database is open. So the rows that a
-/// start answers are those that are told from then on, until a commit changes them: each read is answered
-/// from memory, whatever the file gives by then. A want of memory or a write that fails under the
-/// database may shut it, and each later call fails.
+/// The keeper tells its rows from its start on, for good. The rows that a start answers are those that are
+/// told, until a commit that is Ok changes them: each read is answered from memory, whatever the file gives
+/// by then. A want of memory or a write that fails under the database may shut it. Then each later call is
+/// refused, and the rows that are told stay those of the last moment at which it was known to be open.
 ///
 /// Want of memory that the database tells of is `Memory`. Every other refusal of it is counted, and is
 /// `Failed`.
@@ -52,13 +55,30 @@ impl SqliteKeeper {
         })
     }
 
-    /// Ends the keeper, and copies the log of a file into it, so that the file has all rows by itself. An
-    /// error leaves the rows in the two together, where the next start finds them.
-    pub fn close(self) -> Result<(), KeepFault> {
-        match self.base {
-            Some(base) => base.close(),
-            None => Ok(()),
-        }
+    /// Ends the keeper, and gives its two files, or none where there was no start. It copies the log into the
+    /// database file, and reads both back. Ok says that the database file has the rows that were told, by
+    /// itself, as it reads now and after a crash. `Failed` says that the database had shut, that the file
+    /// failed, or that it holds anything else. After an error the rows are in the two together, and nothing
+    /// is said of them. The keeper isn't started then, whatever the answer.
+    pub fn close(&mut self) -> Result<Option<Files<StoreDisk>>, KeepFault>
+        ensures ended { self.new.base ≡ None }
+        ensures whole { IfOk result (IsLeft ⟦<StoreDisk as Disk>⟧ self.old.base) }
+        ensures log { IfOk result (λ left. IfSome left (λ files.
+            IsSettled ⟦<File as Disk>⟧ files.log.copy.bytes.items files.log.file)) }
+        ensures db { IfOk result (λ left. IfSome left (λ files.
+            IsSettled ⟦<File as Disk>⟧ files.db.copy.bytes.items files.db.file)) }
+        ensures counts { Counts (keep_failed result) self.old.faults self.new.faults }
+        ensures never_falls { self.old.faults ≤ self.new.faults }
+    {
+        let closed = match self.base.take() {
+            Some(base) => match close_base(self.rt.alloc(), base) {
+                Ok(files) => Ok(Some(files)),
+                Err(fault) => Err(fault),
+            },
+            None => Ok(None),
+        };
+        count(keep_failed(&closed), &mut self.faults);
+        closed
     }
 
     // Opens the database of the place.
@@ -70,9 +90,9 @@ impl SqliteKeeper {
     ) -> Result<(Base<FileStore<StoreDisk>>, Rows), KeepFault>
         requires some { 1 ≤ members }
         requires few { members ≤ 100000 }
-        ensures told { IfOk result (λ made. ForSome made.0 (λ told. told ≡ made.1)) }
-        ensures shown { IfOk result (λ made. IsSome made.0) }
-        ensures held { IfOk result (λ made. AreHeld made.0 (held_at place.now members) made.1) }
+        ensures told { IfOk result (λ made. made.0 ≡ made.1) }
+        ensures held { IfOk result (λ made.
+            ForSome (held_at place.now members) (λ rows. made.1 ≡ rows)) }
     {
         match place {
             Place::Fresh => open_fresh(alloc, members),
@@ -93,7 +113,7 @@ fn sendable<K: Keeper + Send>(keeper: K) -> K
 }
 
 impl Keeper for SqliteKeeper {
-    ghost rows = { λ keeper. rows_of keeper.base };
+    ghost rows = { λ keeper. keeper.base };
 
     ghost holds = { λ _ place members. held_at place members };
 
@@ -105,13 +125,12 @@ impl Keeper for SqliteKeeper {
     fn start(&mut self, alloc: Global, place: &Place, members: u32) -> Result<Rows, KeepFault>
         requires some { 1 ≤ members }
         requires few { members ≤ 100000 }
-        ensures shown { OnOk result (IsSome (rows_of self.new.base)) }
         ensures started { OnOk result (IsSome self.new.base) }
         ensures tells { IfOk result (λ opening.
-            ForSome (rows_of self.new.base) (λ told. told ≡ opening)) }
-        ensures held { IfOk result (AreHeld (rows_of self.new.base) (held_at place.now members)) }
+            ForSome self.new.base (λ told. told ≡ opening)) }
+        ensures held { IfOk result (AreHeld self.new.base (held_at place.now members)) }
         ensures fresh { HoldsFresh place.now members (held_at place.now members) }
-        ensures kept { OnErr result (rows_of self.new.base ≡ rows_of self.old.base) }
+        ensures kept { OnErr result (self.new.base ≡ self.old.base) }
         ensures unstarted { OnErr result (IsSome self.new.base → IsSome self.old.base) }
         ensures counts { Counts (keep_failed result) self.old.faults self.new.faults }
         ensures never_falls { self.old.faults ≤ self.new.faults }
@@ -130,8 +149,8 @@ impl Keeper for SqliteKeeper {
     fn ask(&mut self, alloc: Global, key: &QKey) -> Result<Value, KeepFault>
         requires { IsSome self.old.base }
         ensures started { IsSome self.new.base }
-        ensures tells { (told : Tables) → rows_of self.new.base ≡ Some told
-            → (rows_of self.old.base ≡ Some told)
+        ensures tells { (told : Tables) → self.new.base ≡ Some told
+            → (self.old.base ≡ Some told)
             × IfOk result (λ value. value ≡ answer key.now told) }
         ensures counts { Counts (keep_failed result) self.old.faults self.new.faults }
         ensures never_falls { self.old.faults ≤ self.new.faults }
@@ -144,8 +163,8 @@ impl Keeper for SqliteKeeper {
     fn ask_after(&mut self, alloc: Global, txn: &Txn, key: &QKey) -> Result<Value, AfterFault>
         requires { IsSome self.old.base }
         ensures started { IsSome self.new.base }
-        ensures tells { (told : Tables) → rows_of self.new.base ≡ Some told
-            → (rows_of self.old.base ≡ Some told) × AnswersAfter txn.now key.now told result }
+        ensures tells { (told : Tables) → self.new.base ≡ Some told
+            → (self.old.base ≡ Some told) × AnswersAfter txn.now key.now told result }
         ensures counts { Counts (staged_failed result) self.old.faults self.new.faults }
         ensures never_falls { self.old.faults ≤ self.new.faults }
     {
@@ -157,8 +176,8 @@ impl Keeper for SqliteKeeper {
     fn commit(&mut self, alloc: Global, txn: &Txn) -> Result<(), AfterFault>
         requires { IsSome self.old.base }
         ensures started { IsSome self.new.base }
-        ensures tells { (told : Tables) → rows_of self.new.base ≡ Some told
-            → (before : Tables) × (rows_of self.old.base ≡ Some before)
+        ensures tells { (told : Tables) → self.new.base ≡ Some told
+            → (before : Tables) × (self.old.base ≡ Some before)
             × Commits txn.now before told result }
         ensures counts { Counts (staged_failed result) self.old.faults self.new.faults }
         ensures never_falls { self.old.faults ≤ self.new.faults }
@@ -167,4 +186,8 @@ impl Keeper for SqliteKeeper {
         count(staged_failed(&outcome), &mut self.faults);
         outcome
     }
+}
+
+impl Telling for SqliteKeeper {
+    ghost always_tells = { λ _ started. started };
 }

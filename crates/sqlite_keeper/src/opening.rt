@@ -1,6 +1,5 @@
 // The start: the database is opened, its tables are made where there are none, and its rows are read.
-ghost use Rattle.std.specs.Prelude.{◌≡◌, ◌≤◌, ◌<◌, AllPairs, IfOk, OnOk, IsSome, IsTrue};
-ghost use Rattle.std.specs.Option.{ForSome};
+ghost use Rattle.std.specs.Prelude.{◌≡◌, ◌≤◌, ◌<◌, AllPairs, IfOk, OnOk, IsTrue};
 ghost use Rattle.rows_model.specs.Rows.{start_tables};
 ghost use Rattle.sqlite_trees.specs.View.{doubt};
 ghost use Rattle.sqlite.specs.State.{HasCleanDisk};
@@ -29,9 +28,8 @@ pub(crate) fn open_fresh(
 ) -> Result<(Base<FileStore<StoreDisk>>, Rows), KeepFault>
     requires some { 1 ≤ members }
     requires few { members ≤ 100000 }
-    ensures told { IfOk result (λ made. ForSome made.0 (λ told. told ≡ made.1)) }
+    ensures told { IfOk result (λ made. made.0 ≡ made.1) }
     ensures opening { IfOk result (λ made. made.1 ≡ start_tables members) }
-    ensures shown { IfOk result (λ made. IsSome made.0) }
 {
     let conn = in_memory(alloc)?;
     let rows = Rows::start(alloc, members)?;
@@ -46,8 +44,7 @@ fn fresh_base<S: Alter + Drop>(
     members: u32,
 ) -> Result<Base<S>, KeepFault>
     requires { rows.now ≡ start_tables members }
-    ensures told { IfOk result (λ base. ForSome base (λ told. told ≡ rows.now)) }
-    ensures shown { NeverLies S.Store → IfOk result (λ base. IsSome base) }
+    ensures told { NeverLies S.Store → IfOk result (λ base. base ≡ rows.now) }
 {
     let mut conn = conn;
     if !is_blank(conn.schema()) {
@@ -55,7 +52,7 @@ fn fresh_base<S: Alter + Drop>(
     }
     make_rows(&mut conn, rows.members())?;
     let tally = tally_of(rows);
-    Ok(Base::new(conn, tally, true))
+    Ok(Base::new(conn, tally))
 }
 
 // The base of a connection, and the rows that its database has or is given.
@@ -66,15 +63,14 @@ pub(crate) fn found_base<S: Alter + Drop>(
 ) -> Result<(Base<S>, Rows), KeepFault>
     requires some { 1 ≤ members }
     requires few { members ≤ 100000 }
-    ensures told { IfOk result (λ made. ForSome made.0 (λ told. told ≡ made.1)) }
-    ensures begun { IfOk result (λ made. IsSome made.0
-        → BeginsOn members (state S.Store conn).now made.1) }
-    ensures shown { NeverLies S.Store → IfOk result (λ made. IsSome made.0) }
+    ensures told { NeverLies S.Store → IfOk result (λ made. made.0 ≡ made.1) }
+    ensures begun { NeverLies S.Store
+        → IfOk result (λ made. BeginsOn members (state S.Store conn).now made.1) }
 {
     let mut conn = conn;
     let rows = settle(alloc, &mut conn, members)?;
     let tally = tally_of(&rows);
-    Ok((Base::new(conn, tally, true), rows))
+    Ok((Base::new(conn, tally), rows))
 }
 
 fn in_memory(alloc: Global) -> Result<Connection<FileStore<StoreDisk>>, KeepFault> {

@@ -1,3 +1,5 @@
+ghost use Rattle.std.specs.Prelude.{◌≡◌, ◌≤◌, [], IfSome, vec_capacity};
+
 use crate::test_desk::TestDesk;
 use conn_server::LineEnd;
 use door_workers::{Attended, serve_all};
@@ -26,17 +28,31 @@ fn door(alloc: Global, fails: &[u64]) -> Result<ListDoor, Memory> {
     ListDoor::new(alloc, lines, Vec::from_slice(alloc, fails)?)
 }
 
-/// Two workers attend the door.
+/// Two workers attend the door, until so many lines were accepted.
 fn attend<R: Threads + Wait + Sync>(
     rt: &R,
     alloc: Global,
     door: &mut ListDoor,
-    conns: u32,
+    most: u32,
 ) -> Result<Attended, Fail> {
+    let ends = Vec::with_capacity(alloc, most as usize)?;
+    attend_for(rt, alloc, door, Some(most), ends)
+}
+
+/// They attend it for so many lines, or for any number.
+fn attend_for<R: Threads + Wait + Sync>(
+    rt: &R,
+    alloc: Global,
+    door: &mut ListDoor,
+    conns: Option<u32>,
+    ends: Vec<LineEnd>,
+) -> Result<Attended, Fail>
+    requires none { ends.items ≡ [] }
+    requires room { IfSome conns (λ most. most ≤ vec_capacity ends) }
+{
     let mut desks = Vec::new(alloc);
     desks.push(TestDesk::new(alloc, &[])?)?;
     desks.push(TestDesk::new(alloc, &[])?)?;
-    let ends = Vec::with_capacity(alloc, conns as usize)?;
     let plain = PlainBox::new(Plain::new(alloc, 1));
     Ok(serve_all(rt, alloc, desks.as_mut_slice(), &plain, door, conns, ends))
 }
@@ -83,5 +99,16 @@ fn workers_leave_a_door_that_gave_enough_lines(rt: HostRuntime) -> Result<(), Fa
     assert!(&rt; !attended.failed);
     assert!(&rt; (attended.ends.len(), door.closed().len()) == (2, 2));
     assert!(&rt; matches!(door.accept(), Ok(Some(_))));
+    Ok(())
+}
+
+/// No number of lines is enough: they are served until no more come, and how they ended isn't kept.
+#[test]
+fn workers_stay_until_no_more_lines_come(rt: HostRuntime) -> Result<(), Fail> {
+    let mut door = door(rt.alloc(), &[])?;
+    let attended = attend_for(&rt, rt.alloc(), &mut door, None, Vec::new(rt.alloc()))?;
+    assert!(&rt; !attended.failed);
+    assert!(&rt; (attended.served, attended.ends.len()) == (3, 0));
+    assert!(&rt; door.closed().len() == 3);
     Ok(())
 }

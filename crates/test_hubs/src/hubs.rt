@@ -45,7 +45,21 @@ pub fn store_of(rt: &impl Abort, alloc: Global, members: u32) -> Store<MapKeeper
     requires few { members ≤ 100000 }
     ensures { result.ledger ≡ opened result.ledger.opening 8000000 }
 {
-    let keeper = MapKeeper::new(Vec::new(alloc));
+    failing_store(rt, alloc, members, Vec::new(alloc))
+}
+
+/// One whose keeper fails at the calls with these numbers, counted from 1. The first call starts it.
+pub fn failing_store(
+    rt: &impl Abort,
+    alloc: Global,
+    members: u32,
+    fails: Vec<u64>,
+) -> Store<MapKeeper>
+    requires some { 1 ≤ members }
+    requires few { members ≤ 100000 }
+    ensures { result.ledger ≡ opened result.ledger.opening 8000000 }
+{
+    let keeper = MapKeeper::new(fails);
     match Store::new(alloc, keeper, &Place::Fresh, members, 8_000_000) {
         Ok(store) => store,
         Err(_) => panic!(rt; "no store"),

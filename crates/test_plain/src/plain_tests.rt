@@ -1,6 +1,6 @@
 use mc_text::{PlainLine, PlainReply, PlainSaid, plain_line, plain_verb, write_plain_reply};
 use plain_ops::Plain;
-use rows_model::{Memory, Value};
+use rows_model::Memory;
 use std::alloc::Global;
 use std::test::Fail;
 
@@ -56,8 +56,8 @@ fn said_of(alloc: Global, line: &str, block: &str) -> Result<Option<(PlainSaid, 
     match plain_line(alloc, verb, args.as_bytes())? {
         PlainLine::Whole { said, noreply } => Ok(Some((said, noreply))),
         PlainLine::Headed { head } => {
-            let block = Value::of(alloc, block.as_bytes())?;
-            Ok(Some((head.with_block(alloc, block)?, head.noreply)))
+            let said = head.with_block(alloc, block.as_bytes())?;
+            Ok(Some((said, head.noreply)))
         }
         PlainLine::Bad => Ok(None),
     }

@@ -1,7 +1,7 @@
 // What a user concludes from the contracts alone, of runs, sessions, stores and shards.
 use crate::outsides::{Outside, keeper, outside_of, shut_door, still_clock, words_of};
 use callers::{quits, runs, shards, stores};
-use iq_outside::{MemSink, MemSource, OpenGate};
+use iq_outside::{ListDoor, MemLine, MemSink, MemSource, OpenGate};
 use key_shard::{Got, SetAnswer, Shard};
 use lease_table::Mode;
 use rows_model::{Change, Kind, Name, QKey, Sid, Txn, Value};
@@ -111,19 +111,49 @@ fn is_refused(
 #[test]
 fn a_server_without_a_line_tells_that_it_served_none(rt: HostRuntime) -> Result<(), Fail> {
     let mut outside = outside_of(rt.alloc(), b"", 1, 7)?;
-    assert!(rt; serves_none(&rt, rt.alloc(), &mut outside)?);
+    let mut door = shut_door(rt.alloc())?;
+    assert!(rt; serves_without_ends(&rt, rt.alloc(), &mut outside, &mut door, "serve x 5 2 2 3")?);
     assert!(rt; outside.sink.taken() == b"ready\nserved 0\n".as_slice());
     Ok(())
 }
 
-/// Whether a server over two shards ends done and keeps no end of a line.
-fn serves_none(
+#[test]
+fn a_server_that_stays_serves_all_lines_and_keeps_no_end(rt: HostRuntime) -> Result<(), Fail> {
+    let mut outside = outside_of(rt.alloc(), b"", 1, 7)?;
+    let mut door = door_of_three(rt.alloc())?;
+    let words = "serve x forever 2 2 3";
+    assert!(rt; serves_without_ends(&rt, rt.alloc(), &mut outside, &mut door, words)?);
+    assert!(rt; outside.sink.taken() == b"ready\nserved 3\n".as_slice());
+    assert!(rt; door.closed().len() == 3);
+    assert!(rt;
+        door.closed()
+            .iter()
+            .all(|line| line.taken() == b"ERROR\r\n".as_slice())
+    );
+    Ok(())
+}
+
+/// A door of three lines, each with an unknown command.
+fn door_of_three(alloc: Global) -> Result<ListDoor, Fail> {
+    let mut lines = Vec::new(alloc);
+    for _ in 0..3 {
+        let text = Vec::from_slice(alloc, b"what\r\nquit\r\n")?;
+        let source = MemSource::new(text, 64, Vec::new(alloc));
+        let sink = MemSink::new(alloc, 64, 64, Vec::new(alloc))?;
+        lines.push(MemLine::new(source, sink))?;
+    }
+    Ok(ListDoor::new(alloc, lines, Vec::new(alloc))?)
+}
+
+/// Whether a server of these words, over two shards, ends done and keeps no end of a line.
+fn serves_without_ends(
     rt: &(impl Threads + Wait + Sync),
     alloc: Global,
     outside: &mut Outside,
+    door: &mut ListDoor,
+    words: &str,
 ) -> Result<bool, Fail> {
-    let words = words_of(alloc, "serve x 5 2 2 3")?;
-    let mut door = shut_door(alloc)?;
+    let words = words_of(alloc, words)?;
     let clock = still_clock(alloc)?;
     let end = runs::run_server(
         rt,
@@ -132,7 +162,7 @@ fn serves_none(
         &mut outside.source,
         &mut outside.sink,
         keeper(alloc),
-        &mut door,
+        door,
         &clock,
         &OpenGate,
     );

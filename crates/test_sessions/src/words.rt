@@ -1,4 +1,4 @@
-use run_words::{Words, WordsFault, read_words};
+use run_words::{Conns, Words, WordsFault, read_words};
 use sql_keeper::Place;
 use std::alloc::{AllocError, Global};
 use std::process::Abort;
@@ -24,6 +24,14 @@ fn place_told(alloc: Global, place: &Place) -> Result<String, AllocError> {
     }
 }
 
+// The word for how many connections are served.
+fn conns_told(alloc: Global, conns: Conns) -> Result<String, AllocError> {
+    match conns {
+        Conns::Number(count) => format!(in alloc; "{count}"),
+        Conns::Forever => format!(in alloc; "forever"),
+    }
+}
+
 // What is read of words, as one line: the command with its place and its numbers, the first line of a
 // text, or the fault.
 fn told(alloc: Global, words: &[Vec<u8>]) -> Result<String, AllocError> {
@@ -42,7 +50,7 @@ fn told(alloc: Global, words: &[Vec<u8>]) -> Result<String, AllocError> {
             "serve{} {} {} {} {} {}",
             place_told(alloc, &place)?,
             String::from_utf8_lossy(alloc, spec.addr.as_slice())?,
-            spec.conns,
+            conns_told(alloc, spec.conns)?,
             spec.workers,
             spec.shards,
             spec.members
@@ -69,7 +77,7 @@ fn reads(rt: &impl Abort, alloc: Global, line: &str, want: &str) {
 }
 
 /// Lines that are read as they stand.
-const COMMANDS: [&str; 13] = [
+const COMMANDS: [&str; 15] = [
     "replay",
     "work 1 0 1 1 0",
     "work 100000 500000 1024 64 18446744073709551615",
@@ -78,6 +86,8 @@ const COMMANDS: [&str; 13] = [
     "serve localhost:11211 1000000 1024 64 100000",
     "serve é 7 6 5 4",
     "serve help 1 2 3 4",
+    "serve 127.0.0.1:7000 forever 4 8 1000",
+    "serve --db /a.db forever forever 1 1 1",
     "replay --db a.db",
     "replay --db data/é.db",
     "work --db a.db 3 10 2 1 7",
@@ -93,7 +103,7 @@ fn commands_are_read_as_they_stand(rt: HostRuntime) {
 }
 
 /// Lines that are no command's.
-const NONE: [&str; 52] = [
+const NONE: [&str; 56] = [
     "",
     "play",
     "Replay",
@@ -129,6 +139,10 @@ const NONE: [&str; 52] = [
     "serve a:1 1 1 1 0",
     "serve a:1 1 1 1 100001",
     "serve a:1 01 1 1 1",
+    "serve a:1 Forever 1 1 1",
+    "serve a:1 forever1 1 1 1",
+    "serve a:1 1 forever 1 1",
+    "serve a:1 forever",
     "serve a:1 +1 1 1 1",
     "serve a:1 1 1 1 4294967297",
     "-- replay",

@@ -1,4 +1,4 @@
-//! Keys, rows and transactions, the tables and the shards, writers, the sweeper, the store and the audit: tests alone.
+//! Keys, rows and transactions, the tables and the shards, writers, the sweeper, the store, dumps and the audit: tests alone.
 #![tactic(auto)]
 
 #[cfg(test)]
@@ -13,6 +13,12 @@ mod deltas;
 mod desks;
 #[cfg(test)]
 mod draws;
+#[cfg(test)]
+mod dump_helps;
+#[cfg(test)]
+mod dump_texts;
+#[cfg(test)]
+mod dumps;
 #[cfg(test)]
 mod entries;
 #[cfg(test)]

@@ -1,6 +1,6 @@
 -- The ends of a command, by its words.
 use Rattle.std.proofs.Common.{ℕ, ◌≡◌, ◌<◌, ◌≤◌, ◌-◌, ◌^◌, inl, inr, List, [], ◌∷◌, length, get_or, arith, ap, refl, sym, ◌∙◌, subst}
-use Rattle.std.specs.Prelude.{false, Result, Ok, Err, IfOk, MatchResult, codes}
+use Rattle.std.specs.Prelude.{false, Option, Some, None, Result, Ok, Err, IfOk, MatchResult, codes}
 use Rattle.std.proofs.lemmas.Fmt.{decimal_injective}
 use Rattle.iq_outside.specs.Outside.{Rose, Takes, TakesAtMost}
 use Rattle.iq_outside.proofs.OutsideLemmas.{Takes-none}
@@ -15,13 +15,18 @@ use Rattle.run_words.specs.declared.words.Words.{Words}
 use Rattle.run_words.specs.declared.words.Words.TheVariants as words
 use Rattle.run_words.specs.declared.words.WordsFault.{WordsFault}
 use Rattle.run_words.specs.declared.words.WordsFault.TheVariants as fault
-use Rattle.top_run.specs.Commands.{AreNoCommand, IsUnread, IsReading, IsRefused, EndedAs, CommandEnded}
+use Rattle.iq_outside.specs.Outside.{LineRecord}
+use Rattle.conn_server.specs.declared.ends.LineEnd.{LineEnd}
+use Rattle.door_workers.specs.Ends.{AreHandedBack, AreServed}
+use Rattle.run_words.specs.declared.words.Conns.{Conns}
+use Rattle.run_words.proofs.WordLemmas.{one_conns}
+use Rattle.top_run.specs.Commands.{AreLines, AreNoCommand, IsUnread, IsReading, IsRefused, EndedAs, CommandEnded, LinesEnded}
 use Rattle.top_run.specs.Runs.{Held, Tells, Left, IsUnasked, Ended, most_taken, is_door_fault}
 use Rattle.top_run.specs.Serves.{Course, ServeEnded}
-use Rattle.run_words.specs.Words.{AreServe, AreWords, with_place}
+use Rattle.run_words.specs.Words.{AreServe, AreWords, most_served, with_place}
 use Rattle.run_words.specs.Reading.{AreReadAs, IsRead}
 use Rattle.top_run.specs.Works.{WorkEnded}
-use Rattle.top_run.proofs.ServeLemmas.{same_server}
+use Rattle.top_run.proofs.ServeLemmas.{AreSame, same_server}
 
 -- ---- what words that are a command's, word for word, are read as
 
@@ -105,10 +110,11 @@ same_load spoken spec other h k =
 -- and of one server's numbers
 same_conns : (spoken : List (List ℕ)) (spec other : ServeSpec) → AreServe spoken spec → AreServe spoken other → spec.conns ≡ other.conns
 same_conns spoken spec other h k =
-    let low = h.fits.few_conns in
-    let high = k.fits.few_conns in
     let same = sym h.written ∙ k.written in
-    decimal_injective spec.conns other.conns (omega arith) (omega arith) cc
+    one_conns spec.conns other.conns h.fits.conns k.fits.conns cc
+
+same_addr : (spoken : List (List ℕ)) (spec other : ServeSpec) → AreServe spoken spec → AreServe spoken other → spec.addr.items ≡ other.addr.items
+same_addr spoken spec other h k = let same = sym h.written ∙ k.written in cc
 
 same_members : (spoken : List (List ℕ)) (spec other : ServeSpec) → AreServe spoken spec → AreServe spoken other → spec.members ≡ other.members
 same_members spoken spec other h k =
@@ -123,6 +129,14 @@ same_shards spoken spec other h k =
     let high = k.fits.few_shards in
     let same = sym h.written ∙ k.written in
     decimal_injective spec.shards other.shards (omega arith) (omega arith) cc
+
+are_same : (spoken : List (List ℕ)) (spec other : ServeSpec) → AreServe spoken spec → AreServe spoken other → AreSame spec other
+are_same spoken spec other h k = record {
+  addr = same_addr spoken spec other h k;
+  conns = same_conns spoken spec other h k;
+  members = same_members spoken spec other h k;
+  shards = same_shards spoken spec other h k;
+}
 
 -- ---- where nothing was done
 
@@ -164,8 +178,7 @@ ended_alike spoken (words.Serve at spec) (words.Serve place other) h k ended cou
     let are = k.are_command.1 in
     let there = subst (λ (p : Place). EndedAs (Ok (words.Serve p spec)) ended courses) (h.are_command.0 ∙ same.0 ∙ sym k.are_command.0) e in (
       there.0,
-      same_server spec other ended (courses place) (same_conns k.others spec other too are)
-          (same_members k.others spec other too are) (same_shards k.others spec other too are) there.1,
+      same_server spec other ended (courses place) (are_same k.others spec other too are) there.1,
     )
 ended_alike spoken (words.Replay at) (words.Work place spec) h k ended courses e = absurd (replay_or_work spoken at place spec h k)
 ended_alike spoken (words.Replay at) (words.Serve place spec) h k ended courses e = absurd (replay_or_serve spoken at place spec h k)
@@ -304,3 +317,61 @@ pub server_not_failed : (ended : Status) (spec : ServeSpec) (course : Course) �
 server_not_failed ended spec course h same below is =
     let failed = subst (λ (e : Status). ServeEnded e spec course) is h in
     not_rose course.before.keeps_failed course.after.keeps_failed failed.0 same below
+
+-- ---- how the lines of a command ended, by what its words were read as
+
+all_served : (most : Option ℕ) (ends : List LineEnd) (before after : Option (List LineRecord)) → AreHandedBack ends before after → AreServed most ends before after
+all_served (Some count) ends before after are = are
+all_served None ends before after are = (ends, are)
+
+-- where nothing tells that a server was asked for
+lines_of : (command : Words) (ends : List LineEnd) (before after : Option (List LineRecord)) → AreHandedBack ends before after
+    → LinesEnded (Ok command) ends before after
+lines_of (words.Replay at) ends before after are = are
+lines_of (words.Work at spec) ends before after are = are
+lines_of (words.Serve at spec) ends before after are = all_served (most_served spec.conns) ends before after are
+lines_of (words.Told text) ends before after are = are
+
+lines_alike : (spoken : List (List ℕ)) (found command : Words) → AreWords spoken found → AreWords spoken command
+    → (ends : List LineEnd) (before after : Option (List LineRecord)) → LinesEnded (Ok found) ends before after → LinesEnded (Ok command) ends before after
+lines_alike spoken (words.Replay at) command h k ends before after are = lines_of command ends before after are
+lines_alike spoken (words.Work at spec) command h k ends before after are = lines_of command ends before after are
+lines_alike spoken (words.Serve at spec) (words.Serve place other) h k ends before after are =
+    let six : length h.others ≡ 6 = ap length h.are_command.1.written in
+    let six' : length k.others ≡ 6 = ap length k.are_command.1.written in
+    let same = alike spoken (words.Serve at spec) (words.Serve place other) h k (omega (arith, six)) (six ∙ sym six') in
+    let too : AreServe k.others spec = subst (λ (ws : List (List ℕ)). AreServe ws spec) same.1 h.are_command.1 in
+    subst (λ (conns : Conns). AreServed (most_served conns) ends before after) (same_conns k.others spec other too k.are_command.1) are
+lines_alike spoken (words.Serve at spec) (words.Replay place) h k ends before after are = absurd (replay_or_serve spoken place at spec k h)
+lines_alike spoken (words.Serve at spec) (words.Work place other) h k ends before after are = absurd (work_or_serve spoken place at other spec k h)
+lines_alike spoken (words.Serve at spec) (words.Told text) h k ends before after are = absurd k.are_command
+lines_alike spoken (words.Told text) command h k ends before after are = absurd h.are_command
+
+worded_lines : (spoken : List (List ℕ)) (read : Result Words WordsFault) (ends : List LineEnd) (before after : Option (List LineRecord))
+    → Accepts spoken read → LinesEnded read ends before after → (command : Words) → AreWords spoken command → LinesEnded (Ok command) ends before after
+worded_lines spoken (Ok found) ends before after accepts are command is = lines_alike spoken found command (accepts command is) is ends before after are
+worded_lines spoken (Err why) ends before after accepts are command is = lines_of command ends before after are
+
+are_lines : (spoken : List (List ℕ)) (read : Result Words WordsFault) (ends : List LineEnd) (before after : Option (List LineRecord))
+    → Accepts spoken read → IsReading spoken read → LinesEnded read ends before after → AreLines spoken ends before after
+are_lines spoken read ends before after accepts reading are = record {
+  worded = worded_lines spoken read ends before after accepts are;
+  read = read;
+  is_reading = reading;
+  ended = are;
+}
+
+pub lines_ok : (spoken : List (List ℕ)) (read : Result Words WordsFault) (ends : List LineEnd) (before after : Option (List LineRecord))
+    → Accepts spoken read → IfOk read (IsRead spoken) → (read ≡ Err fault.Usage → (command : Words) → AreReadAs spoken command → ⊥)
+    → (found command : Words) → read ≡ Ok found → found ≡ command → LinesEnded (Ok command) ends before after → AreLines spoken ends before after
+lines_ok spoken read ends before after accepts is usage found command first then are =
+    let as_read : read ≡ Ok command = cc in
+    are_lines spoken read ends before after accepts (reading_of spoken read accepts is usage)
+    (subst (λ (r : Result Words WordsFault). LinesEnded r ends before after) (sym as_read) are)
+
+pub lines_err : (spoken : List (List ℕ)) (read : Result Words WordsFault) (ends : List LineEnd) (before after : Option (List LineRecord))
+    → Accepts spoken read → IfOk read (IsRead spoken) → (read ≡ Err fault.Usage → (command : Words) → AreReadAs spoken command → ⊥)
+    → (why : WordsFault) → read ≡ Err why → AreHandedBack ends before after → AreLines spoken ends before after
+lines_err spoken read ends before after accepts is usage why first are =
+    are_lines spoken read ends before after accepts (reading_of spoken read accepts is usage)
+    (subst (λ (r : Result Words WordsFault). LinesEnded r ends before after) (sym first) are)

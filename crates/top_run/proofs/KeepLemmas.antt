@@ -22,7 +22,7 @@ use Rattle.core_history.specs.Cores.{CoreView, Origin, shard_after, HasShards, H
 use Rattle.core_history.specs.Freshness.{IsNumbered, histories_of}
 use Rattle.run_audit.specs.Findings.{AreWhole}
 use Rattle.core_history.specs.Machine.{Move, terms_of}
-use Rattle.core_history.specs.Determined.{Call, call_of}
+use Rattle.core_history.specs.Determined.{Cue, cue_of}
 use Rattle.core_history.specs.Truth.{IsTruePast}
 use Rattle.core_history.proofs.DeterminedLemmas.{runs_determined, turns_count}
 use Rattle.top_run.specs.Runs.{AreMoves, past_of, out, IsTheText, Held, IsOpened, Keeps, FewFaults}
@@ -122,16 +122,16 @@ opened_still held core origin moves rows kept told =
     opened_since held origin.shape origin.opening origin.told rows (λ some. kept.store.telling (subst (λ (r : Option Tables). IsSome r) told some))
 
 -- two lists that do the same in reverse do the same
-pub unreversed : (moves others : List Move) → map call_of (reverse moves) ≡ map call_of (reverse others) → map call_of moves ≡ map call_of others
+pub unreversed : (moves others : List Move) → map cue_of (reverse moves) ≡ map cue_of (reverse others) → map cue_of moves ≡ map cue_of others
 unreversed moves others same = sym (backwards moves) ∙ ap reverse same ∙ backwards others
   where
-    backwards : (moves : List Move) → reverse (map call_of (reverse moves)) ≡ map call_of moves
+    backwards : (moves : List Move) → reverse (map cue_of (reverse moves)) ≡ map cue_of moves
     backwards [] = refl
     backwards (move ∷ moves) =
-        ap (λ (l : List Move). reverse (map call_of l)) (reverse-append (move ∷ []) moves)
-        ∙ ap reverse (map-append call_of (reverse moves) (move ∷ []))
-        ∙ reverse-append (map call_of (reverse moves)) (call_of move ∷ [])
-        ∙ ap (λ (l : List Call). call_of move ∷ l) (backwards moves)
+        ap (λ (l : List Move). reverse (map cue_of l)) (reverse-append (move ∷ []) moves)
+        ∙ ap reverse (map-append cue_of (reverse moves) (move ∷ []))
+        ∙ reverse-append (map cue_of (reverse moves)) (cue_of move ∷ [])
+        ∙ ap (λ (l : List Cue). cue_of move ∷ l) (backwards moves)
 
 -- what is printed is told by the script, the opening rows and the turns that were answered FAULT
 pub the_text_is : (shape : Shape) (acts : List Act) (opening : Tables) (turns : List ℕ) (moves : List Move) → AreMoves acts moves

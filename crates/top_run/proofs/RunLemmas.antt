@@ -15,19 +15,19 @@ use Rattle.top_run.specs.declared.plays.Stop.TheVariants as stop
 use Rattle.top_run.specs.declared.plays.Tally.{Tally}
 use Rattle.top_run.specs.declared.runs.Status.{Status}
 use Rattle.top_run.specs.declared.runs.Status.TheVariants as status
-use Rattle.core_history.specs.Determined.{Call}
+use Rattle.core_history.specs.Determined.{Cue}
 use Rattle.top_run.specs.Runs.{calls_of, past_of, faults_in, earlier, Held, Prints, IsRead, Tells, Left, IsOpened, AreTold, IsBegun, IsWhole}
 use Rattle.top_run.specs.Runs.{IsCutOff, Keeps, Ended, is_read_fault, is_write_fault}
-use Rattle.top_run.specs.Plays.{CanPlay, Stands, Stops, IsNoted, IsNew, IsFinished, IsStopped, status_of, at_write}
+use Rattle.top_run.specs.Plays.{CanPlay, IsPlayed, Stops, IsNoted, IsNew, IsFinished, IsStopped, status_of, at_write}
 use Rattle.top_run.proofs.PrintLemmas.{lines_none}
 use Rattle.top_run.proofs.KeepLemmas.{end_line_of, keeps, opened_still, the_text_is, no_turns, some_turns, none_told, rose_since, rose_of, never_fell}
 use Rattle.top_run.proofs.PlayLemmas.{lines_split}
 
 -- a new core stands at the start
 pub stands_new : (core : CoreView) (shape : Shape) (taken : Option (List ℕ)) (tally : Tally)
-    → IsNew core shape → tally ≡ record { written = 0; faulted = false } → Stands core (origin_of shape core) [] taken taken tally
+    → IsNew core shape → tally ≡ record { written = 0; faulted = false } → IsPlayed core (origin_of shape core) [] taken taken tally
 stands_new core shape taken tally h none =
-    subst (λ (t : Tally). Stands core (origin_of shape core) [] taken taken t) (sym none) (record {
+    subst (λ (t : Tally). IsPlayed core (origin_of shape core) [] taken taken t) (sym none) (record {
       moves = [];
       at = h;
       made = refl;
@@ -54,11 +54,11 @@ can_start core shape acts taken tally playable h none =
 -- where a script's acts were played on a new core, it stands after what they say
 pub stands_played : (core new : CoreView) (shape : Shape) (acts played : List Act) (taken taken_new : Option (List ℕ)) (tally tally_new : Tally)
     → IsNew core shape → tally ≡ record { written = 0; faulted = false } → played ≡ acts
-    → ((origin : Origin) (calls : List Call) (taken_old : Option (List ℕ))
-    → Stands core origin calls taken_old taken tally → Stands new origin (calls ++ calls_of played) taken_old taken_new tally_new)
-    → Stands new (origin_of shape core) ([] ++ calls_of acts) taken taken_new tally_new
+    → ((origin : Origin) (calls : List Cue) (taken_old : Option (List ℕ))
+    → IsPlayed core origin calls taken_old taken tally → IsPlayed new origin (calls ++ calls_of played) taken_old taken_new tally_new)
+    → IsPlayed new (origin_of shape core) ([] ++ calls_of acts) taken taken_new tally_new
 stands_played core new shape acts played taken taken_new tally tally_new is_new none same on =
-    subst (λ (xs : List Act). Stands new (origin_of shape core) ([] ++ calls_of xs) taken taken_new tally_new) same
+    subst (λ (xs : List Act). IsPlayed new (origin_of shape core) ([] ++ calls_of xs) taken taken_new tally_new) same
     (on (origin_of shape core) [] taken (stands_new core shape taken tally is_new none))
 
 -- a stop among the turns
@@ -77,7 +77,7 @@ stopped_at_act core origin acts taken_old taken_new tally h =
 -- a stop at the last line
 pub stopped_at_end : (core : CoreView) (origin : Origin) (acts : List Act)
     (taken_old taken_was taken_new : Option (List ℕ)) (was tally : Tally) (front rest : List ℕ)
-    → (h : Stands core origin ([] ++ calls_of acts) taken_old taken_was was)
+    → (h : IsPlayed core origin ([] ++ calls_of acts) taken_old taken_was was)
     → front ++ rest ≡ end_line core.store.ledger.log (histories_in core)
     → Prints taken_old taken_new (lines_of (past_of origin.shape h.moves) ++ front) tally.written
     → IsStopped core origin acts taken_old taken_new tally
@@ -102,7 +102,7 @@ stopped_at_end core origin acts taken_old taken_was taken_new was tally front re
     }
 
 pub stopped_before_end : (core : CoreView) (origin : Origin) (acts : List Act) (taken_old taken_new : Option (List ℕ)) (tally : Tally)
-    → Stands core origin ([] ++ calls_of acts) taken_old taken_new tally → IsStopped core origin acts taken_old taken_new tally
+    → IsPlayed core origin ([] ++ calls_of acts) taken_old taken_new tally → IsStopped core origin acts taken_old taken_new tally
 stopped_before_end core origin acts taken_old taken_new tally h = record {
   moves = h.moves;
   made = ([], append-nil _ ∙ h.made);
@@ -119,7 +119,7 @@ stopped_before_end core origin acts taken_old taken_new tally h = record {
 
 -- all was printed
 pub finished : (core : CoreView) (origin : Origin) (acts : List Act) (taken_old taken_was taken_new : Option (List ℕ)) (was tally : Tally) (line : List ℕ)
-    → (h : Stands core origin ([] ++ calls_of acts) taken_old taken_was was)
+    → (h : IsPlayed core origin ([] ++ calls_of acts) taken_old taken_was was)
     → line ≡ end_line core.store.ledger.log (histories_in core)
     → Prints taken_old taken_new (lines_of (past_of origin.shape h.moves) ++ line) tally.written
     → tally.faulted ≡ was.faulted
@@ -233,8 +233,8 @@ one_alone f (y ∷ []) x one e = ap (λ z. f z ∷ []) (sym e)
 one_alone f (y ∷ z ∷ xs) x one e = absurd (omega arith)
 
 -- a core that stands somewhere has as many shards as its shape says
-pub few_shards : (core : CoreView) (origin : Origin) (calls : List Call) (acts : List Act) (taken_old taken_new : Option (List ℕ)) (tally : Tally)
-    → Stands core origin calls taken_old taken_new tally → IsPlayable origin.shape acts → length core.shards ≤ 64
+pub few_shards : (core : CoreView) (origin : Origin) (calls : List Cue) (acts : List Act) (taken_old taken_new : Option (List ℕ)) (tally : Tally)
+    → IsPlayed core origin calls taken_old taken_new tally → IsPlayable origin.shape acts → length core.shards ≤ 64
 few_shards core origin calls acts taken_old taken_new tally h playable =
     subst (λ (n : ℕ). n ≤ 64) (sym h.at.kept.shards.count) playable.shape_fits.few_shards
 

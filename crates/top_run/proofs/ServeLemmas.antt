@@ -1,6 +1,6 @@
 -- The ends of a server.
-use Rattle.std.proofs.Common.{ℕ, ◌≡◌, ◌≤◌, ◌++◌, ◌∷◌, List, [], length, decimal, append_assoc, arith, ap, sym, ◌∙◌, refl, subst, inl, inr}
-use Rattle.std.specs.Prelude.{◌⊎◌, true, false, codes, Option, None, Some, Vec}
+use Rattle.std.proofs.Common.{ℕ, ◌≡◌, ◌≤◌, ◌++◌, ◌∷◌, List, [], decimal, append_assoc, arith, ap, sym, ◌∙◌, refl, subst, inl, inr}
+use Rattle.std.specs.Prelude.{◌≢◌, false, codes, unwrap_or, IfSome, Option, None, Some, Vec}
 use Rattle.std.specs.Global.{Global}
 use Rattle.iq_outside.specs.declared.sinks.Sink.{Ghosts as Sinks}
 use Rattle.session_client.specs.declared.plans.Shape.{Shape}
@@ -12,10 +12,11 @@ use Rattle.run_words.specs.declared.words.ServeSpec.{ServeSpec}
 use Rattle.top_run.specs.Runs.{Prints, is_read_fault}
 use Rattle.top_run.specs.Works.{IsKept}
 use Rattle.top_run.specs.Serves.{serve_shape, serve_keep, ready_line, served_line, serve_text, IsServedText, IsAttended, HasServed, Course, IsServed, ServeEnded}
-use Rattle.door_workers.specs.Attending.{GivesBack}
+use Rattle.door_workers.specs.Attending.{GivesBack, HaveEnds, IsEnough}
+use Rattle.run_words.specs.Words.{most_served}
 use Rattle.door_workers.specs.Told.{Told}
-use Rattle.door_workers.specs.Ends.{AreHandedBack}
-use Rattle.door_workers.proofs.EndLemmas.{none-handed}
+use Rattle.door_workers.specs.Ends.{AreHandedBack, AreServed}
+use Rattle.door_workers.proofs.EndLemmas.{none-handed, none-served}
 use Rattle.iq_outside.specs.Outside.{LineRecord}
 use Rattle.top_run.proofs.PrintLemmas.{print_none}
 
@@ -39,21 +40,37 @@ served_is lines = refl
 pub served_cut : (front rest : List ℕ) (lines : ℕ) → front ++ rest ≡ served_line lines → (ready_line ++ front) ++ rest ≡ serve_text lines
 served_cut front rest lines parts = append_assoc ready_line front rest ∙ ap (λ (bytes : List ℕ). ready_line ++ bytes) parts
 
+-- there is room for the ends of as many lines as are served
+pub room_for : (most : Option ℕ) (count room : ℕ) → count ≡ unwrap_or most 0 → count ≤ room → IfSome most (λ m. m ≤ room)
+room_for None count room is fits = tt
+room_for (Some most) count room is fits = omega (arith, is, fits)
+
 -- where no line was served none was handed back
 none_back : (closed : Option ℕ) → GivesBack 0 closed closed
 none_back None = inl refl
 none_back (Some count) = inr (ap (λ (n : ℕ). Some n) (omega arith))
 
+few_none : (most : Option ℕ) → IfSome most (λ m. 0 ≤ m)
+few_none None = tt
+few_none (Some most) = omega arith
+
+ends_none : (most : Option ℕ) → HaveEnds most 0 []
+ends_none None = refl
+ends_none (Some most) = refl
+
 pub unattended : (spec : ServeSpec) (ended : Status) (taken_old taken_new : Option (List ℕ)) (before after : Told) (printed : List ℕ) (written : ℕ)
-    → after.lines ≡ before.lines → after.closed ≡ before.closed
-    → (ended ≡ status.Done → ⊥) → IsServedText ended 0 printed → Prints taken_old taken_new printed written
+    → after.lines ≡ before.lines → after.closed ≡ before.closed → (ended ≡ status.Done → ⊥)
+    → (printed ≢ [] → after.bound ≡ Some spec.addr.items) → IsServedText ended 0 printed → Prints taken_old taken_new printed written
     → IsAttended spec ended taken_old taken_new before after [] written
-unattended spec ended taken_old taken_new before after printed written same closed unfinished text prints = record {
-  few = omega arith;
+unattended spec ended taken_old taken_new before after printed written same closed unfinished bound text prints = record {
+  lines = 0;
+  few = few_none (most_served spec.conns);
+  have_ends = ends_none (most_served spec.conns);
   counted = same;
   given_back = subst (λ (o : Option ℕ). GivesBack 0 before.closed o) (sym closed) (none_back before.closed);
   all = λ done. absurd (unfinished done);
   printed = printed;
+  bound = bound;
   is_text = text;
   prints = prints;
 }
@@ -63,7 +80,7 @@ unattended_short : (spec : ServeSpec) (taken : Option (List ℕ)) (door : Told) 
     → IsAttended spec status.Memory taken taken door door ends 0
 unattended_short spec taken door ends none =
     subst (λ (l : List LineEnd). IsAttended spec status.Memory taken taken door door l 0) (sym none)
-    (unattended spec status.Memory taken taken door door [] 0 refl refl (λ is. cc) (inl (refl, refl)) (print_none taken))
+    (unattended spec status.Memory taken taken door door [] 0 refl refl (λ is. cc) (λ some. absurd (some refl)) (inl (refl, refl)) (print_none taken))
 
 pub unserved_short : {W : Type 0} (sinks : Sinks W) (spec : ServeSpec) (sink : W) (door : Told) (ends : Vec LineEnd Global) (served : Served)
     → served ≡ record { status = status.Memory; ends = ends; written = 0 } → ends.items ≡ [] → HasServed sinks spec served sink sink door door
@@ -110,36 +127,46 @@ same_shape found spec members shards =
     ap (λ (n : ℕ). record { members = n; shards = found.shards; room = 4096; life = 10000 }) members
     ∙ ap (λ (n : ℕ). record { members = spec.members; shards = n; room = 4096; life = 10000 }) shards
 
-same_served : (found spec : ServeSpec) (ended : Status) (course : Course)
-    → found.conns ≡ spec.conns → found.members ≡ spec.members → found.shards ≡ spec.shards → IsServed found ended course → IsServed spec ended course
-same_served found spec ended course conns members shards h = record {
-  opening = h.opening;
-  failed = h.failed;
-  kept = subst (λ (shape : Shape). IsKept shape serve_keep course.held course.before course.after course.left h.opening h.failed)
-      (same_shape found spec members shards) h.kept;
-  attended = record {
-    few = subst (λ (n : ℕ). length course.ends ≤ n) conns h.attended.few;
-    counted = h.attended.counted;
-    given_back = h.attended.given_back;
-    all = λ done. subst (λ (n : ℕ). (length course.ends ≡ n) ⊎ (course.door_after.ended ≡ true)) conns (h.attended.all done);
-    printed = h.attended.printed;
-    is_text = h.attended.is_text;
-    prints = h.attended.prints;
-  };
-}
+-- what two servers' words have in common, which are the same
+pub record AreSame (found spec : ServeSpec) : Type 0 where
+  pub addr : found.addr.items ≡ spec.addr.items
+  pub conns : found.conns ≡ spec.conns
+  pub members : found.members ≡ spec.members
+  pub shards : found.shards ≡ spec.shards
 
-pub same_server : (found spec : ServeSpec) (ended : Status) (course : Course)
-    → found.conns ≡ spec.conns → found.members ≡ spec.members → found.shards ≡ spec.shards → ServeEnded ended found course → ServeEnded ended spec course
-same_server found spec status.Done course conns members shards h = same_served found spec status.Done course conns members shards h
-same_server found spec status.Usage course conns members shards h = h
-same_server found spec (status.Script row kind) course conns members shards h = h
-same_server found spec status.ReadFault course conns members shards h = h
-same_server found spec status.WriteFault course conns members shards h = same_served found spec status.WriteFault course conns members shards h
-same_server found spec status.DoorFault course conns members shards h = same_served found spec status.DoorFault course conns members shards h
-same_server found spec status.KeepFault course conns members shards h = h
-same_server found spec (status.Spent shard) course conns members shards h = h
-same_server found spec status.Memory course conns members shards (inl h) = inl h
-same_server found spec status.Memory course conns members shards (inr h) = inr (same_served found spec status.Memory course conns members shards h)
+same_served : (found spec : ServeSpec) (ended : Status) (course : Course) → AreSame found spec → IsServed found ended course → IsServed spec ended course
+same_served found spec ended course same h =
+    let most : most_served found.conns ≡ most_served spec.conns = ap most_served same.conns in
+    record {
+      opening = h.opening;
+      failed = h.failed;
+      kept = subst (λ (shape : Shape). IsKept shape serve_keep course.held course.before course.after course.left h.opening h.failed)
+          (same_shape found spec same.members same.shards) h.kept;
+      attended = record {
+        lines = h.attended.lines;
+        few = subst (λ (o : Option ℕ). IfSome o (λ m. h.attended.lines ≤ m)) most h.attended.few;
+        have_ends = subst (λ (o : Option ℕ). HaveEnds o h.attended.lines course.ends) most h.attended.have_ends;
+        counted = h.attended.counted;
+        given_back = h.attended.given_back;
+        all = λ done. subst (λ (o : Option ℕ). IsEnough o h.attended.lines course.door_after.ended) most (h.attended.all done);
+        printed = h.attended.printed;
+        bound = λ some. h.attended.bound some ∙ ap (λ (text : List ℕ). Some text) same.addr;
+        is_text = h.attended.is_text;
+        prints = h.attended.prints;
+      };
+    }
+
+pub same_server : (found spec : ServeSpec) (ended : Status) (course : Course) → AreSame found spec → ServeEnded ended found course → ServeEnded ended spec course
+same_server found spec status.Done course same h = same_served found spec status.Done course same h
+same_server found spec status.Usage course same h = h
+same_server found spec (status.Script row kind) course same h = h
+same_server found spec status.ReadFault course same h = h
+same_server found spec status.WriteFault course same h = same_served found spec status.WriteFault course same h
+same_server found spec status.DoorFault course same h = same_served found spec status.DoorFault course same h
+same_server found spec status.KeepFault course same h = h
+same_server found spec (status.Spent shard) course same h = h
+same_server found spec status.Memory course same (inl h) = inl h
+same_server found spec status.Memory course same (inr h) = inr (same_served found spec status.Memory course same h)
 
 -- ---- how the lines ended
 
@@ -149,8 +176,13 @@ none_ended ends closed after none same =
     subst (λ (l : List LineEnd). AreHandedBack l closed after) (sym none)
     (subst (λ (o : Option (List LineRecord)). AreHandedBack [] closed o) (sym same) (none-handed closed))
 
+pub none_served : (most : Option ℕ) (ends : List LineEnd) (closed after : Option (List LineRecord)) → ends ≡ [] → after ≡ closed → AreServed most ends closed after
+none_served most ends closed after none same =
+    subst (λ (l : List LineEnd). AreServed most l closed after) (sym none)
+    (subst (λ (o : Option (List LineRecord)). AreServed most [] closed o) (sym same) (none-served most closed))
+
 -- where memory ran out before the door was bound
-pub unserved_lines : (closed : Option (List LineRecord)) (ends : Vec LineEnd Global) (served : Served)
-    → served ≡ record { status = status.Memory; ends = ends; written = 0 } → ends.items ≡ [] → AreHandedBack served.ends.items closed closed
-unserved_lines closed ends served is none =
-    subst (λ (s : Served). AreHandedBack s.ends.items closed closed) (sym is) (none_ended ends.items closed closed none refl)
+pub unserved_lines : (most : Option ℕ) (closed : Option (List LineRecord)) (ends : Vec LineEnd Global) (served : Served)
+    → served ≡ record { status = status.Memory; ends = ends; written = 0 } → ends.items ≡ [] → AreServed most served.ends.items closed closed
+unserved_lines most closed ends served is none =
+    subst (λ (s : Served). AreServed most s.ends.items closed closed) (sym is) (none_served most ends.items closed closed none refl)

@@ -1,5 +1,5 @@
 -- What is so at the end of a command, by its words.
-use Rattle.std.specs.Prelude.{ℕ, ◌≡◌, ◌++◌, List, [], None, Result, Ok, Err}
+use Rattle.std.specs.Prelude.{ℕ, ◌≡◌, ◌++◌, List, [], Option, None, Result, Ok, Err}
 use Rattle.sql_keeper.specs.declared.keepers.Place.{Place}
 use Rattle.top_run.specs.declared.runs.Status.{Status}
 use Rattle.top_run.specs.declared.runs.Status.TheVariants as status
@@ -9,7 +9,10 @@ use Rattle.run_words.specs.declared.words.WordsFault.{WordsFault}
 use Rattle.run_words.specs.declared.words.WordsFault.TheVariants as fault
 use Rattle.top_run.specs.Runs.{Tells, Left, Prints, IsUnasked, IsNotStarted, Ended}
 use Rattle.top_run.specs.Serves.{Course, IsUnserved, ServeEnded}
-use Rattle.run_words.specs.Words.{AreWords}
+use Rattle.iq_outside.specs.Outside.{LineRecord}
+use Rattle.conn_server.specs.declared.ends.LineEnd.{LineEnd}
+use Rattle.door_workers.specs.Ends.{AreHandedBack, AreServed}
+use Rattle.run_words.specs.Words.{AreWords, most_served}
 use Rattle.run_words.specs.Reading.{AreReadAs, IsRead}
 use Rattle.top_run.specs.Works.{WorkEnded}
 
@@ -81,3 +84,17 @@ pub record CommandEnded (words : List (List ℕ)) (ended : Status) (courses : Pl
   pub read : Result Words WordsFault
   pub is_reading : IsReading words read
   pub ended_as : EndedAs read ended courses
+
+-- How the lines of a command ended that were handed back to a door which told these before and tells these after. Only a server that
+-- stays until no more come keeps no ends.
+abbrev pub LinesEnded : Result Words WordsFault → List LineEnd → Option (List LineRecord) → Option (List LineRecord) → Type 0
+LinesEnded (Ok (words.Serve place spec)) ends before after = AreServed (most_served spec.conns) ends before after
+LinesEnded other ends before after = AreHandedBack ends before after
+
+-- How they ended, by the words of the command: words that are those of a command, word for word, end as this command. Others end as
+-- what they are read as.
+pub record AreLines (words : List (List ℕ)) (ends : List LineEnd) (before after : Option (List LineRecord)) : Type 0 where
+  pub worded : (command : Words) → AreWords words command → LinesEnded (Ok command) ends before after
+  pub read : Result Words WordsFault
+  pub is_reading : IsReading words read
+  pub ended : LinesEnded read ends before after

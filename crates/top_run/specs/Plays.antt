@@ -9,7 +9,7 @@ use Rattle.run_inputs.specs.Fit.{AreFit, turns_of}
 use Rattle.core_history.specs.Cores.{CoreView, Origin, origin_of, IsAt, HasKept}
 use Rattle.core_history.specs.Lines.{lines_of}
 use Rattle.core_history.specs.Machine.{Move}
-use Rattle.core_history.specs.Determined.{Call, Adds, Turns, call_of}
+use Rattle.core_history.specs.Determined.{Cue, Adds, Turns, cue_of}
 use Rattle.top_run.specs.Runs.{AreMoves, AreFirstMoves, past_of, out, faults_in, earlier, most_taken, Prints, IsFirstPart, IsReadInVain}
 use Rattle.top_run.specs.declared.plays.Stop.{Stop}
 use Rattle.top_run.specs.declared.plays.Stop.TheVariants as stop
@@ -18,19 +18,19 @@ use Rattle.top_run.specs.declared.runs.Status.{Status}
 use Rattle.top_run.specs.declared.runs.Status.TheVariants as status
 
 -- How many sessions these calls begin.
-abbrev pub is_add : Call → Bool
+abbrev pub is_add : Cue → Bool
 is_add (Adds plan) = true
 is_add (Turns turn) = false
 
-abbrev pub begun_in : List Call → ℕ
+abbrev pub begun_in : List Cue → ℕ
 begun_in calls = count_by is_add calls
 
 -- How many turns these calls take.
-abbrev pub is_turn : Call → Bool
+abbrev pub is_turn : Cue → Bool
 is_turn (Adds plan) = false
 is_turn (Turns turn) = true
 
-abbrev pub taken_in : List Call → ℕ
+abbrev pub taken_in : List Cue → ℕ
 taken_in calls = count_by is_turn calls
 
 -- It was noted whether there was a FAULT among so many.
@@ -39,28 +39,28 @@ IsNoted true faults = 1 ≤ faults
 IsNoted false faults = faults ≡ 0
 
 -- The core stands after moves that do these calls, and the sink has taken their lines.
-pub record Stands (core : CoreView) (origin : Origin) (calls : List Call) (taken_old taken_new : Option (List ℕ)) (tally : Tally) : Type 0 where
+pub record IsPlayed (core : CoreView) (origin : Origin) (calls : List Cue) (taken_old taken_new : Option (List ℕ)) (tally : Tally) : Type 0 where
   pub moves : List Move
   pub at : IsAt core origin moves
-  pub made : map call_of (reverse moves) ≡ calls
+  pub made : map cue_of (reverse moves) ≡ calls
   pub prints : Prints taken_old taken_new (lines_of (past_of origin.shape moves)) tally.written
   pub noted : IsNoted tally.faulted (faults_in origin.shape moves)
 
 -- The core stands somewhere from where it can play these acts.
 pub record CanPlay (core : CoreView) (acts : List Act) (taken_new : Option (List ℕ)) (tally : Tally) : Type 0 where
   pub origin : Origin
-  pub calls : List Call
+  pub calls : List Cue
   pub taken_old : Option (List ℕ)
-  pub stands : Stands core origin calls taken_old taken_new tally
+  pub stands : IsPlayed core origin calls taken_old taken_new tally
   pub fit : AreFit (begun_in calls) acts
   pub few : taken_in calls + sum_by turns_of acts < 2 ^ 32
 
 -- The core stopped after moves that do the first of these calls, and the sink took
 -- the first bytes of their lines, those of all events but the latest among them.
-pub record Stops (core : CoreView) (origin : Origin) (calls : List Call) (taken_old taken_new : Option (List ℕ)) (tally : Tally) : Type 0 where
+pub record Stops (core : CoreView) (origin : Origin) (calls : List Cue) (taken_old taken_new : Option (List ℕ)) (tally : Tally) : Type 0 where
   pub moves : List Move
-  pub others : List Call
-  pub made : map call_of (reverse moves) ++ others ≡ calls
+  pub others : List Cue
+  pub made : map cue_of (reverse moves) ++ others ≡ calls
   pub kept : HasKept core origin moves
   pub printed : List ℕ
   pub more : List ℕ

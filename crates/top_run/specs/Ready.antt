@@ -1,5 +1,5 @@
 -- What is there before a run over a hub begins.
-use Rattle.std.specs.Prelude.{ℕ, suc, ◌≡◌, ◌≤◌, Bool, List, [], ◌∷◌, length, map, All, Some, vec_capacity}
+use Rattle.std.specs.Prelude.{ℕ, suc, ◌≡◌, ◌≤◌, Bool, List, [], ◌∷◌, length, map, All, Some, IfSome, vec_capacity}
 use Rattle.std.specs.Option.{ForSome}
 use Rattle.rows_model.specs.Changes.{IsTxn}
 use Rattle.rows_model.specs.Rows.{Tables}
@@ -23,6 +23,7 @@ use Rattle.top_run.specs.declared.hubs.Parts.{Parts}
 use Rattle.top_run.specs.declared.serves.Ready.{Ready as ServeReady}
 use Rattle.top_run.specs.declared.works.Ready.{Ready}
 use Rattle.run_words.specs.declared.words.ServeSpec.{ServeSpec}
+use Rattle.run_words.specs.Words.{most_served}
 use Rattle.top_run.specs.Serves.{serve_shape}
 use Rattle.top_run.specs.Works.{work_shape}
 
@@ -111,8 +112,8 @@ pub record IsReady (spec : WorkSpec) (terms : ℕ → Terms) (ready : Ready) : T
   pub workers : length ready.plans.items ≡ spec.workers
   pub parts : AreParts (work_shape spec) terms ready.parts
 
--- There are the parts of a server's hub, and room for the ends of all lines.
+-- There are the parts of a server's hub, and room for the ends of all lines, where a number of them is served.
 pub record IsServeReady (spec : ServeSpec) (terms : ℕ → Terms) (ready : ServeReady) : Type 0 where
   pub parts : AreParts (serve_shape spec) terms ready.parts
   pub none : ready.ends.items ≡ []
-  pub room : spec.conns ≤ vec_capacity ready.ends
+  pub room : IfSome (most_served spec.conns) (λ most. most ≤ vec_capacity ready.ends)

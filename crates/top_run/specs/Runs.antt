@@ -22,7 +22,7 @@ use Rattle.run_inputs.specs.declared.scripts.Act.{Act}
 use Rattle.run_inputs.specs.declared.scripts.Act.TheVariants as act
 use Rattle.run_inputs.specs.declared.faults.ScriptKind.{ScriptKind}
 use Rattle.run_inputs.specs.Script.{IsScript, IsFault}
-use Rattle.core_history.specs.Determined.{Call, Adds, Turns, call_of}
+use Rattle.core_history.specs.Determined.{Cue, Adds, Turns, cue_of}
 use Rattle.core_history.specs.Events.{Event, log_of}
 use Rattle.core_history.specs.Lines.{lines_of, end_line, is_fault, fault_turns}
 use Rattle.core_history.specs.Machine.{Move, world_of, terms_of}
@@ -33,21 +33,21 @@ use Rattle.top_run.specs.declared.runs.Status.{Status}
 use Rattle.top_run.specs.declared.runs.Status.TheVariants as status
 
 -- What an act says.
-abbrev pub calls_in : Act → List Call
+abbrev pub calls_in : Act → List Cue
 calls_in (act.Add plan) = Adds plan ∷ []
 calls_in (act.Run turn count) = replicate count (Turns turn)
 
 -- What the acts say, in order.
-abbrev pub calls_of : List Act → List Call
+abbrev pub calls_of : List Act → List Cue
 calls_of acts = flat_map calls_in acts
 
 -- The moves, the latest first, do what the acts say.
 abbrev pub AreMoves : List Act → List Move → Type 0
-AreMoves acts moves = map call_of (reverse moves) ≡ calls_of acts
+AreMoves acts moves = map cue_of (reverse moves) ≡ calls_of acts
 
 -- The moves, the latest first, do the first part of what the acts say.
 abbrev pub AreFirstMoves : List Act → List Move → Type 0
-AreFirstMoves acts moves = (others : List Call) × (map call_of (reverse moves) ++ others ≡ calls_of acts)
+AreFirstMoves acts moves = (others : List Cue) × (map cue_of (reverse moves) ++ others ≡ calls_of acts)
 
 -- The events after these moves.
 abbrev pub past_of : Shape → List Move → List Event

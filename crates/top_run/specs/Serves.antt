@@ -1,5 +1,5 @@
 -- What a server prints and keeps, and how its lines ended.
-use Rattle.std.specs.Prelude.{ℕ, ◌≡◌, ◌≤◌, ◌⊎◌, true, List, [], ◌∷◌, ◌++◌, length, Option, Some, codes, decimal}
+use Rattle.std.specs.Prelude.{ℕ, ◌≡◌, ◌≢◌, ◌-◌, ◌^◌, ◌≤◌, ◌⊎◌, min, List, [], ◌∷◌, ◌++◌, Option, Some, IfSome, codes, decimal}
 use Rattle.iq_outside.specs.declared.sinks.Sink.{Ghosts as Sinks}
 use Rattle.iq_outside.specs.Outside.{Rose}
 use Rattle.rows_model.specs.Rows.{Tables}
@@ -12,7 +12,8 @@ use Rattle.top_run.specs.declared.serves.Served.{Served}
 use Rattle.conn_server.specs.declared.ends.LineEnd.{LineEnd}
 use Rattle.run_words.specs.declared.words.ServeSpec.{ServeSpec}
 use Rattle.top_run.specs.Runs.{Held, Tells, Left, left_at, Prints, CountsWhere, is_write_fault, is_door_fault, IsUnasked, IsNotStarted}
-use Rattle.door_workers.specs.Attending.{GivesBack, count_up_by}
+use Rattle.run_words.specs.Words.{most_served}
+use Rattle.door_workers.specs.Attending.{GivesBack, HaveEnds, IsEnough, count_up_by}
 use Rattle.door_workers.specs.Told.{Told}
 use Rattle.top_run.specs.Works.{IsKept}
 
@@ -49,17 +50,25 @@ IsServedText status.DoorFault lines printed = IsUntold lines printed
 IsServedText status.Memory lines printed = IsUntold lines printed
 IsServedText other lines printed = ⊥
 
--- What is so of sink, door and lines where a server ends. There is an end for each line that the
--- door gave, each line was handed back, and they are no more than were asked for. At Done they are as many, or the door
--- said that no more come.
+-- The number that is written for so many lines: it stands still at the end of its type.
+abbrev pub shown : ℕ → ℕ
+shown lines = min lines (2 ^ 64 - 1)
+
+-- What is so of sink, door and lines where a server ends. The door gave some lines, no more than were asked for where a number was,
+-- and each was handed back. There is an end for each of a number of lines, and else there is none. At Done as many were served as were
+-- asked for, or the door said that no more come, as it did where no number was asked for. Where anything was written the door is bound
+-- to the address that was asked for.
 pub record IsAttended (spec : ServeSpec) (ended : Status) (taken_old taken_new : Option (List ℕ))
     (before after : Told) (ends : List LineEnd) (written : ℕ) : Type 0 where
-  pub few : length ends ≤ spec.conns
-  pub counted : after.lines ≡ count_up_by (length ends) before.lines
-  pub given_back : GivesBack (length ends) before.closed after.closed
-  pub all : ended ≡ status.Done → (length ends ≡ spec.conns) ⊎ (after.ended ≡ true)
+  pub lines : ℕ
+  pub few : IfSome (most_served spec.conns) (λ most. lines ≤ most)
+  pub have_ends : HaveEnds (most_served spec.conns) lines ends
+  pub counted : after.lines ≡ count_up_by lines before.lines
+  pub given_back : GivesBack lines before.closed after.closed
+  pub all : ended ≡ status.Done → IsEnough (most_served spec.conns) lines after.ended
   pub printed : List ℕ
-  pub is_text : IsServedText ended (length ends) printed
+  pub bound : printed ≢ [] → after.bound ≡ Some spec.addr.items
+  pub is_text : IsServedText ended (shown lines) printed
   pub prints : Prints taken_old taken_new printed written
 
 -- The lines of a server were served so, from a door that told this before and this after, and with this sink handed in and back:

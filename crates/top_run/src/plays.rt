@@ -3,9 +3,9 @@ ghost use Rattle.std.specs.Prelude.{◌≡◌, ◌≤◌, ◌<◌, ◌^◌, ◌+
 ghost use Rattle.session_client.specs.Plans.{IsPlan};
 ghost use Rattle.run_inputs.specs.declared.scripts.Act.TheVariants as act;
 ghost use Rattle.core_history.specs.Cores.{Origin, IsRunning, HasBegun};
-ghost use Rattle.core_history.specs.Determined.{Call, Turns};
+ghost use Rattle.core_history.specs.Determined.{Cue, Turns};
 ghost use Rattle.top_run.specs.Runs.{calls_in, calls_of, RoseWhere};
-ghost use Rattle.top_run.specs.Plays.{CanPlay, Stands, Stops, at_write};
+ghost use Rattle.top_run.specs.Plays.{CanPlay, IsPlayed, Stops, at_write};
 
 use crate::printing::print;
 use core_history::Core;
@@ -66,19 +66,19 @@ impl Tally {
 }
 
 /// Plays the acts in order: sessions begin, and turns are taken, of sessions, the clock or the sweeper.
-pub(crate) fn play<W: Sink, K: Keeper>(
+pub(crate) fn play_acts<W: Sink, K: Keeper>(
     core: &mut Core<K>,
     acts: Vec<Act>,
     sink: &mut W,
     tally: &mut Tally,
 ) -> Result<(), Stop>
     requires { CanPlay core.old acts.items (W.taken sink.old) tally.old }
-    ensures all { (origin : Origin) (calls : List Call) (taken : Option (List ℕ)) →
-        Stands core.old origin calls taken (W.taken sink.old) tally.old →
-        OnOk result (Stands core.new origin (calls ++ calls_of acts.items) taken
+    ensures all { (origin : Origin) (calls : List Cue) (taken : Option (List ℕ)) →
+        IsPlayed core.old origin calls taken (W.taken sink.old) tally.old →
+        OnOk result (IsPlayed core.new origin (calls ++ calls_of acts.items) taken
         (W.taken sink.new) tally.new) }
-    ensures some { (origin : Origin) (calls : List Call) (taken : Option (List ℕ)) →
-        Stands core.old origin calls taken (W.taken sink.old) tally.old →
+    ensures some { (origin : Origin) (calls : List Cue) (taken : Option (List ℕ)) →
+        IsPlayed core.old origin calls taken (W.taken sink.old) tally.old →
         OnErr result (Stops core.new origin (calls ++ calls_of acts.items) taken
         (W.taken sink.new) tally.new) }
     ensures counts { RoseWhere W.faults (at_write result) sink.old sink.new }
@@ -98,12 +98,12 @@ fn play_act<W: Sink, K: Keeper>(
     tally: &mut Tally,
 ) -> Result<(), Stop>
     requires { CanPlay core.old (act ∷ []) (W.taken sink.old) tally.old }
-    ensures all { (origin : Origin) (calls : List Call) (taken : Option (List ℕ)) →
-        Stands core.old origin calls taken (W.taken sink.old) tally.old →
-        OnOk result (Stands core.new origin (calls ++ calls_in act) taken
+    ensures all { (origin : Origin) (calls : List Cue) (taken : Option (List ℕ)) →
+        IsPlayed core.old origin calls taken (W.taken sink.old) tally.old →
+        OnOk result (IsPlayed core.new origin (calls ++ calls_in act) taken
         (W.taken sink.new) tally.new) }
-    ensures some { (origin : Origin) (calls : List Call) (taken : Option (List ℕ)) →
-        Stands core.old origin calls taken (W.taken sink.old) tally.old →
+    ensures some { (origin : Origin) (calls : List Cue) (taken : Option (List ℕ)) →
+        IsPlayed core.old origin calls taken (W.taken sink.old) tally.old →
         OnErr result (Stops core.new origin (calls ++ calls_in act) taken
         (W.taken sink.new) tally.new) }
     ensures counts { RoseWhere W.faults (at_write result) sink.old sink.new }
@@ -114,12 +114,12 @@ fn play_act<W: Sink, K: Keeper>(
             core.add(plan)?;
             Ok(())
         }
-        Act::Run { turn, count } => take_turns(core, turn, count, sink, tally),
+        Act::Run { turn, count } => play_turns(core, turn, count, sink, tally),
     }
 }
 
 /// Takes so many turns: those of a session, ticks of the clock, or steps of the sweeper.
-fn take_turns<W: Sink, K: Keeper>(
+fn play_turns<W: Sink, K: Keeper>(
     core: &mut Core<K>,
     turn: Turn,
     count: u32,
@@ -127,25 +127,25 @@ fn take_turns<W: Sink, K: Keeper>(
     tally: &mut Tally,
 ) -> Result<(), Stop>
     requires { CanPlay core.old (act.Run turn count ∷ []) (W.taken sink.old) tally.old }
-    ensures all { (origin : Origin) (calls : List Call) (taken : Option (List ℕ)) →
-        Stands core.old origin calls taken (W.taken sink.old) tally.old →
-        OnOk result (Stands core.new origin (calls ++ replicate count (Turns turn)) taken
+    ensures all { (origin : Origin) (calls : List Cue) (taken : Option (List ℕ)) →
+        IsPlayed core.old origin calls taken (W.taken sink.old) tally.old →
+        OnOk result (IsPlayed core.new origin (calls ++ replicate count (Turns turn)) taken
         (W.taken sink.new) tally.new) }
-    ensures some { (origin : Origin) (calls : List Call) (taken : Option (List ℕ)) →
-        Stands core.old origin calls taken (W.taken sink.old) tally.old →
+    ensures some { (origin : Origin) (calls : List Cue) (taken : Option (List ℕ)) →
+        IsPlayed core.old origin calls taken (W.taken sink.old) tally.old →
         OnErr result (Stops core.new origin (calls ++ replicate count (Turns turn)) taken
         (W.taken sink.new) tally.new) }
     ensures counts { RoseWhere W.faults (at_write result) sink.old sink.new }
     ensures never_falls { W.faults sink.old ≤ W.faults sink.new }
 {
     for _taken in 0..count {
-        take_turn(core, turn, sink, tally)?;
+        play_turn(core, turn, sink, tally)?;
     }
     Ok(())
 }
 
 /// Takes one turn and prints its line.
-fn take_turn<W: Sink, K: Keeper>(
+fn play_turn<W: Sink, K: Keeper>(
     core: &mut Core<K>,
     turn: Turn,
     sink: &mut W,
@@ -153,12 +153,12 @@ fn take_turn<W: Sink, K: Keeper>(
 ) -> Result<(), Stop>
     requires running { IsRunning core.old }
     requires begun { HasBegun core.old turn }
-    ensures all { (origin : Origin) (calls : List Call) (taken : Option (List ℕ)) →
-        Stands core.old origin calls taken (W.taken sink.old) tally.old →
-        OnOk result (Stands core.new origin (calls ++ Turns turn ∷ []) taken
+    ensures all { (origin : Origin) (calls : List Cue) (taken : Option (List ℕ)) →
+        IsPlayed core.old origin calls taken (W.taken sink.old) tally.old →
+        OnOk result (IsPlayed core.new origin (calls ++ Turns turn ∷ []) taken
         (W.taken sink.new) tally.new) }
-    ensures some { (origin : Origin) (calls : List Call) (taken : Option (List ℕ)) →
-        Stands core.old origin calls taken (W.taken sink.old) tally.old →
+    ensures some { (origin : Origin) (calls : List Cue) (taken : Option (List ℕ)) →
+        IsPlayed core.old origin calls taken (W.taken sink.old) tally.old →
         OnErr result (Stops core.new origin (calls ++ Turns turn ∷ []) taken
         (W.taken sink.new) tally.new) }
     ensures counts { RoseWhere W.faults (at_write result) sink.old sink.new }

@@ -8,14 +8,13 @@ ghost use Rattle.run_words.specs.declared.words.Words.{Words};
 ghost use Rattle.run_words.specs.Words.{AreWords};
 ghost use Rattle.top_run.specs.declared.runs.Status.{Status};
 ghost use Rattle.top_run.specs.Runs.{Ended, Held, Input, told_by, moment, seen, held_at, left_at, IsRead, IsOpened, RoseWhere, CountsWhere, is_read_fault, is_write_fault, is_door_fault};
-ghost use Rattle.top_run.specs.Commands.{AreNoCommand, CommandEnded};
+ghost use Rattle.top_run.specs.Commands.{AreLines, AreNoCommand, CommandEnded};
 ghost use Rattle.top_run.specs.Serves.{course_of};
 ghost use Rattle.door_workers.specs.Attending.{told};
-ghost use Rattle.door_workers.specs.Ends.{AreHandedBack};
 ghost use Rattle.top_run.specs.Plays.{IsNew, IsFinished, IsStopped, IsUnread, at_write};
 
 use crate::endings::{ended_run, not_started, start_status};
-use crate::plays::{Stop, Tally, play};
+use crate::plays::{Stop, Tally, play_acts};
 use crate::printing::{last_line, print};
 use crate::serves::serve;
 use crate::texts::tell;
@@ -74,7 +73,8 @@ pub struct RunEnd<K> {
     /// Each shard's history, or none where nothing was run. A server's shards roll: of each there are the
     /// steps that it has in memory at the end, the last of its history.
     pub histories: Vec<Vec<Step>>,
-    /// How each line that was served ended, in the order in which they were handed back.
+    /// How each line that was served ended, in the order in which they were handed back. A server that serves
+    /// any number of them keeps none.
     pub ends: Vec<LineEnd>,
     /// How many bytes the sink took. It stands still at its type's end.
     pub written: u64,
@@ -114,7 +114,7 @@ pub fn replay<S: Source, W: Sink, K: Keeper>(
     ensures keeper_never_falls { K.faults keeper ≤ K.faults result.keeper }
 {
     match read_script(alloc, source) {
-        Ok(script) => replay_script(alloc, place, script, sink, keeper),
+        Ok(script) => start_script(alloc, place, script, sink, keeper),
         Err(status) => not_started(alloc, status, keeper),
     }
 }
@@ -133,10 +133,11 @@ pub fn replay<S: Source, W: Sink, K: Keeper>(
 /// never thrown away. The call may wait.
 ///
 /// The words `serve <addr> <conns> <workers> <shards> <members>` serve the lines that the door gives at this
-/// address: the workers accept and serve them in turn, until so many were accepted or no more come. `ready`
-/// goes to the sink once the door is bound, and `served` with the number of lines at the end. A line that
-/// ends with a fault ends alone, and `ends` tells of it: where the door gives only fresh lines, and tells
-/// those handed back, each of them was served to its end. A keeper that fails later is told to the client.
+/// address: the workers accept and serve them in turn, until so many were accepted or no more come. Where
+/// `<conns>` is the word `forever` no number of them ends the server, and `ends` stays empty. `ready` goes to
+/// the sink once the door is bound, and `served` with the number of lines at the end. A line that ends with a
+/// fault ends alone, and `ends` tells of it: where the door gives only fresh lines, and tells those handed
+/// back, each of them was served to its end, also where `ends` is empty. A keeper that fails later is told to the client.
 /// Where the door fails, no more lines are accepted, and those that it gave are served to their end. The
 /// server's shards give up their early steps as they go on: `histories` has the last ones of each.
 ///
@@ -163,7 +164,7 @@ pub fn run<
 ) -> RunEnd<K>
     ensures usage { result.status ≡ Status.Usage →
         AreNoCommand (map (λ word. word.items) words.now) }
-    ensures ended { let tells = told D.lines D.faults D.ended D.closed in
+    ensures ended { let tells = told D.bound D.lines D.faults D.ended D.closed in
         let before = seen (told_by S.Source source.old) W.Sink K.Keeper sink.old keeper in
         let after = seen (told_by S.Source source.new) W.Sink K.Keeper sink.new result.keeper in
         CommandEnded (map (λ word. word.items) words.now) result.status (λ place.
@@ -174,8 +175,8 @@ pub fn run<
     ensures reads { RoseWhere S.faults (is_read_fault result.status) source.old source.new }
     ensures writes { RoseWhere W.faults (is_write_fault result.status) sink.old sink.new }
     ensures doors { RoseWhere D.faults (is_door_fault result.status) door.old door.new }
-    ensures lines { D.fresh door.old →
-        AreHandedBack result.ends.items (D.closed door.old) (D.closed door.new) }
+    ensures lines { D.fresh door.old → AreLines (map (λ word. word.items) words.now)
+        result.ends.items (D.closed door.old) (D.closed door.new) }
     ensures done { (place : Place) →
         AreWords (map (λ word. word.items) words.now) (Words.Replay place) →
         result.status ≡ Status.Done → K.faults result.keeper ≡ K.faults keeper }
@@ -226,7 +227,7 @@ fn read_script<S: Source>(alloc: Global, source: &mut S) -> Result<Script, Statu
 
 /// Runs a script and prints its lines. Room for the histories is there before the keeper starts, so
 /// that nothing that the run did is lost for want of memory.
-fn replay_script<W: Sink, K: Keeper>(
+fn start_script<W: Sink, K: Keeper>(
     alloc: Global,
     place: &Place,
     script: Script,
@@ -252,13 +253,13 @@ fn replay_script<W: Sink, K: Keeper>(
         return not_started(alloc, Status::Memory, keeper);
     };
     match Core::new(alloc, keeper, place, script.shape()) {
-        Ok(core) => play_on(alloc, core, script, sink, histories),
+        Ok(core) => play_core(alloc, core, script, sink, histories),
         Err(NoStore { keeper, cause }) => not_started(alloc, start_status(cause), keeper),
     }
 }
 
 /// Plays a script on a new core, and takes the core apart.
-fn play_on<W: Sink, K: Keeper>(
+fn play_core<W: Sink, K: Keeper>(
     alloc: Global,
     core: Core<K>,
     script: Script,
@@ -288,12 +289,12 @@ fn play_on<W: Sink, K: Keeper>(
         written: 0,
         faulted: false,
     };
-    let ended = play_whole(alloc, &mut core, script, sink, &mut tally);
+    let ended = play_script(alloc, &mut core, script, sink, &mut tally);
     ended_run(alloc, core, ended, tally, histories)
 }
 
 /// Plays a script on a new core, and prints the last line.
-fn play_whole<W: Sink, K: Keeper>(
+fn play_script<W: Sink, K: Keeper>(
     alloc: Global,
     core: &mut Core<K>,
     script: Script,
@@ -312,7 +313,7 @@ fn play_whole<W: Sink, K: Keeper>(
     ensures counts { RoseWhere W.faults (at_write result) sink.old sink.new }
     ensures never_falls { W.faults sink.old ≤ W.faults sink.new }
 {
-    play(core, script.into_acts(), sink, tally)?;
+    play_acts(core, script.into_acts(), sink, tally)?;
     let line = last_line(alloc, core)?;
     print(sink, &mut tally.written, line.as_slice())?;
     Ok(())

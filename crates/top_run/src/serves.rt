@@ -1,5 +1,5 @@
 // A server: connections from a door, each served by a worker on a desk of its own over one hub.
-ghost use Rattle.std.specs.Prelude.{◌≡◌, ◌≢◌, ◌≤◌, ◌++◌, ℕ, [], List, Option, Some, None, IfOk, IfErr, OnOk, IsSome, is_none, length, vec_capacity};
+ghost use Rattle.std.specs.Prelude.{◌≡◌, ◌≢◌, ◌≤◌, ◌++◌, ℕ, [], List, Option, Some, None, IfOk, IfSome, IfErr, OnOk, IsSome, is_none, length, vec_capacity};
 ghost use Rattle.std.specs.Bool.{IsFalse};
 ghost use Rattle.std.specs.Option.{ForSome};
 ghost use Rattle.rows_model.specs.Rows.{Tables};
@@ -10,9 +10,9 @@ ghost use Rattle.bound_hub.specs.Ties.{IsNewStore};
 ghost use Rattle.top_run.specs.Ready.{IsServeReady, MakeHub, NamesParts};
 ghost use Rattle.top_run.specs.Runs.{Held, Input, Prints, moment, seen, held_at, IsOpened, RoseWhere, CountsWhere, is_read_fault, is_write_fault, is_door_fault};
 ghost use Rattle.top_run.specs.Serves.{serve_shape, serve_keep, ready_line, served_line, IsServedText, HasServed, course_of, ServeEnded};
-ghost use Rattle.run_words.specs.Words.{IsServe};
+ghost use Rattle.run_words.specs.Words.{IsServe, most_served};
 ghost use Rattle.door_workers.specs.Attending.{told};
-ghost use Rattle.door_workers.specs.Ends.{AreHandedBack};
+ghost use Rattle.door_workers.specs.Ends.{AreServed};
 ghost use Rattle.top_run.specs.Works.{IsNameOf, hub_terms};
 ghost use Rattle.top_run.specs.declared.runs.Status.{Status};
 
@@ -44,10 +44,25 @@ const ROOM: u32 = 4096;
 /// At how many steps in memory a server's shard gives them up.
 const KEEP: u32 = 256;
 
+/// What all parts of a server share, and none changes.
+#[derive(Drop)]
+struct Server<'a, C, G, R> {
+    /// What threads and waiting are asked of.
+    rt: &'a R,
+    alloc: Global,
+    /// What is served.
+    spec: &'a ServeSpec,
+    /// The clock of the leases.
+    clock: &'a C,
+    /// Where a worker may be held up.
+    gate: &'a G,
+}
+
 /// Serves the lines that the door gives, over a store with this keeper at this place. What needs memory
 /// before the store is there before the keeper starts; the hub, its desks and room for the ends of all
-/// lines are there before the door is bound, and the first line is written once it is. The shards roll: at
-/// the end the steps are handed out that each has in memory, the last of its history.
+/// lines, where a number of them is served, are there before the door is bound, and the first line is
+/// written once it is. The shards roll: at the end the steps are handed out that each has in memory, the
+/// last of its history.
 pub(crate) fn serve<
     W: Sink,
     K: Keeper + Send,
@@ -71,15 +86,15 @@ pub(crate) fn serve<
         let held = held_at place.now (K.holds keeper place.now) in
         let before = seen unread W.Sink K.Keeper sink.old keeper in
         let after = seen unread W.Sink K.Keeper sink.new result.keeper in
-        let tells = told D.lines D.faults D.ended D.closed in
+        let tells = told D.bound D.lines D.faults D.ended D.closed in
         ServeEnded result.status spec.now
         (course_of held before after (tells door.old) (tells door.new) result) }
     ensures started { IsSome result.opening → K.is_started result.keeper }
     ensures unstarted { result.opening ≡ None → K.is_started result.keeper → K.is_started keeper }
     ensures writes { CountsWhere W.faults (is_write_fault result.status) sink.old sink.new }
     ensures doors { CountsWhere D.faults (is_door_fault result.status) door.old door.new }
-    ensures lines { D.fresh door.old →
-        AreHandedBack result.ends.items (D.closed door.old) (D.closed door.new) }
+    ensures lines { D.fresh door.old → AreServed (most_served spec.now.conns)
+        result.ends.items (D.closed door.old) (D.closed door.new) }
     ensures command { result.status ≢ Status.Usage }
     ensures no_read_fault { IsFalse (is_read_fault result.status) }
     ensures keeper_never_falls { K.faults keeper ≤ K.faults result.keeper }
@@ -88,14 +103,22 @@ pub(crate) fn serve<
         return not_started(alloc, Status::Memory, keeper);
     };
     match Store::new(alloc, keeper, place, spec.members, CAP) {
-        Ok(store) => serve_on::<Brand, _, _, _, _, _, _>(
-            rt, alloc, spec, sink, store, ready, door, clock, gate,
-        ),
+        Ok(store) => {
+            let server = Server {
+                rt,
+                alloc,
+                spec,
+                clock,
+                gate,
+            };
+            serve_store::<Brand, _, _, _, _, _, _>(&server, sink, store, ready, door)
+        }
         Err(NoStore { keeper, cause }) => not_started(alloc, start_status(cause), keeper),
     }
 }
 
-/// What a server is run with: the parts of its hub, and room for the ends of all lines.
+/// What a server is run with: the parts of its hub, and room for the ends of all lines, where a number of
+/// them is served.
 #[derive(Drop)]
 struct Ready {
     parts: Parts,
@@ -106,9 +129,10 @@ fn ready_for(alloc: Global, spec: &ServeSpec) -> Result<Ready, Memory>
     requires { IsServe spec.now }
     ensures { IfOk result (IsServeReady spec.now (hub_terms (serve_shape spec.now) serve_keep)) }
 {
+    let most = spec.conns.most().unwrap_or(0);
     Ok(Ready {
         parts: parts_for(alloc, &shape_of(spec), Some(KEEP))?,
-        ends: Vec::with_capacity(alloc, spec.conns as usize)?,
+        ends: Vec::with_capacity(alloc, most as usize)?,
     })
 }
 
@@ -125,7 +149,7 @@ fn shape_of(spec: &ServeSpec) -> Shape
 }
 
 /// Serves over a store that was just started, and ends.
-fn serve_on<
+fn serve_store<
     H: BoundName + Send + Sync,
     W: Sink,
     K: Keeper + Send,
@@ -134,35 +158,31 @@ fn serve_on<
     G: Gate,
     R: Threads + Wait + Sync,
 >(
-    rt: &R,
-    alloc: Global,
-    spec: &ServeSpec,
+    server: &Server<'_, C, G, R>,
     sink: &mut W,
     store: Store<K>,
     ready: Ready,
     door: &mut D,
-    clock: &C,
-    gate: &G,
 ) -> RunEnd<K>
-    requires serve { IsServe spec.now }
-    requires named { IsNameOf (serve_shape spec.now) serve_keep
+    requires serve { IsServe server.now.spec.now }
+    requires named { IsNameOf (serve_shape server.now.spec.now) serve_keep
         store H.terms H.opening H.cap H.told H.start }
     requires new { store.ledger ≡ opened store.ledger.opening log_cap }
-    requires ready { IsServeReady spec.now H.terms ready }
+    requires ready { IsServeReady server.now.spec.now H.terms ready }
     requires parts { NamesParts H.name H.parts H.word H.before H.begun H.failed ready.parts.hub }
     ensures ended { (unread : Input) (rows : Option Tables) (held : Held) →
-        IsOpened held (serve_shape spec.now) store.ledger.opening store.told →
+        IsOpened held (serve_shape server.now.spec.now) store.ledger.opening store.told →
         let before = moment unread (W.taken sink.old) (W.faults sink.old) rows store.faults in
         let after = seen unread W.Sink K.Keeper sink.new result.keeper in
-        let tells = told D.lines D.faults D.ended D.closed in
-        ServeEnded result.status spec.now
+        let tells = told D.bound D.lines D.faults D.ended D.closed in
+        ServeEnded result.status server.now.spec.now
         (course_of held before after (tells door.old) (tells door.new) result) }
     ensures started { K.is_started result.keeper }
     ensures began { IsSome result.opening }
     ensures writes { CountsWhere W.faults (is_write_fault result.status) sink.old sink.new }
     ensures doors { CountsWhere D.faults (is_door_fault result.status) door.old door.new }
-    ensures lines { D.fresh door.old →
-        AreHandedBack result.ends.items (D.closed door.old) (D.closed door.new) }
+    ensures lines { D.fresh door.old → AreServed (most_served server.now.spec.now.conns)
+        result.ends.items (D.closed door.old) (D.closed door.new) }
     ensures command { result.status ≢ Status.Usage }
     ensures no_read_fault { IsFalse (is_read_fault result.status) }
     ensures keeper_never_falls { store.faults ≤ K.faults result.keeper }
@@ -173,17 +193,13 @@ fn serve_on<
         store,
         shards,
         served,
-    } = serve_hub::<H, _, _, _, _, _, _>(
-        rt,
-        alloc,
-        spec,
+    } = serve_over_hub::<H, _, _, _, _, _, _>(
+        server,
         sink,
         store.named::<StartOf<H>>(),
         hub,
         door,
         ends,
-        clock,
-        gate,
     );
     let Served {
         status,
@@ -193,7 +209,8 @@ fn serve_on<
     ended_hub(status, store, shards, histories, ends, written)
 }
 
-/// How the serving ended: with which status, how each line ended, and how many bytes were written.
+/// How the serving ended: with which status, how each line ended, where a number of them was served, and
+/// how many bytes were written.
 #[derive(Drop)]
 struct Served {
     status: Status,
@@ -209,8 +226,8 @@ struct Ran<K: Keeper, H: BoundName> {
     served: Served,
 }
 
-/// Serves over a hub of the store and the shards, and takes the hub apart.
-fn serve_hub<
+/// Makes a hub of the store and the shards, serves over it, and takes it apart.
+fn serve_over_hub<
     H: BoundName + Send + Sync,
     W: Sink,
     K: Keeper + Send,
@@ -219,44 +236,41 @@ fn serve_hub<
     G: Gate,
     R: Threads + Wait + Sync,
 >(
-    rt: &R,
-    alloc: Global,
-    spec: &ServeSpec,
+    server: &Server<'_, C, G, R>,
     sink: &mut W,
     store: Store<K, StartOf<H>>,
     parts: HubParts,
     door: &mut D,
     ends: Vec<LineEnd>,
-    clock: &C,
-    gate: &G,
 ) -> Ran<K, H>
-    requires serve { IsServe spec.now }
+    requires serve { IsServe server.now.spec.now }
     requires store { IsNamedStore H.opening H.cap H.told H.start store }
     requires new { IsNewStore H.begun H.failed store }
     requires parts { MakeHub H.terms H.opening H.before (is_none store.told)
         H.name H.parts H.word parts }
     requires none_before { (place : ℕ) → H.before place ≡ [] }
     requires none { ends.items ≡ [] }
-    requires room { spec.now.conns ≤ vec_capacity ends }
+    requires room { IfSome (most_served server.now.spec.now.conns)
+        (λ most. most ≤ vec_capacity ends) }
     ensures store { IsNamedStore H.opening H.cap H.told H.start result.store }
     ensures as_many { length result.shards.items ≡ length parts.shards.items }
     ensures all { AreAll H.terms result.shards.items }
     ensures legal { AreLegal result.shards.items }
-    ensures served { let tells = told D.lines D.faults D.ended D.closed in
-        HasServed W.Sink spec.now result.served sink.old sink.new
+    ensures served { let tells = told D.bound D.lines D.faults D.ended D.closed in
+        HasServed W.Sink server.now.spec.now result.served sink.old sink.new
         (tells door.old) (tells door.new) }
-    ensures lines { D.fresh door.old →
-        AreHandedBack result.served.ends.items (D.closed door.old) (D.closed door.new) }
+    ensures lines { D.fresh door.old → AreServed (most_served server.now.spec.now.conns)
+        result.served.ends.items (D.closed door.old) (D.closed door.new) }
 {
     let HubParts {
         shards,
         ledger,
         word,
     } = parts;
-    match BoundHub::new(alloc, store, shards, ledger, word) {
+    match BoundHub::new(server.alloc, store, shards, ledger, word) {
         Ok((hub, pass)) => {
-            let served = serve_over(rt, alloc, spec, sink, &hub, pass, door, ends, clock, gate);
-            let (store, shards) = hub.into_parts(Vec::new(alloc));
+            let served = serve_on_desks(server, sink, &hub, pass, door, ends);
+            let (store, shards) = hub.into_parts(Vec::new(server.alloc));
             Ran {
                 store,
                 shards,
@@ -282,9 +296,9 @@ fn unserved(ends: Vec<LineEnd>) -> Served
     }
 }
 
-/// Serves with a desk over the hub for each worker. All share a new plain map, which takes no memory until
-/// it has an item.
-fn serve_over<
+/// Makes a desk over the hub for each worker, and serves on them. All share a new plain map, which takes
+/// no memory until it has an item.
+fn serve_on_desks<
     H: BoundName + Send + Sync,
     W: Sink,
     K: Keeper + Send,
@@ -293,58 +307,66 @@ fn serve_over<
     G: Gate,
     R: Threads + Wait + Sync,
 >(
-    rt: &R,
-    alloc: Global,
-    spec: &ServeSpec,
+    server: &Server<'_, C, G, R>,
     sink: &mut W,
     hub: &BoundHub<K, H>,
     pass: Pass,
     door: &mut D,
     ends: Vec<LineEnd>,
-    clock: &C,
-    gate: &G,
 ) -> Served
-    requires serve { IsServe spec.now }
+    requires serve { IsServe server.now.spec.now }
     requires word { pass.word ≡ H.word }
     requires none { ends.items ≡ [] }
-    requires room { spec.now.conns ≤ vec_capacity ends }
-    ensures served { let tells = told D.lines D.faults D.ended D.closed in
-        HasServed W.Sink spec.now result sink.old sink.new (tells door.old) (tells door.new) }
-    ensures lines { D.fresh door.old →
-        AreHandedBack result.ends.items (D.closed door.old) (D.closed door.new) }
+    requires room { IfSome (most_served server.now.spec.now.conns)
+        (λ most. most ≤ vec_capacity ends) }
+    ensures served { let tells = told D.bound D.lines D.faults D.ended D.closed in
+        HasServed W.Sink server.now.spec.now result sink.old sink.new
+        (tells door.old) (tells door.new) }
+    ensures lines { D.fresh door.old → AreServed (most_served server.now.spec.now.conns)
+        result.ends.items (D.closed door.old) (D.closed door.new) }
 {
+    let Server {
+        rt,
+        alloc,
+        spec,
+        clock,
+        gate,
+    } = *server;
     let mut pass = pass;
     let plain = PlainBox::new(Plain::new(alloc, 1));
     match desks_over(rt, alloc, hub, &mut pass, spec.workers, clock, gate) {
-        Ok(mut desks) => {
-            let desks = desks.as_mut_slice();
-            serve_with(rt, alloc, spec, sink, desks, &plain, door, ends)
-        }
+        Ok(mut desks) => { serve_lines(server, sink, desks.as_mut_slice(), &plain, door, ends) }
         Err(Memory) => unserved(ends),
     }
 }
 
-/// Opens the door, lets the workers serve, of whom there is one for each desk, and tells how many lines were
-/// served.
-fn serve_with<W: Sink, K: Desk + Send, D: Door, R: Threads + Wait + Sync>(
-    rt: &R,
-    alloc: Global,
-    spec: &ServeSpec,
+/// Opens the door, lets the workers serve its lines, and tells how many were served. There is a worker for
+/// each desk.
+fn serve_lines<W: Sink, K: Desk + Send, D: Door, C, G, R: Threads + Wait + Sync>(
+    server: &Server<'_, C, G, R>,
     sink: &mut W,
     desks: &mut [K],
     plain: &PlainBox,
     door: &mut D,
     ends: Vec<LineEnd>,
 ) -> Served
-    requires some { 1 ≤ spec.now.workers }
-    requires as_many { length desks.old ≡ spec.now.workers }
+    requires some { 1 ≤ server.now.spec.now.workers }
+    requires as_many { length desks.old ≡ server.now.spec.now.workers }
     requires none { ends.items ≡ [] }
-    requires room { spec.now.conns ≤ vec_capacity ends }
-    ensures served { let tells = told D.lines D.faults D.ended D.closed in
-        HasServed W.Sink spec.now result sink.old sink.new (tells door.old) (tells door.new) }
-    ensures lines { D.fresh door.old →
-        AreHandedBack result.ends.items (D.closed door.old) (D.closed door.new) }
+    requires room { IfSome (most_served server.now.spec.now.conns)
+        (λ most. most ≤ vec_capacity ends) }
+    ensures served { let tells = told D.bound D.lines D.faults D.ended D.closed in
+        HasServed W.Sink server.now.spec.now result sink.old sink.new
+        (tells door.old) (tells door.new) }
+    ensures lines { D.fresh door.old → AreServed (most_served server.now.spec.now.conns)
+        result.ends.items (D.closed door.old) (D.closed door.new) }
 {
+    let Server {
+        rt,
+        alloc,
+        spec,
+        ..
+    } = *server;
     let mut written = 0;
     if let Err(status) = open_up(spec.addr.as_slice(), sink, door, &mut written) {
         return Served {
@@ -353,11 +375,15 @@ fn serve_with<W: Sink, K: Desk + Send, D: Door, R: Threads + Wait + Sync>(
             written,
         };
     }
-    let Attended { ends, failed } = serve_all(rt, alloc, desks, plain, door, spec.conns, ends);
+    let Attended {
+        served,
+        ends,
+        failed,
+    } = serve_all(rt, alloc, desks, plain, door, spec.conns.most(), ends);
     let status = if failed {
         Status::DoorFault
     } else {
-        close_up(alloc, sink, &mut written, ends.len())
+        close_up(alloc, sink, &mut written, served)
     };
     Served {
         status,
@@ -376,8 +402,9 @@ fn open_up<W: Sink, D: Door>(
     requires nothing { written.old ≡ 0 }
     ensures told { OnOk result
         (Prints (W.taken sink.old) (W.taken sink.new) ready_line written.new) }
+    ensures bound { OnOk result (D.bound door.new ≡ Some addr.now) }
     ensures halted { IfErr result (λ status. (printed : List ℕ) ×
-        IsServedText status 0 printed ×
+        (printed ≢ [] → D.bound door.new ≡ Some addr.now) × IsServedText status 0 printed ×
         Prints (W.taken sink.old) (W.taken sink.new) printed written.new) }
     ensures unbound { IfErr result (λ status. status ≡ Status.DoorFault →
         Prints (W.taken sink.old) (W.taken sink.new) [] written.new) }
@@ -404,7 +431,7 @@ fn open_up<W: Sink, D: Door>(
 }
 
 /// Writes how many lines were served, and answers how the server ends.
-fn close_up<W: Sink>(alloc: Global, sink: &mut W, written: &mut u64, lines: usize) -> Status
+fn close_up<W: Sink>(alloc: Global, sink: &mut W, written: &mut u64, lines: u64) -> Status
     ensures text { (taken : Option (List ℕ)) →
         Prints taken (W.taken sink.old) ready_line written.old →
         (printed : List ℕ) × IsServedText result lines printed ×
@@ -423,12 +450,12 @@ fn close_up<W: Sink>(alloc: Global, sink: &mut W, written: &mut u64, lines: usiz
 }
 
 /// The line that tells how many lines were served.
-fn served_line(alloc: Global, lines: usize) -> Result<Vec<u8>, Memory>
+fn served_line(alloc: Global, lines: u64) -> Result<Vec<u8>, Memory>
     ensures { IfOk result (λ text. text.items ≡ served_line lines) }
 {
     let mut buffer = Buffer::new();
     let mut text = Vec::from_slice(alloc, b"served ")?;
-    text.extend_from_slice(buffer.format(lines as u64).as_bytes())?;
+    text.extend_from_slice(buffer.format(lines).as_bytes())?;
     text.push(b'\n')?;
     Ok(text)
 }

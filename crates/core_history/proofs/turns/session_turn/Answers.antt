@@ -7,7 +7,7 @@ use Rattle.session_client.specs.declared.replies.Reply.{Reply}
 use Rattle.core_history.specs.Cores.{Origin}
 use Rattle.core_history.specs.Events.{now_of}
 use Rattle.core_history.specs.Machine.{World}
-use Rattle.core_history.specs.Requests.{Stands, TakesTurn}
+use Rattle.core_history.specs.Requests.{AreAfter, TakesTurn}
 use Rattle.core_history.proofs.turns.session_turn.Goals as goal
 
 pub take_turn-requires-clause-waits : goal.take_turn-requires-clause-waits
@@ -25,7 +25,7 @@ returns g c session found =
     let within : who.number - 1 < length sessions = omega (arith, c.requires.some, c.requires.begun) in
     let read = slice_get_read sessions (length sessions) (who.number - 1) c.index_mut.result.now refl within c.index_mut.ensures.value in
     let P : Session → Type 0 = λ s. (plan_of after ≡ plan_of s) × (sid_of after ≡ sid_of s)
-    × ((origin : Origin) (world : World) (heard : List Reply) → Stands c.args.shards.now.items c.args.store.now origin world
+    × ((origin : Origin) (world : World) (heard : List Reply) → AreAfter c.args.shards.now.items c.args.store.now origin world
     → c.args.now ≡ now_of world.past → Follows s false heard
     → TakesTurn origin world who (wants (plan_of s) false heard) heard c.take_turn.new.shards.items c.take_turn.new.store after c.take_turn.result) in
     let h =

@@ -2,7 +2,7 @@ use Rattle.std.proofs.Common.{false, Ok, subst, sym, inl, inr}
 use Rattle.rows_model.specs.declared.keys.Sid.{Sid}
 use Rattle.session_client.specs.Belongs.{Belongs}
 use Rattle.session_client.specs.declared.replies.Wanted.{Wanted}
-use Rattle.core_history.specs.Requests.{IsOutWhereReleased, Stands, Makes, TakesTurn, after}
+use Rattle.core_history.specs.Requests.{IsOutWhereReleased, AreAfter, Makes, TakesTurn, after}
 use Rattle.core_history.specs.Machine.{Said, event_of}
 use Rattle.core_history.proofs.TellLemmas.{turn_told}
 use Rattle.core_history.proofs.turns.take_turn.Goals as goal
@@ -41,7 +41,7 @@ returns-in-Err-told-clause-takes g c origin world heard stands time so_far =
     let request = c.wants-request.result in
     let shards = c.make.new.shards.items in
     let store = c.make.new.store in
-    let P : Wanted → Type 0 = λ w. (said : Said) × Stands shards store origin (after world (event_of origin.shape world who w said)) in
+    let P : Wanted → Type 0 = λ w. (said : Said) × AreAfter shards store origin (after world (event_of origin.shape world who w said)) in
     let made : Makes origin world who request shards store (Ok c.in-Ok.reply) = c.in-Ok.ensures.makes origin world stands time in
     inr (subst P (c.wants-request.ensures.wanted false heard so_far) (made.0, made.2))
 

@@ -2,6 +2,6 @@ use Rattle.std.proofs.Common.{refl}
 use Rattle.sqlite_pool.specs.Pool.{state}
 use Rattle.sqlite_keeper.proofs.opening.open_fresh.Goals as goal
 
-pub returns-clause-shown : goal.returns-clause-shown
+pub returns-clause-told : goal.returns-clause-told
 unfolding state
-returns-clause-shown c = c.in_ok-base.ensures.shown (λ store. refl)
+returns-clause-told c = c.in_ok-base.ensures.told (λ store. refl)

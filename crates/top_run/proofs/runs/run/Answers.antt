@@ -5,7 +5,7 @@ use Rattle.top_run.specs.declared.runs.Status.{Status}
 use Rattle.top_run.specs.Commands.{IsTextPart}
 use Rattle.top_run.specs.Runs.{told_by, RoseWhere}
 use Rattle.top_run.proofs.PrintLemmas.{print_none}
-use Rattle.top_run.proofs.CommandLemmas.{command_ok, command_err, load_not_failed, load_no_door, load_no_replay, no_command, server_not_failed, server_no_replay}
+use Rattle.top_run.proofs.CommandLemmas.{command_ok, command_err, lines_ok, lines_err, load_not_failed, load_no_door, load_no_replay, no_command, server_not_failed, server_no_replay}
 use Rattle.top_run.proofs.ServeLemmas.{none_ended}
 use Rattle.top_run.proofs.runs.run.Goals as goal
 
@@ -121,16 +121,31 @@ returns-in-Err-Memory-clause-ended g c =
     ))
 
 pub returns-in-Ok-Replay-clause-lines : goal.returns-in-Ok-Replay-clause-lines
-returns-in-Ok-Replay-clause-lines g c = λ fresh. none_ended _ _ _ c.replay.ensures.no_ends refl
+returns-in-Ok-Replay-clause-lines g c = λ fresh.
+    lines_ok _ c.read_words.result _ _ _ c.read_words.ensures.accepts c.read_words.ensures.read c.read_words.ensures.usage
+    c.in-Ok-Replay.field-0 (words.Replay c.in-Ok-Replay.place) c.in-Ok-Replay.is c.in-Ok-Replay.field-0-is (none_ended _ _ _ c.replay.ensures.no_ends refl)
 
 pub returns-in-Ok-Work-clause-lines : goal.returns-in-Ok-Work-clause-lines
-returns-in-Ok-Work-clause-lines g c = λ fresh. none_ended _ _ _ c.work.ensures.no_ends refl
+returns-in-Ok-Work-clause-lines g c = λ fresh.
+    lines_ok _ c.read_words.result _ _ _ c.read_words.ensures.accepts c.read_words.ensures.read c.read_words.ensures.usage
+    c.in-Ok-Work.field-0 (words.Work c.in-Ok-Work.place c.in-Ok-Work.spec) c.in-Ok-Work.is c.in-Ok-Work.field-0-is (none_ended _ _ _ c.work.ensures.no_ends refl)
+
+pub returns-in-Ok-Serve-clause-lines : goal.returns-in-Ok-Serve-clause-lines
+returns-in-Ok-Serve-clause-lines g c = λ fresh.
+    lines_ok _ c.read_words.result _ _ _ c.read_words.ensures.accepts c.read_words.ensures.read c.read_words.ensures.usage
+    c.in-Ok-Serve.field-0 (words.Serve c.in-Ok-Serve.place c.in-Ok-Serve.spec) c.in-Ok-Serve.is c.in-Ok-Serve.field-0-is (c.serve.ensures.lines fresh)
 
 pub returns-in-Ok-Told-clause-lines : goal.returns-in-Ok-Told-clause-lines
-returns-in-Ok-Told-clause-lines g c = λ fresh. none_ended _ _ _ c.tell.ensures.no_ends refl
+returns-in-Ok-Told-clause-lines g c = λ fresh.
+    lines_ok _ c.read_words.result _ _ _ c.read_words.ensures.accepts c.read_words.ensures.read c.read_words.ensures.usage
+    c.in-Ok-Told.field-0 (words.Told c.in-Ok-Told.text) c.in-Ok-Told.is c.in-Ok-Told.field-0-is (none_ended _ _ _ c.tell.ensures.no_ends refl)
 
 pub returns-in-Err-Usage-clause-lines : goal.returns-in-Err-Usage-clause-lines
-returns-in-Err-Usage-clause-lines g c = λ fresh. none_ended _ _ _ c.not_started.ensures.ends refl
+returns-in-Err-Usage-clause-lines g c = λ fresh.
+    lines_err _ c.read_words.result _ _ _ c.read_words.ensures.accepts c.read_words.ensures.read c.read_words.ensures.usage
+    c.in-Err-Usage.field-0 c.in-Err-Usage.is (none_ended _ _ _ c.not_started.ensures.ends refl)
 
 pub returns-in-Err-Memory-clause-lines : goal.returns-in-Err-Memory-clause-lines
-returns-in-Err-Memory-clause-lines g c = λ fresh. none_ended _ _ _ c.not_started-in-Err-Memory.ensures.ends refl
+returns-in-Err-Memory-clause-lines g c = λ fresh.
+    lines_err _ c.read_words.result _ _ _ c.read_words.ensures.accepts c.read_words.ensures.read c.read_words.ensures.usage
+    c.in-Err-Memory.field-0 c.in-Err-Memory.is (none_ended _ _ _ c.not_started-in-Err-Memory.ensures.ends refl)

@@ -1,4 +1,4 @@
-use Rattle.std.proofs.Common.{List, [], ℕ, ◌++◌, sym, subst}
+use Rattle.std.proofs.Common.{rules, List, [], ℕ, ◌++◌, sym, subst}
 use Rattle.top_run.specs.Runs.{Prints}
 use Rattle.top_run.specs.Serves.{served_line}
 use Rattle.top_run.proofs.PrintLemmas.{print_none}
@@ -15,4 +15,4 @@ pub returns-in-Err-clause-halted : goal.returns-in-Err-clause-halted
 returns-in-Err-clause-halted g c =
     let taken = g.W.Sink.taken c.args.sink.now in
     let cut = c.in-Err.ensures.some taken [] (rw c.requires.nothing (print_none taken)) in
-    (cut.0, (cut.1 ++ served_line 0, ready_cut cut.0 cut.1 0 cut.2), cut.3)
+    (cut.0, (λ some. search rules), (cut.1 ++ served_line 0, ready_cut cut.0 cut.1 0 cut.2), cut.3)

@@ -3,7 +3,7 @@ use Rattle.std.specs.Prelude.{Option, is_some}
 use Rattle.rows_model.specs.Rows.{Tables}
 use Rattle.top_run.specs.Runs.{held_at, IsOpened}
 use Rattle.top_run.specs.Serves.{serve_shape}
-use Rattle.top_run.proofs.ServeLemmas.{none_ended}
+use Rattle.top_run.proofs.ServeLemmas.{none_served}
 use Rattle.top_run.proofs.serves.serve.Goals as goal
 
 pub returns-in-Ok-new-clause-ended : goal.returns-in-Ok-new-clause-ended
@@ -12,7 +12,7 @@ returns-in-Ok-new-clause-ended g c = λ unread.
     let held = held_at c.args.place.now (g.K.Keeper.holds c.args.keeper c.args.place.now) in
     let opened : IsOpened held (serve_shape c.args.spec.now) store.ledger.opening store.told =
     record { fresh = c.in-Ok-new.ensures.fresh; opened = λ rows is. c.in-Ok-new.ensures.held (ap (λ (o : Option Tables). is_some o) is) } in
-    rw (sym c.in-Ok-new.ensures.counts) (c.serve_on.ensures.ended unread (g.K.Keeper.rows c.args.keeper) held opened)
+    rw (sym c.in-Ok-new.ensures.counts) (c.serve_store.ensures.ended unread (g.K.Keeper.rows c.args.keeper) held opened)
 
 pub returns-in-Err-clause-lines : goal.returns-in-Err-clause-lines
-returns-in-Err-clause-lines g c = λ fresh. none_ended _ _ _ c.not_started-in-Err.ensures.ends refl
+returns-in-Err-clause-lines g c = λ fresh. none_served _ _ _ _ c.not_started-in-Err.ensures.ends refl

@@ -5,17 +5,17 @@ use Rattle.top_run.specs.Works.{hub_terms}
 use Rattle.top_run.proofs.serves.serve.Given as goal
 
 -- what the shards are made with, and the store as it is handed in
-abbrev pub ghosts-serve_on-H-HubName : goal.ghosts-serve_on-H-HubName
-ghosts-serve_on-H-HubName g a = record {
-  terms = hub_terms (serve_shape a.spec.now) serve_keep;
+abbrev pub ghosts-serve_store-H-HubName : goal.ghosts-serve_store-H-HubName
+ghosts-serve_store-H-HubName g a = record {
+  terms = hub_terms (serve_shape a.server.now.spec.now) serve_keep;
   opening = a.store.ledger.opening;
   cap = log_cap;
   told = a.store.told;
   start = Some a.store.faults;
 }
 
-abbrev pub ghosts-serve_on-H-Ledger : goal.ghosts-serve_on-H-Ledger
-ghosts-serve_on-H-Ledger g a = record { name = a.ready.parts.hub.ledger.name; parts = a.ready.parts.hub.ledger.parts }
+abbrev pub ghosts-serve_store-H-Ledger : goal.ghosts-serve_store-H-Ledger
+ghosts-serve_store-H-Ledger g a = record { name = a.ready.parts.hub.ledger.name; parts = a.ready.parts.hub.ledger.parts }
 
-abbrev pub ghosts-serve_on-H-BoundName : goal.ghosts-serve_on-H-BoundName
-ghosts-serve_on-H-BoundName g a = record { word = a.ready.parts.hub.word.0; before = λ no. []; begun = 0; failed = 0 }
+abbrev pub ghosts-serve_store-H-BoundName : goal.ghosts-serve_store-H-BoundName
+ghosts-serve_store-H-BoundName g a = record { word = a.ready.parts.hub.word.0; before = λ no. []; begun = 0; failed = 0 }

@@ -1,7 +1,7 @@
 use Rattle.std.proofs.Common.{◌≡◌, Ok, sym, ap, subst, ◌∙◌}
 use Rattle.bound_desk.specs.Bound.{BoundBookView}
 use Rattle.bound_desk.specs.Safe.{IsSafelyMade, MadeBelongs}
-use Rattle.desk_book.specs.Books.{begun}
+use Rattle.desk_book.specs.Books.{first_book}
 use Rattle.bound_desk.proofs.RecordLemmas.{made_at_first, no_put_at_first}
 use Rattle.bound_desk.proofs.SafeLemmas.{made_belongs, made_is_safe}
 use Rattle.bound_desk.proofs.bound_books.BoundBook.made.Goals as goal
@@ -20,7 +20,7 @@ returns-in-Ok-clause-belongs g c =
 pub returns-in-Ok-clause-first : goal.returns-in-Ok-clause-first
 returns-in-Ok-clause-first g c = λ writes fresh first.
     let book = c.self.inside.book.book in
-    let is = subst (λ (v : BoundBookView). v.book.book ≡ begun c.args.who writes) (sym c.self.view_is) fresh in
+    let is = subst (λ (v : BoundBookView). v.book.book ≡ first_book c.args.who writes) (sym c.self.view_is) fresh in
     ap (λ m. Ok m) (c.make.ensures ∙ made_at_first book c.args.who writes c.args.request c.in-Ok.form c.in-Ok.ensures.form is first)
 
 pub returns-in-Err-clause-first : goal.returns-in-Err-clause-first

@@ -1,6 +1,6 @@
-use Rattle.std.proofs.Common.{ℕ, ◌≡◌, List, Option, is_some, sym, ap, subst, ◌∙◌}
+use Rattle.std.proofs.Common.{◌≡◌, sym, ap, subst, ◌∙◌}
+use Rattle.rows_model.specs.Placement.{shard_of}
 use Rattle.key_shard.specs.Answers.{get_step}
-use Rattle.key_shard.specs.Past.{entry}
 use Rattle.key_shard.specs.Shards.{ShardView, past_of}
 use Rattle.shard_lock.specs.Names.{IsNamed, IsTokenOf}
 use Rattle.log_word.specs.declared.events.Short.{Short}
@@ -8,9 +8,20 @@ use Rattle.log_word.specs.Steps.{IsBorneOut}
 use Rattle.log_word.specs.Views.{with_step}
 use Rattle.bound_hub.specs.Ties.{BoundShardView}
 use Rattle.bound_hub.specs.Gets.{IsGotHeld}
-use Rattle.bound_hub.proofs.GetLemmas.{not_refused_at_home, is_some_mapped}
-use Rattle.bound_hub.proofs.GotTies.{got_is_borne_out, bound_with_got, got_is_held}
+use Rattle.bound_hub.proofs.GotTies.{got_is_borne_out, hit_is_there, bound_with_got, got_is_held}
 use Rattle.bound_hub.proofs.bound_shards.BoundShard.make_get.Goals as goal
+
+pub has_entry-has-requires : goal.has_entry-has-requires
+has_entry-has-requires g c =
+    let shard = c.self.inside.shard in
+    let key = c.args.key in
+    let told = c.in_ok-got.ensures in
+    let home = subst (λ (v : BoundShardView). shard_of key v.shard.terms.count ≡ v.shard.terms.no) (sym c.self.view_is) c.requires.home in
+    record {
+      hit = λ value stamp is.
+          hit_is_there g.H.BoundName.word g.H.HubName.opening g.H.BoundName.before shard c.self.inside.pass c.self.invariant.2
+          c.args.key c.args.who c.args.floor c.args.now c.in_ok-got.got home told.shows c.get_at_home.new.self told.step value stamp is;
+    }
 
 pub tell-note-requires-clause-borne_out : goal.tell-note-requires-clause-borne_out
 tell-note-requires-clause-borne_out g c =
@@ -20,10 +31,10 @@ tell-note-requires-clause-borne_out g c =
     let told = c.in_ok-got.ensures in
     let answer = c.in_ok-got.got in
     let step = get_step shard.terms (past_of shard) key c.args.who c.args.floor c.args.now in
-    let home = not_refused_at_home shard key step answer told.refusal in
+    let home = subst (λ (v : BoundShardView). shard_of key v.shard.terms.count ≡ v.shard.terms.no) (sym c.self.view_is) c.requires.home in
     let bound = c.self.invariant.2 in
     subst (IsBorneOut pass.seen.events) (sym c.got_short-short.ensures)
-    (got_is_borne_out g.H.BoundName.word g.H.HubName.opening g.H.BoundName.before shard pass bound key c.args.who c.args.floor c.args.now answer home told.shows c.is_some-has.result)
+    (got_is_borne_out g.H.BoundName.word g.H.HubName.opening g.H.BoundName.before shard pass bound key c.args.who c.args.floor c.args.now answer home told.shows c.has_entry-has.result)
 
 pub invariant_of-self-2 : goal.invariant_of-self-2
 invariant_of-self-2 g c =
@@ -33,15 +44,14 @@ invariant_of-self-2 g c =
     let told = c.in_ok-got.ensures in
     let answer = c.in_ok-got.got in
     let step = get_step shard.terms (past_of shard) key c.args.who c.args.floor c.args.now in
-    let home = not_refused_at_home shard key step answer told.refusal in
+    let home = subst (λ (v : BoundShardView). shard_of key v.shard.terms.count ≡ v.shard.terms.no) (sym c.self.view_is) c.requires.home in
     let bound = c.self.invariant.2 in
-    let has : c.is_some-has.result ≡ is_some (entry key (past_of c.get.new.self)) = c.is_some-has.ensures ∙ is_some_mapped _ c.peek.result ∙ ap (λ (o : Option
-    (List ℕ × ℕ)). is_some o) c.peek.ensures in
+    let has = c.has_entry-has.ensures in
     let seen = c.tell-note.ensures.seen ∙ ap (λ (x : Short). with_step pass.shard x pass.seen) c.got_short-short.ensures in (
       subst (λ (v : ShardView). IsNamed g.H.HubName.terms v) (sym told.step) c.self.invariant.0,
       subst (λ (v : ShardView). IsTokenOf v.terms.no c.self.inside.token.parts c.self.inside.token.amount) (sym told.step) c.self.invariant.1,
       bound_with_got g.H.BoundName.word g.H.HubName.opening g.H.BoundName.before shard pass bound key c.args.who c.args.floor c.args.now answer home
-          told.shows c.sound.ensures c.get.new.self c.tell-note.new.self c.is_some-has.result told.step has c.tell-note.ensures.word c.tell-note.ensures.shard seen,
+          told.shows c.sound.ensures c.get_at_home.new.self c.tell-note.new.self c.has_entry-has.result told.step has c.tell-note.ensures.word c.tell-note.ensures.shard seen,
     )
 
 pub returns-clause-held : goal.returns-clause-held
@@ -52,11 +62,10 @@ returns-clause-held g c =
     let told = c.in_ok-got.ensures in
     let answer = c.in_ok-got.got in
     let step = get_step shard.terms (past_of shard) key c.args.who c.args.floor c.args.now in
-    let home = not_refused_at_home shard key step answer told.refusal in
+    let home = subst (λ (v : BoundShardView). shard_of key v.shard.terms.count ≡ v.shard.terms.no) (sym c.self.view_is) c.requires.home in
     let bound = c.self.invariant.2 in
-    let has : c.is_some-has.result ≡ is_some (entry key (past_of c.get.new.self)) = c.is_some-has.ensures ∙ is_some_mapped _ c.peek.result ∙ ap (λ (o : Option
-    (List ℕ × ℕ)). is_some o) c.peek.ensures in
+    let has = c.has_entry-has.ensures in
     let seen = c.tell-note.ensures.seen ∙ ap (λ (x : Short). with_step pass.shard x pass.seen) c.got_short-short.ensures in
     subst (λ (v : BoundShardView). IsGotHeld g.H.HubName.opening (g.H.BoundName.before v.shard.terms.no) v.shard.terms.no c.tell-note.new.self.seen key answer) c.self.view_is
     (got_is_held g.H.BoundName.word g.H.HubName.opening g.H.BoundName.before shard pass bound key c.args.who c.args.floor c.args.now answer home
-    told.shows c.sound.ensures c.get.new.self c.tell-note.new.self c.is_some-has.result told.step has c.tell-note.ensures.word c.tell-note.ensures.shard seen)
+    told.shows c.sound.ensures c.get_at_home.new.self c.tell-note.new.self c.has_entry-has.result told.step has c.tell-note.ensures.word c.tell-note.ensures.shard seen)

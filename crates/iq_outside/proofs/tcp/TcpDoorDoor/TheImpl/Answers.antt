@@ -1,6 +1,6 @@
 -- what a door over TCP tells is what a door tells
 use Rattle.std.proofs.Common.{◌≡◌, refl, sym, rules, inl}
-use Rattle.std.specs.Prelude.{Option, None, Some, Result, Ok, Err, Bool, true, false, ◌||◌, is_none, IfOk}
+use Rattle.std.specs.Prelude.{Option, None, Some, Result, Ok, Err, false, ◌||◌, is_none, IfOk}
 use Rattle.iq_outside.proofs.tcp.TcpDoorDoor.TheImpl.Goals as goal
 
 -- where no answer is none, none is one by which the lines end
@@ -13,6 +13,7 @@ never-ends (Err e) h = tt
 pub accept-tells : goal.accept-tells
 accept-tells g c =
     record {
+      stays_bound = c.ensures.stays_bound;
       failed_rose = c.ensures.failed_rose;
       no_fault = c.ensures.no_fault;
       never_falls = c.ensures.never_falls;
@@ -28,6 +29,7 @@ accept-tells g c =
 pub close-tells : goal.close-tells
 close-tells g c =
     record {
+      stays_bound = search rules;
       no_fault = search rules;
       no_line = search rules;
       no_end = refl;

@@ -9,10 +9,10 @@ none_held : (held : Option Tables) (x : Tables) → held ≡ None → held ≡ S
 none_held None x a b = absurd (cc)
 none_held (Some y) x a b = absurd (cc)
 
-pub returns-in_ok-base-in-File-clause-shown : goal.returns-in_ok-base-in-File-clause-shown
+pub returns-in_ok-base-in-File-clause-told : goal.returns-in_ok-base-in-File-clause-told
 unfolding state
-returns-in_ok-base-in-File-clause-shown c = c.in_ok-base-in-File.ensures.shown (λ store. refl)
+returns-in_ok-base-in-File-clause-told c = c.in_ok-base-in-File.ensures.told (λ store. refl)
 
 pub returns-in_ok-base-in-File-clause-held : goal.returns-in_ok-base-in-File-clause-held
-returns-in_ok-base-in-File-clause-held c = λ told x e.
+returns-in_ok-base-in-File-clause-held c = λ x e.
     absurd (none_held (held_at c.args.place.now c.args.members) x (ap (λ (p : Place). held_at p c.args.members) c.in-File.is) e)

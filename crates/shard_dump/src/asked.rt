@@ -1,0 +1,27 @@
+ghost use Rattle.std.specs.Prelude.{◌≡◌, [], Ok, true};
+ghost use Rattle.shard_dump.specs.Loads.{AreAnswers, HasAsked};
+
+use crate::rows::DumpRow;
+use sql_keeper::{KeepFault, Keeper, Start, Store};
+
+/// Asks a store whose log is empty for the key of each row, and answers whether each value is what it
+/// says. It stops at the first that isn't. So rows that came from outside can be loaded beside it.
+///
+/// A call that fails is handed on, and is counted by the store.
+pub fn are_answers<K: Keeper, N: Start>(
+    store: &mut Store<K, N>,
+    rows: &[DumpRow],
+) -> Result<bool, KeepFault>
+    requires log { store.old.ledger.log ≡ [] }
+    ensures answers { result ≡ Ok true →
+        AreAnswers store.new.told store.new.ledger.opening rows.now }
+    ensures asked { HasAsked store.old store.new }
+{
+    for row in rows {
+        let answer = store.ask(&row.key)?;
+        if answer.value.bytes() != row.value.bytes() {
+            return Ok(false);
+        }
+    }
+    Ok(true)
+}
