@@ -61,8 +61,7 @@ impl<H: BoundName> BoundBook<H> {
     }
 
     /// Gets a key for a session on its shard, which is lent, where that is a hit, as `get`: the time is of
-    /// no account to one. The book stays, since no lease is given. `None` comes where it would be no hit, and
-    /// for want of memory. Then the shard stays, too.
+    /// no account to one. The book stays, since no lease is given. After `None` the shard is as before.
     pub fn get_hit(
         &mut self,
         word: &LogWord,

@@ -130,7 +130,7 @@ impl<H: BoundName> BoundShard<H> {
     }
 
     /// Gets a key of the shard for a session, as `get`, where that is a hit: the time is of no account to one.
-    /// `None` comes where it would be none, and for want of memory, and then the shard is as before.
+    /// After `None` the shard is as before.
     pub fn get_hit(
         &mut self,
         word: &LogWord,

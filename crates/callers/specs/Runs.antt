@@ -26,7 +26,7 @@ use Rattle.run_words.specs.declared.words.ServeSpec.{ServeSpec}
 use Rattle.top_run.specs.Runs.{IsRead, Prints, Tells, Left}
 use Rattle.run_words.specs.Words.{most_served}
 use Rattle.door_workers.specs.Attending.{HaveEnds, IsEnough}
-use Rattle.top_run.specs.Serves.{serve_shape, serve_keep, serve_text, shown}
+use Rattle.top_run.specs.Serves.{serve_shape, serve_keep, serve_text, line_count}
 use Rattle.top_run.specs.Works.{IsLeft, IsTold}
 
 -- A run at a fresh place, over a keeper that tells its rows for good, which began with these rows and has those at its end: it
@@ -89,7 +89,7 @@ pub record IsDoneServer (spec : ServeSpec) (taken_old taken_new : Option (List �
   pub few : IfSome (most_served spec.conns) (λ most. lines ≤ most)
   pub have_ends : HaveEnds (most_served spec.conns) lines ends
   pub served : IsEnough (most_served spec.conns) lines ended
-  pub prints : Prints taken_old taken_new (serve_text (shown lines)) written
+  pub prints : Prints taken_old taken_new (serve_text (line_count lines)) written
   pub as_many : length histories ≡ spec.shards
   pub legal : (place : ℕ) (history : List Step) → slice_get histories place ≡ Some history → IsLeft (serve_shape spec) serve_keep place history
 

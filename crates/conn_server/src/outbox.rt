@@ -17,6 +17,9 @@ use std::marker::Model;
 /// What waits is sent before more is put behind it, once it has so many bytes.
 const FULL: usize = 65536;
 
+/// The most bytes for which room is kept once what waited is sent.
+const KEPT: usize = 262_144;
+
 /// What waits to be written to a line. Contracts see the bytes.
 ///
 /// What is told goes into it piece by piece: each item that was found is one, and what is told of no item
@@ -154,7 +157,8 @@ impl Outbox {
         self.send(line)
     }
 
-    /// Sends what waits. After a write that failed, nothing waits either.
+    /// Sends what waits. After a write that failed, nothing waits either. Room for more than 256 KiB is given
+    /// back.
     fn send<L: Line>(&mut self, line: &mut L) -> Result<(), LineEnd>
         ensures flushes { Flushes result (L.write_side line.old) (L.write_side line.new) self.old }
         ensures keeps_reading { L.read_side line.new ≡ L.read_side line.old }
@@ -162,6 +166,7 @@ impl Outbox {
     {
         let written = write_all(line, &self.bytes);
         self.bytes.clear();
+        self.bytes.shrink_to(KEPT);
         match written {
             Ok(()) => Ok(()),
             Err(_) => Err(LineEnd::WriteFault),

@@ -4,9 +4,13 @@ ghost use Rattle.mc_text.specs.Framing.{begun, fed, past, Answers};
 use crate::commands::Command;
 use crate::faults::FrameFault;
 use crate::items::{Front, front_of};
+use bytes::BytesMut;
 use rows_model::Memory;
 use std::alloc::Global;
 use std::marker::Model;
+
+// The most bytes for which room is kept once all that was fed is taken.
+const KEPT: usize = 262_144;
 
 /// The commands of a stream of bytes that comes in pieces. Contracts see the place in the stream at
 /// which the next command begins, and the bytes that were fed from there on. What is answered depends
@@ -14,21 +18,17 @@ use std::marker::Model;
 #[derive(Drop)]
 pub struct Framer {
     alloc: Global,
-    // What was fed, the last bytes of it, and how many of those are taken.
-    bytes: Vec<u8>,
-    taken: usize,
+    // What was fed and not taken.
+    bytes: BytesMut,
     place: u64,
 }
 
 impl Model for Framer {
-    ghost use Rattle.std.specs.Prelude.{◌≤◌, length, drop};
     ghost use Rattle.mc_text.specs.Framing.{Frames};
 
     ghost Value = { Frames };
 
-    ghost view = { λ f. record { place = f.place; rest = drop f.taken f.bytes.items } };
-
-    ghost invariant = { λ f. f.taken ≤ length f.bytes.items };
+    ghost view = { λ f. record { place = f.place; rest = f.bytes.items } };
 }
 
 impl Framer {
@@ -38,8 +38,7 @@ impl Framer {
     {
         Framer {
             alloc,
-            bytes: Vec::new(alloc),
-            taken: 0,
+            bytes: BytesMut::new(alloc),
             place: 0,
         }
     }
@@ -49,7 +48,6 @@ impl Framer {
         ensures ok { OnOk result (self.new ≡ fed self.old piece.now) }
         ensures err { OnErr result (self.new ≡ self.old) }
     {
-        self.give_up();
         self.bytes.extend_from_slice(piece)?;
         Ok(())
     }
@@ -63,7 +61,7 @@ impl Framer {
         ensures { Answers self.old result self.new }
     {
         let place = self.place;
-        match front_of(self.alloc, &self.bytes[self.taken..]) {
+        match front_of(self.alloc, self.bytes.as_slice()) {
             Ok(Front::Command { command, taken }) => {
                 self.take(taken);
                 Ok(Some(command))
@@ -84,7 +82,7 @@ impl Framer {
     pub fn left(&self) -> u64
         ensures { result ≡ length self.now.rest }
     {
-        (self.bytes.len() - self.taken) as u64
+        self.bytes.len() as u64
     }
 
     /// The allocator that it was made with.
@@ -96,7 +94,7 @@ impl Framer {
     pub fn rest(&self) -> &[u8]
         ensures { result.now ≡ self.now.rest }
     {
-        &self.bytes[self.taken..]
+        self.bytes.as_slice()
     }
 
     /// Where in the stream they begin, stopping at 2^64-1. It takes no memory.
@@ -106,24 +104,23 @@ impl Framer {
         self.place
     }
 
-    /// Takes so many of them off the front. It takes no memory.
+    /// Takes so many of them off the front. It takes no memory. A buffer of more than 256 KiB is given back
+    /// once all its bytes are taken.
     pub fn take(&mut self, taken: usize)
         requires { taken ≤ length self.old.rest }
         ensures { self.new ≡ past self.old taken }
     {
-        self.taken += taken;
+        self.bytes.advance(taken);
         self.place = self.place.saturating_add(taken as u64);
+        self.give_up();
     }
 
-    // Lets go of the bytes that are taken. Those that are left move to the front.
+    // Gives a large buffer back where all its bytes are taken.
     fn give_up(&mut self)
         ensures { self.new ≡ self.old }
     {
-        if self.taken == self.bytes.len() {
-            self.bytes.clear();
-        } else if self.taken > 0 {
-            self.bytes.drain(..self.taken);
+        if self.bytes.is_empty() && self.bytes.capacity() > KEPT {
+            self.bytes = BytesMut::new(self.alloc);
         }
-        self.taken = 0;
     }
 }

@@ -1,8 +1,8 @@
-//! What the locks of a hub have in common: the names of what they keep, new shards, tokens that tell which shard
-//! lies where, and how a lock is taken.
+//! What the locks of a hub have in common: the names of what they keep, new shards, and tokens that tell which
+//! shard lies where.
 #![tactic(auto)]
 
-pub use locks::{locked_soon, token_of, wait_for_ever};
+pub use locks::{token_of, wait_for_ever};
 pub use making::new_shards;
 pub use names::{HubName, StartOf};
 pub use rooms::KeptRoom;

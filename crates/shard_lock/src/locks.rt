@@ -1,30 +1,9 @@
-//! Locks that threads wait for, and the tokens that tell which shard lies under which.
+//! Threads that wait for ever, and the tokens that tell which shard lies under which lock.
 ghost use Rattle.std.specs.Prelude.{◌≡◌, ◌+◌, ◌^◌, ◌<◌, ◌≤◌};
 ghost use Rattle.shard_lock.specs.Names.{IsTokenOf};
 
-use std::hint::spin_loop;
+use std::sync::Wait;
 use std::sync::ledger::{Book, Ledger, Share};
-use std::sync::{Mutex, MutexGuard, Wait};
-
-/// How often a thread looks again for a lock that another has, before it sleeps.
-const LOOKS: u32 = 256;
-
-/// How many hints to the processor a thread gives between two such looks.
-const PAUSE: u32 = 4;
-
-/// Takes a lock. Where another thread has it, this one looks again for a while before it sleeps: what is
-/// done under a lock here takes less time than to send a thread to sleep and to wake it.
-pub fn locked_soon<'a, T, R: Wait>(rt: &R, lock: &'a Mutex<T>) -> MutexGuard<'a, T> {
-    for _ in 0..LOOKS {
-        if let Some(guard) = lock.try_lock() {
-            return guard;
-        }
-        for _ in 0..PAUSE {
-            spin_loop();
-        }
-    }
-    lock.lock(rt)
-}
 
 /// Never returns.
 pub fn wait_for_ever<R: Wait>(rt: &R)

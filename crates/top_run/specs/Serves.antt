@@ -51,8 +51,8 @@ IsServedText status.Memory lines printed = IsUntold lines printed
 IsServedText other lines printed = ⊥
 
 -- The number that is written for so many lines: it stands still at the end of its type.
-abbrev pub shown : ℕ → ℕ
-shown lines = min lines (2 ^ 64 - 1)
+abbrev pub line_count : ℕ → ℕ
+line_count lines = min lines (2 ^ 64 - 1)
 
 -- What is so of sink, door and lines where a server ends. The door gave some lines, no more than were asked for where a number was,
 -- and each was handed back. There is an end for each of a number of lines, and else there is none. At Done as many were served as were
@@ -68,7 +68,7 @@ pub record IsAttended (spec : ServeSpec) (ended : Status) (taken_old taken_new :
   pub all : ended ≡ status.Done → IsEnough (most_served spec.conns) lines after.ended
   pub printed : List ℕ
   pub bound : printed ≢ [] → after.bound ≡ Some spec.addr.items
-  pub is_text : IsServedText ended (shown lines) printed
+  pub is_text : IsServedText ended (line_count lines) printed
   pub prints : Prints taken_old taken_new printed written
 
 -- The lines of a server were served so, from a door that told this before and this after, and with this sink handed in and back:
