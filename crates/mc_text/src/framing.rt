@@ -24,11 +24,14 @@ pub struct Framer {
 }
 
 impl Model for Framer {
+    ghost use Rattle.std.specs.Prelude.{◌<◌, ◌^◌};
     ghost use Rattle.mc_text.specs.Framing.{Frames};
 
     ghost Value = { Frames };
 
     ghost view = { λ f. record { place = f.place; rest = f.bytes.items } };
+
+    ghost invariant = { λ f. f.place < 2 ^ 64 };
 }
 
 impl Framer {
