@@ -5,7 +5,7 @@ ghost use Rattle.rows_model.specs.declared.keys.Sid.{Sid};
 ghost use Rattle.rows_model.specs.Delta.{is_count};
 ghost use Rattle.lease_table.specs.declared.records.Mode.TheVariants.{Refresh, Delta};
 ghost use Rattle.key_shard.specs.Permit.{Permit};
-ghost use Rattle.session_client.specs.Desks.{Call};
+ghost use Rattle.session_client.specs.Desks.{Exchange};
 ghost use Rattle.session_client.specs.declared.replies.Wanted.TheVariants as wanted;
 ghost use Rattle.mc_text.specs.declared.commands.Command.TheVariants as commands;
 ghost use Rattle.conn_server.specs.Clients.{grant_on, grants_but};
@@ -83,7 +83,7 @@ impl Client {
 
     /// Begins a session, in place of the present one.
     fn begin<D: Desk>(&mut self, desk: &mut D, role: Role) -> LineReply
-        ensures answers { (calls : List Call)
+        ensures answers { (calls : List Exchange)
             × (D.record_of desk.new ≡ with_calls calls (D.record_of desk.old))
             × Begins self.old role calls result self.new }
         ensures untended { D.tends desk.new ≡ D.tends desk.old }
@@ -296,7 +296,7 @@ impl Client {
     /// Ends the session and releases its grants. It stays the present one.
     fn abort<D: Desk>(&mut self, desk: &mut D) -> LineReply
         requires { MayAbort self.old.present }
-        ensures answers { (calls : List Call)
+        ensures answers { (calls : List Exchange)
             × (D.record_of desk.new ≡ with_calls calls (D.record_of desk.old))
             × Aborts self.old calls result self.new }
         ensures untended { D.tends desk.new ≡ D.tends desk.old }
