@@ -1,30 +1,33 @@
 // The run of two loads: the second is run over a new cache, which takes over what is still right in that of the
 // first.
-ghost use Rattle.std.specs.Prelude.{◌≡◌, ◌≢◌, ◌<◌, ◌≤◌, ◌++◌, ◌-◌, ◌^◌, ◌×◌, ℕ, [], All, List, Option, Some, None, IfOk, IfErr, OnOk, OnErr, IsErr, IsSome, length, map, nat_lt, vec_capacity};
+ghost use Rattle.std.specs.Prelude.{◌≡◌, ◌≢◌, ◌<◌, ◌≤◌, ◌-◌, ◌^◌, ◌++◌, ◌∷◌, ℕ, [], All, List, Option, Some, None, IfOk, IfErr, IfSome, OnOk, OnErr, IsSome, length, map, is_none, vec_capacity};
 ghost use Rattle.std.specs.Bool.{IsFalse};
+ghost use Rattle.std.specs.List.{AllByRecursion, flat_map};
+ghost use Rattle.std.specs.Option.{ForSome};
+ghost use Rattle.iq_outside.specs.Outside.{Rose};
 ghost use Rattle.rows_model.specs.Rows.{Tables};
 ghost use Rattle.key_shard.specs.declared.steps.Step.{Step};
 ghost use Rattle.sql_keeper.specs.declared.stores.Commit.{Commit};
-ghost use Rattle.sql_keeper.specs.Stores.{opened, rebased};
 ghost use Rattle.sql_keeper.specs.Faults.{FailedSince};
+ghost use Rattle.sql_keeper.specs.Stores.{opened, rows_of};
 ghost use Rattle.core_history.specs.Machine.{log_cap};
+ghost use Rattle.shard_lock.specs.Names.{IsNamedStore};
 ghost use Rattle.bound_hub.specs.Ties.{IsNewStore};
-ghost use Rattle.shard_lock.specs.Names.{AreAll, AreLegal};
-ghost use Rattle.run_audit.specs.Findings.{histories_in, AreWhole};
+ghost use Rattle.run_audit.specs.declared.findings.Finding.{Finding};
+ghost use Rattle.run_audit.specs.Findings.{histories_in, AreNumbered, AreWhole};
 ghost use Rattle.run_inputs.specs.declared.loads.WorkSpec.{WorkSpec};
 ghost use Rattle.run_inputs.specs.Loads.{IsWork};
 ghost use Rattle.door_workers.specs.Told.{Told};
-ghost use Rattle.shard_dump.specs.declared.rows.DumpRow.{DumpRow};
-ghost use Rattle.shard_dump.specs.Dumps.{dump_of};
-ghost use Rattle.top_run.specs.declared.plays.Stop.{Stop};
+ghost use Rattle.top_run.specs.declared.warms.Dumped.{Dumped};
 ghost use Rattle.top_run.specs.declared.runs.Status.{Status};
-ghost use Rattle.top_run.specs.Runs.{Held, Input, Prints, moment, seen, held_at, histories_at, left_at, IsOpened, RoseWhere, CountsWhere, is_read_fault, is_write_fault};
+ghost use Rattle.top_run.specs.declared.plays.Stop.TheVariants as stop;
+ghost use Rattle.top_run.specs.Runs.{Held, Input, Left, Prints, moment, seen, held_at, left_at, IsOpened, RoseWhere, CountsWhere, is_read_fault, is_write_fault};
 ghost use Rattle.top_run.specs.Plays.{at_write};
-ghost use Rattle.top_run.specs.Serves.{course_of};
-ghost use Rattle.top_run.specs.Works.{work_shape, hub_terms, first_spent, end_status, at_write_told, IsNameOf, IsSummary};
+ghost use Rattle.top_run.specs.Serves.{course_of, phase_left};
+ghost use Rattle.top_run.specs.Works.{work_shape, hub_terms, first_spent, at_write_told, IsNameOf, IsSummary};
 ghost use Rattle.top_run.specs.Ready.{IsReady, MakeHub, NamesParts};
-ghost use Rattle.top_run.specs.Warms.{next_load, first_of_two, dump_line, dump_lines, earlier_in, phase_left, WarmEnded};
-ghost use Rattle.top_run.specs.Warming.{AreDumpedFrom, AreLoaded, CanLoad, IsDumped, IsHaltedBehind, IsLoadedWith, IsReadyAnew, IsToldBehind, KeepsOn, stop_status};
+ghost use Rattle.top_run.specs.Warms.{next_load, dump_line, front_of, IsFirst, IsLinesPart, WarmEnded};
+ghost use Rattle.top_run.specs.Warming.{AreDumped, AreLoaded, AreToLoad, CanLoad, CanLoadAll, HasBytes, HasRooms, HasRunLoad, IsDumped, IsHalf, IsHaltedBehind, IsLoadedWith, IsReadyAnew, IsToldBehind, KeepsOn, NamesAnew, left_by, lines_in, stop_status};
 
 use crate::endings::{histories_of, not_started, start_status};
 use crate::hubs::{CAP, HubParts, Parts, ended_hub};
@@ -59,7 +62,22 @@ pub(crate) fn warm<W: Sink, K: Keeper + Send, C: Clock, G: Gate, R: Threads + Wa
     keeper: K,
     clock: &C,
     gate: &G,
-) -> RunEnd<K> {
+) -> RunEnd<K>
+    requires { IsWork spec.now }
+    ensures ended { (unread : Input) (door : Told) →
+        let held = held_at place.now (K.holds keeper place.now) in
+        let before = seen unread W.Sink K.Keeper sink.old keeper in
+        let after = seen unread W.Sink K.Keeper sink.new result.keeper in
+        WarmEnded result.status spec.now (course_of held before after door door result) }
+    ensures started { IsSome result.opening → K.is_started result.keeper }
+    ensures unstarted { result.opening ≡ None → result.earlier.items ≡ [] →
+        K.is_started result.keeper → K.is_started keeper }
+    ensures writes { CountsWhere W.faults (is_write_fault result.status) sink.old sink.new }
+    ensures command { result.status ≢ Status.Usage }
+    ensures no_ends { result.ends.items ≡ [] }
+    ensures no_read_fault { IsFalse (is_read_fault result.status) }
+    ensures keeper_never_falls { K.faults keeper ≤ K.faults result.keeper }
+{
     let Ok(ready) = ready_for(alloc, spec) else {
         return not_started(alloc, Status::Memory, keeper);
     };
@@ -126,7 +144,29 @@ fn run_first<
     store: Store<K>,
     ready: Ready,
     earlier: Vec<Phase>,
-) -> RunEnd<K> {
+) -> RunEnd<K>
+    requires work { IsWork warming.now.spec.now }
+    requires named { IsNameOf (work_shape warming.now.spec.now) None
+        store H.terms H.opening H.cap H.told H.start }
+    requires new { store.ledger ≡ opened store.ledger.opening log_cap }
+    requires ready { IsReady warming.now.spec.now H.terms ready }
+    requires parts { NamesParts H.name H.parts H.word H.before H.begun H.failed ready.parts.hub }
+    requires none_earlier { earlier.items ≡ [] }
+    requires for_one { 1 ≤ vec_capacity earlier }
+    ensures ended { (unread : Input) (door : Told) (rows : Option Tables) (held : Held) →
+        IsOpened held (work_shape warming.now.spec.now) store.ledger.opening store.told →
+        let before = moment unread (W.taken sink.old) (W.faults sink.old) rows store.faults in
+        let after = seen unread W.Sink K.Keeper sink.new result.keeper in
+        WarmEnded result.status warming.now.spec.now
+        (course_of held before after door door result) }
+    ensures started { K.is_started result.keeper }
+    ensures some_earlier { result.earlier.items ≢ [] }
+    ensures writes { CountsWhere W.faults (is_write_fault result.status) sink.old sink.new }
+    ensures command { result.status ≢ Status.Usage }
+    ensures no_ends { result.ends.items ≡ [] }
+    ensures no_read_fault { IsFalse (is_read_fault result.status) }
+    ensures keeper_never_falls { store.faults ≤ K.faults result.keeper }
+{
     let Warming {
         rt,
         alloc,
@@ -184,7 +224,30 @@ fn dump_first<
     sink: &mut W,
     first: First<K, N>,
     written: u64,
-) -> RunEnd<K> {
+) -> RunEnd<K>
+    requires work { IsWork warming.now.spec.now }
+    requires run { HasRunLoad warming.now.spec.now first.store first.shards.items }
+    requires rooms { HasRooms first.shards.items first.histories first.earlier }
+    ensures ended { (unread : Input) (door : Told) (rows : Option Tables) (start : ℕ) (held : Held)
+        (taken : Option (List ℕ)) (failed : ℕ) (found : Finding) (text : List ℕ) →
+        N.count ≡ Some start →
+        IsOpened held (work_shape warming.now.spec.now) first.store.ledger.opening
+        first.store.told →
+        IsSummary warming.now.spec.now first.store.ledger.opening first.store.ledger.log
+        (histories_in first.shards.items) found text →
+        Prints taken (W.taken sink.old) text written →
+        let before = moment unread taken failed rows start in
+        let after = seen unread W.Sink K.Keeper sink.new result.keeper in
+        WarmEnded result.status warming.now.spec.now
+        (course_of held before after door door result) }
+    ensures started { K.is_started result.keeper }
+    ensures some_earlier { result.earlier.items ≢ [] }
+    ensures writes { CountsWhere W.faults (is_write_fault result.status) sink.old sink.new }
+    ensures command { result.status ≢ Status.Usage }
+    ensures no_ends { result.ends.items ≡ [] }
+    ensures no_read_fault { IsFalse (is_read_fault result.status) }
+    ensures keeper_never_falls { first.store.faults ≤ K.faults result.keeper }
+{
     let alloc = warming.alloc;
     let mut written = written;
     let dumps = match dumps_of(alloc, first.shards.as_slice(), first.store.log()) {
@@ -202,7 +265,17 @@ fn dump_first<
 
 /// The store made anew over the rows after the first load, and what that load left. For want of memory
 /// everything is as it was.
-fn made_anew<K: Keeper, N: Start>(first: First<K, N>) -> Result<Half<K, N>, First<K, N>> {
+fn made_anew<K: Keeper, N: Start>(first: First<K, N>) -> Result<Half<K, N>, First<K, N>>
+    requires few { length first.shards.items ≤ 64 }
+    requires whole { AreWhole first.shards.items }
+    requires rooms { HasRooms first.shards.items first.histories first.earlier }
+    requires cap { first.store.ledger.cap ≡ log_cap }
+    ensures half { IfOk result (λ half. IsHalf (left_by first.store first.shards.items)
+        first.store.ledger.opening half.store half.earlier.items half.spent) }
+    ensures keeper { IfOk result (λ half.
+        (half.store.told ≡ first.store.told) × (half.store.faults ≡ first.store.faults)) }
+    ensures err { IfErr result (λ back. back ≡ first) }
+{
     let First {
         store,
         shards,
@@ -234,7 +307,18 @@ fn with_phase(
     log: Vec<Commit>,
     shards: Vec<Shard>,
     histories: Vec<Vec<Step>>,
-) -> Vec<Phase> {
+) -> Vec<Phase>
+    requires none { histories.items ≡ [] }
+    requires for_histories { length shards.items ≤ vec_capacity histories }
+    requires whole { AreWhole shards.items }
+    requires none_earlier { room.items ≡ [] }
+    requires for_one { 1 ≤ vec_capacity room }
+    ensures { map phase_left result.items ≡ record {
+      opening = Some opening;
+      log = log.items;
+      histories = histories_in shards.items;
+    } ∷ [] }
+{
     let mut earlier = room;
     earlier.push_reserved(Phase {
         opening,
@@ -258,7 +342,29 @@ fn load_second<
     half: Half<K, N>,
     dumps: Vec<Dumped>,
     written: u64,
-) -> RunEnd<K> {
+) -> RunEnd<K>
+    requires work { IsWork warming.now.spec.now }
+    ensures ended { (unread : Input) (door : Told) (rows : Option Tables) (start : ℕ) (held : Held)
+        (taken : Option (List ℕ)) (failed : ℕ) (left : Left) (opening : Tables) (text : List ℕ) →
+        N.count ≡ Some start →
+        IsHalf left opening half.store half.earlier.items half.spent →
+        IsFirst warming.now.spec.now held half.store.told
+        (map phase_left half.earlier.items) left opening text →
+        AreToLoad warming.now.spec.now left half.store.told half.store.ledger.opening
+        dumps.items →
+        Prints taken (W.taken sink.old) (front_of text left) written →
+        let before = moment unread taken failed rows start in
+        let after = seen unread W.Sink K.Keeper sink.new result.keeper in
+        WarmEnded result.status warming.now.spec.now
+        (course_of held before after door door result) }
+    ensures started { K.is_started result.keeper }
+    ensures some_earlier { result.earlier.items ≡ half.earlier.items }
+    ensures writes { CountsWhere W.faults (is_write_fault result.status) sink.old sink.new }
+    ensures command { result.status ≢ Status.Usage }
+    ensures no_ends { result.ends.items ≡ [] }
+    ensures no_read_fault { IsFalse (is_read_fault result.status) }
+    ensures keeper_never_falls { half.store.faults ≤ K.faults result.keeper }
+{
     let alloc = warming.alloc;
     let spec = next_load(warming.spec);
     let now = warming.clock.now().min(u64::MAX - 1);
@@ -266,7 +372,7 @@ fn load_second<
     let Ok(ready) = ready_for(alloc, &spec) else {
         return ended_half(alloc, Status::Memory, half, written);
     };
-    match loaded(alloc, &mut half.store, ready, dumps, now) {
+    match loaded(alloc, &spec, &mut half.store, ready, dumps, now) {
         Ok(ready) => {
             let second = Warming {
                 rt: warming.rt,
@@ -275,6 +381,8 @@ fn load_second<
                 clock: warming.clock,
                 gate: warming.gate,
             };
+            // A store's count of failed calls is one of its type.
+            let _ = half.store.failed();
             run_second::<Brand, _, _, _, _, _, _>(&second, sink, half, ready, written)
         }
         Err(Memory) => ended_half(alloc, Status::Memory, half, written),
@@ -297,11 +405,22 @@ fn next_load(spec: &WorkSpec) -> WorkSpec
 /// What a load is run with, once the dumps are loaded into its shards.
 fn loaded<K: Keeper, N: Start>(
     alloc: Global,
+    spec: &WorkSpec,
     store: &mut Store<K, N>,
     ready: Ready,
     dumps: Vec<Dumped>,
     now: u64,
-) -> Result<Ready, Memory> {
+) -> Result<Ready, Memory>
+    requires now { now < 2 ^ 64 - 1 }
+    requires log { store.old.ledger.log ≡ [] }
+    requires work { IsWork spec.now }
+    requires ready { IsReady spec.now (hub_terms (work_shape spec.now) None) ready }
+    requires can { CanLoadAll store.old.told store.old.ledger.opening dumps.items
+        ready.parts.hub.shards.items }
+    ensures ready { IfOk result (IsReadyAnew spec.now store.new.told store.new.ledger.opening
+        dumps.items) }
+    ensures keeps_on { KeepsOn store.old store.new }
+{
     let Ready { plans, parts } = ready;
     let Parts { hub, histories } = parts;
     let HubParts {
@@ -336,7 +455,33 @@ fn run_second<
     half: Half<K, N>,
     ready: Ready,
     written: u64,
-) -> RunEnd<K> {
+) -> RunEnd<K>
+    requires work { IsWork warming.now.spec.now }
+    requires named { NamesAnew warming.now.spec.now half.store N.count H.start
+        H.terms H.opening H.cap H.told H.name H.parts H.word H.before H.begun H.failed
+        ready.parts.hub }
+    ensures ended { (unread : Input) (door : Told) (rows : Option Tables) (start : ℕ) (held : Held)
+        (taken : Option (List ℕ)) (failed : ℕ) (spec : WorkSpec) (left : Left) (opening : Tables)
+        (text : List ℕ) (dumps : List Dumped) →
+        N.count ≡ Some start →
+        next_load spec ≡ warming.now.spec.now →
+        IsHalf left opening half.store half.earlier.items half.spent →
+        IsFirst spec held half.store.told (map phase_left half.earlier.items) left opening text →
+        AreToLoad spec left half.store.told half.store.ledger.opening dumps →
+        IsReadyAnew warming.now.spec.now half.store.told half.store.ledger.opening dumps ready →
+        Prints taken (W.taken sink.old) (front_of text left) written →
+        let before = moment unread taken failed rows start in
+        let after = seen unread W.Sink K.Keeper sink.new result.keeper in
+        WarmEnded result.status spec (course_of held before after door door result) }
+    ensures started { K.is_started result.keeper }
+    ensures began { IsSome result.opening }
+    ensures some_earlier { result.earlier.items ≡ half.earlier.items }
+    ensures writes { CountsWhere W.faults (is_write_fault result.status) sink.old sink.new }
+    ensures command { result.status ≢ Status.Usage }
+    ensures no_ends { result.ends.items ≡ [] }
+    ensures no_read_fault { IsFalse (is_read_fault result.status) }
+    ensures keeper_never_falls { half.store.faults ≤ K.faults result.keeper }
+{
     let Warming {
         rt,
         alloc,
@@ -395,7 +540,14 @@ struct Dumped {
 }
 
 /// The dumps of the shards, beside this log.
-fn dumps_of(alloc: Global, shards: &[Shard], log: &[Commit]) -> Result<Vec<Dumped>, Memory> {
+fn dumps_of(alloc: Global, shards: &[Shard], log: &[Commit]) -> Result<Vec<Dumped>, Memory>
+    requires some { 1 ≤ length shards.now }
+    requires few { length shards.now ≤ 64 }
+    requires whole { AreWhole shards.now }
+    requires numbered { AreNumbered shards.now }
+    requires roomy { All (λ shard. shard.terms.room ≤ 65536) shards.now }
+    ensures { IfOk result (λ dumps. AreDumped log.now shards.now dumps.items) }
+{
     let mut dumps = Vec::with_capacity(alloc, shards.len())?;
     for shard in shards {
         dumps.push_reserved(dumped(alloc, shard, log)?);
@@ -404,7 +556,12 @@ fn dumps_of(alloc: Global, shards: &[Shard], log: &[Commit]) -> Result<Vec<Dumpe
 }
 
 /// The dump of a shard, beside this log. Its text is read at once.
-fn dumped(alloc: Global, shard: &Shard, log: &[Commit]) -> Result<Dumped, Memory> {
+fn dumped(alloc: Global, shard: &Shard, log: &[Commit]) -> Result<Dumped, Memory>
+    requires one_of { shard.now.terms.no < shard.now.terms.count }
+    requires few { shard.now.terms.count ≤ 64 }
+    requires roomy { shard.now.terms.room ≤ 65536 }
+    ensures { IfOk result (IsDumped log.now shard.now) }
+{
     let text = dump(alloc, shard, log)?;
     match read_dump(alloc, text.as_slice()) {
         Ok(dump) => Ok(Dumped {
@@ -422,14 +579,29 @@ fn tell_dumps<W: Sink>(
     sink: &mut W,
     written: &mut u64,
     dumps: &[Dumped],
-) -> Result<(), Stop> {
+) -> Result<(), Stop>
+    requires { All HasBytes dumps.now }
+    ensures all { (taken : Option (List ℕ)) (printed : List ℕ) →
+        Prints taken (W.taken sink.old) printed written.old →
+        OnOk result (Prints taken (W.taken sink.new) (printed ++ lines_in dumps.now) written.new) }
+    ensures some { (taken : Option (List ℕ)) (printed : List ℕ) →
+        Prints taken (W.taken sink.old) printed written.old →
+        IfErr result (λ stop. (front : List ℕ) ×
+        IsLinesPart (stop_status stop) (lines_in dumps.now) front ×
+        Prints taken (W.taken sink.new) (printed ++ front) written.new) }
+    ensures counts { RoseWhere W.faults (at_write result) sink.old sink.new }
+    ensures never_falls { W.faults sink.old ≤ W.faults sink.new }
+{
     let lines = lines_of(alloc, dumps)?;
     print(sink, written, lines.as_slice())?;
     Ok(())
 }
 
 /// The lines of the dumps.
-fn lines_of(alloc: Global, dumps: &[Dumped]) -> Result<Vec<u8>, Memory> {
+fn lines_of(alloc: Global, dumps: &[Dumped]) -> Result<Vec<u8>, Memory>
+    requires { All HasBytes dumps.now }
+    ensures { IfOk result (λ text. text.items ≡ lines_in dumps.now) }
+{
     let mut text = Vec::new(alloc);
     for dumped in dumps {
         push_dump(&mut text, dumped)?;
@@ -438,7 +610,10 @@ fn lines_of(alloc: Global, dumps: &[Dumped]) -> Result<Vec<u8>, Memory> {
 }
 
 /// The line of a dump.
-fn push_dump(text: &mut Vec<u8>, dumped: &Dumped) -> Result<(), Memory> {
+fn push_dump(text: &mut Vec<u8>, dumped: &Dumped) -> Result<(), Memory>
+    requires { HasBytes dumped.now }
+    ensures { OnOk result (text.new.items ≡ text.old.items ++ dump_line dumped.now.dump) }
+{
     push_field(text, b"dump ", dumped.dump.shard as u128)?;
     push_field(text, b" ", dumped.dump.rows.as_slice().len() as u128)?;
     push_field(text, b" ", dumped.bytes as u128)?;
@@ -453,7 +628,14 @@ fn load_all<K: Keeper, N: Start>(
     shards: Vec<Shard>,
     dumps: Vec<Dumped>,
     now: u64,
-) -> Result<Vec<Shard>, Memory> {
+) -> Result<Vec<Shard>, Memory>
+    requires now { now < 2 ^ 64 - 1 }
+    requires log { store.old.ledger.log ≡ [] }
+    requires can { CanLoadAll store.old.told store.old.ledger.opening dumps.items shards.items }
+    ensures loaded { IfOk result (λ loaded. AreLoaded store.new.told store.new.ledger.opening
+        dumps.items shards.items loaded.items) }
+    ensures keeps_on { KeepsOn store.old store.new }
+{
     let mut loaded = Vec::with_capacity(alloc, shards.len())?;
     let mut shards = shards;
     let mut dumps = dumps;
@@ -472,7 +654,14 @@ fn load_one<K: Keeper, N: Start>(
     shard: Shard,
     rows: Vec<DumpRow>,
     now: u64,
-) -> Result<Shard, Memory> {
+) -> Result<Shard, Memory>
+    requires now { now < 2 ^ 64 - 1 }
+    requires log { store.old.ledger.log ≡ [] }
+    requires can { CanLoad store.old.told store.old.ledger.opening rows.items shard }
+    ensures loaded { IfOk result (λ loaded. IsLoadedWith store.new.told store.new.ledger.opening
+        rows.items shard loaded) }
+    ensures keeps_on { KeepsOn store.old store.new }
+{
     let mut shard = shard;
     match load(store, &mut shard, rows, now) {
         Ok(_) => Ok(shard),
@@ -486,7 +675,22 @@ fn tell_behind<W: Sink>(
     sink: &mut W,
     written: &mut u64,
     made: Result<Made, Memory>,
-) -> Result<Finding, Stop> {
+) -> Result<Finding, Stop>
+    ensures told { (spec : WorkSpec) (opening : Tables) (log : List Commit)
+        (histories : List (List Step)) (taken : Option (List ℕ)) (front : List ℕ) →
+        IfOk made (λ one. IsSummary spec opening log histories one.finding one.text.items) →
+        Prints taken (W.taken sink.old) front written.old →
+        IfOk result (IsToldBehind spec opening log histories taken (W.taken sink.new)
+        front written.new) }
+    ensures halted { (spec : WorkSpec) (opening : Tables) (log : List Commit)
+        (histories : List (List Step)) (taken : Option (List ℕ)) (front : List ℕ) →
+        IfOk made (λ one. IsSummary spec opening log histories one.finding one.text.items) →
+        Prints taken (W.taken sink.old) front written.old →
+        IfErr result (IsHaltedBehind spec opening log histories taken (W.taken sink.new)
+        front written.new) }
+    ensures counts { RoseWhere W.faults (at_write_told result) sink.old sink.new }
+    ensures never_falls { W.faults sink.old ≤ W.faults sink.new }
+{
     let made = made?;
     print(sink, written, made.text.as_slice())?;
     Ok(made.finding)
@@ -498,13 +702,32 @@ fn ended_first<K: Keeper, N: Start>(
     status: Status,
     first: First<K, N>,
     written: u64,
-) -> RunEnd<K> {
+) -> RunEnd<K>
+    requires whole { AreWhole first.shards.items }
+    requires rooms { HasRooms first.shards.items first.histories first.earlier }
+    ensures status { result.status ≡ status }
+    ensures opening { result.opening ≡ None }
+    ensures log { result.log.items ≡ [] }
+    ensures histories { result.histories.items ≡ [] }
+    ensures no_ends { result.ends.items ≡ [] }
+    ensures written { result.written ≡ written }
+    ensures earlier { map phase_left result.earlier.items
+        ≡ left_by first.store first.shards.items ∷ [] }
+    ensures started { K.is_started result.keeper }
+    ensures rows { K.rows result.keeper ≡ first.store.told }
+    ensures faults { K.faults result.keeper ≡ first.store.faults }
+    ensures short { length first.store.ledger.log ≤ first.store.ledger.cap }
+    ensures told { ForSome first.store.told (λ told. told ≡ rows_of first.store.ledger) }
+    ensures since { FailedSince N.count first.store.ledger.failed first.store.faults }
+{
     let First {
         store,
         shards,
         histories,
         earlier,
     } = first;
+    // A store tells of its log that it is no longer than it may be.
+    let _ = store.log();
     let (keeper, opening, log) = store.into_parts();
     let earlier = with_phase(earlier, opening, log, shards, histories);
     ended_between(alloc, status, keeper, earlier, written)
@@ -516,7 +739,19 @@ fn ended_half<K: Keeper, N: Start>(
     status: Status,
     half: Half<K, N>,
     written: u64,
-) -> RunEnd<K> {
+) -> RunEnd<K>
+    ensures status { result.status ≡ status }
+    ensures opening { result.opening ≡ None }
+    ensures log { result.log.items ≡ [] }
+    ensures histories { result.histories.items ≡ [] }
+    ensures no_ends { result.ends.items ≡ [] }
+    ensures written { result.written ≡ written }
+    ensures earlier { result.earlier ≡ half.earlier }
+    ensures started { K.is_started result.keeper }
+    ensures rows { K.rows result.keeper ≡ half.store.told }
+    ensures faults { K.faults result.keeper ≡ half.store.faults }
+    ensures since { FailedSince N.count half.store.ledger.failed half.store.faults }
+{
     let Half {
         store,
         earlier,
@@ -533,7 +768,16 @@ fn ended_between<K: Keeper>(
     keeper: K,
     earlier: Vec<Phase>,
     written: u64,
-) -> RunEnd<K> {
+) -> RunEnd<K>
+    ensures status { result.status ≡ status }
+    ensures opening { result.opening ≡ None }
+    ensures log { result.log.items ≡ [] }
+    ensures histories { result.histories.items ≡ [] }
+    ensures no_ends { result.ends.items ≡ [] }
+    ensures written { result.written ≡ written }
+    ensures earlier { result.earlier ≡ earlier }
+    ensures keeper { result.keeper ≡ keeper }
+{
     let mut end = not_started(alloc, status, keeper);
     end.earlier = earlier;
     end.written = written;
