@@ -4,6 +4,7 @@ pub mod PlayLemmas
 pub mod PlayStates
 pub mod KeepLemmas
 pub mod LeftLemmas
+pub mod WarmLemmas
 pub mod SessionLemmas
 pub mod RunLemmas
 pub mod SummaryLemmas
