@@ -43,6 +43,7 @@ pub record IsTextTold (text : List ℕ) (ended : Status) (before after : Tells) 
 pub record IsRefused (course : Course) : Type 0 where
   pub same : course.after ≡ course.before
   pub nothing : IsNotStarted course.before course.after course.left course.written
+  pub none_earlier : course.earlier ≡ []
   pub unserved : IsUnserved course
 
 -- What is so at an end, by what the words were read as: a script is replayed from the source; loads and a server
