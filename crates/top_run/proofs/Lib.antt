@@ -5,6 +5,7 @@ pub mod PlayStates
 pub mod KeepLemmas
 pub mod LeftLemmas
 pub mod WarmLemmas
+pub mod WarmingLemmas
 pub mod SessionLemmas
 pub mod RunLemmas
 pub mod SummaryLemmas

@@ -1,0 +1,212 @@
+-- What is there between two loads: dumps, their lines, and rows that are loaded.
+use Rattle.std.proofs.Common.{ℕ, zero, suc, ◌≡◌, ◌≤◌, ◌<◌, ◌+◌, ◌*◌, ◌-◌, ◌^◌, List, [], ◌∷◌, ◌++◌, All, AllPairs, length, map, reverse, take, drop, get_or, refl, sym, ap, subst, ◌∙◌, inl, inr, arith, append_assoc, length-append}
+use Rattle.std.specs.Prelude.{Bool, true, false, cond, ◌==◌, ◌⊎◌, is_none, Option, Some, None, Result, Ok, Err, IfOk, IfErr, IsSome, slice_get, option_map, unwrap_or, codes, decimal}
+use Rattle.std.specs.List.{AllByRecursion, flat_map, filter_map, list_any}
+use Rattle.std.specs.Option.{ForSome}
+use Rattle.std.proofs.lemmas.Bool.{false≢true}
+use Rattle.std.proofs.lemmas.List.{append-nil, length-map, reverse-append, reverse-reverse, take_more}
+use Rattle.std.proofs.lemmas.List.Elements.{All-append, All-cons, All-get_or, All-nil, All-weaker}
+use Rattle.std.proofs.lemmas.Option.{slice_get-map, slice_get_within, get_or_from_slice_get}
+use Rattle.rows_model.specs.declared.keys.QKey.{QKey}
+use Rattle.rows_model.specs.declared.keys.Sid.{Sid}
+use Rattle.rows_model.specs.Query.{answer}
+use Rattle.rows_model.specs.Rows.{Tables}
+use Rattle.key_shard.specs.declared.steps.Step.{Step}
+use Rattle.key_shard.specs.declared.steps.Step.TheVariants.{Lease, Stored}
+use Rattle.key_shard.specs.Answers.{IsAtHome}
+use Rattle.key_shard.specs.Past.{Terms, entry, next_token, recorded, standing}
+use Rattle.key_shard.specs.Permit.{Permit}
+use Rattle.key_shard.specs.Shards.{ShardView, past_of, is_out}
+use Rattle.key_freshness.proofs.KnownLemmas.{stands-pushed, stands-within}
+use Rattle.sql_keeper.specs.declared.stores.Commit.{Commit}
+use Rattle.sql_keeper.specs.declared.stores.Phase.{Phase}
+use Rattle.sql_keeper.specs.declared.stores.Phase.TheVariants as phase
+use Rattle.sql_keeper.specs.Sessions.{closed, is_open, may_commit, phase_of}
+use Rattle.sql_keeper.specs.Stores.{Ledger, StoreView, rebased, with_session}
+use Rattle.bound_hub.specs.Facts.{IsFirst, IsQuiet}
+use Rattle.bound_hub.specs.Ties.{IsNewShard, IsNewStore}
+use Rattle.shard_dump.specs.declared.rows.DumpRow.{DumpRow}
+use Rattle.shard_dump.specs.declared.rows.Dump.{Dump}
+use Rattle.shard_dump.specs.Dumps.{dump_of, is_dumped, is_touched, row_on, rows_of}
+use Rattle.shard_dump.specs.Faults.{IsDumpFault, Gives}
+use Rattle.shard_dump.specs.Loads.{HasRows, loaded_entry, loaded_steps}
+use Rattle.shard_dump.specs.Texts.{IsDumpText, dump_text}
+use Rattle.top_run.specs.declared.warms.Dumped.{Dumped}
+use Rattle.top_run.specs.Warms.{dump_line, dump_lines}
+use Rattle.top_run.specs.Warming.{AreDumped, HasBytes, IsDumped, IsLoadedWith, KeepsOn, LoadsOnly, before_of, lines_in}
+
+-- ---- the lines of dumps
+
+three : (t a b c n : List ℕ) → ((((t ++ a) ++ b) ++ c) ++ n) ≡ t ++ ((a ++ (b ++ c)) ++ n)
+three t a b c n = simp append_assoc
+
+inner-three : (a1 d1 a2 d2 a3 d3 : List ℕ) → (a1 ++ d1) ++ ((a2 ++ d2) ++ (a3 ++ d3)) ≡ a1 ++ (d1 ++ (a2 ++ (d2 ++ (a3 ++ d3))))
+inner-three a1 d1 a2 d2 a3 d3 = simp append_assoc
+
+-- the line of a dump behind some text
+pub dump_line_is : (text : List ℕ) (dump : Dump)
+    → ((((text ++ (codes "dump " ++ decimal dump.shard)) ++ (codes " " ++ decimal (length dump.rows)))
+    ++ (codes " " ++ decimal (length (dump_text dump)))) ++ 10 ∷ [])
+    ≡ text ++ dump_line dump
+unfolding dump_line
+dump_line_is text dump =
+    three text (codes "dump " ++ decimal dump.shard) (codes " " ++ decimal (length dump.rows)) (codes " " ++ decimal (length (dump_text dump))) (10 ∷ [])
+    ∙ ap (λ (line : List ℕ). text ++ (line ++ 10 ∷ [])) (inner-three (codes "dump ") (decimal dump.shard) (codes " ")
+    (decimal (length dump.rows)) (codes " ") (decimal (length (dump_text dump))))
+
+-- the lines of dumps with one more behind them
+lines_push : (dumps : List Dumped) (one : Dumped) → lines_in (dumps ++ one ∷ []) ≡ lines_in dumps ++ dump_line one.dump
+lines_push [] one = append-nil (dump_line one.dump)
+lines_push (first ∷ dumps) one =
+    ap (λ (l : List ℕ). dump_line first.dump ++ l) (lines_push dumps one) ∙ sym (append_assoc (dump_line first.dump) (lines_in dumps) (dump_line one.dump))
+
+pub lines_more : (text lines : List ℕ) (dumps : List Dumped) (i : ℕ) (one : Dumped) → i < length dumps → one ≡ get_or dumps i one
+    → text ≡ lines_in (take i dumps) → lines ≡ text ++ dump_line one.dump → lines ≡ lines_in (take (i + 1) dumps)
+lines_more text lines dumps i one below is before now =
+    now ∙ ap (λ (l : List ℕ). l ++ dump_line one.dump) before
+    ∙ sym (lines_push (take i dumps) one)
+    ∙ ap (λ (l : List Dumped). lines_in l) (sym (take_more dumps i one below ∙ ap (λ (x : Dumped). take i dumps ++ x ∷ []) (sym is)))
+
+-- ---- the dumps of shards
+
+-- a text that was dumped is read as the dump
+pub dumped_of : (log : List Commit) (shard : ShardView) (read : Dump) (text : List ℕ) (bytes : ℕ)
+    → IsDumpText text (dump_of log shard) → Gives (Ok read) (dump_of log shard) → bytes ≡ length text
+    → IsDumped log shard (record { dump = read; bytes = bytes })
+dumped_of log shard read text bytes is gives long =
+    let written : text ≡ dump_text read = is.written ∙ ap dump_text (sym gives) in
+    record {
+      dump_is = gives;
+      right = subst (λ (d : Dump). IsDumpText (dump_text d) d) (sym gives) (subst (λ (t : List ℕ). IsDumpText t (dump_of log shard)) is.written is);
+      bytes_are = long ∙ ap (λ (t : List ℕ). length t) written;
+    }
+
+-- the dumps of the first shards, with one more behind them
+pub dumped_more : (log : List Commit) (shards : List ShardView) (dumps : List Dumped) (i : ℕ) (shard : ShardView) (one : Dumped) → i < length shards
+    → shard ≡ get_or shards i shard → length (take i shards) ≡ i → AreDumped log (take i shards) dumps → IsDumped log shard one
+    → AreDumped log (take (i + 1) shards) (dumps ++ one ∷ [])
+dumped_more log shards dumps i shard one below is many before now =
+    let next : take (i + 1) shards ≡ take i shards ++ shard ∷ [] =
+    take_more shards i shard below ∙ ap (λ (s : ShardView). take i shards ++ s ∷ []) (sym is) in
+    subst (λ (l : List ShardView). AreDumped log l (dumps ++ one ∷ [])) (sym next)
+    (record {
+      as_many = length-append dumps (one ∷ []) ∙ ap (λ n. n + 1) before.as_many ∙ sym (length-append (take i shards) (shard ∷ []));
+      each = λ place some dumped there here. by some dumped place
+          (stands-pushed (take i shards) shard some place there) (stands-pushed dumps one dumped place here);
+    })
+  where
+    by : (some : ShardView) (dumped : Dumped) (place : ℕ)
+        → (slice_get (take i shards) place ≡ Some some) ⊎ ((place ≡ length (take i shards)) × (shard ≡ some))
+        → (slice_get dumps place ≡ Some dumped) ⊎ ((place ≡ length dumps) × (one ≡ dumped)) → IsDumped log some dumped
+    by some dumped place (inl a) (inl b) = before.each place some dumped a b
+    by some dumped place (inr a) (inr b) = subst (λ (s : ShardView). IsDumped log s dumped) a.1 (subst (λ (d : Dumped). IsDumped log shard d) b.1 now)
+    by some dumped place (inl a) (inr b) =
+        let within = slice_get_within (take i shards) place some a in
+        let many = before.as_many in
+        let end = b.0 in
+        absurd (omega (arith, within, many, end))
+    by some dumped place (inr a) (inl b) =
+        let within = slice_get_within dumps place dumped b in
+        let many = before.as_many in
+        let end = a.0 in
+        absurd (omega (arith, within, many, end))
+
+-- all of them have their bytes
+pub all_bytes : (log : List Commit) (shards : List ShardView) (dumps : List Dumped) → AreDumped log shards dumps → All HasBytes dumps
+all_bytes log shards dumps are = λ place d below.
+    let dumped = get_or dumps place d in
+    let here = stands-within dumps place below in
+    let many = are.as_many in
+    let there = stands-within shards place (omega (arith, below, many)) in
+    subst HasBytes (get_or_from_slice_get dumps place here.0 d here.1) (are.each place there.0 here.0 there.1 here.1).bytes_are
+
+-- ---- a shard that was loaded
+
+-- its steps are leases and stored values
+loads_push : (steps : List Step) (one : Step) → AllByRecursion LoadsOnly steps → LoadsOnly one → AllByRecursion LoadsOnly (steps ++ one ∷ [])
+loads_push [] one all is = (is, tt)
+loads_push (first ∷ steps) one all is = (all.0, loads_push steps one all.1 is)
+
+loads_reversed : (steps : List Step) → AllByRecursion LoadsOnly steps → AllByRecursion LoadsOnly (reverse steps)
+loads_reversed [] all = tt
+loads_reversed (one ∷ steps) all =
+    subst (AllByRecursion LoadsOnly) (sym (reverse-append (one ∷ []) steps)) (loads_push (reverse steps) one (loads_reversed steps all.1) all.0)
+
+loads_of : (terms : Terms) (who : Sid) (now token : ℕ) (rows : List DumpRow) → AllByRecursion LoadsOnly (loaded_steps terms who now token rows)
+loads_of terms who now token [] = tt
+loads_of terms who now token (row ∷ rows) = (tt, tt, loads_of terms who now (token + 1) rows)
+
+pub loaded_only : (told : Option Tables) (opening : Tables) (rows : List DumpRow) (old new : ShardView) → IsLoadedWith told opening rows old new
+    → AllByRecursion LoadsOnly (past_of new)
+loaded_only told opening rows old new h =
+    subst (λ (steps : List Step). AllByRecursion LoadsOnly (reverse steps)) (sym h.steps)
+    (loads_reversed (loaded_steps new.terms h.who h.now new.terms.first rows) (loads_of new.terms h.who h.now new.terms.first rows))
+
+-- an entry of it has stamp 0, and is right where the keeper tells its rows
+entry_first : (told : Option Tables) (opening : Tables) (key : QKey) (found : Option (List ℕ × ℕ))
+    → ((value : List ℕ) (stamp : ℕ) → found ≡ Some (value, stamp) → stamp ≡ 0)
+    → (IsSome told → (value : List ℕ) (stamp : ℕ) → found ≡ Some (value, stamp) → (stamp ≡ 0) × (value ≡ answer key opening))
+    → IsFirst opening (is_none told) key found
+entry_first told opening key None zero_stamp right = tt
+entry_first None opening key (Some found) zero_stamp right = (zero_stamp found.0 found.1 refl, λ is. absurd (false≢true (sym is)))
+entry_first (Some rows) opening key (Some found) zero_stamp right = (zero_stamp found.0 found.1 refl, λ is. (right refl found.0 found.1 refl).1)
+
+zero_of : (key : QKey) (row : Option DumpRow) (value : List ℕ) (stamp : ℕ) → option_map (λ (r : DumpRow). (r.value, 0)) row ≡ Some (value, stamp) → stamp ≡ 0
+zero_of key None value stamp is = absurd cc
+zero_of key (Some row) value stamp is = cc
+
+-- a shard that was loaded can be handed to a hub that names its steps
+pub loaded_is_new : (told : Option Tables) (opening : Tables) (rows : List DumpRow) (before : ℕ → List Step) (old new : ShardView)
+    → IsLoadedWith told opening rows old new → 1 ≤ new.terms.first → past_of new ≡ before new.terms.no → IsNewShard opening before (is_none told) new
+loaded_is_new told opening rows before old new h from_one named =
+    let at : (P : List Step → Type 0) → P (past_of new) → P (before new.terms.no) = λ P here. subst P named here in
+    record {
+      from_one = from_one;
+      past_is = named;
+      quiet = at IsQuiet (λ key. (h.no_quars key, h.no_leases key));
+      entries = λ key. at (λ past. IsFirst opening (is_none told) key (entry key past))
+          (entry_first told opening key (entry key (past_of new))
+          (λ value stamp is. zero_of key _ value stamp (sym (h.has.entries key) ∙ is))
+          (λ some value stamp is. h.right some key value stamp is));
+      drawn = λ permit out. absurd (false≢true (sym (ap (λ (all : List Permit). is_out (record new { out = all }) permit) h.none_out) ∙ out));
+    }
+
+-- ---- a store that was made anew
+
+none_closed : (one : Option Phase) → may_commit (option_map closed one) ≡ false
+none_closed None = refl
+none_closed (Some phase.Reads) = refl
+none_closed (Some phase.Open) = refl
+none_closed (Some phase.Committed) = refl
+none_closed (Some phase.Ended) = refl
+
+-- no session of it is open
+pub rebased_closed : (ledger : Ledger) (who : Sid) → is_open who (rebased ledger).sessions ≡ false
+rebased_closed ledger who = by (who.number == 0)
+  where
+    by : (b : Bool) → may_commit (cond b None (slice_get (map closed ledger.sessions) (who.number - 1))) ≡ false
+    by true = refl
+    by false = ap may_commit (slice_get-map closed ledger.sessions (who.number - 1)) ∙ none_closed (slice_get ledger.sessions (who.number - 1))
+
+-- a store of which only sessions to read began is as before in all that is told at the end
+pub keeps_same : (store : StoreView) → KeepsOn store store
+keeps_same store = record {
+  opening_is = refl;
+  log_is = refl;
+  cap_is = refl;
+  failed_is = refl;
+  told_is = refl;
+  faults_are = refl;
+  none_open = λ closed who. closed who;
+}
+
+pub keeps_both : (a b c : StoreView) → KeepsOn a b → KeepsOn b c → KeepsOn a c
+keeps_both a b c h k = record {
+  opening_is = k.opening_is ∙ h.opening_is;
+  log_is = k.log_is ∙ h.log_is;
+  cap_is = k.cap_is ∙ h.cap_is;
+  failed_is = k.failed_is ∙ h.failed_is;
+  told_is = k.told_is ∙ h.told_is;
+  faults_are = k.faults_are ∙ h.faults_are;
+  none_open = λ closed who. k.none_open (h.none_open closed) who;
+}
