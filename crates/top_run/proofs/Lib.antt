@@ -6,6 +6,7 @@ pub mod KeepLemmas
 pub mod LeftLemmas
 pub mod WarmLemmas
 pub mod WarmingLemmas
+pub mod WarmEnds
 pub mod SessionLemmas
 pub mod RunLemmas
 pub mod SummaryLemmas

@@ -1,6 +1,6 @@
 -- What is there between two loads: dumps, their lines, and rows that are loaded.
-use Rattle.std.proofs.Common.{ℕ, zero, suc, ◌≡◌, ◌≤◌, ◌<◌, ◌+◌, ◌*◌, ◌-◌, ◌^◌, List, [], ◌∷◌, ◌++◌, All, AllPairs, length, map, reverse, take, drop, get_or, refl, sym, ap, subst, ◌∙◌, inl, inr, arith, append_assoc, length-append}
-use Rattle.std.specs.Prelude.{Bool, true, false, cond, ◌==◌, ◌⊎◌, is_none, Option, Some, None, Result, Ok, Err, IfOk, IfErr, IsSome, slice_get, option_map, unwrap_or, codes, decimal}
+use Rattle.std.proofs.Common.{ℕ, zero, suc, ◌≡◌, ◌≤◌, ◌<◌, ◌+◌, ◌*◌, ◌-◌, ◌^◌, List, [], ◌∷◌, ◌++◌, All, AllPairs, length, map, reverse, take, drop, get_or, refl, sym, ap, subst, ◌∙◌, inl, inr, ⊎_elim, arith, append_assoc, length-append}
+use Rattle.std.specs.Prelude.{Bool, true, false, cond, ◌==◌, ◌⊎◌, is_none, Option, Some, None, Result, Ok, Err, IfOk, IfErr, OnOk, IsSome, slice_get, option_map, unwrap_or, codes, decimal}
 use Rattle.std.specs.List.{AllByRecursion, flat_map, filter_map, list_any}
 use Rattle.std.specs.Option.{ForSome}
 use Rattle.std.proofs.lemmas.Bool.{false≢true}
@@ -29,11 +29,14 @@ use Rattle.shard_dump.specs.declared.rows.DumpRow.{DumpRow}
 use Rattle.shard_dump.specs.declared.rows.Dump.{Dump}
 use Rattle.shard_dump.specs.Dumps.{dump_of, is_dumped, is_touched, row_on, rows_of}
 use Rattle.shard_dump.specs.Faults.{IsDumpFault, Gives}
-use Rattle.shard_dump.specs.Loads.{HasRows, loaded_entry, loaded_steps}
+use Rattle.shard_dump.specs.declared.faults.LoadFault.{LoadFault}
+use Rattle.shard_dump.specs.declared.faults.LoadFault.TheVariants as load_faults
+use Rattle.shard_dump.specs.Loads.{HasLoaded, HasRows, HasSpent, IsBlank, IsEmpty, IsFirstStranger, StopsStore, loaded_entry, loaded_steps, steps_for}
+use Rattle.shard_dump.specs.Loads.{AreRight as AreRightOn}
 use Rattle.shard_dump.specs.Texts.{IsDumpText, dump_text}
 use Rattle.top_run.specs.declared.warms.Dumped.{Dumped}
 use Rattle.top_run.specs.Warms.{dump_line, dump_lines}
-use Rattle.top_run.specs.Warming.{AreDumped, HasBytes, IsDumped, IsLoadedWith, KeepsOn, LoadsOnly, before_of, lines_in}
+use Rattle.top_run.specs.Warming.{AreDumped, AreLoaded, CanLoad, HasBytes, IsDumped, IsLoadedWith, KeepsOn, LoadsOnly, lines_in}
 
 -- ---- the lines of dumps
 
@@ -210,3 +213,123 @@ keeps_both a b c h k = record {
   faults_are = k.faults_are ∙ h.faults_are;
   none_open = λ closed who. k.none_open (h.none_open closed) who;
 }
+
+phase_with_reader : (sessions : List Phase) (place : ℕ) → may_commit (slice_get sessions place) ≡ false
+    → may_commit (slice_get (sessions ++ phase.Reads ∷ []) place) ≡ false
+phase_with_reader [] zero none = refl
+phase_with_reader [] (suc place) none = refl
+phase_with_reader (first ∷ sessions) zero none = none
+phase_with_reader (first ∷ sessions) (suc place) none = phase_with_reader sessions place none
+
+reader_closed : (who : Sid) (sessions : List Phase) → is_open who sessions ≡ false → is_open who (sessions ++ phase.Reads ∷ []) ≡ false
+reader_closed who sessions none = by (who.number == 0) none
+  where
+    by : (b : Bool) → may_commit (cond b None (slice_get sessions (who.number - 1))) ≡ false
+        → may_commit (cond b None (slice_get (sessions ++ phase.Reads ∷ []) (who.number - 1))) ≡ false
+    by true none = refl
+    by false none = phase_with_reader sessions (who.number - 1) none
+
+pub keeps_session : (old new : StoreView) → new.ledger ≡ with_session false old.ledger → new.told ≡ old.told → new.faults ≡ old.faults → KeepsOn old new
+keeps_session old new is told faults = record {
+  opening_is = ap (λ (l : Ledger). l.opening) is;
+  log_is = ap (λ (l : Ledger). l.log) is;
+  cap_is = ap (λ (l : Ledger). l.cap) is;
+  failed_is = ap (λ (l : Ledger). l.failed) is;
+  told_is = told;
+  faults_are = faults;
+  none_open = λ closed who. ap (λ (l : Ledger). is_open who l.sessions) is ∙ reader_closed who old.ledger.sessions (closed who);
+}
+
+keeps_none : (old new : StoreView) → new.ledger ≡ old.ledger → new.told ≡ old.told → new.faults ≡ old.faults → KeepsOn old new
+keeps_none old new is told faults = record {
+  opening_is = ap (λ (l : Ledger). l.opening) is;
+  log_is = ap (λ (l : Ledger). l.log) is;
+  cap_is = ap (λ (l : Ledger). l.cap) is;
+  failed_is = ap (λ (l : Ledger). l.failed) is;
+  told_is = told;
+  faults_are = faults;
+  none_open = λ closed who. ap (λ (l : Ledger). is_open who l.sessions) is ∙ closed who;
+}
+
+-- so it is whatever a load answers
+pub keeps_loaded : (old new : StoreView) (answer : Result ℕ LoadFault) → OnOk answer (new.ledger ≡ with_session false old.ledger)
+    → IfErr answer (StopsStore old new) → new.told ≡ old.told → new.faults ≡ old.faults → KeepsOn old new
+keeps_loaded old new (Ok count) ok err told faults = keeps_session old new ok told faults
+keeps_loaded old new (Err (load_faults.Stranger row)) ok err told faults = keeps_none old new err told faults
+keeps_loaded old new (Err (load_faults.Spent next)) ok err told faults = keeps_session old new err told faults
+keeps_loaded old new (Err load_faults.Memory) ok err told faults =
+    ⊎_elim (λ h. keeps_session old new h told faults) (λ h. keeps_none old new h told faults) err
+
+-- ---- loading into a new shard
+
+-- it has no entry and no lease
+pub new_blank : (shard : ShardView) → shard.history ≡ [] → IsEmpty shard
+new_blank shard new key =
+    subst (λ (history : List Step). IsBlank (reverse history) key) (sym new) (record { no_quars = refl; no_lease = refl; no_entry = refl })
+
+-- its first lease has its first token
+first_token : (shard : ShardView) → shard.history ≡ [] → next_token shard.terms (past_of shard) ≡ shard.terms.first
+first_token shard new = subst (λ (history : List Step). next_token shard.terms (reverse history) ≡ shard.terms.first) (sym new) (omega arith)
+
+pub loaded_with : (told : Option Tables) (opening : Tables) (rows : List DumpRow) (old new : ShardView) (who : Sid) (now : ℕ)
+    → CanLoad told opening rows old → HasLoaded who now rows old new → (IsSome told → AreRightOn opening (past_of new)) → IsLoadedWith told opening rows old new
+loaded_with told opening rows old new who now can h right = record {
+  terms_are = h.gained.terms;
+  none_out = h.gained.out ∙ can.none_out;
+  who = who;
+  now = now;
+  steps = h.gained.history ∙ ap (λ (before : List Step). before ++ steps_for who now old rows) can.new
+      ∙ ap (λ (t : ℕ). loaded_steps old.terms who now t rows) (first_token old can.new)
+      ∙ ap (λ (terms : Terms). loaded_steps terms who now terms.first rows) (sym h.gained.terms);
+  has = h.has;
+  no_leases = h.no_leases;
+  no_quars = h.no_quars;
+  right = right;
+}
+
+-- no row of it is another shard's
+pub no_stranger : (told : Option Tables) (opening : Tables) (rows : List DumpRow) (shard : ShardView) (number : ℕ) → CanLoad told opening rows shard
+    → IsFirstStranger shard rows number → ⊥
+no_stranger told opening rows shard number can h =
+    h.away (subst (λ (row : DumpRow). IsAtHome shard.terms row.key) (get_or_from_slice_get rows number h.row h.row h.there)
+    (All-get_or (λ (row : DumpRow). IsAtHome shard.terms row.key) rows number h.row (slice_get_within rows number h.row h.there) can.home))
+
+-- and it never lacks a token
+pub no_spent : (told : Option Tables) (opening : Tables) (rows : List DumpRow) (who : Sid) (now next : ℕ) (old new : ShardView) → CanLoad told opening rows old
+    → HasSpent who now next rows old new → ⊥
+no_spent told opening rows who now next old new can h =
+    let drawn = h.drawn in
+    let last = h.last in
+    let first = first_token old can.new ∙ can.from_one in
+    let parts : length rows ≡ length h.front + length (h.row ∷ h.more) = ap (λ (l : List DumpRow). length l) h.parts ∙ length-append h.front (h.row ∷ h.more) in
+    let room = can.room in
+    let few = can.few in
+    absurd (omega (arith, drawn, last, first, parts, room, few))
+
+-- ---- loading into all
+
+-- those that were loaded, with one more behind them
+pub loaded_more : (told : Option Tables) (opening : Tables) (dumps : List Dumped) (olds news : List ShardView) (dumped : Dumped) (old new : ShardView)
+    → length dumps ≡ length olds → AreLoaded told opening dumps olds news → IsLoadedWith told opening dumped.dump.rows old new
+    → AreLoaded told opening (dumps ++ dumped ∷ []) (olds ++ old ∷ []) (news ++ new ∷ [])
+loaded_more told opening dumps olds news dumped old new many before now = record {
+  as_many = length-append news (new ∷ []) ∙ ap (λ n. n + 1) before.as_many ∙ sym (length-append olds (old ∷ []));
+  each = λ place a b d at_a at_b at_d. by place a b d (stands-pushed olds old a place at_a) (stands-pushed news new b place at_b) (stands-pushed dumps dumped d place at_d);
+}
+  where
+    by : (place : ℕ) (a b : ShardView) (d : Dumped) → (slice_get olds place ≡ Some a) ⊎ ((place ≡ length olds) × (old ≡ a))
+        → (slice_get news place ≡ Some b) ⊎ ((place ≡ length news) × (new ≡ b)) → (slice_get dumps place ≡ Some d) ⊎ ((place ≡ length dumps) × (dumped ≡ d))
+        → IsLoadedWith told opening d.dump.rows a b
+    by place a b d (inl x) (inl y) (inl z) = before.each place a b d x y z
+    by place a b d (inr x) (inr y) (inr z) =
+        subst (λ (s : ShardView). IsLoadedWith told opening d.dump.rows s b) x.1
+        (subst (λ (s : ShardView). IsLoadedWith told opening d.dump.rows old s) y.1
+        (subst (λ (e : Dumped). IsLoadedWith told opening e.dump.rows old new) z.1 now))
+    by place a b d (inl x) (inr y) z =
+        let within = slice_get_within olds place a x in let end = y.0 in let same = before.as_many in absurd (omega (arith, within, end, same))
+    by place a b d (inl x) (inl y) (inr z) =
+        let within = slice_get_within olds place a x in let end = z.0 in absurd (omega (arith, within, end, many))
+    by place a b d (inr x) (inl y) z =
+        let within = slice_get_within news place b y in let end = x.0 in let same = before.as_many in absurd (omega (arith, within, end, same))
+    by place a b d (inr x) (inr y) (inl z) =
+        let within = slice_get_within dumps place d z in let end = x.0 in absurd (omega (arith, within, end, many))
