@@ -22,7 +22,7 @@ use Rattle.sql_keeper.specs.declared.stores.Commit.{Commit}
 use Rattle.sql_keeper.specs.declared.stores.Phase.{Phase}
 use Rattle.sql_keeper.specs.declared.stores.Phase.TheVariants as phase
 use Rattle.sql_keeper.specs.Sessions.{closed, is_open, may_commit, phase_of}
-use Rattle.sql_keeper.specs.Stores.{Ledger, StoreView, rebased, with_session}
+use Rattle.sql_keeper.specs.Stores.{Ledger, StoreView, rebased, rows_of, with_session}
 use Rattle.bound_hub.specs.Facts.{IsFirst, IsQuiet}
 use Rattle.bound_hub.specs.Ties.{IsNewShard, IsNewStore}
 use Rattle.shard_dump.specs.declared.rows.DumpRow.{DumpRow}
@@ -190,6 +190,11 @@ rebased_closed ledger who = by (who.number == 0)
     by : (b : Bool) → may_commit (cond b None (slice_get (map closed ledger.sessions) (who.number - 1))) ≡ false
     by true = refl
     by false = ap may_commit (slice_get-map closed ledger.sessions (who.number - 1)) ∙ none_closed (slice_get ledger.sessions (who.number - 1))
+
+-- where the keeper tells its rows, they are its opening rows
+pub told_anew : (old new : StoreView) → new.ledger ≡ rebased old.ledger → new.told ≡ old.told → ForSome old.told (λ told. told ≡ rows_of old.ledger)
+    → ForSome new.told (λ told. told ≡ new.ledger.opening)
+told_anew old new is told h = λ rows there. h rows (sym told ∙ there) ∙ sym (ap (λ (l : Ledger). l.opening) is)
 
 -- a store of which only sessions to read began is as before in all that is told at the end
 pub keeps_same : (store : StoreView) → KeepsOn store store

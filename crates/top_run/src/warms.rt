@@ -282,6 +282,8 @@ fn made_anew<K: Keeper, N: Start>(first: First<K, N>) -> Result<Half<K, N>, Firs
         histories,
         earlier,
     } = first;
+    // A store tells of its log that the keeper's rows are those after it.
+    let _ = store.log();
     match store.rebase() {
         Ok((store, opening, log)) => {
             let spent = first_spent(shards.as_slice());
