@@ -1,6 +1,6 @@
 -- What is there between two loads: dumps, their lines, and rows that are loaded.
 use Rattle.std.proofs.Common.{ℕ, zero, suc, ◌≡◌, ◌≤◌, ◌<◌, ◌+◌, ◌*◌, ◌-◌, ◌^◌, List, [], ◌∷◌, ◌++◌, All, AllPairs, length, map, reverse, take, drop, get_or, refl, sym, ap, subst, ◌∙◌, inl, inr, ⊎_elim, arith, append_assoc, length-append}
-use Rattle.std.specs.Prelude.{Bool, true, false, cond, ◌==◌, ◌⊎◌, is_none, Option, Some, None, Result, Ok, Err, IfOk, IfErr, OnOk, IsSome, slice_get, option_map, unwrap_or, codes, decimal}
+use Rattle.std.specs.Prelude.{Bool, true, false, cond, ◌==◌, ◌||◌, ◌⊎◌, is_none, is_some, Option, Some, None, Result, Ok, Err, IfOk, IfErr, OnOk, IsSome, slice_get, option_map, unwrap_or, codes, decimal}
 use Rattle.std.specs.List.{AllByRecursion, flat_map, filter_map, list_any}
 use Rattle.std.specs.Option.{ForSome}
 use Rattle.std.proofs.lemmas.Bool.{false≢true}
@@ -35,8 +35,18 @@ use Rattle.shard_dump.specs.Loads.{HasLoaded, HasRows, HasSpent, IsBlank, IsEmpt
 use Rattle.shard_dump.specs.Loads.{AreRight as AreRightOn}
 use Rattle.shard_dump.specs.Texts.{IsDumpText, dump_text}
 use Rattle.top_run.specs.declared.warms.Dumped.{Dumped}
-use Rattle.top_run.specs.Warms.{dump_line, dump_lines}
-use Rattle.top_run.specs.Warming.{AreDumped, AreLoaded, CanLoad, HasBytes, IsDumped, IsLoadedWith, KeepsOn, LoadsOnly, lines_in}
+use Rattle.key_shard.specs.Answers.{IsLegalPast, Legal}
+use Rattle.key_shard.specs.Past.{order}
+use Rattle.sql_keeper.specs.Log.{rows_after}
+use Rattle.shard_lock.specs.Names.{IsNamed}
+use Rattle.run_inputs.specs.declared.loads.WorkSpec.{WorkSpec}
+use Rattle.shard_dump.proofs.DumpLemmas.{rows_by_entries, rows_in_room}
+use Rattle.shard_dump.proofs.ShardLemmas.{has, order_has, order_home}
+use Rattle.rows_model.specs.Key.{same_key}
+use Rattle.rows_model.proofs.SameKey.{same_key-eq}
+use Rattle.top_run.specs.Works.{hub_terms, work_shape}
+use Rattle.top_run.specs.Warms.{dump_line}
+use Rattle.top_run.specs.Warming.{AreDumped, AreLoaded, AreToLoad, CanLoad, HasBytes, HasRunLoad, IsRightBehind, IsToLoad, left_by, IsDumped, IsLoadedWith, KeepsOn, LoadsOnly, lines_in}
 
 -- ---- the lines of dumps
 
@@ -338,3 +348,77 @@ loaded_more told opening dumps olds news dumped old new many before now = record
         let within = slice_get_within news place b y in let end = x.0 in let same = before.as_many in absurd (omega (arith, within, end, same))
     by place a b d (inr x) (inr y) (inl z) =
         let within = slice_get_within dumps place d z in let end = x.0 in absurd (omega (arith, within, end, many))
+
+-- ---- the dumps of the first load can be loaded
+
+home_among : (terms : Terms) (key : QKey) (ks : List QKey) → AllByRecursion (IsAtHome terms) ks → has key ks ≡ true → IsAtHome terms key
+home_among terms key [] all there = absurd (false≢true there)
+home_among terms key (k ∷ ks) all there = by (same_key key k) refl there
+  where
+    by : (b : Bool) → same_key key k ≡ b → (b || has key ks) ≡ true → IsAtHome terms key
+    by true is there = subst (IsAtHome terms) (sym (same_key-eq key k is)) all.0
+    by false is there = home_among terms key ks all.1 there
+
+-- the key of an entry is the shard's
+entry_home : (terms : Terms) (past : List Step) (key : QKey) → IsLegalPast terms past → (value : List ℕ) (stamp : ℕ) → entry key past ≡ Some (value, stamp)
+    → IsAtHome terms key
+entry_home terms past key legal value stamp found =
+    home_among terms key (order past) (order_home terms past legal) (order_has past key (ap (λ (o : Option (List ℕ × ℕ)). is_some o) found))
+
+-- the rows of a shard's dump, where its entries that no later commit touches are right
+to_load : (terms : Terms) (log : List Commit) (shard : ShardView) (dumped : Dumped) (before told : Option Tables) (first opening : Tables)
+    → shard.terms ≡ terms → 1 ≤ terms.room → Legal shard.terms shard.history → IsDumped log shard dumped → (IsSome told → IsSome before)
+    → opening ≡ rows_after first log → (IsSome before → IsRightBehind first log shard)
+    → IsToLoad terms log shard.history told opening dumped.dump.rows
+to_load terms log shard dumped before told first opening same some legal is tells anew right =
+    let dump = dump_of log shard in
+    let rows : dumped.dump.rows ≡ rows_of log (past_of shard) = ap (λ (d : Dump). d.rows) is.dump_is in
+    let here = subst (λ (d : Dump). IsDumpText (dump_text d) d) is.dump_is is.right in
+    let at : (P : List DumpRow → Type 0) → P (rows_of log (past_of shard)) → P dumped.dump.rows = λ P h. subst P (sym rows) h in
+    let home : All (λ (row : DumpRow). IsAtHome terms row.key) (rows_of log (past_of shard)) =
+    λ i d below. subst (λ (t : Terms). IsAtHome t (get_or (rows_of log (past_of shard)) i d).key) same (here.rows.each i d below).at_home in
+    record {
+      rows_are = rows;
+      home = at (All (λ (row : DumpRow). IsAtHome terms row.key)) home;
+      differ = at (AllPairs (λ (row later : DumpRow). (row.key ≡ later.key) → ⊥)) here.rows.differ;
+      room = at (λ l. length l ≤ terms.room)
+          (subst (λ (t : Terms). length (rows_of log (past_of shard)) ≤ t.room) same
+          (rows_in_room log shard legal (subst (λ (t : Terms). 1 ≤ t.room) (sym same) some)));
+      answers = λ told. at (All (λ (row : DumpRow). row.value ≡ answer row.key opening))
+          (rows_by_entries log (past_of shard) (λ (row : DumpRow). row.value ≡ answer row.key opening)
+          (λ key value stamp found none. entry_right key value stamp found none (tells told)) (reverse (order (past_of shard))));
+    }
+  where
+    entry_right : (key : QKey) (value : List ℕ) (stamp : ℕ) → entry key (past_of shard) ≡ Some (value, stamp) → is_touched log key stamp ≡ false
+        → IsSome before → value ≡ answer key opening
+    entry_right key value stamp found none told =
+        right told key value stamp (entry_home shard.terms (past_of shard) key legal value stamp found) found none ∙ ap (answer key) (sym anew)
+
+pub to_load_all : (spec : WorkSpec) (store : StoreView) (shards : List ShardView) (dumps : List Dumped) (told : Option Tables) (opening : Tables)
+    → HasRunLoad spec store shards → AreDumped store.ledger.log shards dumps → (IsSome told → IsSome store.told)
+    → opening ≡ rows_after store.ledger.opening store.ledger.log → AreToLoad spec (left_by store shards) told opening dumps
+to_load_all spec store shards dumps told opening run are tells anew = record {
+  as_many = are.as_many ∙ run.as_many;
+  each = λ place history dumped at here.
+      let there = unmapped (λ (s : ShardView). s.history) (slice_get shards place) history
+      (sym (slice_get-map (λ (s : ShardView). s.history) shards place) ∙ at) in
+      let shard = there.0 in
+      let terms = hub_terms (work_shape spec) None place in
+      let same : shard.terms ≡ terms =
+      at_place (IsNamed (hub_terms (work_shape spec) None)) shards place shard run.all.named there.1
+      ∙ ap (hub_terms (work_shape spec) None) (run.all.placed place shard there.1) in
+      subst (λ (steps : List Step). IsToLoad terms store.ledger.log steps told opening dumped.dump.rows) there.2
+      (to_load terms store.ledger.log shard dumped store.told told store.ledger.opening opening same (omega arith)
+      (at_place (λ (s : ShardView). Legal s.terms s.history) shards place shard run.legal there.1)
+      (are.each place shard dumped there.1 here) tells anew
+      (λ some. at_place (IsRightBehind store.ledger.opening store.ledger.log) shards place shard (run.right some) there.1));
+}
+  where
+    at_place : (P : ShardView → Type 0) (shards : List ShardView) (place : ℕ) (shard : ShardView) → All P shards → slice_get shards place ≡ Some shard → P shard
+    at_place P shards place shard all is =
+        subst P (get_or_from_slice_get shards place shard shard is) (All-get_or P shards place shard (slice_get_within shards place shard is) all)
+
+    unmapped : (f : ShardView → List Step) (o : Option ShardView) (steps : List Step) → option_map f o ≡ Some steps
+        → (shard : ShardView) × (o ≡ Some shard) × (f shard ≡ steps)
+    unmapped f None steps is = absurd cc
+    unmapped f (Some shard) steps is = (shard, refl, cc)
