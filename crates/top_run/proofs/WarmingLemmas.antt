@@ -43,7 +43,7 @@ use Rattle.run_inputs.specs.declared.loads.WorkSpec.{WorkSpec}
 use Rattle.shard_dump.proofs.DumpLemmas.{rows_by_entries, rows_in_room}
 use Rattle.shard_dump.proofs.ShardLemmas.{has, order_has, order_home}
 use Rattle.rows_model.specs.Key.{same_key}
-use Rattle.rows_model.proofs.SameKey.{same_key-eq}
+use Rattle.rows_model.proofs.SameKey.{same_key-true}
 use Rattle.top_run.specs.Works.{hub_terms, work_shape}
 use Rattle.top_run.specs.Warms.{dump_line}
 use Rattle.top_run.specs.Warming.{AreDumped, AreLoaded, AreToLoad, CanLoad, HasBytes, HasRunLoad, IsRightBehind, IsToLoad, left_by, IsDumped, IsLoadedWith, KeepsOn, LoadsOnly, lines_in}
@@ -356,7 +356,7 @@ home_among terms key [] all there = absurd (false≢true there)
 home_among terms key (k ∷ ks) all there = by (same_key key k) refl there
   where
     by : (b : Bool) → same_key key k ≡ b → (b || has key ks) ≡ true → IsAtHome terms key
-    by true is there = subst (IsAtHome terms) (sym (same_key-eq key k is)) all.0
+    by true is there = subst (IsAtHome terms) (sym (same_key-true key k is)) all.0
     by false is there = home_among terms key ks all.1 there
 
 -- the key of an entry is the shard's

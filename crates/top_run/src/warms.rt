@@ -371,10 +371,10 @@ fn load_second<
     let spec = next_load(warming.spec);
     let now = warming.clock.now().min(u64::MAX - 1);
     let mut half = half;
-    let Ok(ready) = ready_for(alloc, &spec) else {
+    let Ok(unloaded) = ready_for(alloc, &spec) else {
         return ended_half(alloc, Status::Memory, half, written);
     };
-    match loaded(alloc, &spec, &mut half.store, ready, dumps, now) {
+    match loaded(alloc, &spec, &mut half.store, unloaded, dumps, now) {
         Ok(ready) => {
             let second = Warming {
                 rt: warming.rt,
