@@ -1,5 +1,5 @@
 -- What is there between two loads: dumps, their lines, and rows that are loaded.
-use Rattle.std.proofs.Common.{ℕ, zero, suc, ◌≡◌, ◌≤◌, ◌<◌, ◌+◌, ◌*◌, ◌-◌, ◌^◌, List, [], ◌∷◌, ◌++◌, All, AllPairs, length, map, reverse, take, drop, get_or, refl, sym, ap, subst, ◌∙◌, inl, inr, ⊎_elim, arith, append_assoc, length-append}
+use Rattle.std.proofs.Common.{ℕ, zero, suc, ◌≡◌, ◌≢◌, ◌≤◌, ◌<◌, ◌+◌, ◌*◌, ◌-◌, ◌^◌, List, [], ◌∷◌, ◌++◌, All, AllPairs, length, map, reverse, take, drop, get_or, refl, sym, ap, subst, ◌∙◌, inl, inr, ⊎_elim, arith, append_assoc, length-append}
 use Rattle.std.specs.Prelude.{Bool, true, false, cond, ◌==◌, ◌||◌, ◌⊎◌, is_none, is_some, Option, Some, None, Result, Ok, Err, IfOk, IfErr, OnOk, IsSome, slice_get, option_map, unwrap_or, codes, decimal}
 use Rattle.std.specs.List.{AllByRecursion, flat_map, filter_map, list_any}
 use Rattle.std.specs.Option.{ForSome}
@@ -380,7 +380,7 @@ to_load terms log shard dumped before told first opening same some legal is tell
     record {
       rows_are = rows;
       home = at (All (λ (row : DumpRow). IsAtHome terms row.key)) home;
-      differ = at (AllPairs (λ (row later : DumpRow). (row.key ≡ later.key) → ⊥)) here.rows.differ;
+      differ = at (AllPairs (λ (row later : DumpRow). row.key ≢ later.key)) here.rows.differ;
       room = at (λ l. length l ≤ terms.room)
           (subst (λ (t : Terms). length (rows_of log (past_of shard)) ≤ t.room) same
           (rows_in_room log shard legal (subst (λ (t : Terms). 1 ≤ t.room) (sym same) some)));

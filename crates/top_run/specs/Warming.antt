@@ -1,5 +1,5 @@
 -- What is there between two loads of which the second takes over what is still right.
-use Rattle.std.specs.Prelude.{ℕ, ◌≡◌, ◌<◌, ◌≤◌, ◌-◌, ◌^◌, false, List, [], ◌∷◌, ◌++◌, length, drop, map, reverse, All, AllPairs}
+use Rattle.std.specs.Prelude.{ℕ, ◌≡◌, ◌≢◌, ◌<◌, ◌≤◌, ◌-◌, ◌^◌, false, List, [], ◌∷◌, ◌++◌, length, drop, map, reverse, All, AllPairs}
 use Rattle.std.specs.Prelude.{Option, Some, None, IsSome, slice_get, unwrap_or, vec_capacity}
 use Rattle.std.specs.Prelude.{Vec}
 use Rattle.std.specs.Global.{Global}
@@ -100,7 +100,7 @@ pub record IsDumped (log : List Commit) (shard : ShardView) (dumped : Dumped) : 
 
 -- The lines of these dumps.
 abbrev pub lines_in : List Dumped → List ℕ
-lines_in dumps = dump_lines (map (λ dumped. dumped.dump) dumps)
+lines_in dumps = dump_lines (map (λ (dumped : Dumped). dumped.dump) dumps)
 
 -- These are the dumps of the shards, each in its place.
 pub record AreDumped (log : List Commit) (shards : List ShardView) (dumps : List Dumped) : Type 0 where
@@ -118,7 +118,7 @@ pub record CanLoad (told : Option Tables) (opening : Tables) (rows : List DumpRo
   pub from_one : shard.terms.first ≡ 1
   pub lively : 1 ≤ shard.terms.life
   pub home : All (λ row. IsAtHome shard.terms row.key) rows
-  pub differ : AllPairs (λ row later. (row.key ≡ later.key) → ⊥) rows
+  pub differ : AllPairs (λ row later. row.key ≢ later.key) rows
   pub room : length rows ≤ shard.terms.room
   pub few : shard.terms.room < 2 ^ 32
   pub answers : IsSome told → All (λ row. row.value ≡ answer row.key opening) rows
@@ -231,7 +231,7 @@ pub record IsHalf (left : Left) (opening : Tables) (store : StoreView) (earlier 
 pub record IsToLoad (terms : Terms) (log : List Commit) (history : List Step) (told : Option Tables) (opening : Tables) (rows : List DumpRow) : Type 0 where
   pub rows_are : rows ≡ rows_in log history
   pub home : All (λ row. IsAtHome terms row.key) rows
-  pub differ : AllPairs (λ row later. (row.key ≡ later.key) → ⊥) rows
+  pub differ : AllPairs (λ row later. row.key ≢ later.key) rows
   pub room : length rows ≤ terms.room
   pub answers : IsSome told → All (λ row. row.value ≡ answer row.key opening) rows
 

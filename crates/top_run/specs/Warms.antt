@@ -102,7 +102,7 @@ abbrev pub HitsHaveValues : List Commit → List (List Step) → List Commit →
 HitsHaveValues log firsts later seconds =
     (place : ℕ) (first second : List Step) → slice_get firsts place ≡ Some first → slice_get seconds place ≡ Some second
     → (at : ℕ) (row : DumpRow) → slice_get (rows_in log first) at ≡ Some row
-    → list_any (λ (commit : Commit). touches commit.txn row.key) later ≡ true ⊎ AllByRecursion (HasValueOf row) second
+    → (list_any (λ (commit : Commit). touches commit.txn row.key) later ≡ true) ⊎ AllByRecursion (HasValueOf row) second
 
 -- ---- what the loads leave
 
