@@ -47,7 +47,7 @@ use Rattle.top_run.specs.Ready.{IsNewWord}
 use Rattle.top_run.specs.Runs.{Left, Prints}
 use Rattle.top_run.specs.Serves.{phase_left}
 use Rattle.top_run.specs.Works.{work_shape, hub_terms, first_spent, AreUnspent, HaveSessions, IsSummary}
-use Rattle.top_run.specs.Warms.{dump_lines, rows_in}
+use Rattle.top_run.specs.Warms.{dump_lines, first_of, rows_in}
 
 -- ---- a hub whose shards were loaded
 
@@ -217,15 +217,24 @@ pub record HasRooms (shards : List ShardView) (histories : Vec (Vec Step Global)
   pub none_earlier : earlier.items ≡ []
   pub for_one : 1 ≤ vec_capacity earlier
 
--- A store was made anew over the rows after the log of what the first load left. That is kept, and so is its least shard that is spent.
-pub record IsHalf (left : Left) (opening : Tables) (store : StoreView) (earlier : List Phase) (spent : Option ℕ) : Type 0 where
-  pub only : map phase_left earlier ≡ left ∷ []
-  pub opening_is : store.ledger.opening ≡ rows_after opening left.log
+-- What the first load left, of these phases.
+abbrev pub left_in : List Phase → Left
+left_in phases = first_of (map phase_left phases)
+
+-- A store was made anew: no commit is in its log, and no session is open. Where its keeper tells its rows, they are its opening rows.
+pub record IsAnew (store : StoreView) : Type 0 where
   pub no_log : store.ledger.log ≡ []
   pub cap_is : store.ledger.cap ≡ log_cap
   pub none_open : (who : Sid) → is_open who store.ledger.sessions ≡ false
   pub told_is : ForSome store.told (λ told. told ≡ store.ledger.opening)
-  pub spent_is : spent ≡ first_spent left.histories
+
+-- A store was made anew over the rows after the log of what the first load left, which began with these rows. That is kept, and so is its
+-- least shard that is spent.
+pub record IsHalf (opening : Tables) (store : StoreView) (earlier : List Phase) (spent : Option ℕ) : Type 0 where
+  pub only : map phase_left earlier ≡ left_in earlier ∷ []
+  pub anew : IsAnew store
+  pub opening_is : store.ledger.opening ≡ rows_after opening (left_in earlier).log
+  pub spent_is : spent ≡ first_spent (left_in earlier).histories
 
 -- The rows of a dump are those that are dumped of a shard with this history, which has these terms. They can be loaded into a new one.
 pub record IsToLoad (terms : Terms) (log : List Commit) (history : List Step) (told : Option Tables) (opening : Tables) (rows : List DumpRow) : Type 0 where
@@ -241,12 +250,18 @@ pub record AreToLoad (spec : WorkSpec) (left : Left) (told : Option Tables) (ope
   pub each : (place : ℕ) (history : List Step) (dumped : Dumped) → slice_get left.histories place ≡ Some history → slice_get dumps place ≡ Some dumped
       → IsToLoad (hub_terms (work_shape spec) None place) left.log history told opening dumped.dump.rows
 
--- There are the plans of the load for each of its workers, and a hub's shards, which loaded these dumps beside this store, with room for
+-- The rows that are dumped of each shard of a load that left this.
+abbrev pub rows_left : Left → List (List DumpRow)
+rows_left left = map (rows_in left.log) left.histories
+
+-- There are the plans of the load for each of its workers, and a hub's shards, which loaded these rows beside this store, with room for
 -- their histories.
-pub record IsReadyAnew (spec : WorkSpec) (told : Option Tables) (opening : Tables) (dumps : List Dumped) (ready : Ready) : Type 0 where
+pub record IsReadyAnew (spec : WorkSpec) (told : Option Tables) (opening : Tables) (rows : List (List DumpRow)) (ready : Ready) : Type 0 where
   pub plans : All (λ list. All IsPlan list.items) ready.plans.items
   pub are_load : map (λ list. list.items) ready.plans.items ≡ load spec
   pub workers : length ready.plans.items ≡ spec.workers
+  pub dumps : List Dumped
+  pub rows_are : map (λ (dumped : Dumped). dumped.dump.rows) dumps ≡ rows
   pub olds : List ShardView
   pub all : AreAll (hub_terms (work_shape spec) None) olds
   pub as_many : length olds ≡ spec.shards

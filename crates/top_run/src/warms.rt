@@ -27,7 +27,7 @@ ghost use Rattle.top_run.specs.Serves.{course_of, phase_left};
 ghost use Rattle.top_run.specs.Works.{work_shape, hub_terms, first_spent, at_write_told, IsNameOf, IsSummary};
 ghost use Rattle.top_run.specs.Ready.{IsReady, MakeHub, NamesParts};
 ghost use Rattle.top_run.specs.Warms.{next_load, dump_line, front_of, IsFirst, IsLinesPart, WarmEnded};
-ghost use Rattle.top_run.specs.Warming.{AreDumped, AreLoaded, AreToLoad, CanLoad, CanLoadAll, HasBytes, HasRooms, HasRunLoad, IsDumped, IsHalf, IsHaltedBehind, IsLoadedWith, IsReadyAnew, IsToldBehind, KeepsOn, NamesAnew, left_by, lines_in, stop_status};
+ghost use Rattle.top_run.specs.Warming.{AreDumped, AreLoaded, AreToLoad, CanLoad, CanLoadAll, HasBytes, HasRooms, HasRunLoad, IsAnew, IsDumped, IsHalf, IsHaltedBehind, IsLoadedWith, IsReadyAnew, IsToldBehind, KeepsOn, NamesAnew, left_by, left_in, lines_in, rows_left, stop_status};
 
 use crate::endings::{histories_of, not_started, start_status};
 use crate::hubs::{CAP, HubParts, Parts, ended_hub};
@@ -270,8 +270,10 @@ fn made_anew<K: Keeper, N: Start>(first: First<K, N>) -> Result<Half<K, N>, Firs
     requires whole { AreWhole first.shards.items }
     requires rooms { HasRooms first.shards.items first.histories first.earlier }
     requires cap { first.store.ledger.cap ≡ log_cap }
-    ensures half { IfOk result (λ half. IsHalf (left_by first.store first.shards.items)
-        first.store.ledger.opening half.store half.earlier.items half.spent) }
+    ensures half { IfOk result (λ half. IsHalf first.store.ledger.opening
+        half.store half.earlier.items half.spent) }
+    ensures left { IfOk result (λ half.
+        left_in half.earlier.items ≡ left_by first.store first.shards.items) }
     ensures keeper { IfOk result (λ half.
         (half.store.told ≡ first.store.told) × (half.store.faults ≡ first.store.faults)) }
     ensures err { IfErr result (λ back. back ≡ first) }
@@ -346,15 +348,16 @@ fn load_second<
     written: u64,
 ) -> RunEnd<K>
     requires work { IsWork warming.now.spec.now }
+    requires anew { IsAnew half.store }
+    requires to_load { AreToLoad warming.now.spec.now (left_in half.earlier.items)
+        half.store.told half.store.ledger.opening dumps.items }
     ensures ended { (unread : Input) (door : Told) (rows : Option Tables) (start : ℕ) (held : Held)
-        (taken : Option (List ℕ)) (failed : ℕ) (left : Left) (opening : Tables) (text : List ℕ) →
+        (taken : Option (List ℕ)) (failed : ℕ) (opening : Tables) (text : List ℕ) →
         N.count ≡ Some start →
-        IsHalf left opening half.store half.earlier.items half.spent →
+        IsHalf opening half.store half.earlier.items half.spent →
         IsFirst warming.now.spec.now held half.store.told
-        (map phase_left half.earlier.items) left opening text →
-        AreToLoad warming.now.spec.now left half.store.told half.store.ledger.opening
-        dumps.items →
-        Prints taken (W.taken sink.old) (front_of text left) written →
+        (map phase_left half.earlier.items) (left_in half.earlier.items) opening text →
+        Prints taken (W.taken sink.old) (front_of text (left_in half.earlier.items)) written →
         let before = moment unread taken failed rows start in
         let after = seen unread W.Sink K.Keeper sink.new result.keeper in
         WarmEnded result.status warming.now.spec.now
@@ -420,7 +423,7 @@ fn loaded<K: Keeper, N: Start>(
     requires can { CanLoadAll store.old.told store.old.ledger.opening dumps.items
         ready.parts.hub.shards.items }
     ensures ready { IfOk result (IsReadyAnew spec.now store.new.told store.new.ledger.opening
-        dumps.items) }
+        (map (λ dumped. dumped.dump.rows) dumps.items)) }
     ensures keeps_on { KeepsOn store.old store.new }
 {
     let Ready { plans, parts } = ready;
@@ -459,19 +462,21 @@ fn run_second<
     written: u64,
 ) -> RunEnd<K>
     requires work { IsWork warming.now.spec.now }
+    requires anew { IsAnew half.store }
+    requires ready { IsReadyAnew warming.now.spec.now half.store.told half.store.ledger.opening
+        (rows_left (left_in half.earlier.items)) ready }
     requires named { NamesAnew warming.now.spec.now half.store N.count H.start
         H.terms H.opening H.cap H.told H.name H.parts H.word H.before H.begun H.failed
         ready.parts.hub }
     ensures ended { (unread : Input) (door : Told) (rows : Option Tables) (start : ℕ) (held : Held)
-        (taken : Option (List ℕ)) (failed : ℕ) (spec : WorkSpec) (left : Left) (opening : Tables)
-        (text : List ℕ) (dumps : List Dumped) →
+        (taken : Option (List ℕ)) (failed : ℕ) (spec : WorkSpec) (opening : Tables)
+        (text : List ℕ) →
         N.count ≡ Some start →
         next_load spec ≡ warming.now.spec.now →
-        IsHalf left opening half.store half.earlier.items half.spent →
-        IsFirst spec held half.store.told (map phase_left half.earlier.items) left opening text →
-        AreToLoad spec left half.store.told half.store.ledger.opening dumps →
-        IsReadyAnew warming.now.spec.now half.store.told half.store.ledger.opening dumps ready →
-        Prints taken (W.taken sink.old) (front_of text left) written →
+        IsHalf opening half.store half.earlier.items half.spent →
+        IsFirst spec held half.store.told
+        (map phase_left half.earlier.items) (left_in half.earlier.items) opening text →
+        Prints taken (W.taken sink.old) (front_of text (left_in half.earlier.items)) written →
         let before = moment unread taken failed rows start in
         let after = seen unread W.Sink K.Keeper sink.new result.keeper in
         WarmEnded result.status spec (course_of held before after door door result) }
