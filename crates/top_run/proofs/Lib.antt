@@ -7,6 +7,7 @@ pub mod LeftLemmas
 pub mod WarmLemmas
 pub mod WarmingLemmas
 pub mod WarmEnds
+pub mod AnewLemmas
 pub mod SessionLemmas
 pub mod RunLemmas
 pub mod SummaryLemmas
