@@ -227,6 +227,7 @@ fn dump_first<
 ) -> RunEnd<K>
     requires work { IsWork warming.now.spec.now }
     requires run { HasRunLoad warming.now.spec.now first.store first.shards.items }
+    requires never_fell { ForSome N.count (λ start. start ≤ first.store.faults) }
     requires rooms { HasRooms first.shards.items first.histories first.earlier }
     ensures ended { (unread : Input) (door : Told) (rows : Option Tables) (start : ℕ) (held : Held)
         (taken : Option (List ℕ)) (failed : ℕ) (found : Finding) (text : List ℕ) →
@@ -349,6 +350,7 @@ fn load_second<
 ) -> RunEnd<K>
     requires work { IsWork warming.now.spec.now }
     requires anew { IsAnew half.store }
+    requires never_fell { ForSome N.count (λ start. start ≤ half.store.faults) }
     requires to_load { AreToLoad warming.now.spec.now (left_in half.earlier.items)
         half.store.told half.store.ledger.opening dumps.items }
     ensures ended { (unread : Input) (door : Told) (rows : Option Tables) (start : ℕ) (held : Held)
@@ -463,6 +465,7 @@ fn run_second<
 ) -> RunEnd<K>
     requires work { IsWork warming.now.spec.now }
     requires anew { IsAnew half.store }
+    requires never_fell { ForSome N.count (λ start. start ≤ half.store.faults) }
     requires ready { IsReadyAnew warming.now.spec.now half.store.told half.store.ledger.opening
         (rows_left (left_in half.earlier.items)) ready }
     requires named { NamesAnew warming.now.spec.now half.store N.count H.start
