@@ -20,7 +20,6 @@ ghost use Rattle.run_inputs.specs.Loads.{IsWork};
 ghost use Rattle.door_workers.specs.Told.{Told};
 ghost use Rattle.top_run.specs.declared.warms.Dumped.{Dumped};
 ghost use Rattle.top_run.specs.declared.runs.Status.{Status};
-ghost use Rattle.top_run.specs.declared.plays.Stop.TheVariants as stop;
 ghost use Rattle.top_run.specs.Runs.{Held, Input, Left, Prints, moment, seen, held_at, left_at, IsOpened, RoseWhere, CountsWhere, is_read_fault, is_write_fault};
 ghost use Rattle.top_run.specs.Plays.{at_write};
 ghost use Rattle.top_run.specs.Serves.{course_of, phase_left};
@@ -560,13 +559,13 @@ fn dumps_of(alloc: Global, shards: &[Shard], log: &[Commit]) -> Result<Vec<Dumpe
 {
     let mut dumps = Vec::with_capacity(alloc, shards.len())?;
     for shard in shards {
-        dumps.push_reserved(dumped(alloc, shard, log)?);
+        dumps.push_reserved(dump_one(alloc, shard, log)?);
     }
     Ok(dumps)
 }
 
 /// The dump of a shard, beside this log. Its text is read at once.
-fn dumped(alloc: Global, shard: &Shard, log: &[Commit]) -> Result<Dumped, Memory>
+fn dump_one(alloc: Global, shard: &Shard, log: &[Commit]) -> Result<Dumped, Memory>
     requires one_of { shard.now.terms.no < shard.now.terms.count }
     requires few { shard.now.terms.count ≤ 64 }
     requires roomy { shard.now.terms.room ≤ 65536 }
