@@ -1,5 +1,5 @@
 -- The three ends of a run of two loads.
-use Rattle.std.proofs.Common.{ℕ, ◌≡◌, ◌≤◌, ◌<◌, ◌-◌, ◌^◌, ◌≢◌, List, [], ◌∷◌, ◌++◌, length, All, refl, sym, ap, subst, ◌∙◌, inl, inr, arith, append_assoc, append-nil}
+use Rattle.std.proofs.Common.{ℕ, ◌≡◌, ◌≤◌, ◌<◌, ◌+◌, ◌-◌, ◌^◌, ◌≢◌, List, [], ◌∷◌, ◌++◌, length, All, refl, sym, ap, subst, ◌∙◌, inl, inr, arith, append_assoc, append-nil}
 use Rattle.std.specs.Prelude.{Bool, true, false, ◌⊎◌, nat_lt, Option, Some, None, Result, Ok, Err, IfOk, IfErr, IsSome, slice_get}
 use Rattle.std.specs.Option.{ForSome}
 use Rattle.iq_outside.specs.Outside.{Rose}
@@ -22,8 +22,9 @@ use Rattle.top_run.specs.declared.runs.Status.{Status}
 use Rattle.top_run.specs.declared.runs.Status.TheVariants as status
 use Rattle.top_run.specs.Runs.{Held, Tells, Left, Prints, IsNotStarted, IsOpened, IsUnasked}
 use Rattle.top_run.specs.Serves.{Course}
-use Rattle.top_run.specs.Works.{IsHalted, IsKept, IsSummary, first_spent, hub_terms, work_shape, work_status, end_status}
-use Rattle.top_run.specs.Warms.{HasGoneOn, HasStoppedBetween, HasStoppedFirst, IsFirst, IsLeftBy, IsLinesPart, IsStoppedFirst, dump_lines, dumps_in, first_of, front_of, next_load, nothing_left}
+use Rattle.run_inputs.specs.Loads.{load}
+use Rattle.top_run.specs.Works.{AreUnspent, HaveSessions, IsHalted, IsKept, first_spent, hub_terms, work_shape, work_status, end_status}
+use Rattle.top_run.specs.Warms.{HasEndedSecond, HasGoneOn, HasStoppedBetween, HasStoppedFirst, IsFirst, IsLeftBy, IsLinesPart, IsStoppedFirst, IsWarmed, dump_lines, dumps_in, first_of, first_of_two, front_of, next_load, nothing_left, steps_behind}
 use Rattle.top_run.specs.Warming.{HasRunLoad, IsHaltedBehind, IsToldBehind, left_by, stop_status}
 use Rattle.top_run.proofs.WorkLemmas.{legal_of}
 
@@ -131,3 +132,77 @@ first_later spec held told later earlier first opening text before h = record {
             → ForSome (held.rows (work_shape spec).members) (λ there. opening ≡ there)
         by None some opened = absurd some
         by (Some others) some opened = opened others refl
+
+-- ---- the second load began
+
+-- a keeper of which a call failed has a count that rose
+rose_of_failed : (start failed faults : ℕ) → nat_lt 0 failed ≡ true → HaveFailed start failed faults → Rose start faults
+rose_of_failed start failed faults some since = by since.few
+  where
+    by : ((start + failed ≤ faults) ⊎ (faults ≡ 2 ^ 64 - 1)) → Rose start faults
+    by (inl h) = inl (grind (arith, some, h))
+    by (inr h) = inr h
+
+-- and a keeper of which none failed has its count as before
+same_of_none : (start failed faults : ℕ) → nat_lt 0 failed ≡ false → HaveFailed start failed faults → faults ≡ start
+same_of_none start failed faults is since = since.none (grind (arith, is))
+
+module _ (spec : WorkSpec) (course : Course) (gone : HasGoneOn spec course) where
+  -- the rows that the second load began with, and the least shard that is spent
+  abbrev anew : Tables
+  anew = rows_after gone.opening gone.first.log
+
+  abbrev spent : Option ℕ
+  spent = first_of_two (first_spent gone.first.histories) (first_spent course.left.histories)
+
+  -- its sessions are told by the steps behind the loaded ones
+  abbrev HaveOwn : Type 0
+  HaveOwn = AreUnspent course.left.histories → HaveSessions (load (next_load spec)) (steps_behind gone.first.log gone.first.histories course.left.histories)
+
+  abbrev IsTold : Finding → Type 0
+  IsTold found =
+      IsToldBehind (next_load spec) anew course.left.log course.left.histories course.before.taken course.after.taken
+      (front_of gone.text gone.first) course.written found
+
+  warmed_as : (b : Bool) (o : Option ℕ) (found : Finding) → nat_lt 0 gone.failed ≡ b → spent ≡ o → IsTold found → HaveOwn
+      → (work_status b o ≢ status.KeepFault → course.after.keeps_failed ≡ course.before.keeps_failed) → IsWarmed spec course (work_status b o)
+  warmed_as b o found is first told own still = record {
+    begun = gone;
+    found = found;
+    last = told.text;
+    summary = told.is_summary;
+    sessions = own;
+    prints = told.prints;
+    ends = ap (λ (x : Bool). work_status x o) (sym is) ∙ ap (λ (x : Option ℕ). work_status (nat_lt 0 gone.failed) x) (sym first);
+    unfailed = still;
+  }
+
+  unfailed : nat_lt 0 gone.failed ≡ false → course.after.keeps_failed ≡ course.before.keeps_failed
+  unfailed is = same_of_none course.before.keeps_failed gone.failed course.after.keeps_failed is gone.since
+
+  warmed : (b : Bool) (o : Option ℕ) (found : Finding) → nat_lt 0 gone.failed ≡ b → spent ≡ o → IsTold found → HaveOwn
+      → HasEndedSecond (work_status b o) spec course
+  warmed true o found is first told own = (
+    rose_of_failed course.before.keeps_failed gone.failed course.after.keeps_failed is gone.since,
+    warmed_as true o found is first told own (λ other. absurd (other refl)),
+  )
+  warmed false (Some shard) found is first told own = warmed_as false (Some shard) found is first told own (λ _. unfailed is)
+  warmed false None found is first told own = warmed_as false None found is first told own (λ _. unfailed is)
+
+  -- and the run ended by what stopped it, if something did
+  pub ended_second : (told : Result Finding Stop) → IfOk told IsTold
+      → IfErr told (IsHaltedBehind (next_load spec) anew course.left.log course.left.histories course.before.taken course.after.taken
+      (front_of gone.text gone.first) course.written)
+      → HaveOwn → HasEndedSecond (end_status (nat_lt 0 gone.failed) spent told) spec course
+  ended_second (Ok found) all some own = warmed (nat_lt 0 gone.failed) spent found refl refl all own
+  ended_second (Err stop.WriteFault) all some own = record {
+    begun = gone;
+    found = some.found;
+    last = some.text;
+    summary = some.is_summary;
+    printed = some.printed;
+    more = some.more;
+    parts = some.parts;
+    prints = some.prints;
+  }
+  ended_second (Err stop.Memory) all some own = record { begun = gone; prints = some }
