@@ -1,7 +1,8 @@
 -- The hub of a second load: loaded shards beside a store that was made anew.
-use Rattle.std.proofs.Common.{ℕ, ◌≡◌, ◌≤◌, ◌<◌, ◌^◌, ◌-◌, List, [], ◌∷◌, All, length, map, get_or, refl, sym, ap, subst, ◌∙◌, arith}
+use Rattle.std.proofs.Common.{ℕ, ◌≡◌, ◌≤◌, ◌<◌, ◌^◌, ◌-◌, List, [], ◌∷◌, ◌++◌, All, length, map, reverse, get_or, refl, sym, ap, subst, ◌∙◌, arith}
 use Rattle.std.specs.Prelude.{Option, Some, None, is_none, slice_get, option_map, unwrap_or, vec_capacity}
 use Rattle.std.specs.List.{AllByRecursion}
+use Rattle.std.proofs.lemmas.List.{reverse-append, reverse-reverse}
 use Rattle.std.proofs.lemmas.List.Elements.{All-get_or}
 use Rattle.std.proofs.lemmas.Option.{slice_get-map, slice_get_within, get_or_from_slice_get}
 use Rattle.rows_model.specs.Rows.{Tables}
@@ -14,13 +15,15 @@ use Rattle.log_word.specs.Passes.{WordView, blind_pass, blind_shard_passes}
 use Rattle.shard_lock.specs.Names.{AreAll, IsNamed}
 use Rattle.bound_hub.specs.Ties.{IsNewShard, IsNewStore}
 use Rattle.shard_dump.specs.declared.rows.DumpRow.{DumpRow}
+use Rattle.shard_dump.specs.Loads.{loaded_steps}
 use Rattle.run_inputs.specs.declared.loads.WorkSpec.{WorkSpec}
 use Rattle.top_run.specs.declared.hubs.HubParts.{HubParts}
 use Rattle.top_run.specs.declared.warms.Dumped.{Dumped}
 use Rattle.top_run.specs.declared.works.Ready.{Ready}
 use Rattle.top_run.specs.Ready.{MakeHub}
 use Rattle.top_run.specs.Works.{hub_terms, work_shape}
-use Rattle.top_run.specs.Warming.{AreLoaded, IsAnew, IsLoadedWith, IsReadyAnew, LoadsOnly, NamesAnew, before_of}
+use Rattle.top_run.specs.Warms.{BeginsLoaded}
+use Rattle.top_run.specs.Warming.{AreLoaded, GoesOn, IsAnew, IsLoadedWith, IsReadyAnew, LoadsOnly, NamesAnew, before_of}
 use Rattle.top_run.proofs.WarmingLemmas.{loaded_is_new, loaded_only}
 
 -- a store that was made anew is as it is named
@@ -115,3 +118,24 @@ module _ (told : Option Tables) (opening : Tables) (dumps : List Dumped) (olds n
             subst (λ (o : Option (List Step)). AllByRecursion LoadsOnly (unwrap_or o []))
             (sym (slice_get-map past_of news place ∙ ap (λ (o : Option ShardView). option_map past_of o) here))
             (loaded_only told opening one.dumped.dump.rows one.old new one.is)
+
+    -- a history that goes on from the steps of a loaded shard begins with them
+    begins_at : (before : ℕ → List Step) → ((place : ℕ) → before place ≡ before_of news place) → (place : ℕ) (new left : ShardView) (rows : List DumpRow)
+        → slice_get news place ≡ Some new → left.terms.no ≡ place → GoesOn before left → (at : IsAt place new) → at.dumped.dump.rows ≡ rows
+        → BeginsLoaded (terms place) rows left.history
+    begins_at before are place new left rows here number goes one same =
+        let past : before left.terms.no ≡ past_of new =
+        ap before number ∙ are place
+        ∙ ap (λ (o : Option (List Step)). unwrap_or o []) (slice_get-map past_of news place ∙ ap (λ (o : Option ShardView). option_map past_of o) here) in
+        let whole : left.history ≡ new.history ++ reverse goes.more =
+        sym (reverse-reverse left.history) ∙ ap (λ (l : List Step). reverse l) (goes.goes_on ∙ ap (λ (l : List Step). goes.more ++ l) past)
+        ∙ reverse-append goes.more (past_of new) ∙ ap (λ (l : List Step). l ++ reverse goes.more) (reverse-reverse new.history) in
+        let steps : new.history ≡ loaded_steps (terms place) one.is.who one.is.now (terms place).first rows =
+        one.is.steps ∙ ap (λ (t : Terms). loaded_steps t one.is.who one.is.now t.first one.dumped.dump.rows) (terms_at place new here)
+        ∙ ap (λ (rs : List DumpRow). loaded_steps (terms place) one.is.who one.is.now (terms place).first rs) same in
+        record {
+          who = one.is.who;
+          now = one.is.now;
+          more = reverse goes.more;
+          begins = whole ∙ ap (λ (l : List Step). l ++ reverse goes.more) steps;
+        }
