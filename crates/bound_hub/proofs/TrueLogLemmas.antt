@@ -182,7 +182,7 @@ module _ (opening : Tables) (log : List Commit) (true_log : IsTrueLog opening lo
   lawful_to_shift key counts = record { leaves = leaves_untouched key; makes = makes_shifted key counts }
 
 none_stopped : (told : Option Tables) → IsSome told → is_none told ≡ false
-none_stopped None some = absurd some
+none_stopped None some = absurd cc
 none_stopped (Some rows) some = refl
 
 -- the log of a store that tells its rows, which belongs together with what was seen

@@ -12,7 +12,7 @@ use Rattle.key_shard.specs.Shards.{ShardView, past_of}
 use Rattle.key_freshness.proofs.KnownLemmas.{stands-within}
 use Rattle.sql_keeper.specs.Stores.{StoreView}
 use Rattle.log_word.specs.Passes.{WordView, blind_pass, blind_shard_passes}
-use Rattle.shard_lock.specs.Names.{AreAll, IsNamed}
+use Rattle.shard_lock.specs.Names.{AreAll, AreLegal, IsNamed}
 use Rattle.bound_hub.specs.Ties.{IsNewShard, IsNewStore}
 use Rattle.shard_dump.specs.declared.rows.DumpRow.{DumpRow}
 use Rattle.shard_dump.specs.Loads.{loaded_steps}
@@ -139,3 +139,7 @@ module _ (told : Option Tables) (opening : Tables) (dumps : List Dumped) (olds n
           more = reverse goes.more;
           begins = whole ∙ ap (λ (l : List Step). l ++ reverse goes.more) steps;
         }
+
+    -- their histories are legal
+    pub legal_loaded : AreLegal news
+    legal_loaded = λ place default below. (at place (get_or news place default) (at_get place default below)).is.legal

@@ -1,5 +1,5 @@
 -- The histories that a bound hub leaves of whole shards are fresh, and cover its log.
-use Rattle.std.proofs.Common.{ℕ, ◌≡◌, true, List, [], ◌++◌, All, length, reverse, refl, sym, ap, subst, ◌∙◌}
+use Rattle.std.proofs.Common.{ℕ, ◌≡◌, true, List, [], ◌∷◌, ◌++◌, All, length, reverse, refl, sym, ap, subst, ◌∙◌}
 use Rattle.std.specs.Prelude.{Bool, false, ◌||◌, Option, Some, IsSome, slice_get, get_or, option_map}
 use Rattle.std.specs.List.{list_any}
 use Rattle.std.specs.List.{AllByRecursion}

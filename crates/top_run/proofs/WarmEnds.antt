@@ -2,6 +2,7 @@
 use Rattle.std.proofs.Common.{ℕ, ◌≡◌, ◌≤◌, ◌<◌, ◌+◌, ◌-◌, ◌^◌, ◌≢◌, List, [], ◌∷◌, ◌++◌, length, All, refl, sym, ap, subst, ◌∙◌, inl, inr, arith, append_assoc, append-nil}
 use Rattle.std.specs.Prelude.{Bool, true, false, ◌⊎◌, nat_lt, Option, Some, None, Result, Ok, Err, IfOk, IfErr, IsSome, slice_get}
 use Rattle.std.specs.Option.{ForSome}
+use Rattle.std.proofs.lemmas.Bool.{false≢true}
 use Rattle.iq_outside.specs.Outside.{Rose}
 use Rattle.rows_model.specs.Rows.{Tables}
 use Rattle.key_shard.specs.declared.steps.Step.{Step}
@@ -130,7 +131,7 @@ first_later spec held told later earlier first opening text before h = record {
       where
         by : (o : Option Tables) → IsSome o → ForSome o (λ _. ForSome (held.rows (work_shape spec).members) (λ there. opening ≡ there))
             → ForSome (held.rows (work_shape spec).members) (λ there. opening ≡ there)
-        by None some opened = absurd some
+        by None some opened = absurd (false≢true some)
         by (Some others) some opened = opened others refl
 
 -- ---- the second load began

@@ -11,7 +11,8 @@ use Rattle.rows_model.specs.Changes.{touches}
 use Rattle.rows_model.specs.Query.{answer}
 use Rattle.rows_model.specs.Rows.{Tables}
 use Rattle.key_shard.specs.declared.steps.Step.{Step}
-use Rattle.key_shard.specs.Answers.{IsAtHome}
+use Rattle.key_shard.specs.Answers.{IsAtHome, Legal}
+use Rattle.shard_lock.specs.Names.{AreLegal}
 use Rattle.key_shard.specs.Past.{entry}
 use Rattle.key_shard.specs.Shards.{ShardView, past_of}
 use Rattle.sql_keeper.specs.declared.stores.Commit.{Commit}
@@ -49,7 +50,9 @@ none_has p (first ∷ xs) (suc place) x none is has = none_has p xs place x (res
 -- what stands at a place stands behind those before it
 behind_at : {X : Type 0} (xs : List X) (n place : ℕ) (x : X) → slice_get xs place ≡ Some x → n ≤ place → slice_get (drop n xs) (place - n) ≡ Some x
 behind_at [] n place x is above = absurd cc
-behind_at (first ∷ xs) zero place x is above = is
+behind_at (first ∷ xs) zero place x is above =
+    let e : place - zero ≡ place = omega arith in
+    ap (λ m. slice_get (first ∷ xs) m) e ∙ is
 behind_at (first ∷ xs) (suc n) zero x is above = absurd (omega (arith, above))
 behind_at (first ∷ xs) (suc n) (suc place) x is above =
     let e : suc place - suc n ≡ place - n = omega arith in
@@ -77,7 +80,7 @@ left_right opening before store seen shards left some true_log =
     kept.right some ∙ sym (still_answer opening store.ledger.log true_log key stamp kept.within none)) shards left
 
 some_told : (told : Option Tables) → IsSome told → is_none told ≡ false
-some_told None some = absurd some
+some_told None some = absurd (false≢true some)
 some_told (Some rows) some = refl
 
 -- and those of one that was never made
@@ -156,3 +159,11 @@ ran_all before shards plans transcripts h = record {
       let have = h.sessions unspent in
       record { sids = have.sids; as_many = have.as_many; differ = have.differ; named = all_named before shards have.sids have.named };
 }
+
+-- ---- shards that have made no step
+
+-- their histories are legal
+pub unused_legal : (shards : List ShardView) → All (λ shard. shard.history ≡ []) shards → AreLegal shards
+unused_legal shards new =
+    All-weaker (λ (shard : ShardView). shard.history ≡ []) (λ (shard : ShardView). Legal shard.terms shard.history)
+    (λ shard none. subst (λ (history : List Step). Legal shard.terms history) (sym none) tt) shards new

@@ -22,7 +22,7 @@ use Rattle.sql_keeper.specs.declared.stores.Commit.{Commit}
 use Rattle.sql_keeper.specs.declared.stores.Phase.{Phase}
 use Rattle.sql_keeper.specs.declared.stores.Phase.TheVariants as phase
 use Rattle.sql_keeper.specs.Sessions.{closed, is_open, may_commit, phase_of}
-use Rattle.sql_keeper.specs.Stores.{Ledger, StoreView, rebased, rows_of, with_session}
+use Rattle.sql_keeper.specs.Stores.{Ledger, StoreView, rebased, rows_of as store_rows, with_session}
 use Rattle.bound_hub.specs.Facts.{IsFirst, IsQuiet}
 use Rattle.bound_hub.specs.Ties.{IsNewShard, IsNewStore}
 use Rattle.shard_dump.specs.declared.rows.DumpRow.{DumpRow}
@@ -202,7 +202,7 @@ rebased_closed ledger who = by (who.number == 0)
     by false = ap may_commit (slice_get-map closed ledger.sessions (who.number - 1)) ∙ none_closed (slice_get ledger.sessions (who.number - 1))
 
 -- where the keeper tells its rows, they are its opening rows
-pub told_anew : (old new : StoreView) → new.ledger ≡ rebased old.ledger → new.told ≡ old.told → ForSome old.told (λ told. told ≡ rows_of old.ledger)
+pub told_anew : (old new : StoreView) → new.ledger ≡ rebased old.ledger → new.told ≡ old.told → ForSome old.told (λ told. told ≡ store_rows old.ledger)
     → ForSome new.told (λ told. told ≡ new.ledger.opening)
 told_anew old new is told h = λ rows there. h rows (sym told ∙ there) ∙ sym (ap (λ (l : Ledger). l.opening) is)
 
@@ -287,8 +287,9 @@ first_token : (shard : ShardView) → shard.history ≡ [] → next_token shard.
 first_token shard new = subst (λ (history : List Step). next_token shard.terms (reverse history) ≡ shard.terms.first) (sym new) (omega arith)
 
 pub loaded_with : (told : Option Tables) (opening : Tables) (rows : List DumpRow) (old new : ShardView) (who : Sid) (now : ℕ)
-    → CanLoad told opening rows old → HasLoaded who now rows old new → (IsSome told → AreRightOn opening (past_of new)) → IsLoadedWith told opening rows old new
-loaded_with told opening rows old new who now can h right = record {
+    → CanLoad told opening rows old → HasLoaded who now rows old new → (IsSome told → AreRightOn opening (past_of new)) → Legal new.terms new.history
+    → IsLoadedWith told opening rows old new
+loaded_with told opening rows old new who now can h right legal = record {
   terms_are = h.gained.terms;
   none_out = h.gained.out ∙ can.none_out;
   who = who;
@@ -299,6 +300,7 @@ loaded_with told opening rows old new who now can h right = record {
   has = h.has;
   no_leases = h.no_leases;
   no_quars = h.no_quars;
+  legal = legal;
   right = right;
 }
 

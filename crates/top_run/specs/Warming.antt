@@ -11,7 +11,7 @@ use Rattle.rows_model.specs.Rows.{Tables}
 use Rattle.rows_model.specs.Query.{answer}
 use Rattle.key_shard.specs.declared.steps.Step.{Step}
 use Rattle.key_shard.specs.declared.steps.Step.TheVariants.{Lease, Stored}
-use Rattle.key_shard.specs.Answers.{IsAtHome}
+use Rattle.key_shard.specs.Answers.{IsAtHome, Legal}
 use Rattle.key_shard.specs.Past.{Terms, entry, recorded, standing}
 use Rattle.key_shard.specs.Shards.{ShardView, past_of}
 use Rattle.sql_keeper.specs.declared.stores.Commit.{Commit}
@@ -134,6 +134,7 @@ pub record IsLoadedWith (told : Option Tables) (opening : Tables) (rows : List D
   pub has : HasRows (past_of new) rows
   pub no_leases : (key : QKey) → recorded key (past_of new) ≡ None
   pub no_quars : (key : QKey) → standing key (past_of new) ≡ []
+  pub legal : Legal new.terms new.history
   pub right : IsSome told → AreRightOn opening (past_of new)
 
 -- Each dump can be loaded into the shard of its place.

@@ -673,7 +673,11 @@ fn load_one<K: Keeper, N: Start>(
 {
     let mut shard = shard;
     match load(store, &mut shard, rows, now) {
-        Ok(_) => Ok(shard),
+        Ok(_) => {
+            // That the history is legal is a clause of its reader.
+            let _ = shard.history();
+            Ok(shard)
+        }
         Err(LoadFault::Stranger { .. } | LoadFault::Spent { .. }) => unreachable!(),
         Err(LoadFault::Memory) => Err(Memory),
     }

@@ -213,6 +213,7 @@ pub(crate) fn run_plans<
     requires parts { MakeHub H.terms H.opening H.before (is_none store.told)
         H.name H.parts H.word parts }
     requires loads_before { (place : ℕ) → AllByRecursion LoadsOnly (H.before place) }
+    requires legal { AreLegal parts.shards.items }
     requires from_one { (place : ℕ) → (H.terms place).first ≡ 1 }
     requires plans { All (λ list. All IsPlan list.items) plans.now }
     requires ask { AllByRecursion (AllByRecursion AsksFirst) (map (λ list. list.items) plans.now) }

@@ -12,9 +12,9 @@ invariant-loop-shards g l = record {
   shards_are : l.initial.shards.items ≡ fronts ++ l.shards.items;
   dumps_are : l.initial.dumps.items ≡ texts ++ l.dumps.items;
   as_many : length texts ≡ length fronts;
-  loaded : AreLoaded l.initial.store.now.told l.initial.store.now.ledger.opening texts fronts l.loaded.items;
-  can : CanLoadAll l.initial.store.now.told l.initial.store.now.ledger.opening l.dumps.items l.shards.items;
-  keeps_on : KeepsOn l.initial.store.now l.store.now;
+  loaded : AreLoaded l.initial.store.told l.initial.store.ledger.opening texts fronts l.loaded.items;
+  can : CanLoadAll l.initial.store.told l.initial.store.ledger.opening l.dumps.items l.shards.items;
+  keeps_on : KeepsOn l.initial.store l.store;
   room : vec_len l.loaded + vec_len l.shards ≤ vec_capacity l.loaded;
 }
 

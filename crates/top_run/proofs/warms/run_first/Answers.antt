@@ -19,7 +19,7 @@ use Rattle.top_run.proofs.KeepLemmas.{opened_since}
 use Rattle.top_run.proofs.ReadyLemmas.{make_hub}
 use Rattle.top_run.proofs.SessionLemmas.{load_asks}
 use Rattle.top_run.proofs.WarmEnds.{all_alike}
-use Rattle.top_run.proofs.WarmLemmas.{ran_whole, since_none}
+use Rattle.top_run.proofs.WarmLemmas.{ran_whole, since_none, unused_legal}
 use Rattle.top_run.proofs.WorkLemmas.{numbered_of, whole_of}
 use Rattle.top_run.proofs.warms.run_first.Goals as goal
 
@@ -36,6 +36,9 @@ run_plans-store-requires-clause-new g c =
 pub run_plans-store-requires-clause-loads_before : goal.run_plans-store-requires-clause-loads_before
 run_plans-store-requires-clause-loads_before g c =
     λ κs outlives place. subst (AllByRecursion LoadsOnly) (sym (c.requires.parts.none_before place)) tt
+
+pub run_plans-store-requires-clause-legal : goal.run_plans-store-requires-clause-legal
+run_plans-store-requires-clause-legal g c = λ κs outlives. unused_legal c.args.ready.parts.hub.shards.items c.requires.ready.parts.new
 
 pub run_plans-store-requires-clause-ask : goal.run_plans-store-requires-clause-ask
 run_plans-store-requires-clause-ask g c =

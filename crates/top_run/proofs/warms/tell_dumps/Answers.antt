@@ -5,7 +5,7 @@ use Rattle.top_run.proofs.warms.tell_dumps.Goals as goal
 
 pub returns-clause-all : goal.returns-clause-all
 returns-clause-all g c = λ taken printed before.
-    subst (λ (bytes : List ℕ). Prints taken (g.W.Sink.taken c.in_ok-print.new.sink) (printed ++ bytes) c.in_ok-print.new.written)
+    subst (λ (bytes : List ℕ). Prints taken (g.W.Sink.taken c.print.new.sink) (printed ++ bytes) c.print.new.written)
     (c.as_slice.ensures.value ∙ c.in_ok-lines.ensures) (c.in_ok-print.ensures.all taken printed before)
 
 pub returns-in_err-lines-clause-some : goal.returns-in_err-lines-clause-some

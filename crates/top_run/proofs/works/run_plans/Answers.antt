@@ -1,6 +1,7 @@
-use Rattle.std.proofs.Common.{◌≡◌, List, Vec, Global, length, map, sym, subst, ◌∙◌}
+use Rattle.std.proofs.Common.{◌≡◌, All, List, Vec, Global, length, map, sym, subst, ◌∙◌}
 use Rattle.std.proofs.lemmas.Result.{IfOk-weaker}
 use Rattle.key_shard.specs.Shards.{ShardView}
+use Rattle.shard_lock.specs.Names.{AreLegal}
 use Rattle.sql_keeper.specs.Fresh.{Fresh}
 use Rattle.run_audit.specs.Findings.{histories_in}
 use Rattle.session_client.specs.declared.plans.Plan.{Plan}
@@ -63,3 +64,6 @@ pub returns-in-Err-clause-right : goal.returns-in-Err-clause-right
 returns-in-Err-clause-right g c = λ some.
     subst (AreRight g.H.HubName.opening c.in-Err.store.ledger.log) (sym c.in-Err.ensures.1)
     (new_right g.H.HubName.opening g.H.BoundName.before c.in-Err.store c.args.store c.args.parts.shards.items _ _ c.in-Err.ensures.0 c.requires.new c.requires.parts.new some)
+
+pub returns-in-Err-clause-legal : goal.returns-in-Err-clause-legal
+returns-in-Err-clause-legal g c = subst AreLegal (sym c.in-Err.ensures.1) c.requires.legal
