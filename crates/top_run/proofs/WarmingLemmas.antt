@@ -131,7 +131,7 @@ all_bytes log shards dumps are = λ place d below.
     let here = stands-within dumps place below in
     let many = are.as_many in
     let there = stands-within shards place (omega (arith, below, many)) in
-    subst HasBytes (get_or_from_slice_get dumps place here.0 d here.1) (are.each place there.0 here.0 there.1 here.1).bytes_are
+    subst HasBytes (sym (get_or_from_slice_get dumps place here.0 d here.1)) (are.each place there.0 here.0 there.1 here.1).bytes_are
 
 -- ---- a shard that was loaded
 
